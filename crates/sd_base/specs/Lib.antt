@@ -1,0 +1,4 @@
+pub mod Field
+pub mod Name
+pub mod Record
+pub mod Refusal

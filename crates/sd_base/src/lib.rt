@@ -1,0 +1,19 @@
+//! What every layer of the storage daemon names: names, numbers, records, refusals and the big-endian
+//! fields of packets and blocks.
+#![tactic(auto)]
+
+mod fields;
+mod items;
+mod name;
+mod number;
+mod record;
+mod refusal;
+#[cfg(test)]
+mod tests;
+
+pub use fields::{Short, get_i32, get_i64, get_u32, get_u64, put_i32, put_i64, put_u32, put_u64};
+pub use items::{Bytes, Items};
+pub use name::{BadName, MediaName, NAME_LENGTH, Name, PoolName, VolName};
+pub use number::{DriveNo, JobId, LaneNo, MOST_NUMBER, Number, SessionKey, Ticket};
+pub use record::{MOST_DATA, Rec};
+pub use refusal::Refusal;

@@ -1,0 +1,3 @@
+pub mod FragmentLemmas
+pub mod HeaderLemmas
+pub mod RecordLemmas
