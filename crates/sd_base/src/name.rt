@@ -22,13 +22,16 @@ pub struct Name<K> {
 }
 
 /// What a `VolName` names.
-pub enum Volume {}
+#[derive(Clone, Copy)]
+pub struct Volume;
 
 /// What a `PoolName` names.
-pub enum Pool {}
+#[derive(Clone, Copy)]
+pub struct Pool;
 
 /// What a `MediaName` names.
-pub enum Media {}
+#[derive(Clone, Copy)]
+pub struct Media;
 
 pub type VolName = Name<Volume>;
 

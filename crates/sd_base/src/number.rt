@@ -15,19 +15,19 @@ pub struct Number<K, const MOST: u32> {
 
 /// What a `JobId` numbers.
 #[derive(Clone, Copy, Debug, PartialEq, Eq, PartialOrd, Ord, Hash)]
-pub enum Job {}
+pub struct Job;
 
 /// What a `Ticket` numbers.
 #[derive(Clone, Copy, Debug, PartialEq, Eq, PartialOrd, Ord, Hash)]
-pub enum Session {}
+pub struct Session;
 
 /// What a `DriveNo` numbers.
 #[derive(Clone, Copy, Debug, PartialEq, Eq, PartialOrd, Ord, Hash)]
-pub enum Drive {}
+pub struct Drive;
 
 /// What a `LaneNo` numbers.
 #[derive(Clone, Copy, Debug, PartialEq, Eq, PartialOrd, Ord, Hash)]
-pub enum Lane {}
+pub struct Lane;
 
 /// The Director's number of a job.
 pub type JobId = Number<Job, MOST_NUMBER>;
