@@ -1,0 +1,42 @@
+// Timing a job.
+use anyhow::Result;
+use std::num;
+use std::rt::Clock;
+use std::time::Instant;
+
+/// How long the jobs run.
+#[derive(Clone, Copy, Debug, PartialEq, Eq)]
+pub enum Length {
+    /// Once, to see that they work.
+    Once,
+    /// Long enough to be timed.
+    Timed,
+}
+
+impl Length {
+    /// How often to go over a buffer of so many bytes: some 400 MB in all where it is timed.
+    pub fn rounds(self, bytes: usize) -> usize {
+        match self {
+            Length::Once => 1,
+            Length::Timed => 400_000_000 / bytes.max(1) + 1,
+        }
+    }
+}
+
+/// Prints the rate of a job that went over so many bytes so many times since `start`, where it was timed.
+pub fn print_rate<R: Print + Clock>(
+    rt: &R,
+    length: Length,
+    name: &str,
+    start: Instant,
+    bytes: usize,
+    rounds: usize,
+) -> Result<()> {
+    if length == Length::Timed {
+        let seconds = start.elapsed(rt)?.as_secs_f64();
+        let whole = num::nearest_u64_to_f64(bytes as u64) * num::nearest_u64_to_f64(rounds as u64);
+        let rate = whole / seconds / 1e9;
+        println!(rt; "{name:<36} {rate:>7.2} GB/s")?;
+    }
+    Ok(())
+}

@@ -1,0 +1,4 @@
+pub mod Fault
+pub mod Head
+pub mod Image
+pub mod Laws

@@ -1,0 +1,152 @@
+use super::BlockFault::{BadId, BadSize, BadSum, Short};
+use super::*;
+use sd_base::SessionKey;
+use std::test::Fail;
+
+// The blocks of a volume `Vol-0001` with one session of one record, `hello`: made by Python's `struct`
+// and `zlib` from the format's description.
+const LABEL_BLOCK: [u8; 82] = [
+    0x90, 0x71, 0x20, 0xdc, 0x00, 0x00, 0x00, 0x52, 0x00, 0x00, 0x00, 0x00, 0x42, 0x42, 0x30, 0x32,
+    0x00, 0x00, 0x00, 0x00, 0x00, 0x00, 0x00, 0x00, 0xff, 0xff, 0xff, 0xfe, 0x00, 0x00, 0x00, 0x01,
+    0x00, 0x00, 0x00, 0x2e, 0x73, 0x64, 0x2d, 0x70, 0x72, 0x6f, 0x66, 0x69, 0x6c, 0x65, 0x0a, 0x00,
+    0x00, 0x00, 0x00, 0x01, 0x00, 0x00, 0x00, 0x00, 0x00, 0x00, 0x00, 0x00, 0x56, 0x6f, 0x6c, 0x2d,
+    0x30, 0x30, 0x30, 0x31, 0x00, 0x44, 0x65, 0x66, 0x61, 0x75, 0x6c, 0x74, 0x00, 0x46, 0x69, 0x6c,
+    0x65, 0x00,
+];
+
+const DATA_BLOCK: [u8; 167] = [
+    0xb5, 0xfb, 0x0a, 0x38, 0x00, 0x00, 0x00, 0xa7, 0x00, 0x00, 0x00, 0x01, 0x42, 0x42, 0x30, 0x32,
+    0x00, 0x00, 0x00, 0x01, 0x00, 0x00, 0x03, 0xe8, 0xff, 0xff, 0xff, 0xfc, 0x00, 0x00, 0x00, 0x07,
+    0x00, 0x00, 0x00, 0x29, 0x73, 0x64, 0x2d, 0x70, 0x72, 0x6f, 0x66, 0x69, 0x6c, 0x65, 0x0a, 0x00,
+    0x00, 0x00, 0x00, 0x01, 0x00, 0x00, 0x00, 0x07, 0x00, 0x00, 0x00, 0x00, 0x00, 0x00, 0x00, 0x00,
+    0x44, 0x65, 0x66, 0x61, 0x75, 0x6c, 0x74, 0x00, 0x46, 0x69, 0x6c, 0x65, 0x00, 0x00, 0x00, 0x00,
+    0x01, 0x00, 0x00, 0x00, 0x02, 0x00, 0x00, 0x00, 0x05, 0x68, 0x65, 0x6c, 0x6c, 0x6f, 0xff, 0xff,
+    0xff, 0xfb, 0x00, 0x00, 0x00, 0x07, 0x00, 0x00, 0x00, 0x3d, 0x73, 0x64, 0x2d, 0x70, 0x72, 0x6f,
+    0x66, 0x69, 0x6c, 0x65, 0x0a, 0x00, 0x00, 0x00, 0x00, 0x01, 0x00, 0x00, 0x00, 0x07, 0x00, 0x00,
+    0x00, 0x00, 0x00, 0x00, 0x00, 0x00, 0x44, 0x65, 0x66, 0x61, 0x75, 0x6c, 0x74, 0x00, 0x46, 0x69,
+    0x6c, 0x65, 0x00, 0x00, 0x00, 0x00, 0x00, 0x00, 0x00, 0x00, 0x01, 0x00, 0x00, 0x00, 0x00, 0x00,
+    0x00, 0x00, 0x05, 0x00, 0x00, 0x00, 0x54,
+];
+
+// The headers of the least and the greatest block, of twelve bytes 0x0c and of 1,048,552 bytes 0x7d.
+const LEAST_HEADER: [u8; HEADER] = [
+    0xfa, 0x92, 0x73, 0x9d, 0x00, 0x00, 0x00, 0x24, 0xff, 0xff, 0xff, 0xff, 0x42, 0x42, 0x30, 0x32,
+    0x80, 0x00, 0x00, 0x00, 0x7f, 0xff, 0xff, 0xff,
+];
+
+const MOST_HEADER: [u8; HEADER] = [
+    0x6a, 0x78, 0xdd, 0xa8, 0x00, 0x10, 0x00, 0x00, 0xff, 0xff, 0xff, 0xff, 0x42, 0x42, 0x30, 0x32,
+    0x80, 0x00, 0x00, 0x00, 0x7f, 0xff, 0xff, 0xff,
+];
+
+// A block but for its body of eleven bytes.
+const TOO_SMALL: [u8; 35] = [
+    0xdb, 0x3f, 0x32, 0x56, 0x00, 0x00, 0x00, 0x23, 0x00, 0x00, 0x00, 0x00, 0x42, 0x42, 0x30, 0x32,
+    0x00, 0x00, 0x00, 0x00, 0x00, 0x00, 0x00, 0x00, 0x68, 0x65, 0x6c, 0x6c, 0x6f, 0x20, 0x77, 0x6f,
+    0x72, 0x6c, 0x64,
+];
+
+const LABEL_KEY: SessionKey = SessionKey { time: 0, id: 0 };
+
+const DATA_KEY: SessionKey = SessionKey { time: 1000, id: 1 };
+
+#[test]
+fn hello_is_sealed(rt: HostRuntime) -> Result<(), Fail> {
+    let label = seal(rt.alloc(), LABEL_KEY, 0, &LABEL_BLOCK[HEADER..])?;
+    assert_eq!(rt; label.as_slice(), LABEL_BLOCK.as_slice());
+    let data = seal(rt.alloc(), DATA_KEY, 1, &DATA_BLOCK[HEADER..])?;
+    assert_eq!(rt; data.as_slice(), DATA_BLOCK.as_slice());
+    Ok(())
+}
+
+#[test]
+fn hello_is_opened(rt: HostRuntime) -> Result<(), Fail> {
+    let label = open_block(&LABEL_BLOCK, MOST_BLOCK)?;
+    assert_eq!(rt; (label.key, label.number), (LABEL_KEY, 0));
+    assert_eq!(rt; label.body, &LABEL_BLOCK[HEADER..]);
+    let data = open_block(&DATA_BLOCK, MOST_BLOCK)?;
+    assert_eq!(rt; (data.key, data.number), (DATA_KEY, 1));
+    assert_eq!(rt; data.body, &DATA_BLOCK[HEADER..]);
+    let head = read_head(&DATA_BLOCK[..HEADER], MOST_BLOCK)?;
+    assert_eq!(rt; (head.key, head.number, head.size), (DATA_KEY, 1, 167));
+    Ok(())
+}
+
+fn fault(bytes: &[u8], max: usize) -> Option<BlockFault> {
+    open_block(bytes, max).err()
+}
+
+fn head_fault(bytes: &[u8], max: usize) -> Option<BlockFault> {
+    read_head(bytes, max).err()
+}
+
+// Each block has the fault that is wanted and every later one.
+#[test]
+fn first_fault_is_told(rt: HostRuntime) {
+    let mut block = LABEL_BLOCK;
+    block[0] ^= 1;
+    assert_eq!(rt; fault(&block, 82), Some(BadSum));
+    assert_eq!(rt; head_fault(&block, 82), None);
+    block[7] ^= 1;
+    assert_eq!(rt; fault(&block, 82), Some(BadSize));
+    block[4] = 1;
+    assert_eq!(rt; head_fault(&block, 82), Some(BadSize));
+    block[15] = b'1';
+    assert_eq!(rt; fault(&block, 82), Some(BadId));
+    assert_eq!(rt; head_fault(&block, 82), Some(BadId));
+    assert_eq!(rt; fault(&block[..23], 82), Some(Short));
+    assert_eq!(rt; head_fault(&block[..23], 82), Some(Short));
+}
+
+// No test but that of the checksum looks at any of these bytes.
+#[test]
+fn each_byte_is_summed(rt: HostRuntime) {
+    for at in [0, 3, 8, 11, 16, 19, 20, 23, 24, 81] {
+        let mut block = LABEL_BLOCK;
+        block[at] ^= 0x80;
+        assert_eq!(rt; fault(&block, 82), Some(BadSum), "at {at}");
+    }
+}
+
+#[test]
+fn size_is_the_length(rt: HostRuntime) -> Result<(), Fail> {
+    let mut longer = LABEL_BLOCK.to_vec(rt.alloc())?;
+    longer.push(0)?;
+    assert_eq!(rt; fault(&longer, MOST_BLOCK), Some(BadSize));
+    assert_eq!(rt; read_head(&longer, MOST_BLOCK)?.size, 82);
+    assert_eq!(rt; fault(&LABEL_BLOCK[..81], MOST_BLOCK), Some(BadSize));
+    assert_eq!(rt; read_head(&LABEL_BLOCK[..81], MOST_BLOCK)?.size, 82);
+    Ok(())
+}
+
+#[test]
+fn size_is_within_its_limits(rt: HostRuntime) {
+    assert_eq!(rt; fault(&LABEL_BLOCK, usize::MAX), None);
+    assert_eq!(rt; fault(&LABEL_BLOCK, 82), None);
+    assert_eq!(rt; fault(&LABEL_BLOCK, 81), Some(BadSize));
+    assert_eq!(rt; head_fault(&LABEL_BLOCK, 81), Some(BadSize));
+    assert_eq!(rt; fault(&LABEL_BLOCK, 0), Some(BadSize));
+    assert_eq!(rt; fault(&TOO_SMALL, MOST_BLOCK), Some(BadSize));
+    assert_eq!(rt; head_fault(&TOO_SMALL, MOST_BLOCK), Some(BadSize));
+}
+
+#[test]
+fn least_and_greatest_body(rt: HostRuntime) -> Result<(), Fail> {
+    let key = SessionKey {
+        time: 0x7fff_ffff,
+        id: 0x8000_0000,
+    };
+    let body = vec![in rt.alloc(); 0x0c; LEAST_BODY]?;
+    let least = seal(rt.alloc(), key, u32::MAX, &body)?;
+    assert_eq!(rt; least.len(), LEAST_BLOCK);
+    assert!(rt; least.starts_with(&LEAST_HEADER));
+    assert_eq!(rt; open_block(&least, LEAST_BLOCK)?.body, body.as_slice());
+
+    let body = vec![in rt.alloc(); 0x7d; MOST_BODY]?;
+    let most = seal(rt.alloc(), key, u32::MAX, &body)?;
+    assert_eq!(rt; most.len(), MOST_BLOCK);
+    assert!(rt; most.starts_with(&MOST_HEADER));
+    assert_eq!(rt; open_block(&most, MOST_BLOCK)?.body, body.as_slice());
+    assert_eq!(rt; fault(&most, MOST_BLOCK - 1), Some(BadSize));
+    Ok(())
+}
