@@ -1,6 +1,6 @@
 -- Fields have their width, and two numbers never share a field.
-use Rattle.std.proofs.Common.{◌≡◌, ℕ, ◌+◌, ◌-◌, ◌*◌, ◌^◌, ◌<◌, ◌≤◌, refl, sym, ap, ◌∙◌, arith, List, [], ◌∷◌, ◌++◌, take, drop, length, get_or, inl, inr, w32, w64}
-use Rattle.std.specs.Prelude.{ℤ, FitsSigned, slice_index}
+use Rattle.std.proofs.Common.{◌≡◌, ℕ, ◌+◌, ◌-◌, ◌^◌, ◌<◌, ◌≤◌, refl, sym, ap, ◌∙◌, arith, List, ◌++◌, take, drop, length, get_or, inl, inr, w32, w64}
+use Rattle.std.specs.Prelude.{ℤ, FitsSigned}
 use Rattle.std.specs.Int.{Width, cast_unsigned, cast_signed, from_be_bytes}
 use Rattle.std.proofs.lemmas.Int.{to_z-of_z}
 use Rattle.std.proofs.Math.Facts.{Fits-of_z}
@@ -8,7 +8,7 @@ use Rattle.std.proofs.lemmas.Nat.{be_bytes_4, be_bytes_8}
 use Rattle.std.proofs.lemmas.Grind.{common_steps}
 use Rattle.std.proofs.lemmas.List.{take_rest, drop-drop, get_or-take, get_or-drop, get_or_past, length-take, length-take-le, length-drop, take_at, drop_at, take-append-drop}
 use Rattle.std.proofs.lemmas.Bool.{cases_lt}
-use Rattle.byteorder.specs.Endian.{big_bytes, big_number}
+use Rattle.byteorder.specs.Endian.{big_number}
 use Rattle.byteorder.specs.Numbers.{big_number-reads_back, length-bytes_high_first}
 use borrow.Rule.Slice.PartMut.{put_mid, mid_of}
 use Rattle.sd_base.specs.Field.{u32_bytes, u64_bytes, i32_bytes, i64_bytes}

@@ -1,10 +1,7 @@
 -- A body is one list of fragments: each says where it ends.
-use Rattle.std.proofs.Common.{◌≡◌, ℕ, ◌+◌, ◌-◌, ◌^◌, ◌<◌, ◌≤◌, refl, sym, ap, ◌∙◌, arith, inl, inr, List, [], ◌∷◌, ◌++◌, take, drop, length, min}
-use Rattle.std.specs.Prelude.{ℤ, FitsSigned}
-use Rattle.std.specs.Int.{w32}
-use Rattle.std.proofs.lemmas.List.{append_assoc, length-append, length-drop, length-take-le, take-append-drop, drop_all, drop-drop}
-use Rattle.std.proofs.lemmas.Grind.{common_steps}
-use Rattle.sd_base.specs.Field.{u32_bytes, i32_bytes}
+use Rattle.std.proofs.Common.{◌≡◌, ℕ, ◌+◌, ◌-◌, refl, sym, ap, ◌∙◌, arith, List, [], ◌∷◌, ◌++◌, drop, length, min}
+use Rattle.std.specs.Prelude.{ℤ}
+use Rattle.std.proofs.lemmas.List.{append_assoc, length-append, length-drop, drop_all}
 use Rattle.sd_base.proofs.FieldLemmas.{length-u32_bytes, u32_apart, i32_apart, append_apart}
 use Rattle.sd_record.specs.Fragment.{Fragment, fragment_bytes, fragments_bytes, IsFragment, GoesOn, FitTogether, StandsAt}
 

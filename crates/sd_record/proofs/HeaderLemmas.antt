@@ -1,12 +1,12 @@
 -- A header at a place of a body, field by field.
-use Rattle.std.proofs.Common.{◌≡◌, ℕ, ◌+◌, ◌-◌, ◌^◌, ◌<◌, ◌≤◌, refl, sym, ap, subst, ◌∙◌, arith, inl, inr, List, [], ◌∷◌, ◌++◌, take, drop, length, min, IfSome}
-use Rattle.std.specs.Prelude.{ℤ, pos, negsuc, FitsSigned, ◌⊎◌}
+use Rattle.std.proofs.Common.{◌≡◌, ℕ, ◌+◌, ◌-◌, ◌^◌, ◌<◌, ◌≤◌, refl, sym, ap, subst, ◌∙◌, arith, inl, inr, List, [], ◌++◌, take, drop, length, min}
+use Rattle.std.specs.Prelude.{ℤ, FitsSigned}
 use Rattle.std.specs.Int.{w32}
 use Rattle.std.proofs.lemmas.List.{append_assoc, append-nil, length-append, length-drop, length-take-le, take_at, drop_at, take-append-drop, drop_all, drop-drop}
 use Rattle.sd_base.specs.Field.{u32_bytes, i32_bytes}
-use Rattle.sd_base.proofs.FieldLemmas.{length-u32_bytes, u32_apart, i32_apart, append_apart, put_next, read_next}
-use Rattle.sd_record.specs.Fragment.{Fragment, fragment_bytes, IsFragment, IsZeroStream, IsHeaderAt, HasZeroStream, GoesOn, StandsAt}
-use Rattle.sd_record.proofs.FragmentLemmas.{length-fragment_bytes, part_until, fragment_apart, stands_apart}
+use Rattle.sd_base.proofs.FieldLemmas.{length-u32_bytes, i32_apart, put_next, read_next}
+use Rattle.sd_record.specs.Fragment.{Fragment, fragment_bytes, IsFragment, IsZeroStream, IsHeaderAt, HasZeroStream, StandsAt}
+use Rattle.sd_record.proofs.FragmentLemmas.{length-fragment_bytes}
 
 -- three fields of four bytes written one after another fill a header
 pub put_header : (blank first second third : List ℕ) (index stream size : List ℕ) → length blank ≡ 12

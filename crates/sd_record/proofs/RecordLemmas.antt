@@ -1,13 +1,11 @@
 -- The fragments of a record give the record back.
-use Rattle.std.proofs.Common.{◌≡◌, ◌≢◌, ℕ, zero, suc, ◌+◌, ◌-◌, ◌<◌, ◌≤◌, refl, sym, ap, subst, ◌∙◌, arith, inl, inr, List, [], ◌∷◌, ◌++◌, take, drop, length, ◌⊎◌}
+use Rattle.std.proofs.Common.{◌≡◌, ◌≢◌, ℕ, zero, suc, ◌≤◌, refl, sym, ap, subst, ◌∙◌, arith, inl, inr, List, [], ◌∷◌, ◌++◌, drop, length}
 use Rattle.std.specs.Prelude.{ℤ, pos, negsuc, neg_ℤ, FitsSigned}
 use Rattle.std.specs.Int.{w32}
 use Rattle.std.proofs.lemmas.List.{append_assoc, append-nil, length-append, nil_from_length, length-drop}
-use Rattle.std.proofs.lemmas.Bool.{cases_lt}
 use Rattle.sd_base.specs.Record.{Record, IsRecord}
 use Rattle.sd_base.specs.declared.number.TheConstants.{MOST_NUMBER}
 use Rattle.sd_base.specs.declared.record.TheConstants.{MOST_DATA}
-use Rattle.sd_base.proofs.FieldLemmas.{append_apart}
 use Rattle.sd_record.specs.Fragment.{Fragment, IsFragment, IsZeroStream, BeginsData, Continue, Fragments, FragmentsOfAll}
 
 -- two equal lists have the same first element and the same rest

@@ -1,4 +1,4 @@
-use Rattle.std.proofs.Common.{ap, ◌∙◌, refl, arith, ◌≡◌, ◌+◌, ◌≤◌, length}
+use Rattle.std.proofs.Common.{ap, ◌∙◌, refl, arith, ◌+◌, ◌≤◌, length}
 use Rattle.byteorder.specs.Endian.{big_number}
 use Rattle.sd_base.proofs.FieldLemmas.{u64_field}
 use Rattle.sd_base.proofs.fields.get_u64.Goals as goal

@@ -1,4 +1,4 @@
-use Rattle.std.proofs.Common.{sym, arith, ◌≡◌, length}
+use Rattle.std.proofs.Common.{arith}
 use Rattle.sd_base.specs.Field.{u32_bytes}
 use Rattle.sd_base.proofs.FieldLemmas.{put_field}
 use Rattle.sd_base.proofs.fields.put_u32.Goals as goal

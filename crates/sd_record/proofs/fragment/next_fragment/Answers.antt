@@ -1,10 +1,10 @@
-use Rattle.std.proofs.Common.{◌≡◌, ℕ, ◌+◌, ◌^◌, ◌<◌, ◌≤◌, refl, ap, sym, ◌∙◌, arith, rules, length, take, drop, ◌++◌}
-use Rattle.std.specs.Prelude.{FitsSigned, Some, Ok, IsTrue, min}
+use Rattle.std.proofs.Common.{◌≡◌, ◌+◌, ◌≤◌, refl, ap, ◌∙◌, arith, rules, length}
+use Rattle.std.specs.Prelude.{FitsSigned}
 use Rattle.std.specs.Int.{w32}
 use Rattle.std.proofs.lemmas.Int.{to_z-of_z}
-use Rattle.sd_record.specs.Fragment.{Fragment, IsZeroStream, HasZeroStream, StandsAt}
+use Rattle.sd_record.specs.Fragment.{IsZeroStream, HasZeroStream}
 use Rattle.sd_record.proofs.FragmentLemmas.{stands_apart}
-use Rattle.sd_record.proofs.HeaderLemmas.{no_header, stream_at, not_zero_stream, stands_there, one_stream}
+use Rattle.sd_record.proofs.HeaderLemmas.{no_header, stream_at, not_zero_stream, one_stream}
 use Rattle.sd_record.proofs.fragment.next_fragment.Goals as goal
 
 pub returns-then-body-at-clause-read_back : goal.returns-then-body-at-clause-read_back

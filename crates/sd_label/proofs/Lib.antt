@@ -1,0 +1,4 @@
+pub mod AnswerLemmas
+pub mod LabelLemmas
+pub mod TextLemmas
+pub mod CuttingLemmas
