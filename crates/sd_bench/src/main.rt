@@ -6,6 +6,7 @@
 
 mod blocks;
 mod checksum;
+mod packing;
 mod rate;
 
 use anyhow::Result;
@@ -21,5 +22,6 @@ fn main(rt: HostRuntime) -> Result<()> {
     }
     checksum::run(&rt, length)?;
     blocks::run(&rt, length)?;
+    packing::run(&rt, length)?;
     Ok(())
 }

@@ -12,7 +12,7 @@ use Rattle.sd_label.specs.Label.{session_label_fragment, session_label_index}
 use Rattle.sd_label.specs.Cutting.{Standing, Between, Within, Ended, Unfinished, Behind, IsSession, AreRecords, AreBodies, joined, Places, Holds, HoldsFront, Begins, Cuts}
 
 -- a label's index is negative, a record's is not
-label_is_no_record : (label : SessionLabel) (index : ℕ) → (session_label_fragment label).index ≡ pos index → ⊥
+pub label_is_no_record : (label : SessionLabel) (index : ℕ) → (session_label_fragment label).index ≡ pos index → ⊥
 label_is_no_record label index e = elim label.totals as (λ t. session_label_index t ≡ pos index → ⊥) [ None ↦ (λ e. cc) | Some t ↦ (λ e. cc) ] e
 
 -- a record has a fragment, whose index is the record's
@@ -20,7 +20,7 @@ first_fragment : (r : Record) (fs : List Fragment) → Fragments r fs → (f : F
 first_fragment r [] c = absurd c
 first_fragment r (f ∷ fs) c = (f, fs, refl, c.0.index_is)
 
-front_nil : {X : Type 0} (xs ys : List X) → xs ++ ys ≡ [] → xs ≡ []
+pub front_nil : {X : Type 0} (xs ys : List X) → xs ++ ys ≡ [] → xs ≡ []
 front_nil [] ys e = refl
 front_nil (x ∷ xs) ys e = cc
 
@@ -29,7 +29,7 @@ append_longer xs ys zs e =
     nil_from_length ys (omega (arith, ap length e, length-append (xs ++ ys) zs, length-append xs ys))
 
 -- what stands behind the whole records begins with no whole record
-behind_no_record : (all : List Record) (standing : Standing) (r : Record) (behind first rest : List Fragment)
+pub behind_no_record : (all : List Record) (standing : Standing) (r : Record) (behind first rest : List Fragment)
     → Behind all standing behind → Fragments r first → behind ≡ first ++ rest → ⊥
 behind_no_record all Between r behind first rest b c e =
     let g = first_fragment r first c in
@@ -84,7 +84,7 @@ records_apart all all' (r ∷ rs) (s ∷ rs') standing standing' parts parts' be
     (ap (λ x. x ∷ rs) one.0 ∙ ap (λ l. s ∷ l) ih.0, ih.1)
 
 -- bodies are the bytes of one list of fragments each
-placed_apart : (placed placed' : List (List Fragment)) → AreBodies placed → AreBodies placed'
+pub placed_apart : (placed placed' : List (List Fragment)) → AreBodies placed → AreBodies placed'
     → map fragments_bytes placed ≡ map fragments_bytes placed' → placed ≡ placed'
 placed_apart [] [] b b' e = refl
 placed_apart [] (gs ∷ placed') b b' e = absurd (cc e)
@@ -113,7 +113,7 @@ holds_one bodies rs rs' standing standing' h h' =
 -- The front of a session.
 
 -- two lists that begin one list: one of them begins the other
-fronts : {X : Type 0} (xs ys xs' ys' : List X) → xs ++ ys ≡ xs' ++ ys' → ((more : List X) × (xs ≡ xs' ++ more)) ⊎ ((more : List X) × (more ≢ []) × (xs' ≡ xs ++ more))
+pub fronts : {X : Type 0} (xs ys xs' ys' : List X) → xs ++ ys ≡ xs' ++ ys' → ((more : List X) × (xs ≡ xs' ++ more)) ⊎ ((more : List X) × (more ≢ []) × (xs' ≡ xs ++ more))
 fronts [] ys [] ys' e = inl ([], refl)
 fronts [] ys (x ∷ xs') ys' e = inr (x ∷ xs', (λ n. cc n), refl)
 fronts (x ∷ xs) ys [] ys' e = inl (x ∷ xs, refl)
@@ -228,7 +228,7 @@ AreRecords-front : (xs ys : List Record) → AreRecords (xs ++ ys) → AreRecord
 AreRecords-front [] ys are = tt
 AreRecords-front (x ∷ xs) ys are = (are.0, AreRecords-front xs ys are.1)
 
-AreBodies-front : (xs ys : List (List Fragment)) → AreBodies (xs ++ ys) → AreBodies xs
+pub AreBodies-front : (xs ys : List (List Fragment)) → AreBodies (xs ++ ys) → AreBodies xs
 AreBodies-front [] ys are = tt
 AreBodies-front (x ∷ xs) ys are = (are.0, are.1, AreBodies-front xs ys are.2)
 
@@ -241,7 +241,7 @@ behind_of_front rs whole others Ended behind split all b =
     subst (λ l. Behind l Ended behind) (split ∙ ap (λ l. whole ++ l) (all refl) ∙ append-nil whole) b
 
 -- a list of fragments for each body, cut where the bodies are
-cut_placed : (xs ys : List (List ℕ)) (placed : List (List Fragment)) → xs ++ ys ≡ map fragments_bytes placed
+pub cut_placed : (xs ys : List (List ℕ)) (placed : List (List Fragment)) → xs ++ ys ≡ map fragments_bytes placed
     → (front : List (List Fragment)) × (back : List (List Fragment)) × (placed ≡ front ++ back) × (xs ≡ map fragments_bytes front)
 cut_placed [] ys placed e = ([], placed, refl, refl)
 cut_placed (x ∷ xs) ys [] e = absurd (cc e)

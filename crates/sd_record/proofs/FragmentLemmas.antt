@@ -39,7 +39,7 @@ fragment_apart f g xs ys f_fits g_fits f_last g_last e =
     let part = append_apart f.part g.part xs ys long size.1 in
     (same_parts f g index.0 stream.0 size.0 part.0, part.1)
 
-never_empty : (f : Fragment) (fs : List Fragment) → fragments_bytes (f ∷ fs) ≡ [] → ⊥
+pub never_empty : (f : Fragment) (fs : List Fragment) → fragments_bytes (f ∷ fs) ≡ [] → ⊥
 never_empty f fs e =
     let long : length (fragment_bytes f) + length (fragments_bytes fs) ≡ 0 =
     sym (length-append (fragment_bytes f) (fragments_bytes fs)) ∙ ap length e in

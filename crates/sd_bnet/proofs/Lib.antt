@@ -1,0 +1,4 @@
+pub mod PacketLemmas
+pub mod StreamLemmas
+pub mod FeederLemmas
+pub mod EveryStream

@@ -1,0 +1,5 @@
+pub mod Due
+pub mod Feeder
+pub mod Packet
+pub mod Step
+pub mod Stream

@@ -1,0 +1,72 @@
+// The payload of a packet is a type of its own, so that no packet is longer than a reader takes.
+ghost use Rattle.std.specs.Prelude.{◌≡◌, ◌≤◌, ◌↔◌, [], length, IsTrue, IsSome, IfSome};
+
+use sd_base::{Bytes, MOST_DATA};
+use std::marker::Model;
+
+/// The payload of a packet: at most `MOST_DATA` bytes. In a contract it is the list of its bytes.
+#[derive(Debug, Drop)]
+pub struct Payload {
+    bytes: Bytes,
+}
+
+impl Model for Payload {
+    ghost use Rattle.std.specs.Prelude.{List, ℕ, ◌≤◌, length};
+    ghost use Rattle.sd_base.specs.declared.record.TheConstants.{MOST_DATA};
+
+    ghost Value = { List ℕ };
+
+    ghost view = { λ p. p.bytes };
+
+    ghost invariant = { λ p. length p.bytes ≤ MOST_DATA };
+}
+
+impl Payload {
+    /// The payload of these bytes, or `None` where they are more than `MOST_DATA`; takes no memory.
+    pub fn new(bytes: Bytes) -> Option<Self>
+        ensures within { IsSome result ↔ (length bytes ≤ MOST_DATA) }
+        ensures bytes { IfSome result (λ payload. payload ≡ bytes) }
+    {
+        if bytes.len() > MOST_DATA {
+            return None;
+        }
+        Some(Payload { bytes })
+    }
+
+    /// The payload of bytes that are known to be few enough.
+    pub(crate) fn within(bytes: Bytes) -> Self
+        requires { length bytes ≤ MOST_DATA }
+        ensures { result ≡ bytes }
+    {
+        Payload { bytes }
+    }
+
+    pub fn as_slice(&self) -> &[u8]
+        ensures bytes { result.now ≡ self.now }
+        ensures most { length result.now ≤ MOST_DATA }
+    {
+        self.bytes.as_slice()
+    }
+
+    /// The bytes on the heap; takes no memory.
+    pub fn into_bytes(self) -> Bytes
+        ensures bytes { result ≡ self }
+        ensures most { length result ≤ MOST_DATA }
+    {
+        let Payload { bytes } = self;
+        bytes
+    }
+
+    pub fn len(&self) -> usize
+        ensures length { result ≡ length self.now }
+        ensures most { result ≤ MOST_DATA }
+    {
+        self.bytes.len()
+    }
+
+    pub fn is_empty(&self) -> bool
+        ensures { IsTrue result ↔ (self.now ≡ []) }
+    {
+        self.bytes.is_empty()
+    }
+}

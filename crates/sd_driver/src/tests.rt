@@ -1,0 +1,270 @@
+// The trait as its implementations see it: a device that is always broken, a bare one that has no volume and
+// no memory, and an enum of the two, which shows that drivers of several kinds go together.
+ghost use Rattle.std.specs.Prelude.{◌≡◌, ◌≤◌, ℕ, OnOk, None, length};
+ghost use Rattle.sd_driver.specs.Meaning.{Rose, IsHonest};
+ghost use Rattle.sd_driver.specs.Shelf.{Lasts, low_mark};
+
+use crate::{Driver, DriverFault};
+use sd_base::VolName;
+use std::test::Fail;
+
+// A device that fails every call.
+#[derive(Drop)]
+struct Broken {
+    failures: u64,
+}
+
+impl Broken {
+    fn fail(&mut self) -> DriverFault
+        ensures fault { result ≡ DriverFault.Device }
+        ensures counted { Rose self.old.failures self.new.failures }
+        ensures later { self.old.failures ≤ self.new.failures }
+    {
+        self.failures = self.failures.saturating_add(1);
+        DriverFault::Device
+    }
+}
+
+impl Driver for Broken {
+    ghost use Rattle.std.specs.Prelude.{Bool, false, None, []};
+
+    ghost meaning = { λ d. record { honest = false; shelf = record { volume = λ _. None; moment = 0; kept = λ _ _. [] }; loaded = None; failures = d.failures; told = 0 } };
+
+    fn create(&mut self, _name: &VolName) -> Result<(), DriverFault> {
+        Err(self.fail())
+    }
+
+    fn load(&mut self, _name: &VolName) -> Result<(), DriverFault> {
+        Err(self.fail())
+    }
+
+    fn unload(&mut self) {}
+
+    fn len(&mut self, _name: &VolName) -> Result<u64, DriverFault> {
+        Err(self.fail())
+    }
+
+    fn read_at(
+        &mut self,
+        _name: &VolName,
+        _at: u64,
+        _into: &mut [u8],
+    ) -> Result<usize, DriverFault> {
+        Err(self.fail())
+    }
+
+    fn append(&mut self, _bytes: &[u8]) -> Result<(), DriverFault> {
+        Err(self.fail())
+    }
+
+    fn sync(&mut self) -> Result<(), DriverFault> {
+        Err(self.fail())
+    }
+
+    fn cut(&mut self, _to: u64) -> Result<(), DriverFault> {
+        Err(self.fail())
+    }
+
+    fn failures(&self) -> u64 {
+        self.failures
+    }
+}
+
+// A device with an empty shelf, which never has memory for a volume.
+#[derive(Drop)]
+struct Bare;
+
+impl Driver for Bare {
+    ghost use Rattle.std.specs.Prelude.{true, None, []};
+
+    ghost meaning = { λ _. record { honest = true; shelf = record { volume = λ _. None; moment = 0; kept = λ _ _. [] }; loaded = None; failures = 0; told = 0 } };
+
+    fn create(&mut self, _name: &VolName) -> Result<(), DriverFault> {
+        Err(DriverFault::Memory)
+    }
+
+    fn load(&mut self, _name: &VolName) -> Result<(), DriverFault> {
+        Err(DriverFault::NotThere)
+    }
+
+    fn unload(&mut self) {}
+
+    fn len(&mut self, _name: &VolName) -> Result<u64, DriverFault> {
+        Err(DriverFault::NotThere)
+    }
+
+    fn read_at(
+        &mut self,
+        _name: &VolName,
+        _at: u64,
+        _into: &mut [u8],
+    ) -> Result<usize, DriverFault> {
+        Err(DriverFault::NotThere)
+    }
+
+    fn append(&mut self, _bytes: &[u8]) -> Result<(), DriverFault> {
+        Err(DriverFault::Memory)
+    }
+
+    fn sync(&mut self) -> Result<(), DriverFault> {
+        Ok(())
+    }
+
+    fn cut(&mut self, _to: u64) -> Result<(), DriverFault> {
+        Ok(())
+    }
+
+    fn failures(&self) -> u64 {
+        0
+    }
+}
+
+// Either of the two.
+#[derive(Drop)]
+enum Either {
+    Broken(Broken),
+    Bare(Bare),
+}
+
+impl Driver for Either {
+    ghost use Rattle.sd_driver.specs.declared.tests.Either.TheVariants.{Broken, Bare};
+
+    ghost meaning = { λ d. elim d [ Broken b ↦ ⟦<Broken as Driver>⟧.meaning b | Bare b ↦ ⟦<Bare as Driver>⟧.meaning b ] };
+
+    fn create(&mut self, name: &VolName) -> Result<(), DriverFault> {
+        match self {
+            Either::Broken(driver) => driver.create(name),
+            Either::Bare(driver) => driver.create(name),
+        }
+    }
+
+    fn load(&mut self, name: &VolName) -> Result<(), DriverFault> {
+        match self {
+            Either::Broken(driver) => driver.load(name),
+            Either::Bare(driver) => driver.load(name),
+        }
+    }
+
+    fn unload(&mut self) {
+        match self {
+            Either::Broken(driver) => driver.unload(),
+            Either::Bare(driver) => driver.unload(),
+        }
+    }
+
+    fn len(&mut self, name: &VolName) -> Result<u64, DriverFault> {
+        match self {
+            Either::Broken(driver) => driver.len(name),
+            Either::Bare(driver) => driver.len(name),
+        }
+    }
+
+    fn read_at(&mut self, name: &VolName, at: u64, into: &mut [u8]) -> Result<usize, DriverFault> {
+        match self {
+            Either::Broken(driver) => driver.read_at(name, at, into),
+            Either::Bare(driver) => driver.read_at(name, at, into),
+        }
+    }
+
+    fn append(&mut self, bytes: &[u8]) -> Result<(), DriverFault> {
+        match self {
+            Either::Broken(driver) => driver.append(bytes),
+            Either::Bare(driver) => driver.append(bytes),
+        }
+    }
+
+    fn sync(&mut self) -> Result<(), DriverFault> {
+        match self {
+            Either::Broken(driver) => driver.sync(),
+            Either::Bare(driver) => driver.sync(),
+        }
+    }
+
+    fn cut(&mut self, to: u64) -> Result<(), DriverFault> {
+        match self {
+            Either::Broken(driver) => driver.cut(to),
+            Either::Bare(driver) => driver.cut(to),
+        }
+    }
+
+    fn failures(&self) -> u64 {
+        match self {
+            Either::Broken(driver) => driver.failures(),
+            Either::Bare(driver) => driver.failures(),
+        }
+    }
+}
+
+// What a caller of any driver sees: the faults of the calls that it may make while nothing is loaded.
+fn faults<D: Driver>(driver: &mut D, name: &VolName) -> [Option<DriverFault>; 4]
+    requires { (D.meaning driver.old).loaded ≡ None }
+{
+    let mut buffer = [0; 4];
+    let created = driver.create(name).err();
+    driver.unload();
+    let loaded = driver.load(name).err();
+    driver.unload();
+    let length = driver.len(name).err();
+    let read = driver.read_at(name, 0, &mut buffer).err();
+    [created, loaded, length, read]
+}
+
+// What a caller of any honest driver concludes: bytes that were synced last, over whatever else it does with
+// the device, and a low mark says so.
+fn keep<D: Driver>(
+    driver: &mut D,
+    name: &VolName,
+    other: &VolName,
+    bytes: &[u8],
+) -> Result<(), DriverFault>
+    requires honest { IsHonest (D.meaning driver.old) }
+    requires loaded { (D.meaning driver.old).loaded ≡ None }
+    ensures { OnOk result ((since : ℕ) × Lasts since name.now bytes.now (D.meaning driver.new).shelf
+        × (length bytes.now ≤ low_mark (D.meaning driver.new).shelf since name.now)) }
+{
+    driver.create(name)?;
+    driver.append(bytes)?;
+    driver.sync()?;
+    driver.unload();
+    driver.create(other)?;
+    driver.append(bytes)?;
+    driver.cut(bytes.len() as u64)?;
+    driver.unload();
+    Ok(())
+}
+
+#[test]
+fn kinds_go_together(rt: HostRuntime) -> Result<(), Fail> {
+    let name = VolName::parse("Vol-0001")?;
+    let mut broken = Either::Broken(Broken { failures: 0 });
+    let device = Some(DriverFault::Device);
+    assert_eq!(rt;
+        faults(&mut broken, &name),
+        [device, device, device, device]
+    );
+    assert_eq!(rt; broken.failures(), 4);
+
+    let mut bare = Either::Bare(Bare);
+    let gone = Some(DriverFault::NotThere);
+    assert_eq!(rt;
+        faults(&mut bare, &name),
+        [Some(DriverFault::Memory), gone, gone, gone]
+    );
+    assert_eq!(rt; bare.failures(), 0);
+
+    let mut bare = Either::Bare(Bare);
+    assert_eq!(rt;
+        keep(&mut bare, &name, &name, &[1]).err(),
+        Some(DriverFault::Memory)
+    );
+    Ok(())
+}
+
+#[test]
+fn failures_stay_at_the_greatest(rt: HostRuntime) -> Result<(), Fail> {
+    let name = VolName::parse("Vol-0001")?;
+    let mut broken = Broken { failures: u64::MAX };
+    assert_eq!(rt; broken.len(&name).err(), Some(DriverFault::Device));
+    assert_eq!(rt; broken.failures(), u64::MAX);
+    Ok(())
+}

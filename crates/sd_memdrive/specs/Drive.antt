@@ -1,0 +1,41 @@
+-- What a drive in memory is, as a device.
+use Rattle.std.specs.Prelude.{◌≡◌, ◌≤◌, ◌<◌, ◌+◌, ℕ, true, List, length, None, Some}
+use Rattle.sd_driver.specs.Shelf.{Shelf, Held, stable_bytes}
+use Rattle.sd_driver.specs.Meaning.{Meaning, IsHonest}
+use Rattle.sd_memdrive.specs.Record.{shelf_of}
+use Rattle.sd_memdrive.specs.declared.store.Store.{Store}
+use Rattle.sd_memdrive.specs.declared.drive.MemDrive.{MemDrive}
+use Rattle.sd_memdrive.specs.declared.plan.Fail.{Fail}
+
+-- the shelf of a store
+abbrev pub store_shelf : Store → Shelf
+store_shelf store = shelf_of store.volumes.items store.changes.items
+
+-- the meaning of a drive: it is honest
+abbrev pub meaning_of : MemDrive → Meaning
+meaning_of drive = record { honest = true; shelf = store_shelf drive.store; loaded = drive.loaded; failures = drive.failures; told = drive.told }
+
+-- no call was made of the device yet
+pub record IsUnused (meaning : Meaning) : Type 0 where
+  pub honest : IsHonest meaning
+  pub moment : meaning.shelf.moment ≡ 0
+  pub now : (name : List ℕ) → meaning.shelf.kept 0 name ≡ stable_bytes (meaning.shelf.volume name)
+  pub loaded : meaning.loaded ≡ None
+  pub failures : meaning.failures ≡ 0
+  pub told : meaning.told ≡ 0
+
+-- the plan that a drive was made with
+abbrev pub plan_of : MemDrive → List Fail
+plan_of drive = drive.plan.fails.items
+
+-- how many bytes each of its volumes has room for
+abbrev pub capacity_of : MemDrive → ℕ
+capacity_of drive = drive.capacity
+
+-- the loaded volume has room for these bytes
+abbrev pub HasRoom : List ℕ → MemDrive → Type 0
+HasRoom more drive = (name : List ℕ) (held : Held) → drive.loaded ≡ Some name → (store_shelf drive.store).volume name ≡ Some held → length held.bytes + length more ≤ drive.capacity
+
+-- it lacks that room
+abbrev pub LacksRoom : List ℕ → MemDrive → Type 0
+LacksRoom more drive = (name : List ℕ) (held : Held) → drive.loaded ≡ Some name → (store_shelf drive.store).volume name ≡ Some held → drive.capacity < length held.bytes + length more

@@ -1,0 +1,4 @@
+pub mod Volumes
+pub mod Record
+pub mod Plan
+pub mod Drive

@@ -1,0 +1,275 @@
+// A drive in memory, as a device.
+ghost use Rattle.std.specs.Prelude.{◌≡◌, ◌≢◌, ◌↔◌, ◌≤◌, ◌<◌, ◌-◌, ◌^◌, None, Some, IfOk, IfErr, OnOk, OnErr, IsOk, IsSome, IsTrue, IsErrOf, ◌+◌, length, [], vec_len};
+ghost use Rattle.std.specs.Option.{ForSome};
+ghost use Rattle.sd_driver.specs.Meaning.{Rose};
+ghost use Rattle.sd_memdrive.specs.Plan.{part_of, works};
+ghost use Rattle.sd_memdrive.specs.Volumes.{volume_of, IsPlaceOf};
+
+use crate::plan::{Call, Fail, Plan, When};
+use crate::stop::left_all;
+use crate::store::Store;
+use crate::stored::Stored;
+use sd_base::VolName;
+use sd_driver::{Driver, DriverFault};
+use std::alloc::{AllocError, Global};
+
+/// A drive in memory. Each volume has room for `capacity` bytes; calls fail as the plan says. It is honest.
+///
+/// It keeps a record of the calls that changed its shelf, each with the volume's name and two numbers
+/// (about 200 bytes), and of the stable bytes that a cut took away a copy. Bytes that no cut takes away are
+/// stored once.
+#[derive(Drop)]
+pub struct MemDrive {
+    store: Store,
+    capacity: u64,
+    loaded: Option<VolName>,
+    failures: u64,
+    told: u64,
+    plan: Plan,
+    ghost there: { ForSome loaded (λ name. volume_of store.volumes.items name ≢ None) },
+}
+
+impl MemDrive {
+    ghost use Rattle.sd_driver.specs.Shelf.{AfterStop};
+    ghost use Rattle.sd_memdrive.specs.Record.{left_of};
+    ghost use Rattle.sd_memdrive.specs.Drive.{meaning_of, IsUnused, plan_of, capacity_of};
+
+    /// A drive with no volume, with room for `capacity` bytes in each that will be made. Its calls fail as
+    /// `plan` says.
+    pub fn new(alloc: Global, capacity: u64, plan: &[Fail]) -> Result<MemDrive, AllocError>
+        ensures unused { IfOk result (λ drive. IsUnused (meaning_of drive)) }
+        ensures empty { IfOk result (λ drive. (name : _) → (meaning_of drive).shelf.volume name ≡ None) }
+        ensures capacity { IfOk result (λ drive. capacity_of drive ≡ capacity) }
+        ensures plan { IfOk result (λ drive. plan_of drive ≡ plan.now) }
+    {
+        Ok(MemDrive {
+            store: Store::new(alloc),
+            capacity,
+            loaded: None,
+            failures: 0,
+            told: 0,
+            plan: Plan::new(alloc, plan)?,
+        })
+    }
+
+    /// How many calls changed the shelf: each create, append, sync and cut that changed a name, bytes or a
+    /// stable length.
+    pub fn calls(&self) -> u64
+        ensures { result ≡ (meaning_of self.now).shelf.moment }
+    {
+        self.store.changes.len() as u64
+    }
+
+    /// The drive after a stop that came after the first `calls` of them: each volume has the bytes that were
+    /// stable then, followed by `tail`, which is not stable; those with no stable byte are missing. Nothing
+    /// is loaded, and no plan is left. Costs what it copies, and a look at each later entry of the record
+    /// for each volume.
+    pub fn after_stop(&self, alloc: Global, calls: u64, tail: &[u8]) -> Result<MemDrive, AllocError>
+        requires { calls ≤ (meaning_of self.now).shelf.moment }
+        ensures unused { IfOk result (λ drive. IsUnused (meaning_of drive)) }
+        ensures left { IfOk result (λ drive. (name : _) → (meaning_of drive).shelf.volume name
+            ≡ left_of ((meaning_of self.now).shelf.kept calls name) tail.now) }
+        ensures capacity { IfOk result (λ drive. capacity_of drive ≡ capacity_of self.now) }
+        ensures plan { IfOk result (λ drive. plan_of drive ≡ []) }
+        ensures stop { IfOk result (λ drive. AfterStop calls (meaning_of self.now).shelf (meaning_of drive).shelf) }
+    {
+        let later = &self.store.changes[calls as usize..];
+        let volumes = left_all(alloc, &self.store.volumes, later, tail)?;
+        Ok(MemDrive {
+            store: Store::of(alloc, volumes)?,
+            capacity: self.capacity,
+            loaded: None,
+            failures: 0,
+            told: 0,
+            plan: Plan::new(alloc, &[])?,
+        })
+    }
+
+    // The loaded volume's name, and where the volume stands.
+    fn loaded_place(&self) -> (VolName, usize)
+        requires { IsSome self.now.loaded }
+        ensures loaded { self.now.loaded ≡ Some result.0 }
+        ensures place { IsPlaceOf result.0 self.now.store.volumes.items result.1 }
+        ensures within { result.1 < vec_len self.now.store.volumes }
+    {
+        let name = self.loaded.as_ref().unwrap().copy();
+        let place = self.store.place_of(&name).unwrap();
+        (name, place)
+    }
+}
+
+impl Driver for MemDrive {
+    ghost use Rattle.sd_driver.specs.Shelf.{Passes, KeepsStable, Appends, MayAppend};
+    ghost use Rattle.sd_driver.specs.Meaning.{IsHonest, Counts, Unchanged};
+    ghost use Rattle.sd_memdrive.specs.Drive.{meaning_of, HasRoom, LacksRoom};
+
+    ghost meaning = { meaning_of };
+
+    fn create(&mut self, name: &VolName) -> Result<(), DriverFault> {
+        let due = self.plan.strike(Call::Create);
+        begin(&mut self.failures, Call::Create, due)?;
+        let None = self.store.place_of(name) else {
+            return Err(DriverFault::Exists);
+        };
+        let Ok(()) = self.store.create(name) else {
+            return Err(DriverFault::Memory);
+        };
+        finish(&mut self.failures, due)?;
+        self.loaded = Some(name.copy());
+        Ok(())
+    }
+
+    fn load(&mut self, name: &VolName) -> Result<(), DriverFault> {
+        let due = self.plan.strike(Call::Load);
+        begin(&mut self.failures, Call::Load, due)?;
+        let Some(_) = self.store.place_of(name) else {
+            return Err(DriverFault::NotThere);
+        };
+        finish(&mut self.failures, due)?;
+        self.loaded = Some(name.copy());
+        Ok(())
+    }
+
+    fn unload(&mut self) {
+        self.loaded = None;
+    }
+
+    fn len(&mut self, name: &VolName) -> Result<u64, DriverFault> {
+        let due = self.plan.strike(Call::Len);
+        begin(&mut self.failures, Call::Len, due)?;
+        let Some(place) = self.store.place_of(name) else {
+            return Err(DriverFault::NotThere);
+        };
+        finish(&mut self.failures, due)?;
+        Ok(self.store.volumes[place].len() as u64)
+    }
+
+    fn read_at(&mut self, name: &VolName, at: u64, into: &mut [u8]) -> Result<usize, DriverFault> {
+        let due = self.plan.strike(Call::Read);
+        begin(&mut self.failures, Call::Read, due)?;
+        let Some(place) = self.store.place_of(name) else {
+            return Err(DriverFault::NotThere);
+        };
+        let count = self.store.volumes[place].read(at as usize, into);
+        finish(&mut self.failures, due)?;
+        Ok(count)
+    }
+
+    #[tactic(auto, using(crate::proofs::Exits::may_append_same, crate::proofs::Exits::may_append_done))]
+    fn append(&mut self, bytes: &[u8]) -> Result<(), DriverFault>
+        requires { IsSome (meaning_of self.old).loaded }
+        ensures counts { Counts result (meaning_of self.old) (meaning_of self.new) }
+        ensures faults { IfErr result (λ fault. (fault ≢ DriverFault.NotThere) × (fault ≢ DriverFault.Exists)) }
+        ensures memory { IsErrOf result DriverFault.Memory → Unchanged (meaning_of self.old) (meaning_of self.new) }
+        ensures passes { Passes (meaning_of self.old).shelf (meaning_of self.new).shelf }
+        ensures stable { KeepsStable (meaning_of self.old).shelf (meaning_of self.new).shelf }
+        ensures loaded { (meaning_of self.new).loaded ≡ (meaning_of self.old).loaded }
+
+        ensures ok { IsHonest (meaning_of self.old) → OnOk result
+            (Appends bytes.now (meaning_of self.old).loaded (meaning_of self.old).shelf (meaning_of self.new).shelf) }
+        ensures err { IsHonest (meaning_of self.old) → OnErr result
+            (MayAppend (meaning_of self.old).loaded (meaning_of self.old).shelf (meaning_of self.new).shelf) }
+
+        // This drive is full exactly where the volume would pass the capacity.
+        ensures room { OnOk result (HasRoom bytes.now self.old) }
+        ensures no_room { IsErrOf result DriverFault.NoRoom → LacksRoom bytes.now self.old }
+    {
+        let due = self.plan.strike(Call::Append);
+        begin(&mut self.failures, Call::Append, due)?;
+        let (name, place) = self.loaded_place();
+        if !has_room(&self.store.volumes[place], self.capacity, bytes) {
+            self.told = self.told.saturating_add(1);
+            return Err(DriverFault::NoRoom);
+        }
+        let Ok(()) = self.store.append(&name, place, part(due, bytes)) else {
+            return Err(DriverFault::Memory);
+        };
+        finish(&mut self.failures, due)
+    }
+
+    fn sync(&mut self) -> Result<(), DriverFault> {
+        let due = self.plan.strike(Call::Sync);
+        begin(&mut self.failures, Call::Sync, due)?;
+        let (name, place) = self.loaded_place();
+        self.store.sync(&name, place);
+        finish(&mut self.failures, due)
+    }
+
+    #[tactic(auto, using(crate::proofs::Exits::may_cut_same, crate::proofs::Exits::may_cut_done, crate::proofs::Exits::keeps_to_same))]
+    fn cut(&mut self, to: u64) -> Result<(), DriverFault> {
+        let due = self.plan.strike(Call::Cut);
+        begin(&mut self.failures, Call::Cut, due)?;
+        let (name, place) = self.loaded_place();
+        let Ok(()) = self.store.cut(&name, place, to as usize) else {
+            return Err(DriverFault::Memory);
+        };
+        finish(&mut self.failures, due)
+    }
+
+    fn failures(&self) -> u64 {
+        self.failures
+    }
+}
+
+// A call that is to fail so begins: it fails at once where the plan has it fail before its work, and where no
+// failure can be counted any more.
+fn begin(failures: &mut u64, call: Call, due: Option<When>) -> Result<(), DriverFault>
+    ensures done { IsOk result ↔ ((failures.old ≢ 2 ^ 64 - 1) × IsTrue (works call due)) }
+    ensures ok { OnOk result ((failures.new ≡ failures.old) × (failures.new < 2 ^ 64 - 1)) }
+    ensures err { IfErr result (λ fault. fault ≡ DriverFault.Device) }
+    ensures counted { OnErr result (Rose failures.old failures.new) }
+    ensures later { failures.old ≤ failures.new }
+{
+    let works = match due {
+        None | Some(When::After) => true,
+        Some(When::Half) => call == Call::Append,
+        Some(When::Before) => false,
+    };
+    if !works || *failures == u64::MAX {
+        return Err(fail(failures));
+    }
+    Ok(())
+}
+
+// The answer of a call that has done its work.
+fn finish(failures: &mut u64, due: Option<When>) -> Result<(), DriverFault>
+    requires { failures.old < 2 ^ 64 - 1 }
+    ensures done { IsOk result ↔ (due ≡ None) }
+    ensures ok { OnOk result (failures.new ≡ failures.old) }
+    ensures err { IfErr result (λ fault. fault ≡ DriverFault.Device) }
+    ensures counted { OnErr result (Rose failures.old failures.new) }
+    ensures later { failures.old ≤ failures.new }
+{
+    match due {
+        None => Ok(()),
+        Some(_) => Err(fail(failures)),
+    }
+}
+
+// Counts a failure.
+fn fail(failures: &mut u64) -> DriverFault
+    ensures fault { result ≡ DriverFault.Device }
+    ensures counted { Rose failures.old failures.new }
+    ensures later { failures.old ≤ failures.new }
+{
+    *failures = failures.saturating_add(1);
+    DriverFault::Device
+}
+
+// What of an append goes out, where it is to fail so.
+fn part(due: Option<When>, bytes: &[u8]) -> &[u8]
+    ensures { result.now ≡ part_of due bytes.now }
+{
+    match due {
+        Some(When::Half) => &bytes[..bytes.len() / 2],
+        _ => bytes,
+    }
+}
+
+// Whether a volume has room for more bytes.
+fn has_room(stored: &Stored, capacity: u64, bytes: &[u8]) -> bool
+    ensures { IsTrue result ↔ (length stored.now.held.bytes + length bytes.now ≤ capacity) }
+{
+    let held = stored.len() as u64;
+    held <= capacity && bytes.len() as u64 <= capacity - held
+}

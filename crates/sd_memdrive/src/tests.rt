@@ -1,0 +1,307 @@
+// The drive against a plain model, through the trait's bound: every call failing in every way, and a stop after
+// every call.
+ghost use Rattle.std.specs.Prelude.{◌≡◌, false, None, IsTrue, IsSome};
+
+mod memory;
+mod table;
+
+use crate::{Call, Fail, MemDrive, When};
+use sd_base::VolName;
+use sd_driver::{Driver, DriverFault};
+use std::alloc::{AllocError, Global};
+use std::process::Abort;
+use std::test::Fail as TestFail;
+use table::{APPEND, CREATE, CUT, LEN, LOAD, NO_FAILURE, READ, STOPS, SYNC};
+
+// A driver of any kind on a bench, which keeps in mind whether a volume is loaded.
+#[derive(Drop)]
+struct Bench<D: Driver + Drop> {
+    driver: D,
+    loaded: bool,
+    ghost some: { IsTrue loaded → IsSome (D.meaning driver).loaded },
+    ghost none: { loaded ≡ false → (D.meaning driver).loaded ≡ None },
+}
+
+// A step of a history. Names go by a letter.
+#[derive(Clone, Copy)]
+enum Step {
+    Create(char),
+    Load(char),
+    Unload,
+    Len(char),
+    Read(char, u64),
+    Append(&'static [u8]),
+    Sync,
+    Cut(u64),
+}
+
+const HISTORY: [Step; 26] = [
+    Step::Create('A'),
+    Step::Append(&[1, 2, 3, 4, 5]),
+    Step::Sync,
+    Step::Unload,
+    Step::Create('B'),
+    Step::Append(&[6, 7]),
+    Step::Append(&[8, 9, 10, 11, 12, 13, 14]),
+    Step::Sync,
+    Step::Cut(1),
+    Step::Unload,
+    Step::Create('A'),
+    Step::Load('C'),
+    Step::Len('C'),
+    Step::Read('C', 0),
+    Step::Load('A'),
+    Step::Append(&[20, 21, 22]),
+    Step::Append(&[23]),
+    Step::Cut(6),
+    Step::Len('A'),
+    Step::Read('A', 2),
+    Step::Sync,
+    Step::Append(&[30]),
+    Step::Cut(3),
+    Step::Unload,
+    Step::Len('B'),
+    Step::Read('B', 0),
+];
+
+fn named(letter: char) -> Result<VolName, TestFail> {
+    let name = match letter {
+        'A' => VolName::parse("A")?,
+        'B' => VolName::parse("B")?,
+        _ => VolName::parse("C")?,
+    };
+    Ok(name)
+}
+
+fn letter_of(fault: DriverFault) -> char {
+    match fault {
+        DriverFault::NotThere => 'N',
+        DriverFault::Exists => 'E',
+        DriverFault::NoRoom => 'R',
+        DriverFault::Device => 'D',
+        DriverFault::Memory => 'M',
+    }
+}
+
+fn tell(text: &mut String, answer: Result<(), DriverFault>) -> Result<(), AllocError> {
+    match answer {
+        Ok(()) => text.push('.'),
+        Err(fault) => text.push(letter_of(fault)),
+    }
+}
+
+impl<D: Driver + Drop> Bench<D> {
+    fn create(&mut self, text: &mut String, name: &VolName) -> Result<(), AllocError> {
+        if self.loaded {
+            return text.push('s');
+        }
+        let answer = self.driver.create(name);
+        self.loaded = answer.is_ok();
+        tell(text, answer)
+    }
+
+    fn load(&mut self, text: &mut String, name: &VolName) -> Result<(), AllocError> {
+        if self.loaded {
+            return text.push('s');
+        }
+        let answer = self.driver.load(name);
+        self.loaded = answer.is_ok();
+        tell(text, answer)
+    }
+
+    fn unload(&mut self, text: &mut String) -> Result<(), AllocError> {
+        self.driver.unload();
+        self.loaded = false;
+        text.push('.')
+    }
+
+    fn len(&mut self, text: &mut String, name: &VolName) -> Result<(), AllocError> {
+        match self.driver.len(name) {
+            Ok(length) => write!(text, "{length}"),
+            Err(fault) => text.push(letter_of(fault)),
+        }
+    }
+
+    fn read(
+        &mut self,
+        text: &mut String,
+        name: &VolName,
+        at: u64,
+        most: &mut [u8],
+    ) -> Result<(), AllocError> {
+        match self.driver.read_at(name, at, most) {
+            Ok(count) => {
+                let bytes = &most[..count];
+                write!(text, "{bytes:?}")
+            }
+            Err(fault) => text.push(letter_of(fault)),
+        }
+    }
+
+    fn append(&mut self, text: &mut String, bytes: &[u8]) -> Result<(), AllocError> {
+        if !self.loaded {
+            return text.push('s');
+        }
+        let answer = self.driver.append(bytes);
+        tell(text, answer)
+    }
+
+    fn sync(&mut self, text: &mut String) -> Result<(), AllocError> {
+        if !self.loaded {
+            return text.push('s');
+        }
+        let answer = self.driver.sync();
+        tell(text, answer)
+    }
+
+    fn cut(&mut self, text: &mut String, to: u64) -> Result<(), AllocError> {
+        if !self.loaded {
+            return text.push('s');
+        }
+        let answer = self.driver.cut(to);
+        tell(text, answer)
+    }
+
+    fn step(&mut self, text: &mut String, step: Step) -> Result<(), TestFail> {
+        match step {
+            Step::Create(name) => self.create(text, &named(name)?)?,
+            Step::Load(name) => self.load(text, &named(name)?)?,
+            Step::Unload => self.unload(text)?,
+            Step::Len(name) => self.len(text, &named(name)?)?,
+            Step::Read(name, at) => self.read(text, &named(name)?, at, &mut [0; 4])?,
+            Step::Append(bytes) => self.append(text, bytes)?,
+            Step::Sync => self.sync(text)?,
+            Step::Cut(to) => self.cut(text, to)?,
+        }
+        text.push(' ')?;
+        Ok(())
+    }
+
+    fn shelf(&mut self, text: &mut String) -> Result<(), TestFail> {
+        let mut buffer = [0; 16];
+        text.push_str("A=")?;
+        self.read(text, &named('A')?, 0, &mut buffer)?;
+        text.push_str(" B=")?;
+        self.read(text, &named('B')?, 0, &mut buffer)?;
+        Ok(())
+    }
+}
+
+fn make_bench(alloc: Global, plan: &[Fail]) -> Result<Bench<MemDrive>, AllocError> {
+    Ok(Bench {
+        driver: MemDrive::new(alloc, 8, plan)?,
+        loaded: false,
+    })
+}
+
+// The shelf that a stop after so many counted calls leaves.
+fn stopped(
+    alloc: Global,
+    text: &mut String,
+    drive: &MemDrive,
+    calls: u64,
+    tail: &[u8],
+) -> Result<(), TestFail> {
+    if calls > drive.calls() {
+        return Ok(());
+    }
+    let mut left = Bench {
+        driver: drive.after_stop(alloc, calls, tail)?,
+        loaded: false,
+    };
+    left.shelf(text)
+}
+
+// The history under a plan, told as the tables tell it.
+fn history(alloc: Global, plan: &[Fail]) -> Result<String, TestFail> {
+    let mut text = String::new(alloc);
+    let mut bench = make_bench(alloc, plan)?;
+    for step in HISTORY {
+        bench.step(&mut text, step)?;
+    }
+    text.push_str("| ")?;
+    bench.shelf(&mut text)?;
+    text.push_str(" | ")?;
+    let calls = bench.driver.calls();
+    stopped(alloc, &mut text, &bench.driver, calls, &[])?;
+    let failures = bench.driver.failures();
+    write!(text, " | {failures} {calls}")?;
+    Ok(text)
+}
+
+fn check(
+    rt: &impl Abort,
+    alloc: Global,
+    call: Call,
+    rows: &[(u64, When, &str)],
+) -> Result<(), TestFail> {
+    for (nth, when, expected) in rows {
+        let plan = [Fail {
+            call,
+            nth: *nth,
+            when: *when,
+        }];
+        let told = history(alloc, &plan)?;
+        assert_eq!(rt; told.as_str(), *expected);
+    }
+    Ok(())
+}
+
+#[test]
+fn no_call_fails(rt: HostRuntime) -> Result<(), TestFail> {
+    assert_eq!(rt; history(rt.alloc(), &[])?.as_str(), NO_FAILURE);
+    Ok(())
+}
+
+#[test]
+fn every_call_fails(rt: HostRuntime) -> Result<(), TestFail> {
+    let alloc = rt.alloc();
+    check(&rt, alloc, Call::Create, &CREATE)?;
+    check(&rt, alloc, Call::Load, &LOAD)?;
+    check(&rt, alloc, Call::Len, &LEN)?;
+    check(&rt, alloc, Call::Read, &READ)?;
+    check(&rt, alloc, Call::Append, &APPEND)?;
+    check(&rt, alloc, Call::Sync, &SYNC)?;
+    check(&rt, alloc, Call::Cut, &CUT)
+}
+
+#[test]
+fn stop_after_every_call(rt: HostRuntime) -> Result<(), TestFail> {
+    let alloc = rt.alloc();
+    let mut text = String::new(alloc);
+    let mut bench = make_bench(alloc, &[])?;
+    for step in HISTORY {
+        bench.step(&mut text, step)?;
+    }
+    assert_eq!(rt; bench.driver.calls() as usize + 1, STOPS.len());
+    for (calls, expected) in STOPS.iter().enumerate() {
+        let mut left = String::new(alloc);
+        stopped(alloc, &mut left, &bench.driver, calls as u64, &[0, 0])?;
+        assert_eq!(rt; left.as_str(), *expected);
+    }
+    Ok(())
+}
+
+// A tail that a stop left is made stable by a sync, as any other bytes.
+#[test]
+fn tail_is_synced(rt: HostRuntime) -> Result<(), TestFail> {
+    let alloc = rt.alloc();
+    let mut text = String::new(alloc);
+    let mut bench = make_bench(alloc, &[])?;
+    let name = named('A')?;
+    bench.create(&mut text, &name)?;
+    bench.append(&mut text, &[1, 2])?;
+    bench.sync(&mut text)?;
+    assert_eq!(rt; bench.driver.calls(), 3);
+    let mut left = Bench {
+        driver: bench.driver.after_stop(alloc, 3, &[9])?,
+        loaded: false,
+    };
+    stopped(alloc, &mut text, &left.driver, 0, &[])?;
+    left.load(&mut text, &name)?;
+    left.sync(&mut text)?;
+    assert_eq!(rt; left.driver.calls(), 1);
+    stopped(alloc, &mut text, &left.driver, 1, &[])?;
+    assert_eq!(rt; text.as_str(), "...A=[1, 2] B=N..A=[1, 2, 9] B=N");
+    Ok(())
+}

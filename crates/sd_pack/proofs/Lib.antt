@@ -1,0 +1,5 @@
+pub mod BodyLemmas
+pub mod KeptLemmas
+pub mod PackedLabelLemmas
+pub mod PackingLemmas
+pub mod PlacedLemmas

@@ -1,0 +1,4 @@
+pub mod Stage
+pub mod Unpacking
+pub mod Damage
+pub mod Batch
