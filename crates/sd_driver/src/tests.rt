@@ -11,6 +11,7 @@ use std::test::Fail;
 // A device that fails every call.
 #[derive(Drop)]
 struct Broken {
+    loaded: Option<VolName>,
     failures: u64,
 }
 
@@ -19,6 +20,7 @@ impl Broken {
         ensures fault { result ≡ DriverFault.Device }
         ensures counted { Rose self.old.failures self.new.failures }
         ensures later { self.old.failures ≤ self.new.failures }
+        ensures loaded { self.new.loaded ≡ self.old.loaded }
     {
         self.failures = self.failures.saturating_add(1);
         DriverFault::Device
@@ -28,7 +30,7 @@ impl Broken {
 impl Driver for Broken {
     ghost use Rattle.std.specs.Prelude.{Bool, false, None, []};
 
-    ghost meaning = { λ d. record { honest = false; shelf = record { volume = λ _. None; moment = 0; kept = λ _ _. [] }; loaded = None; failures = d.failures; told = 0 } };
+    ghost meaning = { λ d. record { honest = false; shelf = record { volume = λ _. None; moment = 0; kept = λ _ _. [] }; loaded = d.loaded; failures = d.failures; told = 0 } };
 
     fn create(&mut self, _name: &VolName) -> Result<(), DriverFault> {
         Err(self.fail())
@@ -38,7 +40,9 @@ impl Driver for Broken {
         Err(self.fail())
     }
 
-    fn unload(&mut self) {}
+    fn unload(&mut self) {
+        self.loaded = None;
+    }
 
     fn len(&mut self, _name: &VolName) -> Result<u64, DriverFault> {
         Err(self.fail())
@@ -72,12 +76,14 @@ impl Driver for Broken {
 
 // A device with an empty shelf, which never has memory for a volume.
 #[derive(Drop)]
-struct Bare;
+struct Bare {
+    loaded: Option<VolName>,
+}
 
 impl Driver for Bare {
     ghost use Rattle.std.specs.Prelude.{true, None, []};
 
-    ghost meaning = { λ _. record { honest = true; shelf = record { volume = λ _. None; moment = 0; kept = λ _ _. [] }; loaded = None; failures = 0; told = 0 } };
+    ghost meaning = { λ d. record { honest = true; shelf = record { volume = λ _. None; moment = 0; kept = λ _ _. [] }; loaded = d.loaded; failures = 0; told = 0 } };
 
     fn create(&mut self, _name: &VolName) -> Result<(), DriverFault> {
         Err(DriverFault::Memory)
@@ -87,7 +93,9 @@ impl Driver for Bare {
         Err(DriverFault::NotThere)
     }
 
-    fn unload(&mut self) {}
+    fn unload(&mut self) {
+        self.loaded = None;
+    }
 
     fn len(&mut self, _name: &VolName) -> Result<u64, DriverFault> {
         Err(DriverFault::NotThere)
@@ -236,7 +244,10 @@ fn keep<D: Driver>(
 #[test]
 fn kinds_go_together(rt: HostRuntime) -> Result<(), Fail> {
     let name = VolName::parse("Vol-0001")?;
-    let mut broken = Either::Broken(Broken { failures: 0 });
+    let mut broken = Either::Broken(Broken {
+        loaded: None,
+        failures: 0,
+    });
     let device = Some(DriverFault::Device);
     assert_eq!(rt;
         faults(&mut broken, &name),
@@ -244,7 +255,7 @@ fn kinds_go_together(rt: HostRuntime) -> Result<(), Fail> {
     );
     assert_eq!(rt; broken.failures(), 4);
 
-    let mut bare = Either::Bare(Bare);
+    let mut bare = Either::Bare(Bare { loaded: None });
     let gone = Some(DriverFault::NotThere);
     assert_eq!(rt;
         faults(&mut bare, &name),
@@ -252,7 +263,7 @@ fn kinds_go_together(rt: HostRuntime) -> Result<(), Fail> {
     );
     assert_eq!(rt; bare.failures(), 0);
 
-    let mut bare = Either::Bare(Bare);
+    let mut bare = Either::Bare(Bare { loaded: None });
     assert_eq!(rt;
         keep(&mut bare, &name, &name, &[1]).err(),
         Some(DriverFault::Memory)
@@ -263,7 +274,10 @@ fn kinds_go_together(rt: HostRuntime) -> Result<(), Fail> {
 #[test]
 fn failures_stay_at_the_greatest(rt: HostRuntime) -> Result<(), Fail> {
     let name = VolName::parse("Vol-0001")?;
-    let mut broken = Broken { failures: u64::MAX };
+    let mut broken = Broken {
+        loaded: None,
+        failures: u64::MAX,
+    };
     assert_eq!(rt; broken.len(&name).err(), Some(DriverFault::Device));
     assert_eq!(rt; broken.failures(), u64::MAX);
     Ok(())
