@@ -1,0 +1,115 @@
+-- What a session's steps do, from what its packer's calls do.
+use Rattle.std.proofs.Common.{◌≡◌, ◌≢◌, ℕ, ◌+◌, ◌≤◌, arith, refl, sym, ap, subst, ◌∙◌, List, [], ◌∷◌, ◌++◌, length}
+use Rattle.std.specs.Prelude.{◌↔◌, ℤ, Option, Some, None, IsSome, IfNone}
+use Rattle.std.specs.Option.{option_to_list}
+use Rattle.std.proofs.lemmas.List.{append_assoc, append-nil}
+use Rattle.std.proofs.lemmas.Grind.{flat_map-append}
+use Rattle.sd_base.specs.Record.{Record}
+use Rattle.sd_label.specs.declared.label.SessionLabel.{SessionLabel}
+use Rattle.sd_label.specs.Label.{IsSessionLabel, session_label_bytes}
+use Rattle.sd_label.specs.Cutting.{Standing, Between, Ended as WithEnd, IsEnd, total_bytes}
+use Rattle.sd_pack.specs.Body.{PackedBody, empty_body}
+use Rattle.sd_pack.specs.Packing.{PackerView, Packs, HasOpen, bodies_of, unless_empty, all_bytes, PacksRecord, PacksEnd, AddsLabel}
+use Rattle.sd_core.specs.declared.status.Status.TheVariants.{Active, Ended}
+use Rattle.sd_core.specs.declared.piece.Piece.{Piece}
+use Rattle.sd_core.specs.Session.{SessionView, due_of, IsRunning, MayTake, end_label, TakesRecord, EndsSession, HasNothingDue}
+
+-- where no body is taken from the front, none is left
+pub none_left : (taken : Option PackedBody) (old new : List PackedBody) → (IsSome taken ↔ (old ≢ [])) → old ≡ option_to_list taken ++ new → IfNone taken (new ≡ [])
+none_left (Some b) old new is first = tt
+none_left None [] new is first = sym first
+none_left None (b ∷ old) new is first = let some : b ∷ old ≢ [] = λ e. cc in absurd (cc (is.1 some))
+
+-- neither part of an empty list has a body
+pub neither_there : (ready : Option PackedBody) (bodies : List PackedBody) → option_to_list ready ++ bodies ≡ [] → (ready ≡ None) × (bodies ≡ [])
+neither_there None bodies e = (refl, e)
+neither_there (Some b) bodies e = absurd (cc)
+
+pub same_packer : (p q : PackerView) → p.room ≡ q.room → p.waiting ≡ q.waiting → p.open_body ≡ q.open_body → p ≡ q
+same_packer p q room waiting open_body =
+    ap (λ n. let p' : PackerView = record { room = n; waiting = p.waiting; open_body = p.open_body } in p') room
+    ∙ ap (λ l. let p' : PackerView = record { room = q.room; waiting = l; open_body = p.open_body } in p') waiting
+    ∙ ap (λ b. let p' : PackerView = record { room = q.room; waiting = q.waiting; open_body = b } in p') open_body
+
+-- a packer with no open body has those that wait
+pub waiting_alone : (p : PackerView) → p.open_body ≡ empty_body → bodies_of p ≡ p.waiting
+waiting_alone p none = ap (λ b. p.waiting ++ unless_empty b.bytes b) none ∙ append-nil p.waiting
+
+-- a step of the packer behind the bodies that were sent is one behind those and the ready one
+behind_ready : (room : ℕ) (ready bodies bodies' : List PackedBody) (records records' : List Record) (standing : Standing) (before : List PackedBody)
+    → (Packs room ((before ++ ready) ++ bodies) records Between → Packs room ((before ++ ready) ++ bodies') records' standing)
+    → Packs room (before ++ (ready ++ bodies)) records Between → Packs room (before ++ (ready ++ bodies')) records' standing
+behind_ready room ready bodies bodies' records records' standing before step packs =
+    subst (λ l. Packs room l records' standing) (append_assoc before ready bodies')
+    (step (subst (λ l. Packs room l records Between) (sym (append_assoc before ready bodies)) packs))
+
+-- a record is taken; `now` is the session before it, as is `old`
+pub takes_record : (old now : SessionView) (r : Record) (n bytes last : ℕ) (p : PackerView)
+    → old ≡ now → old.status ≡ Active → MayTake old.count old.bytes old.last r → old.packer.waiting ≡ []
+    → n ≡ old.count + 1 → bytes ≡ old.bytes + length r.bytes → last ≡ r.index
+    → PacksRecord old.packer p r → p.room ≡ old.packer.room
+    → TakesRecord now r n (record old { count = n; bytes = bytes; last = last; packer = p })
+takes_record old now r n bytes last p now-is active may none n-is bytes-is last-is packs room = subst (λ v. TakesRecord v r n (record old { count = n; bytes = bytes; last = last; packer = p })) now-is (record {
+  active = active;
+  may_take = may;
+  none_waits = none;
+  number = n-is;
+  is = ap (λ k. let s : SessionView = record old { count = k; bytes = bytes; last = last; packer = p } in s) n-is
+      ∙ ap (λ k. let s : SessionView = record old { count = old.count + 1; bytes = k; last = last; packer = p } in s) bytes-is
+      ∙ ap (λ k. let s : SessionView = record old { count = old.count + 1; bytes = old.bytes + length r.bytes; last = k; packer = p } in s) last-is;
+  room_is = room;
+  packs = (λ before records. behind_ready old.packer.room (option_to_list old.ready) (bodies_of old.packer) (bodies_of p) records (records ++ r ∷ []) Between before
+      (λ h. subst (λ k. Packs k ((before ++ option_to_list old.ready) ++ bodies_of p) (records ++ r ∷ []) Between) room (packs (before ++ option_to_list old.ready) records h)));
+})
+
+-- an end label with the session's counts has the totals of its records
+ends : (label : SessionLabel) (old : SessionView) (moment : ℤ) (records : List Record) → label ≡ end_label old moment → IsSessionLabel label
+    → length records ≡ old.count → total_bytes records ≡ old.bytes → IsEnd label records
+ends label old moment records label-is is count bytes = record {
+  label_is = is;
+  totals_are = ap (λ l. l.totals) label-is
+      ∙ ap (λ n. Some (record { records = n; bytes = old.bytes })) (sym count)
+      ∙ ap (λ n. Some (record { records = length records; bytes = n })) (sym bytes);
+}
+
+pub ends_session : (old now : SessionView) (moment : ℤ) (label : SessionLabel) (between p : PackerView)
+    → old ≡ now → old.status ≡ Active → HasOpen old.packer → label ≡ end_label old moment → IsSessionLabel label
+    → (HasOpen old.packer → PacksEnd old.packer between label) → AddsLabel old.packer between label → between.room ≡ old.packer.room
+    → p.waiting ≡ bodies_of between → p.open_body ≡ empty_body → p.room ≡ between.room
+    → EndsSession now moment (record old { status = Ended; packer = p })
+ends_session old now moment label between p now-is active has label-is is packs adds room closed none room' =
+    let ready = option_to_list old.ready in
+    let all : bodies_of p ≡ bodies_of between = waiting_alone p none ∙ closed in
+    subst (λ v. EndsSession v moment (record old { status = Ended; packer = p })) now-is (record {
+      active = active;
+      is = refl;
+      room_is = room' ∙ room;
+      packs = (λ before records count bytes. behind_ready old.packer.room ready (bodies_of old.packer) (bodies_of p) records records WithEnd before
+          (λ h. subst (λ l. Packs old.packer.room ((before ++ ready) ++ l) records WithEnd) (sym all)
+          (subst (λ k. Packs k ((before ++ ready) ++ bodies_of between) records WithEnd) room
+          (packs has (before ++ ready) records (ends label old moment records label-is is count bytes) h))));
+      bytes_are =
+          flat_map-append (λ b. b.bytes) ready (bodies_of p)
+          ∙ ap (λ l. all_bytes ready ++ l) (ap all_bytes all ∙ adds ∙ ap (λ l. all_bytes (bodies_of old.packer) ++ session_label_bytes l) label-is)
+          ∙ sym (append_assoc (all_bytes ready) (all_bytes (bodies_of old.packer)) (session_label_bytes (end_label old moment)))
+          ∙ ap (λ l. l ++ session_label_bytes (end_label old moment)) (sym (flat_map-append (λ b. b.bytes) ready (bodies_of old.packer)));
+    })
+
+pub nothing_due : (old now : SessionView) (queue : List Piece) (ready : Option PackedBody) (p : PackerView)
+    → old ≡ now → IsRunning old.status → due_of old ≡ p.waiting → p.waiting ≡ [] → ready ≡ None
+    → p.open_body ≡ old.packer.open_body → p.room ≡ old.packer.room
+    → HasNothingDue now queue (record old { ready = ready; packer = p }) queue
+nothing_due old now queue ready p now-is running due none ready-is same-open room =
+    let neither = neither_there old.ready old.packer.waiting (due ∙ none) in
+    subst (λ v. HasNothingDue v queue (record old { ready = ready; packer = p }) queue) now-is (record {
+      running = running;
+      none_due = due ∙ none;
+      is = ap (λ o. let s : SessionView = record old { ready = o; packer = p } in s) (ready-is ∙ sym neither.0)
+          ∙ ap (λ q. let s : SessionView = record old { packer = q } in s) (same_packer p old.packer room (none ∙ sym neither.1) same-open);
+      queue_is = refl;
+    })
+
+-- bodies of which there are none
+pub none_waiting : (bodies : List PackedBody) → length bodies ≤ 0 → bodies ≡ []
+none_waiting [] h = refl
+none_waiting (b ∷ bodies) h = absurd (omega arith)

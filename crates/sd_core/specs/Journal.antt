@@ -1,0 +1,96 @@
+-- Journals and spans: which blocks of a session were placed, and the stretches of a volume that they lie on.
+use Rattle.std.specs.Prelude.{◌≡◌, ℕ, ◌+◌, cond, Option, Some, None, List, [], ◌∷◌, length}
+use Rattle.std.specs.Str.{bytes_eq}
+use Rattle.sd_base.specs.declared.number.SessionKey.{SessionKey}
+use Rattle.sd_pack.specs.Body.{PackedBody, first_nonzero}
+use Rattle.sd_block.specs.declared.layout.TheConstants.{HEADER}
+use Rattle.sd_core.specs.declared.span.Span.{Span}
+use Rattle.sd_core.specs.declared.journal.Placement.{Placement}
+use Rattle.sd_core.specs.declared.journal.Run.{Run}
+use Rattle.sd_core.specs.declared.journal.SessionJournal.{SessionJournal}
+use Rattle.sd_core.specs.Volume.{is_key}
+
+-- A body of a session that was sent to a drive.
+pub record SentBody : Type 0 where
+  pub key : SessionKey
+  pub body : PackedBody
+
+-- where bodies lie that were placed on a volume one behind the other, from byte `at` on
+abbrev pub placements_at : List ℕ → ℕ → List SentBody → List Placement
+placements_at volume at [] = []
+placements_at volume at (b ∷ bs) =
+    record { key = b.key; volume = volume; start = at; length = HEADER + length b.body.bytes; first = b.body.first; last = b.body.last }
+    ∷ placements_at volume (at + (HEADER + length b.body.bytes)) bs
+
+-- a session's own placements, in order
+abbrev pub placements_of : SessionKey → List Placement → List Placement
+placements_of key [] = []
+placements_of key (p ∷ ps) = cond (is_key key p.key) (p ∷ placements_of key ps) (placements_of key ps)
+
+-- all of them are on that volume
+abbrev pub AreOn : List ℕ → List Placement → Type 0
+AreOn volume [] = Unit {0}
+AreOn volume (p ∷ ps) = (p.volume ≡ volume) × AreOn volume ps
+
+-- the stretch of one placement
+abbrev pub run_of : Placement → Run
+run_of p = record { first = p.first; last = p.last; start = p.start; end = p.start + p.length }
+
+-- the stretch with one placement more
+abbrev pub run_with : Run → Placement → Run
+run_with r p = record { first = first_nonzero r.first p.first; last = first_nonzero p.last r.last; start = r.start; end = p.start + p.length }
+
+-- the journal of a session with one placement more
+abbrev pub noted_run : Option Run → Placement → Run
+noted_run None p = run_of p
+noted_run (Some r) p = run_with r p
+
+abbrev pub noted : SessionJournal → Placement → SessionJournal
+noted j p = record { placed = j.placed + 1; run = Some (noted_run j.run p) }
+
+abbrev pub empty_journal : SessionJournal
+empty_journal = record { placed = 0; run = None }
+
+-- a journal after these placements were noted, one after another
+abbrev pub follows_from : SessionJournal → List Placement → SessionJournal
+follows_from j [] = j
+follows_from j (p ∷ ps) = follows_from (noted j p) ps
+
+-- the journal follows these placements: they were noted one after another, and nothing else was
+abbrev pub Follows : SessionJournal → List Placement → Type 0
+Follows j ps = follows_from empty_journal ps ≡ j
+
+-- the spans that a journal gives on a volume
+abbrev pub spans_in : List ℕ → Option Run → List Span
+spans_in volume None = []
+spans_in volume (Some r) = record { volume = volume; vol_index = 1; first = r.first; last = r.last; start = r.start; end = r.end } ∷ []
+
+-- The spans of a session's placements: the longest stretches of them that are on one volume.
+
+-- a placement in front of a span: it begins the span where it is on its volume, else a span of its own
+abbrev pub in_front : Placement → List Span → List Span
+in_front p [] = record { volume = p.volume; vol_index = 1; first = p.first; last = p.last; start = p.start; end = p.start + p.length } ∷ []
+in_front p (s ∷ ss) =
+    cond (bytes_eq p.volume s.volume)
+    (record s { first = first_nonzero p.first s.first; last = first_nonzero s.last p.last; start = p.start } ∷ ss)
+    (record { volume = p.volume; vol_index = 1; first = p.first; last = p.last; start = p.start; end = p.start + p.length } ∷ s ∷ ss)
+
+-- the stretches, not numbered yet
+abbrev pub stretches : List Placement → List Span
+stretches [] = []
+stretches (p ∷ ps) = in_front p (stretches ps)
+
+-- spans numbered from `index` on
+abbrev pub numbered_from : ℕ → List Span → List Span
+numbered_from index [] = []
+numbered_from index (s ∷ ss) = record s { vol_index = index } ∷ numbered_from (index + 1) ss
+
+abbrev pub spans_of : List Placement → List Span
+spans_of ps = numbered_from 1 (stretches ps)
+
+-- Laws.
+
+-- the spans of a journal are those of the placements that it follows
+abbrev pub JournalGivesSpans : Type 0
+JournalGivesSpans = (j : SessionJournal) (volume : List ℕ) (ps : List Placement)
+    → Follows j ps → AreOn volume ps → spans_in volume j.run ≡ spans_of ps

@@ -1,0 +1,45 @@
+-- What is kept of closed sessions, whatever happens afterwards.
+use Rattle.std.specs.Prelude.{◌≡◌, ℕ, Some, List, [], ◌∷◌}
+use Rattle.sd_base.specs.declared.number.SessionKey.{SessionKey}
+use Rattle.sd_core.specs.declared.entry.Entry.{Entry}
+use Rattle.sd_core.specs.declared.event.Event.{Event}
+use Rattle.sd_core.specs.declared.reply.Reply.{Reply}
+use Rattle.sd_core.specs.declared.reply.Reply.TheVariants.{Closed}
+use Rattle.sd_core.specs.declared.span.Span.{Span}
+use Rattle.sd_core.specs.declared.status.Status.TheVariants.{Closed as IsClosed}
+use Rattle.sd_core.specs.Machine.{Machine, MachineSession, session_of}
+use Rattle.sd_core.specs.Step.{Run}
+use Rattle.sd_core.specs.World.{WorldView, entry_of, spans_of_entry}
+
+-- the session of this key is closed, and these are its spans
+pub record IsClosedAt (w : WorldView) (key : SessionKey) (spans : List Span) : Type 0 where
+  pub entry : Entry
+  pub there : entry_of key.id w.entries ≡ Some entry
+  pub key_is : entry.session.key ≡ key
+  pub closed : entry.session.status ≡ IsClosed
+  pub spans_are : spans ≡ spans_of_entry w entry
+
+-- the session that a reply closed is closed, and has the spans of the reply; no other reply closes one
+abbrev pub ClosedStands : WorldView → Reply → Type 0
+ClosedStands w (Closed key spans) = IsClosedAt w key spans
+ClosedStands w reply = Unit {0}
+
+-- each session that a reply closed is closed, and has the spans of the reply
+abbrev pub ClosedStand : WorldView → List Reply → Type 0
+ClosedStand w [] = Unit {0}
+ClosedStand w (reply ∷ replies) = ClosedStands w reply × ClosedStand w replies
+
+-- closed sessions stay closed, with their spans
+abbrev pub ClosedStay : WorldView → WorldView → Type 0
+ClosedStay old new = (key : SessionKey) (spans : List Span) → IsClosedAt old key spans → IsClosedAt new key spans
+
+-- each closed session of the one machine is in the other as it was, with its list of records
+abbrev pub KeepsClosed : Machine → Machine → Type 0
+KeepsClosed old new = (ticket : ℕ) (s : MachineSession)
+    → session_of ticket old.sessions ≡ Some s → s.status ≡ IsClosed → session_of ticket new.sessions ≡ Some s
+
+-- Laws.
+
+-- a closed session keeps its list of records, whatever happens afterwards
+abbrev pub ClosedKeepTheirRecords : Type 0
+ClosedKeepTheirRecords = (m m' : Machine) (events : List Event) (replies : List Reply) → Run m events replies m' → KeepsClosed m m'

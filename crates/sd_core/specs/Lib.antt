@@ -1,0 +1,17 @@
+pub mod Drive
+pub mod JobMedia
+pub mod Journal
+pub mod Kept
+pub mod Machine
+pub mod Matches
+pub mod Moves
+pub mod ReadFaults
+pub mod Reader
+pub mod Reading
+pub mod Session
+pub mod Sound
+pub mod Step
+pub mod Steps
+pub mod Volume
+pub mod World
+pub mod WorldReading

@@ -1,0 +1,175 @@
+-- Why spans can't be read: the first fault, in the order in which they are looked for.
+use Rattle.std.specs.Prelude.{◌≡◌, ◌≢◌, ◌⊎◌, ℕ, ◌+◌, ◌<◌, ◌≤◌, ◌^◌, Bool, Option, Some, None, List, [], ◌∷◌, ◌++◌, length, take}
+use Rattle.std.specs.List.{flat_map}
+use Rattle.sd_base.specs.Record.{Record}
+use Rattle.sd_base.specs.declared.number.SessionKey.{SessionKey}
+use Rattle.sd_base.specs.declared.refusal.Refusal.{Refusal}
+use Rattle.sd_base.specs.declared.refusal.Refusal.TheVariants as refusal
+use Rattle.sd_block.specs.Image.{block_image, IsBlockImage}
+use Rattle.sd_block.specs.Head.{HasId, IsHeadOf}
+use Rattle.sd_block.specs.Fault.{HasBadId, HasBadSize, HasBadSum}
+use Rattle.sd_block.specs.declared.head.Head.{Head}
+use Rattle.sd_block.specs.declared.layout.TheConstants.{LEAST_BLOCK, MOST_BLOCK}
+use Rattle.sd_label.specs.Cutting.{Standing, Holds, total_bytes}
+use Rattle.sd_unpack.specs.declared.damage.AddFault.{AddFault}
+use Rattle.sd_unpack.specs.declared.damage.AddFault.TheVariants as adding
+use Rattle.sd_core.specs.declared.span.Span.{Span}
+use Rattle.sd_core.specs.declared.readback.fault.ReadFault.{ReadFault}
+use Rattle.sd_core.specs.declared.readback.fault.ReadFault.TheVariants.{BadSpan, VolumeNotOnShelf, SpanEndsEarly, DamagedBlock, Memory}
+use Rattle.sd_core.specs.Volume.{Block, images, AreImages, blocks_of}
+use Rattle.sd_core.specs.Reading.{Shelf, AreNumbered, AllHold, Reads}
+
+-- the refusal of a fault
+abbrev pub refusal_of : ReadFault → Refusal
+refusal_of BadSpan = refusal.BadSpan
+refusal_of VolumeNotOnShelf = refusal.VolumeNotOnShelf
+refusal_of SpanEndsEarly = refusal.SpanEndsEarly
+refusal_of DamagedBlock = refusal.DamagedBlock
+refusal_of Memory = refusal.Memory
+
+-- what a fault of the unpacker is to the reader
+abbrev pub fault_of : AddFault → ReadFault
+fault_of (adding.Damaged damage) = DamagedBlock
+fault_of adding.Memory = Memory
+
+-- there are spans, numbered from 1 on, and each begins below its end
+abbrev pub AreSpans : List Span → Type 0
+AreSpans spans = (spans ≢ []) × AreNumbered 1 spans
+
+-- these are the bytes from the start of the span to its end
+pub record IsPartOf (bytes : List ℕ) (s : Span) (part : List ℕ) : Type 0 where
+  pub front : List ℕ
+  pub back : List ℕ
+  pub bytes_are : bytes ≡ front ++ (part ++ back)
+  pub start_is : length front ≡ s.start
+  pub end_is : s.start + length part ≡ s.end
+
+-- as many records and data bytes as an end label can say
+abbrev pub AreCountable : List Record → Type 0
+AreCountable records = (length records < 2 ^ 64) × (total_bytes records < 2 ^ 64)
+
+-- the bodies hold a session so far, with as many whole records as an end label can say
+pub record HoldsCountable (bodies : List (List ℕ)) : Type 0 where
+  pub records : List Record
+  pub standing : Standing
+  pub holds : Holds bodies records standing
+  pub countable : AreCountable records
+
+-- nothing is wrong with the bodies of a session, so far as they were read
+abbrev pub AreReadable : List (List ℕ) → Type 0
+AreReadable bodies = (bodies ≡ []) ⊎ HoldsCountable bodies
+
+-- the number of the last of these blocks; none at the start of a span
+abbrev pub last_number : ℕ → List Block → Option ℕ
+last_number number [] = None
+last_number number (b ∷ bs) = Some (number + length bs)
+
+-- behind that number comes this one; at the start of a span any may come
+abbrev pub ComesNext : Option ℕ → ℕ → Type 0
+ComesNext None number = Unit {0}
+ComesNext (Some last) number = number ≡ last + 1
+
+-- the bytes begin with this block, whose number comes next
+pub record BeginsWithBlock (last : Option ℕ) (bytes : List ℕ) (b : Block) (number : ℕ) (behind : List ℕ) : Type 0 where
+  pub bytes_are : bytes ≡ block_image b.key number b.body ++ behind
+  pub block_is : IsBlockImage MOST_BLOCK (block_image b.key number b.body) b.key number b.body
+  pub next_is : ComesNext last number
+
+-- the header of the bytes has a bad id or a bad size
+abbrev pub HasBadHead : List ℕ → Type 0
+HasBadHead bytes = HasBadId bytes ⊎ (HasId bytes × HasBadSize MOST_BLOCK bytes)
+
+-- the block with this header has a bad checksum, or its number doesn't come next
+abbrev pub HasBadBlock : Option ℕ → List ℕ → Head → Type 0
+HasBadBlock last bytes head = HasBadSum (take head.size bytes) ⊎ (ComesNext last head.number → ⊥)
+
+-- The bytes that are left of a span don't begin with the block that comes next: there are too few of
+-- them for any block, or for this one, or what stands there is no such block.
+abbrev pub BeginsWithNoBlock : ReadFault → Option ℕ → List ℕ → Type 0
+BeginsWithNoBlock BadSpan last bytes =
+    (length bytes < LEAST_BLOCK) ⊎ ((head : Head) × IsHeadOf MOST_BLOCK bytes head × (length bytes < head.size))
+BeginsWithNoBlock DamagedBlock last bytes =
+    (LEAST_BLOCK ≤ length bytes)
+    × (HasBadHead bytes ⊎ ((head : Head) × IsHeadOf MOST_BLOCK bytes head × (head.size ≤ length bytes) × HasBadBlock last bytes head))
+BeginsWithNoBlock fault last bytes = ⊥
+
+-- the bytes begin with the block that comes next, and with its body the session can't be read
+pub record BeginsWithRefused (key : SessionKey) (before : List Block) (last : Option ℕ) (bytes : List ℕ) : Type 0 where
+  pub block : Block
+  pub number : ℕ
+  pub behind : List ℕ
+  pub begins : BeginsWithBlock last bytes block number behind
+  pub refused : AreReadable (blocks_of key (before ++ block ∷ [])) → ⊥
+
+-- Behind the blocks of earlier spans, the part begins with blocks that can be read, and what is left
+-- behind them can't.
+pub record StopsWithin (key : SessionKey) (earlier : List Block) (part : List ℕ) (fault : ReadFault) : Type 0 where
+  pub done : List Block
+  pub number : ℕ
+  pub rest : List ℕ
+  pub part_is : part ≡ images number done ++ rest
+  pub done_are : AreImages number done
+  pub readable : AreReadable (blocks_of key (earlier ++ done))
+  pub rest_left : rest ≢ []
+  pub stops : BeginsWithNoBlock fault (last_number number done) rest
+      ⊎ ((fault ≡ DamagedBlock) × BeginsWithRefused key (earlier ++ done) (last_number number done) rest)
+
+-- the part of a volume that the span names can't be read
+pub record StopsInPart (shelf : Shelf) (key : SessionKey) (earlier : List Block) (s : Span) (fault : ReadFault) : Type 0 where
+  pub bytes : List ℕ
+  pub part : List ℕ
+  pub there : shelf s.volume ≡ Some bytes
+  pub part_is : IsPartOf bytes s part
+  pub stops : StopsWithin key earlier part fault
+
+-- the volume of the span is there, and ends before the span does
+abbrev pub EndsEarly : Shelf → Span → Type 0
+EndsEarly shelf s = (bytes : List ℕ) × (shelf s.volume ≡ Some bytes) × (length bytes < s.end)
+
+-- the bytes that the span names aren't there
+abbrev pub PartFault : ReadFault → Shelf → Span → Type 0
+PartFault VolumeNotOnShelf shelf s = shelf s.volume ≡ None
+PartFault SpanEndsEarly shelf s = EndsEarly shelf s
+PartFault fault shelf s = ⊥
+
+-- behind the blocks of earlier spans, this span can't be read: its volume isn't there, or ends early, or its bytes stop
+abbrev pub CantRead : ReadFault → Shelf → SessionKey → List Block → Span → Type 0
+CantRead VolumeNotOnShelf shelf key earlier s = shelf s.volume ≡ None
+CantRead SpanEndsEarly shelf key earlier s = EndsEarly shelf s
+CantRead fault shelf key earlier s = StopsInPart shelf key earlier s fault
+
+-- the spans before it hold blocks that can be read, and this one can't
+pub record StopsAtSpan (shelf : Shelf) (key : SessionKey) (spans : List Span) (fault : ReadFault) : Type 0 where
+  pub before : List Span
+  pub at : Span
+  pub after : List Span
+  pub spans_are : spans ≡ before ++ at ∷ after
+  pub blocks : List (List Block)
+  pub hold : AllHold shelf before blocks
+  pub readable : AreReadable (blocks_of key (flat_map (λ bs. bs) blocks))
+  pub stops : CantRead fault shelf key (flat_map (λ bs. bs) blocks) at
+
+-- all spans hold blocks, and none of them is the session's
+pub record HoldNone (shelf : Shelf) (key : SessionKey) (spans : List Span) : Type 0 where
+  pub blocks : List (List Block)
+  pub hold : AllHold shelf spans blocks
+  pub none : blocks_of key (flat_map (λ bs. bs) blocks) ≡ []
+
+-- This is the first fault: the spans themselves are bad; else one of them can't be read, and those before
+-- it can; else no block of the session stands in them.
+abbrev pub MeetsFault : Shelf → SessionKey → List Span → ReadFault → Type 0
+MeetsFault shelf key spans fault =
+    ((fault ≡ BadSpan) × (AreSpans spans → ⊥))
+    ⊎ (AreSpans spans × (StopsAtSpan shelf key spans fault ⊎ ((fault ≡ BadSpan) × HoldNone shelf key spans)))
+
+-- Laws.
+
+-- spans with a fault read to no records that an end label can count
+abbrev pub FaultIsNoReading : Type 0
+FaultIsNoReading = (shelf : Shelf) (key : SessionKey) (spans : List Span) (fault : ReadFault) (records : List Record) (ended : Bool)
+    → MeetsFault shelf key spans fault → Reads shelf key spans records ended → AreCountable records → ⊥
+
+-- the first fault is one: spans don't meet two
+abbrev pub OneFirstFault : Type 0
+OneFirstFault = (shelf : Shelf) (key : SessionKey) (spans : List Span) (fault other : ReadFault)
+    → MeetsFault shelf key spans fault → MeetsFault shelf key spans other → fault ≡ other

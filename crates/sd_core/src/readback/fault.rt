@@ -1,0 +1,67 @@
+// Why a session can't be read back.
+ghost use Rattle.std.specs.Prelude.{◌≡◌};
+ghost use Rattle.sd_core.specs.declared.readback.fault.ReadFault.TheVariants.{DamagedBlock, Memory};
+ghost use Rattle.sd_core.specs.ReadFaults.{refusal_of, fault_of};
+
+use sd_base::Refusal;
+use sd_block::BlockFault;
+use sd_unpack::AddFault;
+use std::alloc::AllocError;
+
+/// Why a session can't be read back from its spans.
+#[derive(Clone, Copy, Debug, PartialEq, Eq)]
+pub enum ReadFault {
+    /// There are no spans, they aren't numbered 1, 2 and on, one doesn't begin below its end, one ends
+    /// within a block, or no block of the session stands in them.
+    BadSpan,
+    /// A span's volume isn't there.
+    VolumeNotOnShelf,
+    /// A span goes on past the end of its volume.
+    SpanEndsEarly,
+    /// What stands where a block should is no block, or not the next, or not the session's next.
+    DamagedBlock,
+    /// No memory was left, for the reader or for the sink.
+    Memory,
+}
+
+impl ReadFault {
+    /// What the daemon answers for it.
+    pub fn refusal(self) -> Refusal
+        ensures { result ≡ refusal_of self }
+    {
+        match self {
+            ReadFault::BadSpan => Refusal::BadSpan,
+            ReadFault::VolumeNotOnShelf => Refusal::VolumeNotOnShelf,
+            ReadFault::SpanEndsEarly => Refusal::SpanEndsEarly,
+            ReadFault::DamagedBlock => Refusal::DamagedBlock,
+            ReadFault::Memory => Refusal::Memory,
+        }
+    }
+}
+
+impl From<BlockFault> for ReadFault {
+    ghost from_gives = { λ _ fault. fault ≡ DamagedBlock };
+
+    fn from(_fault: BlockFault) -> Self {
+        ReadFault::DamagedBlock
+    }
+}
+
+impl From<AddFault> for ReadFault {
+    ghost from_gives = { λ added fault. fault ≡ fault_of added };
+
+    fn from(fault: AddFault) -> Self {
+        match fault {
+            AddFault::Damaged(_) => ReadFault::DamagedBlock,
+            AddFault::Memory => ReadFault::Memory,
+        }
+    }
+}
+
+impl From<AllocError> for ReadFault {
+    ghost from_gives = { λ _ fault. fault ≡ Memory };
+
+    fn from(_error: AllocError) -> Self {
+        ReadFault::Memory
+    }
+}

@@ -1,0 +1,301 @@
+-- What is spelled so is read so, and the word of a command tells the command.
+use Rattle.std.proofs.Common.{◌≡◌, ◌≢◌, ℕ, ◌^◌, ◌<◌, ◌≤◌, refl, sym, ap, ◌∙◌, arith, lit<, inl, inr, cond, List, [], ◌∷◌, length, Option, Some, None, rules}
+use Rattle.std.specs.Prelude.{IfSome, IfNone, pos, negsuc, nat_le, FitsSigned}
+use Rattle.std.specs.List.{AllByRecursion}
+use Rattle.std.specs.Int.{w64}
+use Rattle.std.specs.Fmt.{decimal}
+use Rattle.std.specs.Str.{bytes_eq}
+use Rattle.std.proofs.lemmas.Bool.{cond-true, le-leb}
+use Rattle.std.proofs.lemmas.List.Elements.{All-from_get_or, All-from_recursion}
+use Rattle.std.proofs.lemmas.Int.{ints}
+use Rattle.std.proofs.lemmas.Fmt.{digits_decimal}
+use Rattle.std.proofs.lemmas.Str.Parse.{digit_at}
+use Rattle.sd_base.specs.declared.number.TheConstants.{MOST_NUMBER}
+use Rattle.sd_base.specs.declared.record.TheConstants.{MOST_DATA}
+use Rattle.sd_script.specs.declared.command.Command.{Command}
+use Rattle.sd_script.specs.declared.command.Command.TheVariants.{Block, Time, At, Label, Mount, Seek, Open, Rec, Fill, End, Cancel, Spool, Despool, Take, Place, Sync, Close, Read, Drain}
+use Rattle.sd_script.specs.declared.line.TheConstants.{LEAST_BLOCK_LIMIT, MOST_BLOCK_LIMIT, MOST_MOMENT}
+use Rattle.sd_script.specs.declared.line.Setting.TheVariants as setting
+use Rattle.sd_script.specs.declared.line.Line.{Line}
+use Rattle.sd_script.specs.declared.line.Line.TheVariants as line
+use Rattle.sd_script.specs.Command.{command_text}
+use Rattle.sd_script.specs.Grammar.{HasNoBlank, IsWord, IsSpelled, IsWithin, AreWords, IsNumber, IsDrive, joined}
+use Rattle.sd_script.specs.Reading.{Fields, fields_of, text_of, shape, word_at, one_number, label_shape, mount_shape, open_shape, rec_shape, fill_shape}
+use Rattle.sd_script.proofs.NumberLemmas.{own}
+use Rattle.sd_script.proofs.FieldLemmas.{fields_of-joined, fields_of-behind, text_of-fields_of}
+use Rattle.sd_script.proofs.ReadingLemmas.{number_at_again, word_at_again, word_at_takes, only_number_again, one_number_again}
+
+-- the command of a word, found by trying each
+abbrev command_at : List ℕ → Option Command
+command_at word =
+    cond (bytes_eq word (command_text Block)) (Some Block) (
+    cond (bytes_eq word (command_text Time)) (Some Time) (
+    cond (bytes_eq word (command_text At)) (Some At) (
+    cond (bytes_eq word (command_text Label)) (Some Label) (
+    cond (bytes_eq word (command_text Mount)) (Some Mount) (
+    cond (bytes_eq word (command_text Seek)) (Some Seek) (
+    cond (bytes_eq word (command_text Open)) (Some Open) (
+    cond (bytes_eq word (command_text Rec)) (Some Rec) (
+    cond (bytes_eq word (command_text Fill)) (Some Fill) (
+    cond (bytes_eq word (command_text End)) (Some End) (
+    cond (bytes_eq word (command_text Cancel)) (Some Cancel) (
+    cond (bytes_eq word (command_text Spool)) (Some Spool) (
+    cond (bytes_eq word (command_text Despool)) (Some Despool) (
+    cond (bytes_eq word (command_text Take)) (Some Take) (
+    cond (bytes_eq word (command_text Place)) (Some Place) (
+    cond (bytes_eq word (command_text Sync)) (Some Sync) (
+    cond (bytes_eq word (command_text Close)) (Some Close) (
+    cond (bytes_eq word (command_text Read)) (Some Read) (
+    cond (bytes_eq word (command_text Drain)) (Some Drain) None))))))))))))))))))
+
+command_found : (k : Command) → command_at (command_text k) ≡ Some k
+command_found Block = refl
+command_found Time = refl
+command_found At = refl
+command_found Label = refl
+command_found Mount = refl
+command_found Seek = refl
+command_found Open = refl
+command_found Rec = refl
+command_found Fill = refl
+command_found End = refl
+command_found Cancel = refl
+command_found Spool = refl
+command_found Despool = refl
+command_found Take = refl
+command_found Place = refl
+command_found Sync = refl
+command_found Close = refl
+command_found Read = refl
+command_found Drain = refl
+
+-- no two commands are written alike
+pub command_one : (k j : Command) → command_text k ≡ command_text j → k ≡ j
+command_one k j e = let both = sym (command_found k) ∙ ap command_at e ∙ command_found j in cc
+
+-- neither commands nor numbers hold a blank
+plain_command : (k : Command) → AllByRecursion (λ c. c ≢ 32) (command_text k)
+plain_command Block = search rules
+plain_command Time = search rules
+plain_command At = search rules
+plain_command Label = search rules
+plain_command Mount = search rules
+plain_command Seek = search rules
+plain_command Open = search rules
+plain_command Rec = search rules
+plain_command Fill = search rules
+plain_command End = search rules
+plain_command Cancel = search rules
+plain_command Spool = search rules
+plain_command Despool = search rules
+plain_command Take = search rules
+plain_command Place = search rules
+plain_command Sync = search rules
+plain_command Close = search rules
+plain_command Read = search rules
+plain_command Drain = search rules
+
+command-plain : (k : Command) → HasNoBlank (command_text k)
+command-plain k = All-from_recursion (λ c. c ≢ 32) (command_text k) (plain_command k)
+
+decimal-plain : (n : ℕ) → n < 2 ^ 64 → HasNoBlank (decimal n)
+decimal-plain n small =
+    All-from_get_or (λ c. c ≢ 32) (decimal n) 0 (λ i within blank. let digit = digit_at (decimal n) i (digits_decimal own n small) within in omega arith)
+
+-- the command that bytes begin with, the fields behind it, and that these are read as that line
+pub record Parts (bytes : List ℕ) (l : Line) : Type 0 where
+  pub command : Command
+  pub rest : Fields
+  pub fields_are : fields_of bytes ≡ command_text command ∷ rest
+  pub shape_is : shape command rest ≡ Some l
+
+plain_parts : (bytes : List ℕ) (k : Command) (rest : Fields) (l : Line) → AllByRecursion HasNoBlank rest → bytes ≡ joined (command_text k ∷ rest)
+    → shape k rest ≡ Some l → Parts bytes l
+plain_parts bytes k rest l plain e read = record {
+  command = k;
+  rest = rest;
+  fields_are = ap fields_of e ∙ fields_of-joined (command_text k) rest (command-plain k, plain);
+  shape_is = read;
+}
+
+-- a line of one number
+one_parts : (bytes : List ℕ) (k : Command) (least most n : ℕ) (made : ℕ → Line) → most < 2 ^ 64 → (least ≤ n) × (n ≤ most)
+    → shape k (decimal n ∷ []) ≡ one_number least most made (decimal n ∷ []) → bytes ≡ joined (command_text k ∷ decimal n ∷ []) → Parts bytes (made n)
+one_parts bytes k least most n made small within same e =
+    plain_parts bytes k (decimal n ∷ []) (made n) (decimal-plain n (omega arith), tt) e (same ∙ one_number_again least most n made small within.0 within.1)
+
+drive_parts : (bytes : List ℕ) (k : Command) (n : ℕ) (made : ℕ → Line) → IsDrive n
+    → shape k (decimal n ∷ []) ≡ one_number 1 8 made (decimal n ∷ []) → bytes ≡ joined (command_text k ∷ decimal n ∷ []) → Parts bytes (made n)
+drive_parts bytes k n made within same e = one_parts bytes k 1 8 n made (lit< tt) within same e
+
+session_parts : (bytes : List ℕ) (k : Command) (n : ℕ) (made : ℕ → Line) → IsNumber n
+    → shape k (decimal n ∷ []) ≡ one_number 1 MOST_NUMBER made (decimal n ∷ []) → bytes ≡ joined (command_text k ∷ decimal n ∷ []) → Parts bytes (made n)
+session_parts bytes k n made within same e = one_parts bytes k 1 MOST_NUMBER n made (lit< tt) within same e
+
+label_again : (d : ℕ) (v p m : List ℕ) → IsDrive d → IsWord v → IsWord p → IsWord m → label_shape (decimal d ∷ v ∷ p ∷ m ∷ []) ≡ Some (line.Label d v p m)
+unfolding label_shape
+label_again d v p m within v_word p_word m_word =
+    rw (number_at_again 1 8 d (v ∷ p ∷ m ∷ []) (lit< tt) within.0 within.1, word_at_again v (p ∷ m ∷ []) v_word.0, word_at_again p (m ∷ []) p_word.0, word_at_again m [] m_word.0) refl
+
+mount_again : (d : ℕ) (v : List ℕ) → IsDrive d → IsWord v → mount_shape (decimal d ∷ v ∷ []) ≡ Some (line.Mount d v)
+unfolding mount_shape
+mount_again d v within v_word = rw (number_at_again 1 8 d (v ∷ []) (lit< tt) within.0 within.1, word_at_again v [] v_word.0) refl
+
+open_again : (j : ℕ) (p m : List ℕ) → IsNumber j → IsWord p → IsWord m → open_shape (decimal j ∷ p ∷ m ∷ []) ≡ Some (line.Open j p m)
+unfolding open_shape
+open_again j p m within p_word m_word =
+    rw (number_at_again 1 MOST_NUMBER j (p ∷ m ∷ []) (lit< tt) within.0 within.1, word_at_again p (m ∷ []) p_word.0, word_at_again m [] m_word.0) refl
+
+rec_again : (t i s : ℕ) (rest : Fields) (text : List ℕ) → text_of rest ≡ text → IsWithin (line.Rec t i s text)
+    → rec_shape (decimal t ∷ decimal i ∷ decimal s ∷ rest) ≡ Some (line.Rec t i s text)
+unfolding rec_shape
+rec_again t i s rest text same within =
+    let fits = within.3 in
+    rw (
+      number_at_again 1 MOST_NUMBER t (decimal i ∷ decimal s ∷ rest) (lit< tt) within.0.0 within.0.1,
+      number_at_again 1 MOST_NUMBER i (decimal s ∷ rest) (lit< tt) within.1.0 within.1.1,
+      number_at_again 1 MOST_NUMBER s rest (lit< tt) within.2.0 within.2.1,
+    )
+    (cond-true (nat_le (length (text_of rest)) MOST_DATA) (Some (line.Rec t i s (text_of rest))) None (le-leb (length (text_of rest)) MOST_DATA (omega (arith, ap length same)))
+    ∙ ap (λ (x : List ℕ). Some (line.Rec t i s x)) same)
+
+fill_again : (t i s n : ℕ) → IsWithin (line.Fill t i s n) → fill_shape (decimal t ∷ decimal i ∷ decimal s ∷ decimal n ∷ []) ≡ Some (line.Fill t i s n)
+unfolding fill_shape
+fill_again t i s n within =
+    rw (
+      number_at_again 1 MOST_NUMBER t (decimal i ∷ decimal s ∷ decimal n ∷ []) (lit< tt) within.0.0 within.0.1,
+      number_at_again 1 MOST_NUMBER i (decimal s ∷ decimal n ∷ []) (lit< tt) within.1.0 within.1.1,
+      number_at_again 1 MOST_NUMBER s (decimal n ∷ []) (lit< tt) within.2.0 within.2.1,
+      only_number_again 0 MOST_DATA n (lit< tt) (omega arith) within.3,
+    ) refl
+
+number-plain : (n : ℕ) → IsNumber n → HasNoBlank (decimal n)
+number-plain n within = decimal-plain n (omega (arith, within.1))
+
+drive-plain : (n : ℕ) → IsDrive n → HasNoBlank (decimal n)
+drive-plain n within = decimal-plain n (omega (arith, within.1))
+
+-- the fields of a record, whose text is what stands behind the fourth blank
+rec_fields : (t i s : ℕ) (text : List ℕ) → IsNumber t → IsNumber i → IsNumber s
+    → fields_of (joined (command_text Rec ∷ decimal t ∷ decimal i ∷ decimal s ∷ text ∷ [])) ≡ command_text Rec ∷ decimal t ∷ decimal i ∷ decimal s ∷ fields_of text
+rec_fields t i s text t_is i_is s_is =
+    fields_of-behind (command_text Rec) (joined (decimal t ∷ decimal i ∷ decimal s ∷ text ∷ [])) (command-plain Rec) ∙ ap (λ (fs : Fields). command_text Rec ∷ fs)
+    (fields_of-behind (decimal t) (joined (decimal i ∷ decimal s ∷ text ∷ [])) (number-plain t t_is) ∙ ap (λ (fs : Fields). decimal t ∷ fs)
+    (fields_of-behind (decimal i) (joined (decimal s ∷ text ∷ [])) (number-plain i i_is) ∙ ap (λ (fs : Fields). decimal i ∷ fs)
+    (fields_of-behind (decimal s) text (number-plain s s_is))))
+
+rec_parts : (bytes : List ℕ) (t i s : ℕ) (text : List ℕ) → IsWithin (line.Rec t i s text)
+    → bytes ≡ joined (command_text Rec ∷ decimal t ∷ decimal i ∷ decimal s ∷ text ∷ []) → Parts bytes (line.Rec t i s text)
+rec_parts bytes t i s text within e = record {
+  command = Rec;
+  rest = decimal t ∷ decimal i ∷ decimal s ∷ fields_of text;
+  fields_are = ap fields_of e ∙ rec_fields t i s text within.0 within.1 within.2;
+  shape_is = rec_again t i s (fields_of text) text (text_of-fields_of text) within;
+}
+
+short_parts : (bytes : List ℕ) (t i s : ℕ) → IsWithin (line.Rec t i s [])
+    → bytes ≡ joined (command_text Rec ∷ decimal t ∷ decimal i ∷ decimal s ∷ []) → Parts bytes (line.Rec t i s [])
+short_parts bytes t i s within e =
+    plain_parts bytes Rec (decimal t ∷ decimal i ∷ decimal s ∷ []) (line.Rec t i s [])
+    (number-plain t within.0, (number-plain i within.1, (number-plain s within.2, tt))) e (rec_again t i s [] [] refl within)
+
+-- a moment that is not negative
+moment_most : (n : ℕ) → FitsSigned w64 (pos n) → n ≤ MOST_MOMENT
+moment_most n fits = omega (arith, fits.sfits)
+
+pub parts_of : (bytes : List ℕ) (l : Line) → bytes ≢ [] → IsSpelled bytes l → IsWithin l → AreWords l → Parts bytes l
+parts_of bytes line.Empty some_there spelled within words = elim spelled [ inl e ↦ absurd (some_there e) | inr short ↦ absurd short ]
+parts_of bytes (line.Set (setting.Block n)) some_there spelled within words =
+    elim spelled [ inl e ↦ one_parts bytes Block LEAST_BLOCK_LIMIT MOST_BLOCK_LIMIT n (λ m. line.Set (setting.Block m)) (lit< tt) within refl e | inr short ↦ absurd short ]
+parts_of bytes (line.Set (setting.Time n)) some_there spelled within words =
+    elim spelled [ inl e ↦ session_parts bytes Time n (λ m. line.Set (setting.Time m)) within refl e | inr short ↦ absurd short ]
+parts_of bytes (line.At (pos n)) some_there spelled within words =
+    elim spelled [ inl e ↦ one_parts bytes At 0 MOST_MOMENT n (λ m. line.At (pos m)) (lit< tt) (omega arith, moment_most n within.1) refl e | inr short ↦ absurd short ]
+parts_of bytes (line.At (negsuc n)) some_there spelled within words = absurd (omega (arith, ints, within.0))
+parts_of bytes (line.Label d v p m) some_there spelled within words =
+    elim spelled [
+      | inl e ↦
+          plain_parts bytes Label (decimal d ∷ v ∷ p ∷ m ∷ []) (line.Label d v p m)
+          (drive-plain d within, (words.0.1, (words.1.0.1, (words.1.1.0.1, tt)))) e (label_again d v p m within words.0 words.1.0 words.1.1.0)
+      | inr short ↦ absurd short
+    ]
+parts_of bytes (line.Mount d v) some_there spelled within words =
+    elim spelled [
+      | inl e ↦ plain_parts bytes Mount (decimal d ∷ v ∷ []) (line.Mount d v) (drive-plain d within, (words.0.1, tt)) e (mount_again d v within words.0)
+      | inr short ↦ absurd short
+    ]
+parts_of bytes (line.Open j p m) some_there spelled within words =
+    elim spelled [
+      | inl e ↦
+          plain_parts bytes Open (decimal j ∷ p ∷ m ∷ []) (line.Open j p m)
+          (number-plain j within, (words.0.1, (words.1.0.1, tt))) e (open_again j p m within words.0 words.1.0)
+      | inr short ↦ absurd short
+    ]
+parts_of bytes (line.Rec t i s []) some_there spelled within words =
+    elim spelled [ inl e ↦ rec_parts bytes t i s [] within e | inr e ↦ short_parts bytes t i s within e ]
+parts_of bytes (line.Rec t i s (x ∷ text)) some_there spelled within words =
+    elim spelled [ inl e ↦ rec_parts bytes t i s (x ∷ text) within e | inr short ↦ absurd short ]
+parts_of bytes (line.Fill t i s n) some_there spelled within words =
+    elim spelled [
+      | inl e ↦
+          plain_parts bytes Fill (decimal t ∷ decimal i ∷ decimal s ∷ decimal n ∷ []) (line.Fill t i s n)
+          (number-plain t within.0, (number-plain i within.1, (number-plain s within.2, (decimal-plain n (omega (arith, within.3)), tt)))) e (fill_again t i s n within)
+      | inr short ↦ absurd short
+    ]
+parts_of bytes (line.Seek n) some_there spelled within words =
+    elim spelled [ inl e ↦ drive_parts bytes Seek n line.Seek within refl e | inr short ↦ absurd short ]
+parts_of bytes (line.Take n) some_there spelled within words =
+    elim spelled [ inl e ↦ drive_parts bytes Take n line.Take within refl e | inr short ↦ absurd short ]
+parts_of bytes (line.Place n) some_there spelled within words =
+    elim spelled [ inl e ↦ drive_parts bytes Place n line.Place within refl e | inr short ↦ absurd short ]
+parts_of bytes (line.Sync n) some_there spelled within words =
+    elim spelled [ inl e ↦ drive_parts bytes Sync n line.Sync within refl e | inr short ↦ absurd short ]
+parts_of bytes (line.End n) some_there spelled within words =
+    elim spelled [ inl e ↦ session_parts bytes End n line.End within refl e | inr short ↦ absurd short ]
+parts_of bytes (line.Cancel n) some_there spelled within words =
+    elim spelled [ inl e ↦ session_parts bytes Cancel n line.Cancel within refl e | inr short ↦ absurd short ]
+parts_of bytes (line.Spool n) some_there spelled within words =
+    elim spelled [ inl e ↦ session_parts bytes Spool n line.Spool within refl e | inr short ↦ absurd short ]
+parts_of bytes (line.Despool n) some_there spelled within words =
+    elim spelled [ inl e ↦ session_parts bytes Despool n line.Despool within refl e | inr short ↦ absurd short ]
+parts_of bytes (line.Close n) some_there spelled within words =
+    elim spelled [ inl e ↦ session_parts bytes Close n line.Close within refl e | inr short ↦ absurd short ]
+parts_of bytes (line.Read n) some_there spelled within words =
+    elim spelled [ inl e ↦ session_parts bytes Read n line.Read within refl e | inr short ↦ absurd short ]
+parts_of bytes line.Drain some_there spelled within words =
+    elim spelled [ inl e ↦ plain_parts bytes Drain [] line.Drain tt e refl | inr short ↦ absurd short ]
+
+-- no command is written by no characters
+pub command-some : (k : Command) → 0 < length (command_text k)
+command-some Block = lit< tt
+command-some Time = lit< tt
+command-some At = lit< tt
+command-some Label = lit< tt
+command-some Mount = lit< tt
+command-some Seek = lit< tt
+command-some Open = lit< tt
+command-some Rec = lit< tt
+command-some Fill = lit< tt
+command-some End = lit< tt
+command-some Cancel = lit< tt
+command-some Spool = lit< tt
+command-some Despool = lit< tt
+command-some Take = lit< tt
+command-some Place = lit< tt
+command-some Sync = lit< tt
+command-some Close = lit< tt
+command-some Read = lit< tt
+command-some Drain = lit< tt
+
+-- the command of the first word, or none
+pub command_read : (fs : Fields) (word : List ℕ) (rest : Fields) (r : Option Command) → word_at fs ≡ Some (word, rest)
+    → IfSome r (λ k. word ≡ command_text k) → IfSome r (λ k. fs ≡ command_text k ∷ rest)
+command_read fs word rest None read none = tt
+command_read fs word rest (Some k) read found = (word_at_takes fs (word, rest) read).0 ∙ ap (λ (w : List ℕ). w ∷ rest) found
+
+pub no_command : (fs : Fields) (word : List ℕ) (rest : Fields) (r : Option Command) → word_at fs ≡ Some (word, rest)
+    → IfNone r ((k : Command) → word ≡ command_text k → ⊥) → IfNone r ((k : Command) (others : Fields) → fs ≡ command_text k ∷ others → ⊥)
+no_command fs word rest None read none = λ k others e.
+    let both : word ∷ rest ≡ command_text k ∷ others = sym (word_at_takes fs (word, rest) read).0 ∙ e in
+    let same : word ≡ command_text k = cc in none k same
+no_command fs word rest (Some k) read found = tt

@@ -1,0 +1,131 @@
+-- The lines of a script: how each is spelled, and within which limits.
+use Rattle.std.specs.Prelude.{◌≡◌, ◌≢◌, ◌⊎◌, ℕ, ◌≤◌, ◌<◌, pos, ◌≤ℤ◌, FitsSigned, List, [], ◌∷◌, length, All, codes}
+use Rattle.std.specs.Int.{w64}
+use Rattle.std.specs.List.{join_with_byte, AllByRecursion}
+use Rattle.std.specs.Fmt.{decimal, signed_decimal}
+use Rattle.sd_base.specs.Name.{IsName}
+use Rattle.sd_base.specs.declared.number.TheConstants.{MOST_NUMBER}
+use Rattle.sd_base.specs.declared.record.TheConstants.{MOST_DATA}
+use Rattle.sd_base.specs.declared.refusal.Refusal as base
+use Rattle.sd_base.specs.declared.refusal.Refusal.TheVariants as refusals
+use Rattle.sd_script.specs.declared.line.TheConstants.{LEAST_BLOCK_LIMIT, MOST_BLOCK_LIMIT}
+use Rattle.sd_script.specs.declared.line.Setting.TheVariants.{Block, Time}
+use Rattle.sd_script.specs.declared.line.Line.{Line}
+use Rattle.sd_script.specs.declared.line.Line.TheVariants.{Empty, Set, At, Label, Mount, Seek, Open, Rec, Fill, End, Cancel, Spool, Despool, Take, Place, Sync, Close, Read, Drain}
+use Rattle.sd_script.specs.declared.line.LineFault.{LineFault}
+use Rattle.sd_script.specs.declared.line.LineFault.TheVariants.{BadCommand, BadName}
+
+-- the fields of a line; the last one of `rec` is its text, which may hold blanks
+abbrev pub fields : Line → List (List ℕ)
+fields Empty = []
+fields (Set (Block size)) = codes "block" ∷ decimal size ∷ []
+fields (Set (Time time)) = codes "time" ∷ decimal time ∷ []
+fields (At moment) = codes "at" ∷ signed_decimal moment ∷ []
+fields (Label drive volume pool media) = codes "label" ∷ decimal drive ∷ volume ∷ pool ∷ media ∷ []
+fields (Mount drive volume) = codes "mount" ∷ decimal drive ∷ volume ∷ []
+fields (Seek drive) = codes "seek" ∷ decimal drive ∷ []
+fields (Open job pool media) = codes "open" ∷ decimal job ∷ pool ∷ media ∷ []
+fields (Rec ticket index stream text) = codes "rec" ∷ decimal ticket ∷ decimal index ∷ decimal stream ∷ text ∷ []
+fields (Fill ticket index stream count) = codes "fill" ∷ decimal ticket ∷ decimal index ∷ decimal stream ∷ decimal count ∷ []
+fields (End ticket) = codes "end" ∷ decimal ticket ∷ []
+fields (Cancel ticket) = codes "cancel" ∷ decimal ticket ∷ []
+fields (Spool ticket) = codes "spool" ∷ decimal ticket ∷ []
+fields (Despool ticket) = codes "despool" ∷ decimal ticket ∷ []
+fields (Take drive) = codes "take" ∷ decimal drive ∷ []
+fields (Place drive) = codes "place" ∷ decimal drive ∷ []
+fields (Sync drive) = codes "sync" ∷ decimal drive ∷ []
+fields (Close ticket) = codes "close" ∷ decimal ticket ∷ []
+fields (Read ticket) = codes "read" ∷ decimal ticket ∷ []
+fields Drain = codes "drain" ∷ []
+
+-- the fields, parted by one blank
+abbrev pub joined : List (List ℕ) → List ℕ
+joined fs = join_with_byte 32 fs
+
+abbrev pub spelling : Line → List ℕ
+spelling line = joined (fields line)
+
+-- a record without data may leave out the blank before them too
+abbrev pub IsShorter : List ℕ → Line → Type 0
+IsShorter bytes (Rec ticket index stream []) = bytes ≡ joined (codes "rec" ∷ decimal ticket ∷ decimal index ∷ decimal stream ∷ [])
+IsShorter bytes line = ⊥
+
+abbrev pub IsSpelled : List ℕ → Line → Type 0
+IsSpelled bytes line = (bytes ≡ spelling line) ⊎ IsShorter bytes line
+
+-- from 1 to the greatest FileIndex, Stream, job, ticket and time
+abbrev pub IsNumber : ℕ → Type 0
+IsNumber n = (1 ≤ n) × (n ≤ MOST_NUMBER)
+
+abbrev pub IsDrive : ℕ → Type 0
+IsDrive n = (1 ≤ n) × (n ≤ 8)
+
+-- the numbers are within their limits, and so is the length of a text
+abbrev pub IsWithin : Line → Type 0
+IsWithin Empty = Unit {0}
+IsWithin (Set (Block size)) = (LEAST_BLOCK_LIMIT ≤ size) × (size ≤ MOST_BLOCK_LIMIT)
+IsWithin (Set (Time time)) = IsNumber time
+IsWithin (At moment) = (pos 0 ≤ℤ moment) × FitsSigned w64 moment
+IsWithin (Label drive volume pool media) = IsDrive drive
+IsWithin (Mount drive volume) = IsDrive drive
+IsWithin (Seek drive) = IsDrive drive
+IsWithin (Open job pool media) = IsNumber job
+IsWithin (Rec ticket index stream text) = IsNumber ticket × IsNumber index × IsNumber stream × (length text ≤ MOST_DATA)
+IsWithin (Fill ticket index stream count) = IsNumber ticket × IsNumber index × IsNumber stream × (count ≤ MOST_DATA)
+IsWithin (End ticket) = IsNumber ticket
+IsWithin (Cancel ticket) = IsNumber ticket
+IsWithin (Spool ticket) = IsNumber ticket
+IsWithin (Despool ticket) = IsNumber ticket
+IsWithin (Take drive) = IsDrive drive
+IsWithin (Place drive) = IsDrive drive
+IsWithin (Sync drive) = IsDrive drive
+IsWithin (Close ticket) = IsNumber ticket
+IsWithin (Read ticket) = IsNumber ticket
+IsWithin Drain = Unit {0}
+
+-- the fields of a line that stand in the place of a name
+abbrev pub names : Line → List (List ℕ)
+names (Label drive volume pool media) = volume ∷ pool ∷ media ∷ []
+names (Mount drive volume) = volume ∷ []
+names (Open job pool media) = pool ∷ media ∷ []
+names line = []
+
+abbrev pub HasNoBlank : List ℕ → Type 0
+HasNoBlank text = All (λ c. c ≢ 32) text
+
+-- one character or more, none of them a blank
+abbrev pub IsWord : List ℕ → Type 0
+IsWord text = (0 < length text) × HasNoBlank text
+
+abbrev pub AreWords : Line → Type 0
+AreWords line = AllByRecursion IsWord (names line)
+
+abbrev pub AreNames : Line → Type 0
+AreNames line = AllByRecursion IsName (names line)
+
+-- the bytes are ASCII and spell this line, whose names may be any words
+pub record HasShape (bytes : List ℕ) (line : Line) : Type 0 where
+  pub ascii : All (λ byte. byte < 128) bytes
+  pub spelled : IsSpelled bytes line
+  pub within : IsWithin line
+  pub words : AreWords line
+
+-- the bytes are ASCII and spell this line
+pub record HasForm (bytes : List ℕ) (line : Line) : Type 0 where
+  pub ascii : All (λ byte. byte < 128) bytes
+  pub spelled : IsSpelled bytes line
+  pub within : IsWithin line
+  pub names : AreNames line
+
+-- bytes that have a shape have one
+abbrev pub HaveOneShape : Type 0
+HaveOneShape = (bytes : List ℕ) (line other : Line) → HasShape bytes line → HasShape bytes other → line ≡ other
+
+-- bytes that have a form have one
+abbrev pub HaveOneForm : Type 0
+HaveOneForm = (bytes : List ℕ) (line other : Line) → HasForm bytes line → HasForm bytes other → line ≡ other
+
+-- what a line prints that is none
+abbrev pub refusal_of : LineFault → base.Refusal
+refusal_of BadCommand = refusals.BadCommand
+refusal_of BadName = refusals.BadName

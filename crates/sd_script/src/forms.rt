@@ -1,0 +1,121 @@
+// The lines of several fields, and those whose one field is no number of a drive or a session.
+ghost use Rattle.std.specs.Prelude.{◌≡◌};
+ghost use Rattle.sd_script.specs.Reading.{Gives, shape};
+ghost use Rattle.sd_script.specs.declared.command.Command.TheVariants as commands;
+
+use crate::line::{
+    LEAST_BLOCK_LIMIT, Line, LineFault, MOST_BLOCK_LIMIT, MOST_MOMENT, Setting, Text,
+};
+use crate::words::Words;
+use sd_base::{MOST_DATA, MOST_NUMBER, Name};
+
+/// The greatest FileIndex, Stream and time, as a number of the width that fields are read in.
+const MOST: u64 = MOST_NUMBER as u64;
+
+pub fn block(words: Words<'_>) -> Result<Line<'_>, LineFault>
+    ensures { Gives result (shape commands.Block words.entry) }
+{
+    let size = words.only_number(LEAST_BLOCK_LIMIT, MOST_BLOCK_LIMIT)?;
+    Ok(Line::Set(Setting::Block(size as usize)))
+}
+
+pub fn time(words: Words<'_>) -> Result<Line<'_>, LineFault>
+    ensures { Gives result (shape commands.Time words.entry) }
+{
+    let time = words.only_number(1, MOST)?;
+    Ok(Line::Set(Setting::Time(time as u32)))
+}
+
+pub fn at(words: Words<'_>) -> Result<Line<'_>, LineFault>
+    ensures { Gives result (shape commands.At words.entry) }
+{
+    let moment = words.only_number(0, MOST_MOMENT)?;
+    Ok(Line::At(moment as i64))
+}
+
+#[tactic(auto, unfolding(crate::specs::Reading::label_shape))]
+pub fn label(mut words: Words<'_>) -> Result<Line<'_>, LineFault>
+    ensures { Gives result (shape commands.Label words.entry) }
+{
+    let drive = words.numbered()?;
+    let volume = words.word()?;
+    let pool = words.word()?;
+    let media = words.word()?;
+    words.end()?;
+    Ok(Line::Label {
+        drive,
+        volume: Name::parse(volume)?,
+        pool: Name::parse(pool)?,
+        media: Name::parse(media)?,
+    })
+}
+
+#[tactic(auto, unfolding(crate::specs::Reading::mount_shape))]
+pub fn mount(mut words: Words<'_>) -> Result<Line<'_>, LineFault>
+    ensures { Gives result (shape commands.Mount words.entry) }
+{
+    let drive = words.numbered()?;
+    let volume = words.word()?;
+    words.end()?;
+    Ok(Line::Mount {
+        drive,
+        volume: Name::parse(volume)?,
+    })
+}
+
+#[tactic(auto, unfolding(crate::specs::Reading::open_shape))]
+pub fn open(mut words: Words<'_>) -> Result<Line<'_>, LineFault>
+    ensures { Gives result (shape commands.Open words.entry) }
+{
+    let job = words.numbered()?;
+    let pool = words.word()?;
+    let media = words.word()?;
+    words.end()?;
+    Ok(Line::Open {
+        job,
+        pool: Name::parse(pool)?,
+        media: Name::parse(media)?,
+    })
+}
+
+#[tactic(auto, unfolding(crate::specs::Reading::rec_shape))]
+pub fn rec(mut words: Words<'_>) -> Result<Line<'_>, LineFault>
+    ensures { Gives result (shape commands.Rec words.entry) }
+{
+    let ticket = words.numbered()?;
+    let index = words.number(1, MOST)?;
+    let stream = words.number(1, MOST)?;
+    let text = words.rest();
+    if text.len() > MOST_DATA {
+        return Err(LineFault::BadCommand);
+    }
+    Ok(Line::Rec {
+        ticket,
+        index: index as u32,
+        stream: stream as u32,
+        text: Text::new(text),
+    })
+}
+
+#[tactic(auto, unfolding(crate::specs::Reading::fill_shape))]
+pub fn fill(mut words: Words<'_>) -> Result<Line<'_>, LineFault>
+    ensures { Gives result (shape commands.Fill words.entry) }
+{
+    let ticket = words.numbered()?;
+    let index = words.number(1, MOST)?;
+    let stream = words.number(1, MOST)?;
+    let count = words.only_number(0, MOST_DATA as u64)?;
+    Ok(Line::Fill {
+        ticket,
+        index: index as u32,
+        stream: stream as u32,
+        count: count as usize,
+    })
+}
+
+pub fn drain(words: Words<'_>) -> Result<Line<'_>, LineFault>
+    ensures { Gives result (shape commands.Drain words.entry) }
+{
+    words.end()?;
+    Ok(Line::Drain)
+}

@@ -1,0 +1,91 @@
+// The lines of a script, read: what is read has the form of the line, and what has a form is read.
+ghost use Rattle.std.specs.Prelude.{◌≡◌, ◌<◌, ◌↔◌, ℕ, List, ◌∷◌, Ok, Err, IfOk, IfSome, IfNone, All};
+ghost use Rattle.sd_script.specs.Grammar.{HasForm, HasShape, AreNames};
+ghost use Rattle.sd_script.specs.Command.{command_text};
+ghost use Rattle.sd_script.specs.Reading.{Gives, shape};
+ghost use Rattle.sd_script.specs.declared.line.Line.{Line as SpecLine};
+ghost use Rattle.sd_script.specs.declared.command.Command.{Command as SpecCommand};
+
+use crate::command::{Command, command_of};
+use crate::forms::{at, block, drain, fill, label, mount, open, rec, time};
+use crate::line::{Line, LineFault};
+use crate::words::Words;
+use std::str;
+
+/// The line that `bytes` spell, without the newline behind it.
+pub fn read_line(bytes: &[u8]) -> Result<Line<'_>, LineFault>
+    // What is read has the form of that line,
+    ensures ok { IfOk result (λ line. HasForm bytes.now line) }
+    // and what has the form of a line is read as that.
+    ensures found { (line : SpecLine) → HasForm bytes.now line → result ≡ Ok line }
+    // A bad name: the form is there, but for a word that is no name.
+    ensures bad_name { (result ≡ Err LineFault.BadName)
+        ↔ ((line : SpecLine) × HasShape bytes.now line × (AreNames line → ⊥)) }
+    // A bad command: there is no form, whatever the names are.
+    ensures bad_command { (result ≡ Err LineFault.BadCommand)
+        ↔ ((line : SpecLine) → HasShape bytes.now line → ⊥) }
+{
+    if bytes.is_empty() {
+        return Ok(Line::Empty);
+    }
+    let Some(line) = ascii_text(bytes) else {
+        return Err(LineFault::BadCommand);
+    };
+    let mut words = Words::new(line);
+    let Some(command) = first_command(&mut words) else {
+        return Err(LineFault::BadCommand);
+    };
+    line_of(command, words)
+}
+
+/// The bytes as a text, where they are ASCII.
+fn ascii_text(bytes: &[u8]) -> Option<&str>
+    ensures found { IfSome result (λ text. (text.now ≡ bytes.now) × All (λ byte. byte < 128) bytes.now) }
+    ensures none { IfNone result (All (λ byte. byte < 128) bytes.now → ⊥) }
+{
+    if !bytes.is_ascii() {
+        return None;
+    }
+    let Ok(text) = str::from_utf8(bytes) else {
+        return None;
+    };
+    Some(text)
+}
+
+/// The command that the next field spells.
+fn first_command(words: &mut Words<'_>) -> Option<Command>
+    ensures found { IfSome result (λ command. words.old ≡ command_text command ∷ words.new) }
+    ensures none { IfNone result ((command : SpecCommand) (rest : List (List ℕ)) → words.old ≡ command_text command ∷ rest → ⊥) }
+{
+    let Ok(word) = words.word() else {
+        return None;
+    };
+    command_of(word)
+}
+
+/// The line of a command and the fields behind it.
+fn line_of(command: Command, words: Words<'_>) -> Result<Line<'_>, LineFault>
+    ensures { Gives result (shape command words.entry) }
+{
+    match command {
+        Command::Block => block(words),
+        Command::Time => time(words),
+        Command::At => at(words),
+        Command::Label => label(words),
+        Command::Mount => mount(words),
+        Command::Seek => Ok(Line::Seek(words.only()?)),
+        Command::Open => open(words),
+        Command::Rec => rec(words),
+        Command::Fill => fill(words),
+        Command::End => Ok(Line::End(words.only()?)),
+        Command::Cancel => Ok(Line::Cancel(words.only()?)),
+        Command::Spool => Ok(Line::Spool(words.only()?)),
+        Command::Despool => Ok(Line::Despool(words.only()?)),
+        Command::Take => Ok(Line::Take(words.only()?)),
+        Command::Place => Ok(Line::Place(words.only()?)),
+        Command::Sync => Ok(Line::Sync(words.only()?)),
+        Command::Close => Ok(Line::Close(words.only()?)),
+        Command::Read => Ok(Line::Read(words.only()?)),
+        Command::Drain => drain(words),
+    }
+}

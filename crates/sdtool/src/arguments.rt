@@ -1,0 +1,39 @@
+// The command line.
+use clap::error::ErrorKind;
+use clap::{Command, Error};
+use std::alloc::Global;
+
+/// What the command line asks for.
+#[derive(Drop)]
+pub enum Task {
+    /// To run the script on standard input.
+    Run,
+    /// To print this: help or the version, or what is wrong with the command line.
+    Print(Error),
+    /// There was no memory to read the command line.
+    NoMemory,
+}
+
+/// What `words`, the program's name first, ask for.
+pub fn task_of(alloc: Global, words: &[String]) -> Task {
+    match parse(alloc, words) {
+        Ok(()) => Task::Run,
+        Err(fault) if fault.kind() == ErrorKind::OutOfMemory => Task::NoMemory,
+        Err(fault) => Task::Print(fault),
+    }
+}
+
+/// `Ok` where the words ask to run a script, which is all that there is to ask for.
+fn parse(alloc: Global, words: &[String]) -> Result<(), Error> {
+    let run = Command::new(alloc, "run").about(
+        "Runs the script on standard input, and prints what each line of it comes to",
+    );
+    let command = Command::new(alloc, "sdtool")
+        .version("0.1.0")
+        .about("Runs scripts over the core of the storage daemon")
+        .subcommand_required(true)
+        .arg_required_else_help(true)
+        .subcommand(run)?;
+    command.try_get_matches_from(words)?;
+    Ok(())
+}

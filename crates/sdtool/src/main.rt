@@ -1,0 +1,64 @@
+//! Runs scripts over the core of the storage daemon: `sdtool run` reads a script on standard input and
+//! prints what each line of it comes to.
+#![tactic(auto)]
+
+mod arguments;
+mod drain;
+mod handed;
+mod lines;
+mod output;
+mod replies;
+mod run;
+mod settings;
+mod sink;
+#[cfg(test)]
+mod tests;
+
+use arguments::{Task, task_of};
+use run::run_lines;
+use sd_base::Refusal;
+use settings::read_settings;
+use std::io::{BufReader, BufWriter};
+use std::process::ExitCode;
+use std::{env, io};
+
+fn main(rt: HostRuntime) -> ExitCode {
+    let alloc = rt.alloc();
+    let words = match env::args(&rt) {
+        Ok(words) => words.collect::<Vec<String>>(alloc),
+        Err(_) => return without_memory(&rt),
+    };
+    let Ok(words) = words else {
+        return without_memory(&rt);
+    };
+    match task_of(alloc, words.as_slice()) {
+        Task::Run => run_script(&rt),
+        Task::Print(told) => match told.print(&rt) {
+            Ok(()) if told.use_stderr() => ExitCode::from(2),
+            Ok(()) => ExitCode::SUCCESS,
+            Err(_) => ExitCode::FAILURE,
+        },
+        Task::NoMemory => without_memory(&rt),
+    }
+}
+
+/// Runs the script on standard input.
+fn run_script<R: Input + Print + AllocGlobal>(rt: &R) -> ExitCode {
+    let alloc = rt.alloc();
+    let Ok(mut reader) = BufReader::new(alloc, rt.reader()) else {
+        return without_memory(rt);
+    };
+    let Ok(mut writer) = BufWriter::new(alloc, io::writer(rt)) else {
+        return without_memory(rt);
+    };
+    let settings = read_settings(alloc, &mut reader);
+    let status = run_lines(alloc, settings, &mut reader, &mut writer);
+    // What could not be written is given up, and not tried again as the writer goes.
+    let _ = writer.into_parts();
+    ExitCode::from(status)
+}
+
+fn without_memory(rt: &impl Print) -> ExitCode {
+    let _ = rt.println(Refusal::Memory);
+    ExitCode::FAILURE
+}

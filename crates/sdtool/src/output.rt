@@ -1,0 +1,34 @@
+// What a run prints.
+use std::fmt::Display;
+use std::io::Write;
+
+/// The lines that a run prints. After one that can't be written, nothing more is.
+#[derive(Drop)]
+pub struct Output<W: Write + Drop> {
+    writer: W,
+    failed: bool,
+}
+
+impl<W: Write + Drop> Output<W> {
+    pub fn new(writer: W) -> Self {
+        Output {
+            writer,
+            failed: false,
+        }
+    }
+
+    /// Whether a line could not be written.
+    pub fn failed(&self) -> bool {
+        self.failed
+    }
+
+    /// Prints a line, at once.
+    pub fn line<D: Display + Drop>(&mut self, text: D) {
+        if self.failed {
+            return;
+        }
+        if self.writer.writeln(text).is_err() || self.writer.flush().is_err() {
+            self.failed = true;
+        }
+    }
+}

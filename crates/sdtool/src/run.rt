@@ -1,0 +1,299 @@
+// Running the lines of a script over a world.
+use crate::drain::drain;
+use crate::lines::Next;
+use crate::output::Output;
+use crate::replies::print_reply;
+use crate::settings::{Settings, Values};
+use crate::sink::RecordLines;
+use sd_base::{Bytes, DriveNo, Items, MOST_NUMBER, Rec, Refusal, SessionKey, Ticket, VolName};
+use sd_core::{Event, ReadEnd, ReadFault, Reply, Span, Status, World, WorldConf};
+use sd_script::{Line, read_line};
+use std::alloc::{AllocError, Global};
+use std::io::{BufRead, Write};
+
+/// The status of a run that came to the end of its script.
+const DONE: u8 = 0;
+
+/// The status of a run whose input could not be read or whose lines could not be written, or for which
+/// there was no memory to begin.
+const FAILED: u8 = 1;
+
+/// The least block limit, in bytes.
+const LEAST_BLOCK: usize = 1024;
+
+/// The greatest block limit, in bytes.
+const MOST_BLOCK: usize = 1_048_576;
+
+/// The letter that a `fill` line fills its record with.
+const FILLING: u8 = b'x';
+
+/// What a closed session is read back by.
+#[derive(Drop)]
+struct Closed {
+    ticket: Ticket,
+    key: SessionKey,
+    spans: Items<Span>,
+}
+
+/// A script that is run.
+#[derive(Drop)]
+struct Script<W: Write + Drop> {
+    alloc: Global,
+    world: World,
+    /// The moment of what happens now, in microseconds.
+    moment: i64,
+    closed: Vec<Closed>,
+    out: Output<W>,
+}
+
+/// Runs the script whose settings were read, from the line that they ended at to the end of the input,
+/// and prints what each line comes to. Answers the status of the run: 0 where the script came to its
+/// end, whatever was refused in it, and else 1.
+pub fn run_lines<R: BufRead, W: Write + Drop>(
+    alloc: Global,
+    settings: Settings,
+    reader: &mut R,
+    writer: W,
+) -> u8 {
+    let Settings {
+        values,
+        mut lines,
+        first,
+    } = settings;
+    let mut out = Output::new(writer);
+    let world = match new_world(alloc, values) {
+        Ok(world) => world,
+        Err(why) => {
+            out.line(why);
+            return FAILED;
+        }
+    };
+    let mut script = Script {
+        alloc,
+        world,
+        moment: 0,
+        closed: Vec::new(alloc),
+        out,
+    };
+    let mut next = first;
+    for _ in 0..u64::MAX {
+        if let Some(status) = script.come(next, lines.bytes()) {
+            return status;
+        }
+        next = lines.read_next(reader);
+    }
+    DONE
+}
+
+impl<W: Write + Drop> Script<W> {
+    /// Runs the line that came, which stands in `bytes`. Answers the status where the run is over.
+    fn come(&mut self, next: Next, bytes: &[u8]) -> Option<u8> {
+        match next {
+            Next::Line => self.run(bytes),
+            Next::TooLong => self.refuse(Refusal::BadCommand),
+            Next::NoMemory => self.refuse(Refusal::Memory),
+            Next::Fault => {
+                self.out.line("fault input");
+                return Some(FAILED);
+            }
+            Next::End => return Some(DONE),
+        }
+        if self.out.failed() {
+            return Some(FAILED);
+        }
+        None
+    }
+
+    fn run(&mut self, bytes: &[u8]) {
+        match read_line(bytes) {
+            Ok(line) => self.obey(line),
+            Err(fault) => self.refuse(fault.refusal()),
+        }
+    }
+
+    fn refuse(&mut self, why: Refusal) {
+        self.out.line(why);
+    }
+
+    fn obey(&mut self, line: Line<'_>) {
+        match line {
+            Line::Empty => {}
+            Line::Set(_) => self.refuse(Refusal::BadCommand),
+            Line::At(moment) => self.moment = moment,
+            Line::Rec {
+                ticket,
+                index,
+                stream,
+                text,
+            } => {
+                let bytes = Bytes::from_slice(self.alloc, text.as_slice());
+                self.append(ticket, index, stream, bytes);
+            }
+            Line::Fill {
+                ticket,
+                index,
+                stream,
+                count,
+            } => self.append(ticket, index, stream, filled(self.alloc, count)),
+            Line::Mount { drive, volume } => self.mount(drive, volume),
+            Line::Close(ticket) => self.close(ticket),
+            Line::Read(ticket) => self.read(ticket),
+            Line::Drain => self.drain(),
+            other => self.step_as(other),
+        }
+    }
+
+    /// The lines that are one step, and print its reply as it is.
+    fn step_as(&mut self, line: Line<'_>) {
+        let moment = self.moment;
+        match line {
+            Line::Label {
+                drive,
+                volume,
+                pool,
+                media,
+            } => self.step(Event::Label {
+                drive,
+                name: volume,
+                pool,
+                media,
+                moment,
+            }),
+            Line::Open { job, pool, media } => self.step(Event::Open {
+                job,
+                pool,
+                media,
+                moment,
+            }),
+            Line::End(ticket) => self.step(Event::End { ticket, moment }),
+            Line::Cancel(ticket) => self.step(Event::Cancel { ticket }),
+            Line::Spool(ticket) => self.step(Event::Spool { ticket }),
+            Line::Despool(ticket) => self.step(Event::Despool { ticket }),
+            Line::Seek(drive) => self.step(Event::Seek { drive }),
+            Line::Take(drive) => self.step(Event::Take { drive }),
+            Line::Place(drive) => self.step(Event::Place { drive }),
+            Line::Sync(drive) => self.step(Event::Sync { drive }),
+            _ => {}
+        }
+    }
+
+    fn step(&mut self, event: Event) {
+        let reply = self.world.step(event);
+        print_reply(&mut self.out, &reply);
+    }
+
+    fn append(
+        &mut self,
+        ticket: Ticket,
+        index: u32,
+        stream: u32,
+        bytes: Result<Bytes, AllocError>,
+    ) {
+        let Ok(bytes) = bytes else {
+            return self.refuse(Refusal::Memory);
+        };
+        match Rec::new(index, stream, bytes) {
+            None => self.refuse(Refusal::BadCommand),
+            Some(rec) => self.step(Event::Append { ticket, rec }),
+        }
+    }
+
+    fn mount(&mut self, drive: DriveNo, name: VolName) {
+        match self.world.step(Event::Mount { drive, name }) {
+            Reply::Mounted { .. } => self.out.line("ok mounted"),
+            reply => print_reply(&mut self.out, &reply),
+        }
+    }
+
+    /// Closes a session, and keeps its spans for a later `read`. Room for them is made first.
+    fn close(&mut self, ticket: Ticket) {
+        if self.closed.try_reserve(1).is_err() {
+            return self.refuse(Refusal::Memory);
+        }
+        let reply = self.world.step(Event::Close { ticket });
+        print_reply(&mut self.out, &reply);
+        let Reply::Closed { key, spans } = reply else {
+            return;
+        };
+        self.print_jobmedia(key, spans.as_slice());
+        let kept = self.closed.push(Closed { ticket, key, spans });
+        if kept.is_err() {
+            self.refuse(Refusal::Memory);
+        }
+    }
+
+    fn print_jobmedia(&mut self, key: SessionKey, spans: &[Span]) {
+        self.out
+            .line(format_args!("session {} {}", key.time, key.id));
+        for span in spans {
+            self.out.line(span);
+        }
+    }
+
+    fn read(&mut self, ticket: Ticket) {
+        let Some(closed) = self.closed.iter().find(|closed| closed.ticket == ticket) else {
+            let status = self.world.status(ticket);
+            return self.refuse(unread(status));
+        };
+        let read = read_back(&self.world, closed, &mut self.out);
+        match read {
+            Ok(end) => print_end(&mut self.out, end),
+            Err(fault) => self.refuse(fault.refusal()),
+        }
+    }
+
+    fn drain(&mut self) {
+        let placed = drain(&mut self.world);
+        self.out.line(format_args!("ok drained {placed}"));
+    }
+}
+
+/// The world of these settings. Those that a script sets are within their limits.
+fn new_world(alloc: Global, values: Values) -> Result<World, Refusal> {
+    let Values { block, time } = values;
+    let is_block = block >= LEAST_BLOCK && block <= MOST_BLOCK;
+    if !is_block || time == 0 || time > MOST_NUMBER {
+        return Err(Refusal::BadCommand);
+    }
+    match World::new(alloc, WorldConf { block }, time) {
+        Ok(world) => Ok(world),
+        Err(_) => Err(Refusal::Memory),
+    }
+}
+
+/// The bytes of a `fill` line's record.
+fn filled(alloc: Global, count: usize) -> Result<Bytes, AllocError> {
+    Ok(Items::from_vec(vec![in alloc; FILLING; count]?))
+}
+
+/// Prints the records of a closed session as they are read back.
+fn read_back<W: Write + Drop>(
+    world: &World,
+    closed: &Closed,
+    out: &mut Output<W>,
+) -> Result<ReadEnd, ReadFault> {
+    let mut records = RecordLines::new(out);
+    world.read(closed.key, closed.spans.as_slice(), &mut records)
+}
+
+/// Prints the line of a session that was read to its end.
+fn print_end<W: Write + Drop>(out: &mut Output<W>, end: ReadEnd) {
+    let records = end.records;
+    let bytes = end.bytes;
+    if end.ended {
+        out.line(format_args!("ok read {records} {bytes} ended"));
+    } else {
+        out.line(format_args!("ok read {records} {bytes} cut"));
+    }
+}
+
+/// Why a session that was never closed here can't be read.
+fn unread(status: Option<Status>) -> Refusal {
+    match status {
+        None => Refusal::SessionNotOpen,
+        Some(Status::Failed) => Refusal::SessionFailed,
+        // Where a closed session's spans were lost to want of memory.
+        Some(Status::Closed) => Refusal::Memory,
+        Some(Status::Active | Status::Ended | Status::Cancelled) => Refusal::NotYet,
+    }
+}
