@@ -2,13 +2,14 @@
 //!
 //! Every call that takes memory is made here, and where it is refused for want of memory it is made
 //! once more with the same arguments. So whichever one allocation fails, the program ends with the
-//! output that it has with ample memory: a refusal left all as it was. Run it by
-//! `rt try --fail-alloc 1..`, which makes each allocation fail in turn and compares the outputs.
+//! output that it has with ample memory: a refusal left all as it was. `memory/run`, at the top of the
+//! repository, makes each allocation fail in turn and compares the outputs.
 #![tactic(auto)]
 
 mod devices;
 mod packets;
 mod session;
+mod worlds;
 
 use anyhow::Result;
 
@@ -16,5 +17,6 @@ fn main(rt: HostRuntime) -> Result<()> {
     packets::run(&rt)?;
     session::run(&rt)?;
     devices::run(&rt)?;
+    worlds::run(&rt)?;
     Ok(())
 }
