@@ -10,14 +10,12 @@ use Rattle.sd_base.specs.declared.number.SessionKey.{SessionKey}
 use Rattle.sd_block.specs.Image.{block_image}
 use Rattle.sd_block.proofs.ImageLemmas.{length-block_image}
 use Rattle.sd_block.specs.declared.layout.TheConstants.{HEADER}
-use Rattle.sd_record.specs.Fragment.{Fragment}
 use Rattle.sd_label.specs.Cutting.{Standing, Ended as WithEnd, joined, WholeOf}
 use Rattle.sd_pack.specs.Body.{PackedBody, body_of}
 use Rattle.sd_pack.specs.Packing.{Packs, bytes_of}
 use Rattle.sd_core.specs.declared.entry.Entry.{Entry}
 use Rattle.sd_core.specs.declared.journal.Run.{Run}
 use Rattle.sd_core.specs.declared.journal.SessionJournal.{SessionJournal}
-use Rattle.sd_core.specs.declared.span.Span.{Span}
 use Rattle.sd_core.specs.declared.status.Status.TheVariants.{Closed}
 use Rattle.sd_core.specs.Machine.{Machine, MachineSession, session_of}
 use Rattle.sd_core.specs.Session.{parts_of}
@@ -27,9 +25,12 @@ use Rattle.sd_core.specs.Drive.{volume_name}
 use Rattle.sd_core.specs.World.{WorldView, entry_of, on_the_way, bodies_with, bodies_in, IsOutstanding, spans_of_entry, shelf_of}
 use Rattle.sd_core.specs.Reading.{Reads, SpanHolds, shelf_with}
 use Rattle.sd_core.specs.Matches.{block_of, HasBodies, SessionMatches, SessionsMatch, Matches}
-use Rattle.sd_core.proofs.BlockLemmas.{none_there, images-append, AreImages-front, AreImages-behind, end_at, length-images, bodies_with-append, blocks_of_bodies}
+use Rattle.sd_core.proofs.BlockLemmas.{length-images, bodies_with-append, blocks_of_bodies}
+use Rattle.sd_core.proofs.JournalLemmas.{placement_at, end_at, span_of_run}
+use Rattle.sd_core.proofs.ListLemmas.{nil_unless, nil_from_map}
+use Rattle.sd_core.proofs.VolumeLemmas.{images-append, AreImages-front, AreImages-behind}
 use Rattle.sd_core.proofs.SessionLookups.{found_session, journal_follows}
-use Rattle.sd_core.proofs.DriveFrames.{placement_of, VolumeFollowed, followed_of}
+use Rattle.sd_core.proofs.DriveFrames.{VolumeFollowed, followed_of}
 
 -- The session of a ticket.
 
@@ -70,7 +71,7 @@ runs_on : (key : SessionKey) (volume : List ℕ) (at : ℕ) (bs : List SentBody)
     → RunsOn key at bs old (follows_from (record { placed = placed; run = Some old }) (placements_of key (placements_at volume at bs))).run
 runs_on key volume at [] placed old = record { new = old; run_is = refl; start_is = refl; end_is = inl (refl, refl) }
 runs_on key volume at (b ∷ bs) placed old =
-    let p = placement_of volume at b in
+    let p = placement_at volume at b in
     let behind = at + (HEADER + length b.body.bytes) in
     let rest = placements_of key (placements_at volume behind bs) in
     let own = runs_on key volume behind bs (placed + 1) (run_with old p) in
@@ -112,9 +113,9 @@ pub record Stretch (key : SessionKey) (at : ℕ) (bs : List SentBody) (run : Opt
 
 -- a stretch begins with this body
 stretch_from : (key : SessionKey) (volume : List ℕ) (at : ℕ) (b : SentBody) (bs : List SentBody)
-    → Stretch key at (b ∷ bs) (follows_from (noted empty_journal (placement_of volume at b)) (placements_of key (placements_at volume (at + (HEADER + length b.body.bytes)) bs))).run
+    → Stretch key at (b ∷ bs) (follows_from (noted empty_journal (placement_at volume at b)) (placements_of key (placements_at volume (at + (HEADER + length b.body.bytes)) bs))).run
 stretch_from key volume at b bs =
-    let own = runs_on key volume (at + (HEADER + length b.body.bytes)) bs 1 (run_of (placement_of volume at b)) in
+    let own = runs_on key volume (at + (HEADER + length b.body.bytes)) bs 1 (run_of (placement_at volume at b)) in
     elim own.end_is [
       | inl none ↦ record {
         front = [];
@@ -147,7 +148,7 @@ pub stretch_of : (key : SessionKey) (volume : List ℕ) (at : ℕ) (bs : List Se
     → Stretch key at bs (follows_from empty_journal (placements_of key (placements_at volume at bs))).run
 stretch_of key volume at [] some = absurd (some refl)
 stretch_of key volume at (b ∷ bs) some =
-    let p = placement_of volume at b in
+    let p = placement_at volume at b in
     let behind = at + (HEADER + length b.body.bytes) in
     let rest = placements_of key (placements_at volume behind bs) in
     let later : bodies_with key bs ≢ [] → Stretch key behind bs (follows_from empty_journal rest).run = stretch_of key volume behind bs in
@@ -188,16 +189,8 @@ some_image number [] some = absurd (some refl)
 some_image number (b ∷ bs) some =
     omega (arith, length-append (block_image b.key number b.body.bytes) (images (number + 1) (map block_of bs)), length-block_image b.key number b.body.bytes)
 
-bytes_none : (bodies : List PackedBody) → bytes_of bodies ≡ [] → bodies ≡ []
-bytes_none [] e = refl
-bytes_none (b ∷ bodies) e = cc
-
 on_shelf : (name bytes : List ℕ) → shelf_with name bytes name ≡ Some bytes
 on_shelf name bytes = cond-true (bytes_eq name name) _ _ ((bytes_eq-Decides name name).1 refl)
-
--- the stretch as a span
-abbrev span_of_run : List ℕ → Run → Span
-span_of_run volume r = record { volume = volume; vol_index = 1; first = r.first; last = r.last; start = r.start; end = r.end }
 
 -- the span of a stretch holds its bodies
 stretch_holds : (v : VolumeView) (placed : List SentBody) (key : SessionKey) (run : Option Run) → (image : VolumeImage v (map block_of placed))
@@ -242,7 +235,7 @@ stretch_reads v placed key run records image h some whole =
       numbered = (refl, omega (arith, holds.end_is, long), tt);
       blocks = blocks ∷ [];
       hold = (holds, tt);
-      some_block = λ none. some (bytes_none (bodies_with key placed) (sym bodies ∙ none));
+      some_block = λ none. some (nil_from_map (λ (body : PackedBody). body.bytes) (bodies_with key placed) (sym bodies ∙ none));
       whole = subst (λ l. WholeOf l records true) (sym bodies) whole;
     } in
     subst (λ r. Reads (shelf_with v.name v.bytes) key (spans_in v.name r) records true) (sym h.run_is) reads
@@ -261,13 +254,9 @@ placed_reads (Some v) placed es ticket e records h there some whole =
 -- Closed sessions.
 
 -- a session that is packed has a body: that of its start label
-none_packed : (placed : List (List Fragment)) → [] ≡ map body_of placed → joined placed ≡ []
-none_packed [] e = refl
-none_packed (fs ∷ placed) e = cc
-
 pub some_packed : (room : ℕ) (bodies : List PackedBody) (records : List Record) (standing : Standing) → Packs room bodies records standing → bodies ≢ []
 some_packed room bodies records standing h none =
-    let no_fragments = none_packed h.placed (sym none ∙ h.bodies_are) in
+    let no_fragments = ap joined (nil_from_map body_of h.placed (sym (sym none ∙ h.bodies_are))) in
     cc (sym no_fragments ∙ h.places.session_is.order)
 
 pub closed_reads : (w : WorldView) (m : Machine) (s : MachineSession) (e : Entry) (ticket : ℕ) → Matches w m → session_of ticket m.sessions ≡ Some s
@@ -277,8 +266,8 @@ closed_reads w m s e ticket h session entry closed =
     let key = e.session.key in
     let bodies = bodies_with key h.placed in
     let none : IsOutstanding w e → ⊥ = own.closed closed in
-    let parts : parts_of e.session ≡ [] = none_there (parts_of e.session) (λ some. none (inl some)) in
-    let way : bodies_with key (on_the_way w) ≡ [] = none_there (bodies_with key (on_the_way w)) (λ some. none (inr (inl some))) in
+    let parts : parts_of e.session ≡ [] = nil_unless (parts_of e.session) (λ some. none (inl some)) in
+    let way : bodies_with key (on_the_way w) ≡ [] = nil_unless (bodies_with key (on_the_way w)) (λ some. none (inr (inl some))) in
     let sent : bodies_with key (h.placed ++ on_the_way w) ≡ bodies = bodies_with-append key h.placed (on_the_way w) ∙ ap (λ l. bodies ++ l) way ∙ append-nil bodies in
     let all : bodies_in h.placed w e.session ≡ bodies = ap₂ (λ (xs ys : List PackedBody). xs ++ ys) sent parts ∙ append-nil bodies in
     let has : HasBodies h.placed w e.session Closed s.records = subst (λ status. HasBodies h.placed w e.session status s.records) closed own.bodies_are in

@@ -24,7 +24,10 @@ use Rattle.sd_core.specs.declared.piece.Piece.{Piece}
 use Rattle.sd_core.specs.Drive.{volume_name, DriveView, synced_if, synced_bytes}
 use Rattle.sd_core.specs.World.{WorldView, entry_of, with_entry, on_the_way, bodies_with, IsOnTheWay, IsOutstanding}
 use Rattle.sd_core.specs.Matches.{block_of, ArePlaced, first_block, BeginsPacked, HasBodies, SessionMatches, SessionsMatch, JournalsFollow, NumbersRise, AreOfOpened, Matches}
-use Rattle.sd_core.proofs.BlockLemmas.{back_nil, is_key_same, is_key_other, image_more, end_at, length-images, placements_at-append, placements_of-append, bodies_with-append}
+use Rattle.sd_core.proofs.BlockLemmas.{is_key_same, is_key_other, length-images, bodies_with-append}
+use Rattle.sd_core.proofs.JournalLemmas.{placement_at, end_at, placements_at-append, placements_of-append, follows_from-append}
+use Rattle.sd_core.proofs.ListLemmas.{back_nil}
+use Rattle.sd_core.proofs.VolumeLemmas.{image_more}
 use Rattle.sd_core.proofs.SessionLookups.{length-with_entry, numbered_key, numbers_with}
 
 -- Sessions.
@@ -127,38 +130,30 @@ sessions_noted old new placed placed' front entry j moved way (e ∷ es) (s ∷ 
 
 -- Journals.
 
-follows_from-append : (j : SessionJournal) (ps : List Placement) (p : Placement) → follows_from j (ps ++ p ∷ []) ≡ noted (follows_from j ps) p
-follows_from-append j [] p = refl
-follows_from-append j (q ∷ ps) p = follows_from-append (noted j q) ps p
-
--- where a body lies that is placed from byte `at` on
-abbrev pub placement_of : List ℕ → ℕ → SentBody → Placement
-placement_of volume at b = record { key = b.key; volume = volume; start = at; length = HEADER + length b.body.bytes; first = b.body.first; last = b.body.last }
-
 -- a session's placements with one body more behind the others
 placements_more : (key : SessionKey) (volume : List ℕ) (at : ℕ) (placed : List SentBody) (b : SentBody)
     → placements_of key (placements_at volume at (placed ++ b ∷ []))
-    ≡ placements_of key (placements_at volume at placed) ++ placements_of key (placement_of volume (end_at at placed) b ∷ [])
+    ≡ placements_of key (placements_at volume at placed) ++ placements_of key (placement_at volume (end_at at placed) b ∷ [])
 placements_more key volume at placed b =
     ap (placements_of key) (placements_at-append volume at placed (b ∷ []))
-    ∙ placements_of-append key (placements_at volume at placed) (placement_of volume (end_at at placed) b ∷ [])
+    ∙ placements_of-append key (placements_at volume at placed) (placement_at volume (end_at at placed) b ∷ [])
 
 follows_other : (key : SessionKey) (volume : List ℕ) (at : ℕ) (placed : List SentBody) (b : SentBody) (j : SessionJournal) → is_key key b.key ≡ false
     → Follows j (placements_of key (placements_at volume at placed)) → Follows j (placements_of key (placements_at volume at (placed ++ b ∷ [])))
 follows_other key volume at placed b j other h =
     let ps = placements_of key (placements_at volume at placed) in
-    let none : placements_of key (placement_of volume (end_at at placed) b ∷ []) ≡ [] = cond-false (is_key key b.key) _ _ other in
+    let none : placements_of key (placement_at volume (end_at at placed) b ∷ []) ≡ [] = cond-false (is_key key b.key) _ _ other in
     ap (follows_from empty_journal) (placements_more key volume at placed b ∙ ap (λ l. ps ++ l) none ∙ append-nil ps) ∙ h
 
 follows_more : (key : SessionKey) (volume : List ℕ) (at : ℕ) (placed : List SentBody) (b : SentBody) (j : SessionJournal) → is_key key b.key ≡ true
     → Follows j (placements_of key (placements_at volume at placed))
-    → Follows (noted j (placement_of volume (end_at at placed) b)) (placements_of key (placements_at volume at (placed ++ b ∷ [])))
+    → Follows (noted j (placement_at volume (end_at at placed) b)) (placements_of key (placements_at volume at (placed ++ b ∷ [])))
 follows_more key volume at placed b j own h =
     let ps = placements_of key (placements_at volume at placed) in
-    let p = placement_of volume (end_at at placed) b in
+    let p = placement_at volume (end_at at placed) b in
     let one : placements_of key (p ∷ []) ≡ p ∷ [] = cond-true (is_key key b.key) _ _ own in
     ap (follows_from empty_journal) (placements_more key volume at placed b ∙ ap (λ l. ps ++ l) one)
-    ∙ follows_from-append empty_journal ps p ∙ ap (λ k. noted k p) h
+    ∙ follows_from-append empty_journal ps (p ∷ []) ∙ ap (λ k. noted k p) h
 
 -- the journals of sessions with greater numbers
 journals_other : (volume : List ℕ) (at : ℕ) (placed : List SentBody) (b : SentBody) (time least next : ℕ) (es : List Entry) → b.key.id < least
@@ -173,17 +168,17 @@ journals_other volume at placed b time least next (e ∷ es) less rise h =
 -- one body more is placed and noted in its session's journal
 pub journals_noted : (volume : List ℕ) (at : ℕ) (placed : List SentBody) (b : SentBody) (entry : Entry) (time least next : ℕ) (es : List Entry)
     → entry.session.key ≡ b.key → NumbersRise time least next es → entry_of entry.session.key.id es ≡ Some entry → JournalsFollow volume at placed es
-    → JournalsFollow volume at (placed ++ b ∷ []) (with_entry (record { session = entry.session; journal = noted entry.journal (placement_of volume (end_at at placed) b) }) es)
+    → JournalsFollow volume at (placed ++ b ∷ []) (with_entry (record { session = entry.session; journal = noted entry.journal (placement_at volume (end_at at placed) b) }) es)
 journals_noted volume at placed b entry time least next [] key_is rise there h = absurd (cc there)
 journals_noted volume at placed b entry time least next (e ∷ es) key_is rise there h =
-    let x : Entry = record { session = entry.session; journal = noted entry.journal (placement_of volume (end_at at placed) b) } in
+    let x : Entry = record { session = entry.session; journal = noted entry.journal (placement_at volume (end_at at placed) b) } in
     let id_is : entry.session.key.id ≡ b.key.id = ap (λ (k : SessionKey). k.id) key_is in
     (elim (e.session.key.id == entry.session.key.id) as
     (λ t. (e.session.key.id == entry.session.key.id) ≡ t → cond t (Some e) (entry_of entry.session.key.id es) ≡ Some entry
     → JournalsFollow volume at (placed ++ b ∷ []) (cond t (x ∷ es) (e ∷ with_entry x es))) [
       | true ↦ λ tested same.
           let is : e ≡ entry = cc in
-          let own : is_key entry.session.key b.key ≡ true = subst (λ k. is_key entry.session.key k ≡ true) key_is (is_key_same entry.session.key) in
+          let own : is_key entry.session.key b.key ≡ true = is_key_same entry.session.key b.key key_is in
           let was = subst (λ (y : Entry). Follows y.journal (placements_of y.session.key (placements_at volume at placed))) is h.0 in
           let number : e.session.key.id ≡ b.key.id = ap (λ (y : Entry). y.session.key.id) is ∙ id_is in (
             follows_more entry.session.key volume at placed b entry.journal own was,
@@ -258,13 +253,13 @@ followed_placed limit v after placed b p entry time least next es places key_is 
     let at = length (label_block h.placed_are.label) in
     let more = image_more v (map block_of placed) (map block_of (placed ++ b ∷ [])) b.key b.body h.placed_are places.image (map-append block_of placed (b ∷ [])) in
     let after_is : after ≡ with_block v b (v.bytes ++ block_image b.key v.next b.body.bytes) = places.is ∙ ap (with_block v b) places.bytes_are in
-    let place : ℕ → Placement = λ start. placement_of v.name start b in
-    let p_is : p ≡ placement_of v.name (end_at at placed) b = places.placement_is ∙ ap place (end_of_image v placed h.placed_are) in
+    let place : ℕ → Placement = λ start. placement_at v.name start b in
+    let p_is : p ≡ placement_at v.name (end_at at placed) b = places.placement_is ∙ ap place (end_of_image v placed h.placed_are) in
     let sessions : Placement → List Entry = λ q. with_entry (record { session = entry.session; journal = noted entry.journal q }) es in
     let journals = journals_noted v.name at placed b entry time least next es key_is rise there h.journals in
-    let followed : VolumeFollowed (Some (with_block v b (v.bytes ++ block_image b.key v.next b.body.bytes))) (placed ++ b ∷ []) (sessions (placement_of v.name (end_at at placed) b)) = record {
+    let followed : VolumeFollowed (Some (with_block v b (v.bytes ++ block_image b.key v.next b.body.bytes))) (placed ++ b ∷ []) (sessions (placement_at v.name (end_at at placed) b)) = record {
       placed_are = more.0;
-      journals = subst (λ l. JournalsFollow v.name (length (label_block l)) (placed ++ b ∷ []) (sessions (placement_of v.name (end_at at placed) b))) (sym more.1) journals;
+      journals = subst (λ l. JournalsFollow v.name (length (label_block l)) (placed ++ b ∷ []) (sessions (placement_at v.name (end_at at placed) b))) (sym more.1) journals;
     } in
     let at_p = subst (λ q. VolumeFollowed (Some (with_block v b (v.bytes ++ block_image b.key v.next b.body.bytes))) (placed ++ b ∷ []) (sessions q)) (sym p_is) followed in
     subst (λ x. VolumeFollowed (Some x) (placed ++ b ∷ []) (sessions p)) (sym after_is) at_p
@@ -287,7 +282,7 @@ journal_ends : (key : SessionKey) (volume : List ℕ) (at : ℕ) (placed : List 
     → EndsWithin (end_at at placed) (follows_from j (placements_of key (placements_at volume at placed))).run
 journal_ends key volume at [] j h = h
 journal_ends key volume at (b ∷ placed) j h =
-    let p = placement_of volume at b in
+    let p = placement_at volume at b in
     let behind = at + (HEADER + length b.body.bytes) in
     let rest = placements_of key (placements_at volume behind placed) in
     let end : (noted_run j.run p).end ≡ behind = noted_ends j.run p in
@@ -347,7 +342,7 @@ pub body_placed : (old : WorldView) (m : Machine) (d : DriveView) (entry : Entry
     → Matches (after_placing old entry j d) m
 body_placed old m d entry j b h moved key_is there last followed =
     let new = after_placing old entry j d in
-    let own : is_key entry.session.key b.key ≡ true = subst (λ k. is_key entry.session.key k ≡ true) key_is (is_key_same entry.session.key) in
+    let own : is_key entry.session.key b.key ≡ true = is_key_same entry.session.key b.key key_is in
     let first : bodies_with entry.session.key (on_the_way old) ≡ b.body ∷ bodies_with entry.session.key (on_the_way new) =
     ap (bodies_with entry.session.key) moved.way ∙ cond-true (is_key entry.session.key b.key) _ _ own in
     let way : IsOnTheWay old entry.session.key = λ none. cc (sym first ∙ none) in

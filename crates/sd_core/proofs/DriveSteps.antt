@@ -15,7 +15,7 @@ use Rattle.sd_core.specs.declared.reply.Reply.TheVariants.{Refused, InHand, Hand
 use Rattle.sd_core.specs.declared.volume.TheConstants.{MOST_VOLUME}
 use Rattle.sd_core.specs.declared.volume.VolumeStatus.TheVariants.{Full}
 use Rattle.sd_core.specs.Machine.{Machine}
-use Rattle.sd_core.specs.Step.{DriveIsRefused, IsRefused, Turns, MayFail}
+use Rattle.sd_core.specs.Step.{DriveIsRefused, IsRefused, MayFail}
 use Rattle.sd_core.specs.Volume.{VolumeView}
 use Rattle.sd_core.specs.Journal.{SentBody, noted}
 use Rattle.sd_core.specs.Drive.{DriveView, after_sync, synced_bytes}
@@ -23,21 +23,14 @@ use Rattle.sd_core.specs.World.{WorldView, entry_of, body_of_piece, on_the_way}
 use Rattle.sd_core.specs.Matches.{Matches}
 use Rattle.sd_core.specs.Moves.{Moves, PlacesPiece}
 use Rattle.sd_core.specs.Steps.{StepsTo}
+use Rattle.sd_core.proofs.SessionSteps.{steps, stays}
 use Rattle.sd_core.proofs.DriveFrames.{LastsOn, last_more, VolumeFollowed, followed_of, followed_labelled, followed_marked, followed_placed, followed_synced, drive_changes, after_placing, body_placed}
-
--- the machine stays
-stays : (m : Machine) (event : Event) (reply : Reply) (new : WorldView) → Turns m event reply m → MayFail m event reply [] → Matches new m → StepsTo m event reply new
-stays m event reply new turns fail h = (m, record { between = m; turns = turns; fail = fail; new_is = refl }, h)
-
--- the world stays too
-unmoved : (old new : WorldView) (m : Machine) → new ≡ old → Matches old m → Matches new m
-unmoved old new m is h = subst (λ w. Matches w m) (sym is) h
 
 -- a refusal for this reason
 refused : (old new : WorldView) (m : Machine) (event : Event) (why reason : Refusal) → why ≡ reason → IsRefused m event reason → MayFail m event (Refused reason) []
     → new ≡ old → Matches old m → StepsTo m event (Refused why) new
 refused old new m event why reason is cause fail same h =
-    subst (λ (x : Refusal). StepsTo m event (Refused x) new) (sym is) (stays m event (Refused reason) new (cause, refl) fail (unmoved old new m same h))
+    subst (λ (x : Refusal). StepsTo m event (Refused x) new) (sym is) (stays old new m event (Refused reason) (cause, refl) fail h same)
 
 no_such_drive : DriveIsRefused NoSuchDrive
 no_such_drive = inl refl
@@ -63,7 +56,7 @@ drive_moves : (old new : WorldView) (m : Machine) (d after : DriveView) (queue :
     → VolumeFollowed after.volume h.placed old.entries → Matches new m
 drive_moves old new m d after queue h new_is d_is way last followed =
     let made : DriveView → WorldView = λ x. record old { drive = x; queue = queue } in
-    unmoved (made after) new m (new_is ∙ ap made d_is) (drive_changes old m after queue h (record { sent = ap (λ l. h.placed ++ l) way; way = way }) last followed)
+    subst (λ w. Matches w m) (sym (new_is ∙ ap made d_is)) (drive_changes old m after queue h (record { sent = ap (λ l. h.placed ++ l) way; way = way }) last followed)
 
 -- the volume is as it was
 volume_stays : (old new : WorldView) (m : Machine) (d after : DriveView) (queue : List Piece) → Matches old m → new ≡ record old { drive = d; queue = queue } → d ≡ after
@@ -80,10 +73,10 @@ pub take_steps : (old new : WorldView) (drive : ℕ) (reply : Reply) (m : Machin
 take_steps old new drive (InHand ticket seq) m moves h =
     let sent : Option Piece → List Piece → List SentBody = λ hand queue. map body_of_piece (option_to_list hand) ++ map body_of_piece queue in
     let taken : DriveView = record old.drive { hand = Some moves.piece } in
-    stays m (Take drive) (InHand ticket seq) new refl refl
+    steps m m (Take drive) (InHand ticket seq) new refl refl
     (volume_stays old new m taken taken moves.rest h moves.new_is refl (ap₂ sent moves.hand_empty moves.queue_is) refl)
-take_steps old new drive HandFull m moves h = stays m (Take drive) HandFull new refl refl (unmoved old new m moves.2 h)
-take_steps old new drive Idle m moves h = stays m (Take drive) Idle new refl refl (unmoved old new m moves.3 h)
+take_steps old new drive HandFull m moves h = stays old new m (Take drive) HandFull refl refl h moves.2
+take_steps old new drive Idle m moves h = stays old new m (Take drive) Idle refl refl h moves.3
 take_steps old new drive (Refused why) m moves h = refused old new m (Take drive) why NoSuchDrive moves.0.1 no_such_drive refl moves.1 h
 take_steps old new drive reply m moves h = absurd moves
 
@@ -102,24 +95,24 @@ piece_placed old new m drive volume start end moves h =
     let lasts : synced_bytes old.drive.volume ≤ hand.after.synced = omega (arith, ap synced_bytes hand.ready.volume_is, ap (λ (v : VolumeView). v.synced) hand.places.is) in
     let followed = followed_placed MOST_VOLUME hand.before hand.after h.placed b moves.placement entry old.time 1 m.next old.entries
     hand.places key_is h.numbers_rise there (followed_at old m hand.before h hand.ready.volume_is) in
-    unmoved (after_placing old entry j after) new m (moves.new_is ∙ ap (after_placing old entry j) hand.new_is)
+    subst (λ w. Matches w m) (sym (moves.new_is ∙ ap (after_placing old entry j) hand.new_is))
     (body_placed old m after entry j b h
     (record { sent = ap (λ l. h.placed ++ l) way ∙ sym (append_assoc h.placed (b ∷ []) queued); way = way })
     key_is there (last_more _ _ old.entries lasts) followed)
 
 pub place_steps : (old new : WorldView) (drive : ℕ) (reply : Reply) (m : Machine) → Moves old (Place drive) reply new → Matches old m → StepsTo m (Place drive) reply new
 place_steps old new drive (Placed volume start end) m moves h =
-    stays m (Place drive) (Placed volume start end) new refl refl (piece_placed old new m drive volume start end moves h)
-place_steps old new drive NeedVolume m moves h = stays m (Place drive) NeedVolume new refl refl (unmoved old new m moves.2 h)
+    steps m m (Place drive) (Placed volume start end) new refl refl (piece_placed old new m drive volume start end moves h)
+place_steps old new drive NeedVolume m moves h = stays old new m (Place drive) NeedVolume refl refl h moves.2
 place_steps old new drive VolumeFull m moves h =
     let full = moves.2 in
     let after : DriveView = record old.drive { volume = Some (record full.before { status = Full }) } in
     let after_is : moves.1 ≡ after = full.new_is ∙ ap (λ v. record old.drive { volume = Some v }) full.full.is in
-    stays m (Place drive) VolumeFull new refl refl
+    steps m m (Place drive) VolumeFull new refl refl
     (drive_moves old new m moves.1 after old.queue h moves.3 after_is refl
     (last_more _ _ old.entries (omega (arith, ap synced_bytes full.ready.volume_is)))
     (followed_marked full.before Full full.before.synced h.placed old.entries (followed_at old m full.before h full.ready.volume_is)))
-place_steps old new drive Idle m moves h = stays m (Place drive) Idle new refl refl (unmoved old new m moves.2 h)
+place_steps old new drive Idle m moves h = stays old new m (Place drive) Idle refl refl h moves.2
 place_steps old new drive (Refused why) m moves h = elim moves.0 [
   | inl other ↦ refused old new m (Place drive) why NoSuchDrive other.1 no_such_drive refl moves.1 h
   | inr own ↦ refused old new m (Place drive) why Memory own.1.1 no_memory refl moves.1 h
@@ -129,7 +122,7 @@ place_steps old new drive reply m moves h = absurd moves
 pub sync_steps : (old new : WorldView) (drive : ℕ) (reply : Reply) (m : Machine) → Moves old (Sync drive) reply new → Matches old m → StepsTo m (Sync drive) reply new
 sync_steps old new drive Synced m moves h =
     let synced = followed_synced old.drive.loaded old.drive.volume h.placed old.entries (followed_of old m h) in
-    stays m (Sync drive) Synced new refl refl
+    steps m m (Sync drive) Synced new refl refl
     (drive_moves old new m (after_sync old.drive) (after_sync old.drive) old.queue h moves.1 refl refl synced.1 synced.0)
 sync_steps old new drive (Refused why) m moves h = refused old new m (Sync drive) why NoSuchDrive moves.0.1 no_such_drive refl moves.1 h
 sync_steps old new drive reply m moves h = absurd moves
@@ -140,7 +133,7 @@ label_steps old new drive name pool media moment Labelled m moves h =
     let labels = moves.2 in
     let after : DriveView = record old.drive { volume = Some labels.volume } in
     let none = subst (λ v. VolumeFollowed v h.placed old.entries) labels.none_there (followed_of old m h) in
-    stays m (Label drive name pool media moment) Labelled new refl refl
+    steps m m (Label drive name pool media moment) Labelled new refl refl
     (drive_moves old new m moves.1 after old.queue h moves.3 labels.new_is refl
     (last_more _ _ old.entries (omega (arith, ap synced_bytes labels.none_there)))
     (followed_labelled labels.volume h.placed old.entries labels.labels.image none))
@@ -158,7 +151,7 @@ pub mount_steps : (old new : WorldView) (drive : ℕ) (name : List ℕ) (reply :
     → StepsTo m (Mount drive name) reply new
 mount_steps old new drive name (Mounted mounted) m moves h =
     let loaded : DriveView = record old.drive { loaded = true } in
-    stays m (Mount drive name) (Mounted mounted) new (moves.0, refl) refl
+    steps m m (Mount drive name) (Mounted mounted) new (moves.0, refl) refl
     (volume_stays old new m moves.1.1 loaded old.queue h moves.1.3 moves.1.2.new_is refl refl)
 mount_steps old new drive name (Refused why) m moves h =
     let event = Mount drive name in
@@ -174,9 +167,9 @@ mount_steps old new drive name reply m moves h = absurd moves
 pub seek_steps : (old new : WorldView) (drive : ℕ) (reply : Reply) (m : Machine) → Moves old (Seek drive) reply new → Matches old m → StepsTo m (Seek drive) reply new
 seek_steps old new drive (Mounted name) m moves h =
     let loaded : DriveView = record old.drive { loaded = true } in
-    stays m (Seek drive) (Mounted name) new refl refl
+    steps m m (Seek drive) (Mounted name) new refl refl
     (volume_stays old new m moves.1 loaded old.queue h moves.3 moves.2.new_is refl refl)
-seek_steps old new drive Requested m moves h = stays m (Seek drive) Requested new refl refl (unmoved old new m moves.2 h)
-seek_steps old new drive NoNeed m moves h = stays m (Seek drive) NoNeed new refl refl (unmoved old new m moves.2 h)
+seek_steps old new drive Requested m moves h = stays old new m (Seek drive) Requested refl refl h moves.2
+seek_steps old new drive NoNeed m moves h = stays old new m (Seek drive) NoNeed refl refl h moves.2
 seek_steps old new drive (Refused why) m moves h = refused old new m (Seek drive) why NoSuchDrive moves.0.1 no_such_drive refl moves.1 h
 seek_steps old new drive reply m moves h = absurd moves

@@ -1,13 +1,10 @@
 -- The sessions of a world as a list: where one is found, and what a change of one leaves.
 use Rattle.std.proofs.Common.{◌≡◌, ◌≢◌, ℕ, zero, suc, ◌+◌, ◌-◌, ◌≤◌, ◌<◌, ◌==◌, cond, true, false, Some, None, List, [], ◌∷◌, ◌++◌, length, slice_get, slice_set, refl, sym, ◌∙◌, ap, subst, arith}
-use Rattle.std.proofs.lemmas.Bool.{eq-eqb, eqb-true}
+use Rattle.std.proofs.lemmas.Bool.{eq-eqb, ne_eqb}
 use Rattle.sd_core.specs.declared.entry.Entry.{Entry}
 use Rattle.sd_core.specs.Journal.{SentBody}
 use Rattle.sd_core.specs.World.{entry_of, with_entry, last_entry}
 use Rattle.sd_core.specs.Sound.{IsEntry, AreEntries, IsFoundAt}
-
-pub no_eq : (a b : ℕ) → a ≢ b → a == b ≡ false
-no_eq a b n = elim (a == b) as (λ v. (a == b ≡ v) → v ≡ false) [ true ↦ (λ e. absurd (n (eqb-true a b e))) | false ↦ (λ e. refl) ] refl
 
 -- the session of a ticket is where its number says
 pub found_at : (time : ℕ) (way : List SentBody) (blocks number ticket : ℕ) (es : List Entry) (at : ℕ)
@@ -26,14 +23,14 @@ found_at time way blocks number ticket (e ∷ es) zero are is within =
 found_at time way blocks number ticket (e ∷ es) (suc k) are is within =
     let rest = found_at time way blocks (number + 1) ticket es k are.1 (omega (arith, is)) (omega (arith, within)) in
     let other : e.session.key.id ≢ ticket = λ same. omega (arith, are.0.id_is, is, same) in
-    let miss : e.session.key.id == ticket ≡ false = no_eq _ _ other in
+    let miss : e.session.key.id == ticket ≡ false = ne_eqb _ _ other in
     record {
       entry = rest.entry;
       there = rest.there;
       found = ap (λ b. cond b (Some e) (entry_of ticket es)) miss ∙ rest.found;
       id_is = rest.id_is;
       changes = λ new same. ap (λ l. e ∷ l) (rest.changes new same)
-          ∙ sym (ap (λ b. cond b (new ∷ es) (e ∷ with_entry new es)) (no_eq _ _ (λ h. other (h ∙ same))));
+          ∙ sym (ap (λ b. cond b (new ∷ es) (e ∷ with_entry new es)) (ne_eqb _ _ (λ h. other (h ∙ same))));
     }
 
 -- past the last number there is no session
@@ -41,7 +38,7 @@ pub found_nowhere : (time : ℕ) (way : List SentBody) (blocks number ticket : �
     → AreEntries time way blocks number es → number + length es ≤ ticket → entry_of ticket es ≡ None
 found_nowhere time way blocks number ticket [] are past = refl
 found_nowhere time way blocks number ticket (e ∷ es) are past =
-    ap (λ b. cond b (Some e) (entry_of ticket es)) (no_eq _ _ (λ same. omega (arith, are.0.id_is, past, same)))
+    ap (λ b. cond b (Some e) (entry_of ticket es)) (ne_eqb _ _ (λ same. omega (arith, are.0.id_is, past, same)))
     ∙ found_nowhere time way blocks (number + 1) ticket es are.1 (omega (arith, past))
 
 -- each session keeps its place
@@ -59,7 +56,7 @@ pub change_entries : (time : ℕ) (way way' : List SentBody) (blocks blocks' num
     → ((n : ℕ) (x : Entry) → n ≢ number + at → IsEntry time way blocks n x → IsEntry time way' blocks' n x)
     → (IsEntry time way blocks (number + at) e → IsEntry time way' blocks' (number + at) e')
     → AreEntries time way' blocks' number (slice_set es at e')
-change_entries time way way' blocks blocks' number [] at e e' are there others own = cc there
+change_entries time way way' blocks blocks' number [] at e e' are there others own = cc
 change_entries time way way' blocks blocks' number (x ∷ es) zero e e' are there others own =
     let same : x ≡ e = cc there in
     let P : Entry → Type 0 = λ y. IsEntry time way blocks (number + zero) y in

@@ -12,7 +12,8 @@ use Rattle.sd_core.specs.declared.readback.fault.ReadFault.TheVariants.{BadSpan,
 use Rattle.sd_core.specs.Volume.{Block, images, AreImages, blocks_of}
 use Rattle.sd_core.specs.Reading.{Shelf, AllHold}
 use Rattle.sd_core.specs.ReadFaults.{AreReadable, IsPartOf, last_number, BeginsWithNoBlock, BeginsWithRefused, StopsWithin, StopsInPart, EndsEarly, CantRead, StopsAtSpan, HoldNone, OneFirstFault}
-use Rattle.sd_core.proofs.ReadingLemmas.{joined_blocks, one_block_there, part_one, part_within, same_bytes, all_hold_one}
+use Rattle.sd_core.proofs.ReadingLemmas.{joined_blocks, part_one, part_within, same_bytes, all_hold_one}
+use Rattle.sd_core.proofs.VolumeLemmas.{one_block_there}
 use Rattle.sd_core.proofs.ReadFaultLemmas.{no_bad_head, block_begins, stop_refuted, next_readable, left_begins, held_to_the_end}
 
 -- What can be wrong where the next block should begin.

@@ -1,9 +1,7 @@
 -- Journals: what they note of placements one after another, and that they give the spans of those.
-use Rattle.std.proofs.Common.{◌≡◌, ℕ, zero, suc, ◌+◌, Bool, true, false, cond, Some, None, List, [], ◌∷◌, ◌++◌, length, refl, ap, ap₂, sym, ◌∙◌, arith}
-use Rattle.std.specs.Prelude.{sum_by}
+use Rattle.std.proofs.Common.{◌≡◌, ℕ, zero, suc, ◌+◌, Some, List, [], ◌∷◌, ◌++◌, length, refl, ap, ap₂, sym, ◌∙◌}
 use Rattle.std.specs.Str.{bytes_eq}
 use Rattle.std.proofs.lemmas.Bool.{cond-true}
-use Rattle.std.proofs.lemmas.List.Sums.{sum_by-cons}
 use Rattle.std.proofs.lemmas.Slice.Eq.{bytes_eq-Decides}
 use Rattle.sd_base.specs.declared.number.SessionKey.{SessionKey}
 use Rattle.sd_block.specs.declared.layout.TheConstants.{HEADER}
@@ -13,42 +11,14 @@ use Rattle.sd_core.specs.declared.journal.Placement.{Placement}
 use Rattle.sd_core.specs.declared.journal.Run.{Run}
 use Rattle.sd_core.specs.declared.journal.SessionJournal.{SessionJournal}
 use Rattle.sd_core.specs.Volume.{is_key}
-use Rattle.sd_core.specs.Journal.{SentBody, placements_at, placements_of, AreOn, run_of, noted_run, noted, empty_journal, follows_from, Follows, spans_in, in_front, stretches, numbered_from, spans_of}
+use Rattle.sd_core.proofs.ListLemmas.{cond_more}
+use Rattle.sd_core.specs.Journal.{SentBody, placements_at, placements_of, AreOn, run_of, noted, empty_journal, follows_from, Follows, spans_in, in_front, stretches, numbered_from, spans_of}
 
 -- One placement more.
 
-follows_from-append : (j : SessionJournal) (ps qs : List Placement) → follows_from j (ps ++ qs) ≡ follows_from (follows_from j ps) qs
+pub follows_from-append : (j : SessionJournal) (ps qs : List Placement) → follows_from j (ps ++ qs) ≡ follows_from (follows_from j ps) qs
 follows_from-append j [] qs = refl
 follows_from-append j (p ∷ ps) qs = follows_from-append (noted j p) ps qs
-
-pub Follows-noted : (j : SessionJournal) (ps : List Placement) (p : Placement) → Follows j ps → Follows (noted j p) (ps ++ p ∷ [])
-Follows-noted j ps p follows = follows_from-append empty_journal ps (p ∷ []) ∙ ap (λ k. noted k p) follows
-
--- The count and the run of a journal.
-
-some_not_none : (r : Run) → Some r ≡ None → ⊥
-some_not_none r same = cc
-
-placed_from : (j : SessionJournal) (ps : List Placement) → (follows_from j ps).placed ≡ j.placed + length ps
-placed_from j [] = omega arith
-placed_from j (p ∷ ps) = placed_from (noted j p) ps ∙ omega arith
-
-pub Follows-placed : (j : SessionJournal) (ps : List Placement) → Follows j ps → j.placed ≡ length ps
-Follows-placed j ps follows = sym (ap (λ (k : SessionJournal). k.placed) follows) ∙ (placed_from empty_journal ps ∙ omega arith)
-
--- a journal that has a run keeps one
-run_from : (j : SessionJournal) (r : Run) (ps : List Placement) → j.run ≡ Some r → (follows_from j ps).run ≡ None → ⊥
-run_from j r [] is none = some_not_none r (sym is ∙ none)
-run_from j r (p ∷ ps) is none = run_from (noted j p) (noted_run j.run p) ps refl none
-
-pub no_run-no_placement : (j : SessionJournal) (ps : List Placement) → Follows j ps → j.run ≡ None → ps ≡ []
-no_run-no_placement j [] follows none = refl
-no_run-no_placement j (p ∷ ps) follows none =
-    absurd (run_from (noted empty_journal p) (run_of p) ps refl (ap (λ (k : SessionJournal). k.run) follows ∙ none))
-
-pub no_placement-no_run : (j : SessionJournal) (ps : List Placement) → Follows j ps → ps ≡ [] → j.run ≡ None
-no_placement-no_run j ps follows none =
-    sym (ap (λ (k : SessionJournal). k.run) follows) ∙ ap (λ qs. (follows_from empty_journal qs).run) none
 
 -- The run of placements one after another.
 
@@ -86,28 +56,27 @@ unfolding run_of_all
 run_of_followed p [] = refl
 run_of_followed p (q ∷ qs) = run_behind 1 (run_of p) q qs
 
--- and so does going through them from the last one, where they are on one volume
-span_with : List ℕ → Run → Span
-span_with volume r = record { volume = volume; vol_index = 1; first = r.first; last = r.last; start = r.start; end = r.end }
+-- a run as the span of a volume
+abbrev pub span_of_run : List ℕ → Run → Span
+span_of_run volume r = record { volume = volume; vol_index = 1; first = r.first; last = r.last; start = r.start; end = r.end }
 
-first_span : (volume : List ℕ) (p : Placement) → p.volume ≡ volume → in_front p [] ≡ span_with volume (run_of p) ∷ []
-unfolding span_with
-first_span volume p on = ap (λ v. span_with v (run_of p) ∷ []) on
+-- going through placements on one volume from the last one gives their run too
+first_span : (volume : List ℕ) (p : Placement) → p.volume ≡ volume → in_front p [] ≡ span_of_run volume (run_of p) ∷ []
+first_span volume p on = ap (λ v. span_of_run v (run_of p) ∷ []) on
 
 span_in_front : (volume : List ℕ) (p : Placement) (r : Run) → p.volume ≡ volume
-    → in_front p (span_with volume r ∷ []) ≡ span_with volume (joined (run_of p) r) ∷ []
-unfolding span_with joined
+    → in_front p (span_of_run volume r ∷ []) ≡ span_of_run volume (joined (run_of p) r) ∷ []
+unfolding joined
 span_in_front volume p r on = cond-true (bytes_eq p.volume volume) _ _ ((bytes_eq-Decides p.volume volume).1 on)
 
 one_stretch : (volume : List ℕ) (p : Placement) (ps : List Placement) → AreOn volume (p ∷ ps)
-    → stretches (p ∷ ps) ≡ span_with volume (run_of_all p ps) ∷ []
+    → stretches (p ∷ ps) ≡ span_of_run volume (run_of_all p ps) ∷ []
 unfolding run_of_all
 one_stretch volume p [] on = first_span volume p on.0
 one_stretch volume p (q ∷ qs) on =
     ap (in_front p) (one_stretch volume q qs on.1) ∙ span_in_front volume p (run_of_all q qs) on.0
 
 pub journal_gives_spans : (j : SessionJournal) (volume : List ℕ) (ps : List Placement) → Follows j ps → AreOn volume ps → spans_in volume j.run ≡ spans_of ps
-unfolding span_with
 journal_gives_spans j volume [] follows on = ap (λ (k : SessionJournal). spans_in volume k.run) (sym follows)
 journal_gives_spans j volume (p ∷ ps) follows on =
     ap (λ (k : SessionJournal). spans_in volume k.run) (sym follows)
@@ -115,29 +84,23 @@ journal_gives_spans j volume (p ∷ ps) follows on =
 
 -- Where bodies lie, and the placements of a session.
 
--- where one body lies
-abbrev placement_at : List ℕ → ℕ → SentBody → Placement
+-- where a body lies that is placed from byte `at` on
+abbrev pub placement_at : List ℕ → ℕ → SentBody → Placement
 placement_at volume at b =
     record { key = b.key; volume = volume; start = at; length = HEADER + length b.body.bytes; first = b.body.first; last = b.body.last }
 
-pub placements_at-append : (volume : List ℕ) (at : ℕ) (bs cs : List SentBody)
-    → placements_at volume at (bs ++ cs)
-    ≡ placements_at volume at bs ++ placements_at volume (at + sum_by (λ b. HEADER + length b.body.bytes) bs) cs
-placements_at-append volume at [] cs = ap (λ n. placements_at volume n cs) (omega arith)
-placements_at-append volume at (b ∷ bs) cs =
-    let here = HEADER + length b.body.bytes in
-    ap (λ (ps : List Placement). placement_at volume at b ∷ ps)
-    (placements_at-append volume (at + here) bs cs
-    ∙ ap (λ n. placements_at volume (at + here) bs ++ placements_at volume n cs)
-    (omega (arith, sum_by-cons (λ (x : SentBody). HEADER + length x.body.bytes) b bs)))
+-- where the bodies end that lie one behind another from byte `at` on
+abbrev pub end_at : ℕ → List SentBody → ℕ
+end_at at [] = at
+end_at at (b ∷ bs) = end_at (at + (HEADER + length b.body.bytes)) bs
 
--- a placement in front of others is the session's or not
-behind_one : (own : Bool) (p : Placement) (ps qs rs : List Placement) → rs ≡ ps ++ qs
-    → cond own (p ∷ rs) rs ≡ cond own (p ∷ ps) ps ++ qs
-behind_one true p ps qs rs same = ap (λ (l : List Placement). p ∷ l) same
-behind_one false p ps qs rs same = same
+pub placements_at-append : (volume : List ℕ) (at : ℕ) (bs cs : List SentBody)
+    → placements_at volume at (bs ++ cs) ≡ placements_at volume at bs ++ placements_at volume (end_at at bs) cs
+placements_at-append volume at [] cs = refl
+placements_at-append volume at (b ∷ bs) cs =
+    ap (λ l. placement_at volume at b ∷ l) (placements_at-append volume (at + (HEADER + length b.body.bytes)) bs cs)
 
 pub placements_of-append : (key : SessionKey) (ps qs : List Placement) → placements_of key (ps ++ qs) ≡ placements_of key ps ++ placements_of key qs
 placements_of-append key [] qs = refl
 placements_of-append key (p ∷ ps) qs =
-    behind_one (is_key key p.key) p (placements_of key ps) (placements_of key qs) (placements_of key (ps ++ qs)) (placements_of-append key ps qs)
+    cond_more (is_key key p.key) p (placements_of key ps) (placements_of key qs) (placements_of key (ps ++ qs)) (placements_of-append key ps qs)

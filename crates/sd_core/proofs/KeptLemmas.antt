@@ -139,7 +139,7 @@ hand_not_closed old new m drive volume start end moves h closed =
     let entry = moves.entry in
     let f = found_session h.placed old moves.placement.key.id old.entries m.sessions entry h.sessions moves.there in
     let key_is : entry.session.key ≡ piece.key = moves.key_is ∙ ap (λ (p : Placement). p.key) moves.places.places.placement_is in
-    let own : is_key entry.session.key piece.key ≡ true = subst (λ k. is_key entry.session.key k ≡ true) key_is (is_key_same entry.session.key) in
+    let own : is_key entry.session.key piece.key ≡ true = is_key_same entry.session.key piece.key key_is in
     let queued = map body_of_piece old.queue in
     let first : bodies_with entry.session.key (on_the_way old) ≡ piece.body ∷ bodies_with entry.session.key queued =
     ap (λ x. bodies_with entry.session.key (map body_of_piece (option_to_list x) ++ queued)) moves.places.hand_is ∙ cond-true (is_key entry.session.key piece.key) _ _ own in

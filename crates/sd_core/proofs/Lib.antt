@@ -6,8 +6,10 @@ pub mod DriveSteps
 pub mod EntryLemmas
 pub mod FirstFaultLemmas
 pub mod FrontLemmas
+pub mod HandsOverLemmas
 pub mod JournalLemmas
 pub mod KeptLemmas
+pub mod ListLemmas
 pub mod PartLemmas
 pub mod ReadFaultLemmas
 pub mod ReaderLemmas

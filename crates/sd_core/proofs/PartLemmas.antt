@@ -13,7 +13,7 @@ use Rattle.sd_core.specs.declared.readback.reader.Reader.{Reader}
 use Rattle.sd_core.specs.Volume.{Block, images, AreImages}
 use Rattle.sd_core.specs.ReadFaults.{last_number, BeginsWithBlock, BeginsWithNoBlock, BeginsWithRefused, StopsWithin}
 use Rattle.sd_core.specs.Reader.{HasRead, ReadsOn}
-use Rattle.sd_core.proofs.ReadingLemmas.{images-append, AreImages-append}
+use Rattle.sd_core.proofs.VolumeLemmas.{images-append, AreImages-append}
 use Rattle.sd_core.proofs.ReaderLemmas.{has_read_readable}
 
 -- What was read so far of a part.
@@ -47,7 +47,7 @@ pub record NumberedFor (part left behind : List ℕ) (done : List Block) (b : Bl
   pub done_are : AreImages number (done ++ b ∷ [])
   pub at_is : at ≡ number + length done
 
-numbered_for : (part left behind : List ℕ) (number : ℕ) (done : List Block) (b : Block) (at : ℕ)
+pub numbered_for : (part left behind : List ℕ) (number : ℕ) (done : List Block) (b : Block) (at : ℕ)
     → part ≡ images number done ++ left → AreImages number done → BeginsWithBlock (last_number number done) left b at behind → NumberedFor part left behind done b at
 numbered_for part left behind number [] b at e are begins = record {
   number = at;

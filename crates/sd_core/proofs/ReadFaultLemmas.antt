@@ -14,14 +14,15 @@ use Rattle.sd_block.specs.declared.layout.TheConstants.{MOST_BLOCK}
 use Rattle.sd_block.proofs.HeaderLemmas.{SaysFields-same, SaysSize-same}
 use Rattle.sd_block.proofs.ImageLemmas.{length-block_image, IsHeadOf-image, HasSum-image}
 use Rattle.sd_label.specs.Cutting.{total_bytes, WholeOf}
-use Rattle.sd_label.proofs.CuttingLemmas.{holds_front}
+use Rattle.sd_label.proofs.CuttingLemmas.{front_nil, holds_front}
 use Rattle.sd_core.specs.declared.span.Span.{Span}
 use Rattle.sd_core.specs.declared.readback.fault.ReadFault.{ReadFault}
 use Rattle.sd_core.specs.declared.readback.fault.ReadFault.TheVariants.{BadSpan, VolumeNotOnShelf, SpanEndsEarly, DamagedBlock, Memory}
 use Rattle.sd_core.specs.Volume.{Block, images, AreImages, blocks_of}
 use Rattle.sd_core.specs.Reading.{Shelf, SpanHolds, AllHold}
 use Rattle.sd_core.specs.ReadFaults.{IsPartOf, AreCountable, AreReadable, last_number, ComesNext, BeginsWithBlock, HasBadHead, HasBadBlock, BeginsWithNoBlock, BeginsWithRefused, StopsWithin, StopsInPart, CantRead, FaultIsNoReading}
-use Rattle.sd_core.proofs.ReadingLemmas.{joined_blocks, AreImages-behind, one_block_there, images_front, part_one, part_within, held_part, same_bytes, all_hold_one, hold_apart, blocks_of-append, front_nil}
+use Rattle.sd_core.proofs.ReadingLemmas.{joined_blocks, part_one, part_within, held_part, same_bytes, all_hold_one, hold_apart, blocks_of-append}
+use Rattle.sd_core.proofs.VolumeLemmas.{AreImages-behind, one_block_there, images_front}
 
 -- The front of what can be read can be read.
 

@@ -11,7 +11,7 @@ use Rattle.sd_unpack.specs.declared.stage.Stage.{Stage}
 use Rattle.sd_unpack.specs.declared.stage.Stage.TheVariants.{Fresh, Whole, Partway, Closed}
 use Rattle.sd_unpack.specs.Stage.{Reaches, AreTotalsOf, standing_at}
 use Rattle.sd_unpack.specs.Unpacking.{Unpacking, Unpacks}
-use Rattle.sd_label.proofs.CuttingLemmas.{holds_one}
+use Rattle.sd_label.proofs.CuttingLemmas.{front_nil, holds_one}
 use Rattle.sd_unpack.proofs.BodyLemmas.{unpacked_whole}
 use Rattle.sd_unpack.specs.Damage.{IfDamaged}
 use Rattle.sd_unpack.specs.declared.damage.Damage.{Damage}
@@ -23,7 +23,8 @@ use Rattle.sd_core.specs.declared.readback.reader.Reader.{Reader}
 use Rattle.sd_core.specs.Volume.{Block, blocks_of, is_key}
 use Rattle.sd_core.specs.ReadFaults.{fault_of, AreCountable, AreReadable}
 use Rattle.sd_core.specs.Reader.{HasRead, ReadsOn}
-use Rattle.sd_core.proofs.ReadingLemmas.{blocks_of-append, front_nil}
+use Rattle.sd_core.proofs.ListLemmas.{push_not_nil, nil_from_map}
+use Rattle.sd_core.proofs.ReadingLemmas.{blocks_of-append}
 use Rattle.sd_core.proofs.ReadFaultLemmas.{total_bytes-append}
 
 -- What was handed over so far, of the records that waited.
@@ -47,10 +48,6 @@ body_more key before b same =
 pub body_other : (key : SessionKey) (before : List Block) (b : Block) → is_key key b.key ≡ false → blocks_of key (before ++ b ∷ []) ≡ blocks_of key before
 body_other key before b other =
     blocks_of-append key before (b ∷ []) ∙ ap (λ v. blocks_of key before ++ cond v (b.body ∷ []) []) other ∙ append-nil (blocks_of key before)
-
-pub some_body : {X : Type 0} (xs : List X) (x : X) → xs ++ x ∷ [] ≡ [] → ⊥
-some_body [] x e = cc
-some_body (y ∷ xs) x e = cc
 
 -- another session's block changes nothing
 pub reads_other : (reader : Reader) (got : List Record) (b : Block) → ((key : SessionKey) → reader.key ≡ key → is_key key b.key ≡ false)
@@ -118,7 +115,7 @@ has_read_own key before taken old view b r same u sound few small =
       records_are = ap (λ n. n + length view.ready) r.records_are ∙ sym (length-append taken view.ready);
       bytes_are = ap (λ n. n + total_bytes view.ready) r.bytes_are ∙ sym (total_bytes-append taken view.ready);
       countable = fits_more taken view.ready old.records old.bytes r.records_are r.bytes_are few small;
-      found_is = (λ so none. some_body (blocks_of key before) b.body (sym bodies ∙ none), λ some. refl);
+      found_is = (λ so none. push_not_nil (blocks_of key before) b.body (sym bodies ∙ none), λ some. refl);
     }
 
 -- a block of the session, whose records were handed over
@@ -178,7 +175,7 @@ has_read_readable key blocks taken reader r = readable_so (blocks_of key blocks)
 pub refused_so : (key : SessionKey) (before : List Block) (b : Block) → is_key key b.key ≡ true
     → ((records : List Record) (standing : Standing) → Holds (blocks_of key before ++ b.body ∷ []) records standing → AreCountable records → ⊥)
     → AreReadable (blocks_of key (before ++ b ∷ [])) → ⊥
-refused_so key before b same none (inl empty) = some_body (blocks_of key before) b.body (sym (body_more key before b same) ∙ empty)
+refused_so key before b same none (inl empty) = push_not_nil (blocks_of key before) b.body (sym (body_more key before b same) ∙ empty)
 refused_so key before b same none (inr h) = none h.records h.standing (subst (λ bodies. Holds bodies h.records h.standing) (body_more key before b same) h.holds) h.countable
 
 -- with what waits there are too many records or bytes
@@ -200,7 +197,7 @@ pub refused_uncountable : (key : SessionKey) (before : List Block) (taken : List
     → AreReadable (blocks_of key (before ++ b ∷ [])) → ⊥
 refused_uncountable key before taken old view b r same u many =
     refused_so key before b same (λ records standing h are.
-    let own = unpacked_holds (blocks_of key before ++ b.body ∷ []) taken view u (some_body (blocks_of key before) b.body) in
+    let own = unpacked_holds (blocks_of key before ++ b.body ∷ []) taken view u (push_not_nil (blocks_of key before) b.body) in
     let one = holds_one (blocks_of key before ++ b.body ∷ []) records (taken ++ view.ready) standing own.0 h own.2 in
     too_many taken view.ready old.records old.bytes r.records_are r.bytes_are many (subst AreCountable one.0 are))
 
@@ -246,30 +243,26 @@ reaches_nil Whole fs records so_far none r = let some = r.order in cc
 reaches_nil (Partway due) fs records so_far none r = let some = r.order in cc
 reaches_nil Closed fs records so_far none r = let some = r.order in cc
 
-nil_map : (placed : List (List Fragment)) → map fragments_bytes placed ≡ [] → joined placed ≡ []
-nil_map [] e = refl
-nil_map (fs ∷ rest) e = cc
+-- where there are no bodies there are no fragments
+pub no_fragments : (placed : List (List Fragment)) → map fragments_bytes placed ≡ [] → joined placed ≡ []
+no_fragments placed e = ap joined (nil_from_map fragments_bytes placed e)
 
--- no record waits where no body was given
-nothing_ready : (view : Unpacking) → Unpacks [] [] view → view.ready ≡ []
-nothing_ready view u = reaches_nil view.stage (joined u.placed) view.ready view.so_far (nil_map u.placed (sym u.bytes_are)) u.reaches
+-- no record was handed out and none waits where no body was given
+pub nothing_held : (taken : List Record) (view : Unpacking) → Unpacks [] taken view → taken ++ view.ready ≡ []
+nothing_held taken view u = reaches_nil view.stage (joined u.placed) (taken ++ view.ready) view.so_far (no_fragments u.placed (sym u.bytes_are)) u.reaches
 
 pub has_read_none : (reader : Reader) → Unpacks [] [] reader.unpacker → reader.unpacker.damage ≡ None
     → reader.records ≡ 0 → reader.bytes ≡ 0 → reader.found ≡ false → HasRead reader.key [] [] reader
 has_read_none reader u sound records bytes found = record {
   key_is = refl;
   unpacks = u;
-  none_waits = nothing_ready reader.unpacker u;
+  none_waits = nothing_held [] reader.unpacker u;
   undamaged = sound;
   records_are = records;
   bytes_are = bytes;
   countable = (omega arith, omega arith);
   found_is = (λ so. absurd (false≢true (sym found ∙ so)), λ some. absurd (some refl));
 }
-
-pub nil_unless : {X : Type 0} (xs : List X) → (xs ≢ [] → ⊥) → xs ≡ []
-nil_unless [] none = refl
-nil_unless (x ∷ xs) none = absurd (none (λ e. cc))
 
 pub whole_ended : (key : SessionKey) (blocks : List Block) (taken : List Record) (reader : Reader) (ended : Bool) → HasRead key blocks taken reader → blocks_of key blocks ≢ []
     → (IsTrue ended ↔ (standing_at reader.unpacker.stage ≡ Some Ended)) → WholeOf (blocks_of key blocks) taken ended

@@ -1,123 +1,22 @@
--- Which blocks stand at the front of bytes, and that spans read to one list.
-use Rattle.std.proofs.Common.{◌≡◌, ℕ, suc, ◌+◌, ◌≤◌, refl, sym, ap, ap₂, subst, ◌∙◌, arith, inl, inr, ◌⊎◌, List, [], ◌∷◌, ◌++◌, length, take, drop, Bool, true, false, cond, add-zero}
+-- Which blocks stand in spans, and that spans read to one list.
+use Rattle.std.proofs.Common.{◌≡◌, ℕ, ◌+◌, ◌≤◌, refl, sym, ap, ap₂, subst, ◌∙◌, arith, List, [], ◌∷◌, ◌++◌, length, take, drop, Bool}
 use Rattle.std.specs.Prelude.{Option, Some}
 use Rattle.std.specs.List.{flat_map}
-use Rattle.std.proofs.lemmas.List.{append_assoc, append-nil, length-append, take_at, drop_at}
+use Rattle.std.proofs.lemmas.List.{length-append, take_at, drop_at}
 use Rattle.sd_base.specs.Record.{Record}
 use Rattle.sd_base.specs.declared.number.SessionKey.{SessionKey}
-use Rattle.sd_block.specs.Image.{block_image, IsBlockImage, IsImage}
-use Rattle.sd_block.specs.declared.layout.TheConstants.{MOST_BLOCK}
-use Rattle.sd_block.proofs.ImageLemmas.{length-block_image, one_block, one_image}
 use Rattle.sd_label.specs.Cutting.{WholeOf, is_ended}
 use Rattle.sd_label.proofs.CuttingLemmas.{holds_one}
 use Rattle.sd_core.specs.declared.span.Span.{Span}
-use Rattle.sd_core.specs.Volume.{Block, images, AreImages, blocks_of, is_key}
+use Rattle.sd_core.specs.Volume.{Block, images, blocks_of, is_key}
 use Rattle.sd_core.specs.Reading.{Shelf, SpanHolds, AllHold, ReadsToOneList}
 use Rattle.sd_core.specs.ReadFaults.{IsPartOf}
+use Rattle.sd_core.proofs.ListLemmas.{cond_more}
+use Rattle.sd_core.proofs.VolumeLemmas.{images_one}
 
 -- all the blocks of some spans, in order
 abbrev pub joined_blocks : List (List Block) → List Block
 joined_blocks blocks = flat_map (λ bs. bs) blocks
-
--- Images one behind the other.
-
-pub images-append : (number : ℕ) (xs ys : List Block) → images number (xs ++ ys) ≡ images number xs ++ images (number + length xs) ys
-images-append number [] ys = ap (λ n. images n ys) (sym (add-zero number))
-images-append number (x ∷ xs) ys =
-    let later : (number + 1) + length xs ≡ number + suc (length xs) = omega arith in
-    ap (λ l. block_image x.key number x.body ++ l) (images-append (number + 1) xs ys ∙ ap (λ n. images (number + 1) xs ++ images n ys) later)
-    ∙ sym (append_assoc (block_image x.key number x.body) (images (number + 1) xs) (images (number + suc (length xs)) ys))
-
-pub AreImages-append : (number : ℕ) (xs ys : List Block) → AreImages number xs → AreImages (number + length xs) ys → AreImages number (xs ++ ys)
-AreImages-append number [] ys are more = subst (λ n. AreImages n ys) (add-zero number) more
-AreImages-append number (x ∷ xs) ys are more =
-    let later : number + suc (length xs) ≡ (number + 1) + length xs = omega arith in
-    (are.0, AreImages-append (number + 1) xs ys are.1 (subst (λ n. AreImages n ys) later more))
-
-pub AreImages-behind : (number : ℕ) (xs ys : List Block) → AreImages number (xs ++ ys) → AreImages (number + length xs) ys
-AreImages-behind number [] ys are = subst (λ n. AreImages n ys) (sym (add-zero number)) are
-AreImages-behind number (x ∷ xs) ys are =
-    let later : (number + 1) + length xs ≡ number + suc (length xs) = omega arith in
-    subst (λ n. AreImages n ys) later (AreImages-behind (number + 1) xs ys are.1)
-
-pub front_nil : {X : Type 0} (xs ys : List X) → xs ++ ys ≡ [] → xs ≡ []
-front_nil [] ys e = refl
-front_nil (x ∷ xs) ys e = cc
-
-pub never_nil : (key : SessionKey) (number : ℕ) (body rest : List ℕ) → block_image key number body ++ rest ≡ [] → ⊥
-never_nil key number body rest e =
-    let none : block_image key number body ≡ [] = front_nil (block_image key number body) rest e in
-    let long = length-block_image key number body in
-    let zero : length (block_image key number body) ≡ 0 = ap length none in
-    absurd (omega arith)
-
-pub images_nil : (number : ℕ) (blocks : List Block) → images number blocks ≡ [] → blocks ≡ []
-images_nil number [] e = refl
-images_nil number (b ∷ bs) e = absurd (never_nil b.key number b.body (images (number + 1) bs) e)
-
--- a block by its parts
-block_of : SessionKey → List ℕ → Block
-block_of key body = record { key = key; body = body }
-
--- two images at one place are of one block, with one number
-pub record IsOneBlock (b c : Block) (n m : ℕ) (behind behind' : List ℕ) : Type 0 where
-  pub block_is : b ≡ c
-  pub number_is : n ≡ m
-  pub behind_is : behind ≡ behind'
-
-pub one_block_there : (b c : Block) (n m : ℕ) (behind behind' : List ℕ)
-    → IsBlockImage MOST_BLOCK (block_image b.key n b.body) b.key n b.body
-    → IsBlockImage MOST_BLOCK (block_image c.key m c.body) c.key m c.body
-    → block_image b.key n b.body ++ behind ≡ block_image c.key m c.body ++ behind'
-    → IsOneBlock b c n m behind behind'
-unfolding block_of
-one_block_there b c n m behind behind' is is' e =
-    let whole : IsImage MOST_BLOCK (block_image b.key n b.body) = record { key = b.key; number = n; body = b.body; block = is } in
-    let whole' : IsImage MOST_BLOCK (block_image c.key m c.body) = record { key = c.key; number = m; body = c.body; block = is' } in
-    let same = one_image MOST_BLOCK MOST_BLOCK _ _ behind behind' whole whole' e in
-    let there : IsBlockImage MOST_BLOCK (block_image b.key n b.body) c.key m c.body = subst (λ image. IsBlockImage MOST_BLOCK image c.key m c.body) (sym same.0) is' in
-    let parts = one_block MOST_BLOCK MOST_BLOCK (block_image b.key n b.body) b.key c.key n m b.body c.body is there in
-    record {
-      block_is = ap₂ block_of parts.0 parts.2;
-      number_is = parts.1;
-      behind_is = same.1;
-    }
-
--- the blocks begin with those that are done, and what is left are the images of the others
-pub record GoesOnWith (number other : ℕ) (done blocks : List Block) (rest : List ℕ) : Type 0 where
-  pub more : List Block
-  pub blocks_are : blocks ≡ done ++ more
-  pub rest_is : rest ≡ images (other + length done) more
-  pub number_is : (done ≡ []) ⊎ (number ≡ other)
-
-pub images_front : (number other : ℕ) (done blocks : List Block) (rest : List ℕ) → AreImages number done → AreImages other blocks
-    → images number done ++ rest ≡ images other blocks → GoesOnWith number other done blocks rest
-images_front number other [] blocks rest are are' e = record {
-  more = blocks;
-  blocks_are = refl;
-  rest_is = e ∙ ap (λ n. images n blocks) (sym (add-zero other));
-  number_is = inl refl;
-}
-images_front number other (d ∷ ds) [] rest are are' e =
-    absurd (never_nil d.key number d.body (images (number + 1) ds ++ rest) (sym (append_assoc (block_image d.key number d.body) (images (number + 1) ds) rest) ∙ e))
-images_front number other (d ∷ ds) (b ∷ bs) rest are are' e =
-    let flat = sym (append_assoc (block_image d.key number d.body) (images (number + 1) ds) rest) ∙ e in
-    let first = one_block_there d b number other (images (number + 1) ds ++ rest) (images (other + 1) bs) are.0 are'.0 flat in
-    let later = images_front (number + 1) (other + 1) ds bs rest are.1 are'.1 first.behind_is in
-    let count : (other + 1) + length ds ≡ other + suc (length ds) = omega arith in
-    record {
-      more = later.more;
-      blocks_are = ap₂ (λ (x : Block) (l : List Block). x ∷ l) (sym first.block_is) later.blocks_are;
-      rest_is = later.rest_is ∙ ap (λ n. images n later.more) count;
-      number_is = inr first.number_is;
-    }
-
-pub images_one : (number other : ℕ) (done blocks : List Block) → AreImages number done → AreImages other blocks
-    → images number done ≡ images other blocks → done ≡ blocks
-images_one number other done blocks are are' e =
-    let on = images_front number other done blocks [] are are' (append-nil (images number done) ∙ e) in
-    let none = images_nil (other + length done) on.more (sym on.rest_is) in
-    sym (on.blocks_are ∙ ap (λ l. done ++ l) none ∙ append-nil done)
 
 -- The part of a volume that a span names.
 
@@ -212,12 +111,7 @@ hold_apart shelf (s ∷ before) at after (b ∷ bs) h =
 pub blocks_of-append : (key : SessionKey) (xs ys : List Block) → blocks_of key (xs ++ ys) ≡ blocks_of key xs ++ blocks_of key ys
 blocks_of-append key [] ys = refl
 blocks_of-append key (x ∷ xs) ys =
-    let later = blocks_of-append key xs ys in
-    elim (is_key key x.key) as (λ v. cond v (x.body ∷ blocks_of key (xs ++ ys)) (blocks_of key (xs ++ ys))
-    ≡ cond v (x.body ∷ blocks_of key xs) (blocks_of key xs) ++ blocks_of key ys) [
-      | true ↦ ap (λ l. x.body ∷ l) later
-      | false ↦ later
-    ]
+    cond_more (is_key key x.key) x.body (blocks_of key xs) (blocks_of key ys) (blocks_of key (xs ++ ys)) (blocks_of-append key xs ys)
 
 -- Spans read to one list.
 

@@ -1,5 +1,5 @@
 -- What a session's steps do, from what its packer's calls do.
-use Rattle.std.proofs.Common.{◌≡◌, ◌≢◌, ℕ, ◌+◌, ◌≤◌, arith, refl, sym, ap, subst, ◌∙◌, List, [], ◌∷◌, ◌++◌, length}
+use Rattle.std.proofs.Common.{◌≡◌, ◌≢◌, ℕ, ◌+◌, refl, sym, ap, subst, ◌∙◌, List, [], ◌∷◌, ◌++◌, length}
 use Rattle.std.specs.Prelude.{◌↔◌, ℤ, Option, Some, None, IsSome, IfNone}
 use Rattle.std.specs.Option.{option_to_list}
 use Rattle.std.proofs.lemmas.List.{append_assoc, append-nil}
@@ -108,8 +108,3 @@ nothing_due old now queue ready p now-is running due none ready-is same-open roo
           ∙ ap (λ q. let s : SessionView = record old { packer = q } in s) (same_packer p old.packer room (none ∙ sym neither.1) same-open);
       queue_is = refl;
     })
-
--- bodies of which there are none
-pub none_waiting : (bodies : List PackedBody) → length bodies ≤ 0 → bodies ≡ []
-none_waiting [] h = refl
-none_waiting (b ∷ bodies) h = absurd (omega arith)

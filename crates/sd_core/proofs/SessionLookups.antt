@@ -5,7 +5,6 @@ use Rattle.sd_base.specs.declared.number.SessionKey.{SessionKey}
 use Rattle.sd_block.specs.declared.layout.TheConstants.{HEADER}
 use Rattle.sd_core.specs.declared.entry.Entry.{Entry}
 use Rattle.sd_core.specs.Machine.{MachineSession, session_of, with_session}
-use Rattle.sd_core.specs.Volume.{is_key}
 use Rattle.sd_core.specs.Journal.{SentBody, placements_at, placements_of, Follows}
 use Rattle.sd_core.specs.World.{WorldView, entry_of, with_entry, bodies_with}
 use Rattle.sd_core.specs.Matches.{SessionMatches, SessionsMatch, JournalsFollow, NumbersRise, AreOfOpened}
@@ -144,7 +143,7 @@ journals_more volume at placed f (x ∷ es) own h = (h.0, journals_more volume a
 pub bodies_with_own : (key : SessionKey) (xs : List SentBody) (b : SentBody) → b.key ≡ key → bodies_with key (xs ++ b ∷ []) ≡ bodies_with key xs ++ b.body ∷ []
 bodies_with_own key xs b is =
     bodies_with-append key xs (b ∷ [])
-    ∙ ap (λ c. bodies_with key xs ++ cond c (b.body ∷ []) []) (ap (is_key key) is ∙ is_key_same key)
+    ∙ ap (λ c. bodies_with key xs ++ cond c (b.body ∷ []) []) (is_key_same key b.key (sym is))
 
 pub bodies_with_other : (key : SessionKey) (xs : List SentBody) (b : SentBody) → key.id ≢ b.key.id → bodies_with key (xs ++ b ∷ []) ≡ bodies_with key xs
 bodies_with_other key xs b n =

@@ -1,6 +1,7 @@
 -- What a world keeps, step by step: its sessions' numbers, and that what was sent of each is placed or on the way.
-use Rattle.std.proofs.Common.{◌≡◌, ◌≢◌, ◌⊎◌, inl, inr, ℕ, zero, suc, ◌+◌, ◌-◌, ◌≤◌, ◌<◌, ◌^◌, cond, Bool, true, false, IsTrue, IfSome, Option, Some, None, List, [], ◌∷◌, ◌++◌, length, map, slice_get, slice_set, slice_index_or, refl, sym, ◌∙◌, ap, subst, arith}
-use Rattle.std.proofs.lemmas.List.{length-append}
+use Rattle.std.proofs.Common.{◌≡◌, ◌≢◌, ◌⊎◌, inl, inr, ℕ, suc, ◌+◌, ◌-◌, ◌≤◌, ◌<◌, ◌^◌, cond, Bool, true, false, IsTrue, IfSome, Option, Some, None, List, [], ◌∷◌, ◌++◌, length, map, slice_set, slice_index_or, refl, sym, ◌∙◌, ap, subst, arith}
+use Rattle.std.proofs.lemmas.List.{length-append, length-map, length-set, nil_from_length}
+use Rattle.std.proofs.lemmas.Option.{slice_get_within}
 use Rattle.std.specs.Option.{option_to_list}
 use Rattle.sd_base.specs.declared.number.SessionKey.{SessionKey}
 use Rattle.sd_base.specs.declared.number.TheConstants.{MOST_NUMBER}
@@ -21,13 +22,8 @@ use Rattle.sd_core.proofs.EntryLemmas.{found_at, change_entries, keep_entries, m
 use Rattle.sd_core.proofs.BlockLemmas.{is_key_same, is_key_other}
 use Rattle.sd_core.proofs.SessionLookups.{bodies_with_own, bodies_with_other}
 use Rattle.sd_core.proofs.SessionFrames.{last_on_the_way}
-use Rattle.sd_core.proofs.WorldLemmas.{IsReadAt, read_entry, set_length, same_counts}
-
--- there is a session at that place
-pub place_within : {A : Type 0} → (xs : List A) (at : ℕ) (x : A) → slice_get xs at ≡ Some x → at < length xs
-place_within [] at x there = cc there
-place_within (y ∷ xs) zero x there = omega arith
-place_within (y ∷ xs) (suc k) x there = let h = place_within xs k x there in omega (arith, h)
+use Rattle.sd_core.proofs.WorldLemmas.{IsReadAt, read_entry, same_counts}
+use Rattle.sd_core.proofs.ListLemmas.{nil_unless}
 
 -- no session has more bodies among these than there are
 pub fewer_bodies : (key : SessionKey) (way : List SentBody) → length (bodies_with key way) ≤ length way
@@ -41,15 +37,11 @@ pub hand_most : (hand : Option Piece) → length (map body_of_piece (option_to_l
 hand_most None = omega arith
 hand_most (Some p) = omega arith
 
-pub map_length : {A B : Type 0} → (f : A → B) (xs : List A) → length (map f xs) ≡ length xs
-map_length f [] = refl
-map_length f (x ∷ xs) = ap suc (map_length f xs)
-
 pub way_most : (w : WorldView) → IsWorldView w → length (on_the_way w) ≤ 9
 way_most w h =
     let all = length-append (map body_of_piece (option_to_list w.drive.hand)) (map body_of_piece w.queue) in
     let hand = hand_most w.drive.hand in
-    let queue = map_length body_of_piece w.queue in
+    let queue = length-map w.queue body_of_piece in
     let most = h.queue_most in
     omega (arith, all, hand, queue, most)
 
@@ -92,12 +84,12 @@ sent_kept w t at e s queue h f sends =
     let b : SentBody = record { key = e.session.key; body = sends.body } in
     let p : Piece = record { key = e.session.key; seq = e.session.sent + 1; body = sends.body } in
     let es = slice_set w.entries at e' in
-    let counts : length es ≡ length w.entries = set_length w.entries at e' in
+    let counts : length es ≡ length w.entries = length-set w.entries at e' in
     let way = on_the_way w in
     let way' = on_the_way (record w { entries = es; queue = queue }) in
     let longer : way' ≡ way ++ b ∷ [] = last_on_the_way w es queue p sends.queue_is in
     let own = entry_kept w t at e h f in
-    let within = place_within w.entries at e f.there in
+    let within = slice_get_within w.entries at e f.there in
     let key : s.key ≡ e.session.key = ap (λ (x : SessionView). x.key) sends.is in
     let blocks = blocks_on w.drive.volume in
     let E : List SentBody → Type 0 = λ l. AreEntries w.time l blocks 1 es in
@@ -136,23 +128,15 @@ sent_kept w t at e s queue h f sends =
           (of_sessions_more w.time (length w.entries) way b h.bodies_are own.time_is (omega (arith, own.id_is)) (omega (arith, own.id_is, within))));
     }
 
-none_of : {A : Type 0} → (xs : List A) → length xs ≡ 0 → xs ≡ []
-none_of [] none = refl
-none_of (x ∷ xs) none = absurd (omega (arith, none))
-
 -- a session of which all that was sent is placed has nothing on the way
 pub all_placed : (w : WorldView) (t at : ℕ) (e : Entry) → IsWorldView w → IsReadAt t w.entries at e
     → e.session.sent ≡ e.journal.placed → IsOnTheWay w e.session.key → ⊥
-all_placed w t at e h f same some = some (none_of (bodies_with e.session.key (on_the_way w)) (let is = entry_kept w t at e h f in omega (arith, is.sent_is, same)))
+all_placed w t at e h f same some = some (nil_from_length (bodies_with e.session.key (on_the_way w)) (let is = entry_kept w t at e h f in omega (arith, is.sent_is, same)))
 
 -- a run that ends within what is synced is not unsynced
 run_ends : (run : Option Run) (r : Run) (synced : ℕ) → run ≡ Some r → IfSome run (λ (x : Run). x.end ≤ synced) → synced < r.end → ⊥
 run_ends None r synced is ends below = cc is
 run_ends (Some x) r synced is ends below = let same : x ≡ r = cc is in omega (arith, ends, below, ap (λ (y : Run). y.end) same)
-
-none_here : {A : Type 0} → (xs : List A) → (xs ≢ [] → ⊥) → xs ≡ []
-none_here [] none = refl
-none_here (x ∷ xs) none = absurd (none (λ e. cc e))
 
 run_past : (run : Option Run) (synced : ℕ) → (IfSome run (λ (x : Run). x.end ≤ synced) → ⊥) → (r : Run) × (run ≡ Some r) × (synced < r.end)
 run_past None synced not = absurd (not tt)
@@ -163,7 +147,7 @@ pub none_on_the_way : (w : WorldView) (t at : ℕ) (e : Entry) → IsWorldView w
     → (IsOnTheWay w e.session.key → ⊥) → e.session.sent ≡ e.journal.placed
 none_on_the_way w t at e h f none =
     let is = entry_kept w t at e h f in
-    let none' = none_here (bodies_with e.session.key (on_the_way w)) none in
+    let none' = nil_unless (bodies_with e.session.key (on_the_way w)) none in
     let zero' = ap length none' in
     omega (arith, is.sent_is, zero')
 
@@ -210,14 +194,14 @@ pub gone_is_free : (w : WorldView) (e : Entry) (number : ℕ) → IsEntry w.time
 gone_is_free w e number is gone =
     elim gone [
       | inl closed ↦ inl closed
-      | inr given_up ↦ inr (given_up.0, λ some. some (none_of (bodies_with e.session.key (on_the_way w)) (let sent = given_up.1 in omega (arith, is.sent_is, sent))))
+      | inr given_up ↦ inr (given_up.0, λ some. some (nil_from_length (bodies_with e.session.key (on_the_way w)) (let sent = given_up.1 in omega (arith, is.sent_is, sent))))
     ]
 
 pub free_is_gone : (w : WorldView) (e : Entry) (number : ℕ) → IsEntry w.time (on_the_way w) (blocks_on w.drive.volume) number e → IsFree w e → IsGone e
 free_is_gone w e number is free =
     elim free [
       | inl closed ↦ inl closed
-      | inr given_up ↦ inr (given_up.0, (let zero' = ap length (none_here (bodies_with e.session.key (on_the_way w)) given_up.1) in omega (arith, is.sent_is, zero')))
+      | inr given_up ↦ inr (given_up.0, (let zero' = ap length (nil_unless (bodies_with e.session.key (on_the_way w)) given_up.1) in omega (arith, is.sent_is, zero')))
     ]
 
 -- of the last session, where there is one
@@ -287,7 +271,7 @@ pub placed_kept : (w : WorldView) (p : Placement) (d : DriveView) (e : Entry) �
 placed_kept w p d e h places at =
     let e' : Entry = record { session = e.session; journal = noted e.journal p } in
     let es = slice_set w.entries (p.key.id - 1) e' in
-    let counts : length es ≡ length w.entries = set_length w.entries (p.key.id - 1) e' in
+    let counts : length es ≡ length w.entries = length-set w.entries (p.key.id - 1) e' in
     let b : SentBody = record { key = p.key; body = at.body } in
     let way = on_the_way w in
     let way' = map body_of_piece (option_to_list d.hand) ++ map body_of_piece w.queue in
@@ -322,7 +306,7 @@ placed_kept w p d e h places at =
             time_is = is.time_is;
             id_is = is.id_is;
             sent_is = (let front = ap (λ l. length (bodies_with e.session.key l)) at.way_is in
-                let own = ap (λ v. length (cond v (at.body ∷ bodies_with e.session.key at.rest) (bodies_with e.session.key at.rest))) (ap (λ k. is_key e.session.key k) (sym at.key_is) ∙ is_key_same e.session.key) in
+                let own = ap (λ v. length (cond v (at.body ∷ bodies_with e.session.key at.rest) (bodies_with e.session.key at.rest))) (is_key_same e.session.key _ at.key_is) in
                 omega (arith, is.sent_is, front, own));
             placed_most = omega (arith, is.placed_most, was, now);
             counts_fit = is.counts_fit;

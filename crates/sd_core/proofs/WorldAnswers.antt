@@ -1,5 +1,5 @@
 -- What a world's public calls say of the machine and of what is read.
-use Rattle.std.proofs.Common.{◌≡◌, ℕ, ◌+◌, ◌<◌, ◌^◌, cond, Bool, true, false, Option, Some, None, Result, Ok, Err, List, [], ◌∷◌, ◌++◌, length, All, IfOk, IfErr, option_map, refl, sym, ◌∙◌, ap, subst}
+use Rattle.std.proofs.Common.{◌≡◌, ℕ, ◌+◌, ◌<◌, ◌^◌, cond, Bool, true, false, Option, Some, None, Result, Ok, Err, List, [], ◌∷◌, ◌++◌, length, All, IfOk, IfErr, OnErr, option_map, refl, sym, ◌∙◌, ap, subst}
 use Rattle.std.proofs.lemmas.List.Elements.{All-nil, All-cons}
 use Rattle.std.specs.Str.{bytes_eq}
 use Rattle.std.proofs.lemmas.Slice.Eq.{bytes_eq-Decides}
@@ -16,11 +16,13 @@ use Rattle.sd_core.specs.declared.readback.fault.ReadFault.TheVariants.{Memory}
 use Rattle.sd_core.specs.Machine.{Machine, MachineSession, session_of}
 use Rattle.sd_core.specs.Volume.{Block}
 use Rattle.sd_core.specs.Reading.{empty_shelf, shelf_with, AllHold, Reads}
+use Rattle.sd_core.specs.HandsOver.{HandsOverFront}
 use Rattle.sd_core.specs.World.{WorldView, entry_of, shelf_of}
 use Rattle.sd_core.specs.WorldReading.{ReadsWhole}
 use Rattle.sd_core.specs.Matches.{Matches}
 use Rattle.sd_core.specs.Sound.{AreEntries, IsWorldView, CountsFit}
 use Rattle.sd_core.specs.Kept.{IsClosedAt, ClosedStands, ClosedStand, ClosedStay}
+use Rattle.sd_core.proofs.HandsOverLemmas.{front_of_records}
 use Rattle.sd_core.proofs.KeptLemmas.{closed_session}
 use Rattle.sd_core.proofs.ReadingLemmas.{reads_one}
 use Rattle.sd_core.proofs.SessionLookups.{found_session, no_session_found, chosen}
@@ -43,8 +45,9 @@ pub reads_whole : (w : WorldView) (m : Machine) (key : SessionKey) (spans : List
     × (end.records ≡ length records) × (end.bytes ≡ total_bytes records))
     → ((records : List Record) (ended : Bool) → length records < 2 ^ 64 → total_bytes records < 2 ^ 64
     → Reads (shelf_of w.drive.volume) key spans records ended → IfErr result (λ fault. fault ≡ Memory))
+    → OnErr result (HandsOverFront (shelf_of w.drive.volume) key spans before after)
     → ReadsWhole m key before after result
-reads_whole w m key spans before after (Ok end) keeps matches closed ok found =
+reads_whole w m key spans before after (Ok end) keeps matches closed ok found front =
     let fit = counts_of w.time _ _ 1 key.id w.entries closed.entry keeps.entries_are closed.there in
     let s = closed_session w m key spans matches closed fit.0 fit.1 in
     let one = reads_one (shelf_of w.drive.volume) key spans ok.0 s.0.records end.ended true ok.2 s.4 in
@@ -55,8 +58,9 @@ reads_whole w m key spans before after (Ok end) keeps matches closed ok found =
       closed = s.3;
       whole = (ok.1 ∙ ap (λ rs. before ++ rs) one.0, ok.3 ∙ ap length one.0, ok.4 ∙ ap total_bytes one.0, one.1);
       else_memory = tt;
+      else_first = tt;
     }
-reads_whole w m key spans before after (Err fault) keeps matches closed ok found =
+reads_whole w m key spans before after (Err fault) keeps matches closed ok found front =
     let fit = counts_of w.time _ _ 1 key.id w.entries closed.entry keeps.entries_are closed.there in
     let s = closed_session w m key spans matches closed fit.0 fit.1 in
     record {
@@ -66,6 +70,7 @@ reads_whole w m key spans before after (Err fault) keeps matches closed ok found
       closed = s.3;
       whole = tt;
       else_memory = found s.0.records true s.5 s.6 s.4;
+      else_first = front_of_records (shelf_of w.drive.volume) key spans before after s.0.records true front s.4;
     }
 
 -- the volume that a shelf has by a name has that name

@@ -1,5 +1,7 @@
 -- What a step of one session, of the queue or of the drive does to the world around it.
 use Rattle.std.proofs.Common.{◌≡◌, ℕ, zero, suc, ◌+◌, Some, List, [], ◌∷◌, length, slice_get, slice_set, slice_index_or, refl, sym, ◌∙◌, ap, subst, arith}
+use Rattle.std.proofs.lemmas.List.{length-set}
+use Rattle.std.proofs.lemmas.Option.{get_or_from_slice_get}
 use Rattle.sd_base.specs.declared.number.SessionKey.{SessionKey}
 use Rattle.sd_core.specs.declared.entry.Entry.{Entry}
 use Rattle.sd_base.specs.Record.{Record}
@@ -8,26 +10,15 @@ use Rattle.sd_core.specs.World.{WorldView, entry_of, with_entry, on_the_way, bod
 use Rattle.sd_core.specs.Sound.{AreOfSessions, IsWorldView, IsFoundAt, CountsFit, blocks_on}
 use Rattle.sd_core.proofs.EntryLemmas.{change_entries}
 
--- what stands at a place is read there
-pub read_at : {A : Type 0} → (xs : List A) (at : ℕ) (x d : A) → slice_get xs at ≡ Some x → slice_index_or xs at d ≡ x
-read_at [] at x d there = cc there
-read_at (y ∷ xs) zero x d there = cc there
-read_at (y ∷ xs) (suc k) x d there = read_at xs k x d there
-
 -- to write what stands there changes nothing
 pub same_set : {A : Type 0} → (xs : List A) (at : ℕ) (x : A) → slice_get xs at ≡ Some x → slice_set xs at x ≡ xs
 same_set [] at x there = refl
 same_set (y ∷ xs) zero x there = ap (λ z. z ∷ xs) (cc there)
 same_set (y ∷ xs) (suc k) x there = ap (λ l. y ∷ l) (same_set xs k x there)
 
-pub set_length : {A : Type 0} → (xs : List A) (at : ℕ) (x : A) → length (slice_set xs at x) ≡ length xs
-set_length [] at x = refl
-set_length (y ∷ xs) zero x = refl
-set_length (y ∷ xs) (suc k) x = ap suc (set_length xs k x)
-
 -- the session that was found is the one that was read
 pub found_entry : (t : ℕ) (es : List Entry) (at : ℕ) (e : Entry) → (f : IsFoundAt t es at) → e ≡ slice_index_or es at e → f.entry ≡ e
-found_entry t es at e f read = sym (read ∙ read_at es at f.entry e f.there)
+found_entry t es at e f read = sym (read ∙ get_or_from_slice_get es at f.entry e f.there)
 
 -- The session of a ticket, as it was read and as it is written.
 pub record IsReadAt (t : ℕ) (es : List Entry) (at : ℕ) (e : Entry) : Type 0 where
@@ -50,7 +41,7 @@ pub session_kept : (w : WorldView) (t at : ℕ) (e : Entry) (s : SessionView)
     → IsWorldView (record w { entries = slice_set w.entries at (record { session = s; journal = e.journal }) })
 session_kept w t at e s h f key sent fit =
     let e' : Entry = record { session = s; journal = e.journal } in
-    let counts : length (slice_set w.entries at e') ≡ length w.entries = set_length w.entries at e' in
+    let counts : length (slice_set w.entries at e') ≡ length w.entries = length-set w.entries at e' in
     let P : ℕ → Type 0 = λ n. AreOfSessions w.time n (on_the_way w) in
     let way = on_the_way w in
     record {
@@ -80,6 +71,13 @@ pub session_same : (w : WorldView) (t at : ℕ) (e : Entry) (s : SessionView) �
 session_same w t at e s f same =
     ap (λ (x : SessionView). record w { entries = slice_set w.entries at (record { session = x; journal = e.journal }) }) same
     ∙ ap (λ es. record w { entries = es }) (same_set w.entries at e f.there)
+
+-- and keeps all
+pub same_kept : (w : WorldView) (t at : ℕ) (e : Entry) (s : SessionView) → IsWorldView w → IsReadAt t w.entries at e → s ≡ e.session
+    → IsWorldView (record w { entries = slice_set w.entries at (record { session = s; journal = e.journal }) })
+same_kept w t at e s h f same =
+    let P : WorldView → Type 0 = λ v. IsWorldView v in
+    subst P (sym (session_same w t at e s f same)) h
 
 -- the counts stay
 pub same_counts : (s t : SessionView) → s.count ≡ t.count → s.bytes ≡ t.bytes → CountsFit t → CountsFit s

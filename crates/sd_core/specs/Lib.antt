@@ -1,4 +1,5 @@
 pub mod Drive
+pub mod HandsOver
 pub mod JobMedia
 pub mod Journal
 pub mod Kept

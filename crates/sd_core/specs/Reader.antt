@@ -1,12 +1,13 @@
 -- What a reader has made of the blocks that it was given.
-use Rattle.std.specs.Prelude.{◌≡◌, ◌≢◌, ◌↔◌, None, IsTrue, List, [], ◌++◌, length}
+use Rattle.std.specs.Prelude.{◌≡◌, ◌≢◌, ◌↔◌, ◌⊎◌, ℕ, None, IsTrue, List, [], ◌∷◌, ◌++◌, length}
 use Rattle.sd_base.specs.Record.{Record}
 use Rattle.sd_base.specs.declared.number.SessionKey.{SessionKey}
 use Rattle.sd_label.specs.Cutting.{total_bytes}
 use Rattle.sd_unpack.specs.Unpacking.{Unpacks}
 use Rattle.sd_core.specs.declared.readback.reader.Reader.{Reader}
-use Rattle.sd_core.specs.Volume.{Block, blocks_of}
+use Rattle.sd_core.specs.Volume.{Block, images, AreImages, blocks_of}
 use Rattle.sd_core.specs.ReadFaults.{AreCountable}
+use Rattle.sd_core.specs.HandsOver.{AreHeldFirst}
 
 -- the reader was given these blocks, and handed over all records that those of its session hold whole
 pub record HasRead (key : SessionKey) (blocks : List Block) (taken : List Record) (reader : Reader) : Type 0 where
@@ -19,14 +20,30 @@ pub record HasRead (key : SessionKey) (blocks : List Block) (taken : List Record
   pub countable : AreCountable taken
   pub found_is : IsTrue reader.found ↔ (blocks_of key blocks ≢ [])
 
--- a sink got some records more
-pub record HandsOver (got got' : List Record) : Type 0 where
-  pub more : List Record
-  pub got_is : got' ≡ got ++ more
-
 -- the reader was given these blocks more, and handed over what they make whole
 pub record ReadsOn (old new : Reader) (got got' : List Record) (blocks : List Block) : Type 0 where
   pub more : List Record
   pub got_is : got' ≡ got ++ more
   pub goes_on : (key : SessionKey) (before : List Block) (taken : List Record)
       → HasRead key before taken old → HasRead key (before ++ blocks) (taken ++ more) new
+
+-- What a sink got of the reader before a fault.
+
+-- no record, or with those before the first of what the session's bodies hold whole, up to this block
+pub record HandsOverInBlock (reader : Reader) (got got' : List Record) (block : Block) : Type 0 where
+  pub more : List Record
+  pub got_is : got' ≡ got ++ more
+  pub first : (more ≡ []) ⊎ ((key : SessionKey) (before : List Block) (taken : List Record)
+      → HasRead key before taken reader → AreHeldFirst (blocks_of key (before ++ block ∷ [])) (taken ++ more))
+
+-- with those before, the first of what the session's bodies hold whole, up to a block of the part
+pub record HandsOverInPart (reader : Reader) (got got' : List Record) (part : List ℕ) : Type 0 where
+  pub done : List Block
+  pub number : ℕ
+  pub rest : List ℕ
+  pub part_is : part ≡ images number done ++ rest
+  pub done_are : AreImages number done
+  pub more : List Record
+  pub got_is : got' ≡ got ++ more
+  pub first : (key : SessionKey) (before : List Block) (taken : List Record)
+      → HasRead key before taken reader → AreHeldFirst (blocks_of key (before ++ done)) (taken ++ more)

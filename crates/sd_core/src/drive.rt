@@ -96,7 +96,7 @@ impl Drive {
         }
     }
 
-    /// Where the blocks of a session lie on the volume.
+    /// Where the blocks of a session lie on the volume; no block is looked at.
     pub fn spans(&self, journal: &SessionJournal) -> Result<Items<Span>, AllocError>
         requires { self.now.volume ≡ None → journal.now.run ≡ None }
         ensures { IfOk result (λ spans. spans ≡ spans_in (volume_name self.now.volume) journal.now.run) }

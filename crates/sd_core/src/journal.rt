@@ -29,7 +29,7 @@ pub struct Run {
 }
 
 /// The journal of one session: how many of its bodies were placed, and where. Until volumes can be several
-/// it has one run at most.
+/// it has one run at most, so each call costs the same however many bodies were placed.
 #[derive(Clone, Copy, Debug, PartialEq, Eq)]
 pub struct SessionJournal {
     pub(crate) placed: u64,

@@ -4,7 +4,7 @@ ghost use Rattle.sd_base.specs.Record.{Record};
 ghost use Rattle.sd_label.specs.Cutting.{total_bytes};
 ghost use Rattle.sd_core.specs.Reading.{shelf_with, Reads};
 ghost use Rattle.sd_core.specs.ReadFaults.{MeetsFault};
-ghost use Rattle.sd_core.specs.Reader.{HandsOver};
+ghost use Rattle.sd_core.specs.HandsOver.{HandsOverFront};
 
 mod fault;
 mod front;
@@ -29,9 +29,11 @@ pub struct ReadEnd {
 }
 
 /// Reads the session `key` back from its spans, which lie on the volume `name` with these bytes. Each record
-/// goes to the sink as soon as the block is read that makes it whole, so records were handed over before
-/// a fault may be met; those stay. The first fault is the answer, and nothing behind it is read. A session
-/// with more records or data bytes than a `u64` counts is damaged, since no such session is ever taken.
+/// goes to the sink as soon as the block is read that makes it whole, so records may be handed over before
+/// a fault is met; those stay, and they are the first of the session's, in order. The first fault is the
+/// answer, and nothing behind it is read. A session with more records or data bytes than a `u64` counts is
+/// damaged, since no such session is ever taken. Each block in the spans is gone over, also other sessions';
+/// held at a time are the records that one block makes whole, and what has come of the next.
 pub fn read_session<S: Sink>(
     alloc: Global,
     name: &VolName,
@@ -51,7 +53,7 @@ pub fn read_session<S: Sink>(
         → IfErr result (λ fault. fault ≡ ReadFault.Memory) }
     ensures first { IfErr result (λ fault. fault ≢ ReadFault.Memory
         → MeetsFault (shelf_with name.now bytes.now) key spans.now fault) }
-    ensures handed_over { OnErr result (HandsOver (S.got sink.old) (S.got sink.new)) }
+    ensures handed_over { OnErr result (HandsOverFront (shelf_with name.now bytes.now) key spans.now (S.got sink.old) (S.got sink.new)) }
 {
     if !are_spans(spans) {
         return Err(ReadFault::BadSpan);

@@ -183,7 +183,7 @@ impl Session {
         Ok(())
     }
 
-    /// Gives up a session that goes on: drops what it has not sent. Takes no memory.
+    /// Gives up a session that goes on: drops what it has not sent, body by body. Takes no memory.
     pub fn cancel(&mut self) -> Result<(), Refusal>
         ensures ok { OnOk result (CancelsSession self.old self.new) }
         ensures why { IfErr result (λ why. NotRunning self.old why) }

@@ -112,7 +112,8 @@ impl Volume {
     }
 
     /// Adds the next block, with `body` of the session `key`, at the end. The volume becomes full where it
-    /// would have more than `limit` bytes then; that is tested before any memory is taken.
+    /// would have more than `limit` bytes then; that is tested before any memory is taken. It goes over the
+    /// block alone, but where the volume has to grow all its bytes may move.
     pub fn append_block(
         &mut self,
         alloc: Global,

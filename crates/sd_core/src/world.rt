@@ -12,9 +12,9 @@ ghost use Rattle.sd_core.specs.Matches.{Matches};
 ghost use Rattle.sd_core.specs.Moves.{Moves};
 ghost use Rattle.sd_core.specs.Kept.{ClosedStand, ClosedStands, ClosedStay, IsClosedAt};
 ghost use Rattle.sd_core.specs.Reading.{Reads};
-ghost use Rattle.sd_core.specs.Reader.{HandsOver};
+ghost use Rattle.sd_core.specs.HandsOver.{HandsOverFront};
 ghost use Rattle.sd_core.specs.World.{entry_of, fresh_world, last_entry, shelf_of};
-ghost use Rattle.sd_core.specs.WorldReading.{ReadsWhole, MeetsWorldFault};
+ghost use Rattle.sd_core.specs.WorldReading.{ReadsWhole, AreOnVolume, MeetsWorldFault};
 ghost use Rattle.sd_core.specs.Sound.{IsGone};
 
 use crate::conf::WorldConf;
@@ -88,7 +88,10 @@ impl World {
         })
     }
 
-    /// One event. The reply says what came of it; a refused event changes nothing.
+    /// One event. The reply says what came of it; a refused event changes nothing. No step goes over the
+    /// sessions, the bodies or the placements there are: an append goes over its record, a placing over its
+    /// block, a cancel over the bodies that its session has not sent, and any other step costs the same
+    /// whatever the world holds. Where the list of sessions or the volume is to grow, all of it may move.
     pub fn step(&mut self, event: Event) -> Reply
         ensures moves { Moves self.old event result self.new }
         ensures follows { (m : Machine) → Matches self.old m → StepsTo m event result self.new }
@@ -137,7 +140,8 @@ impl World {
         }
     }
 
-    /// All the events, in order, with the reply to each. An `Err` comes before the first.
+    /// All the events, in order, with the reply to each; it costs what its steps do. An `Err` comes before the
+    /// first.
     pub fn run(&mut self, events: Vec<Event>) -> Result<Vec<Reply>, AllocError>
         ensures follows { IfOk result (λ replies. (m : Machine) → Matches self.old m
             → (m' : Machine) × Run m events.items replies.items m' × Matches self.new m') }
@@ -155,8 +159,9 @@ impl World {
     }
 
     /// Reads a session back from spans. The records go to the sink one by one; those that were handed over
-    /// before a fault stay. No spans are a bad span; then each must name this world's volume; then comes
-    /// what `ReadFault` says of the spans and the blocks.
+    /// before a fault stay, and they are the first of the session's, in order. No spans are a bad span; then
+    /// each must name this world's volume, or nothing is handed over; then comes what `ReadFault` says of
+    /// the spans and the blocks. It goes over all blocks in the spans, also other sessions'.
     pub fn read<S: Sink>(
         &self,
         key: SessionKey,
@@ -175,7 +180,8 @@ impl World {
         ensures closed { (m : Machine) → Matches self.now m → IsClosedAt self.now key spans.now
             → ReadsWhole m key (S.got sink.old) (S.got sink.new) result }
         ensures first { IfErr result (λ fault. fault ≢ ReadFault.Memory → MeetsWorldFault self.now.drive.volume key spans.now fault) }
-        ensures handed_over { OnErr result (HandsOver (S.got sink.old) (S.got sink.new)) }
+        ensures handed_over { OnErr result (HandsOverFront (shelf_of self.now.drive.volume) key spans.now (S.got sink.old) (S.got sink.new)) }
+        ensures elsewhere { (AreOnVolume self.now.drive.volume spans.now → ⊥) → S.got sink.new ≡ S.got sink.old }
     {
         let volume = self.drive.volume();
         if spans.is_empty() {
@@ -190,7 +196,7 @@ impl World {
         read_session(self.alloc, volume.name(), volume.bytes(), key, spans, sink)
     }
 
-    /// The status of a session, or `None` for a ticket that was not given.
+    /// The status of a session, or `None` for a ticket that was not given. No other session is looked at.
     pub fn status(&self, ticket: Ticket) -> Option<Status>
         ensures status { result ≡ option_map (λ entry. entry.session.status) (entry_of ticket self.now.entries) }
         ensures machine { (m : Machine) → Matches self.now m → result ≡ option_map (λ s. s.status) (session_of ticket m.sessions) }
@@ -201,7 +207,7 @@ impl World {
         }
     }
 
-    /// The bytes of the volume, or `None` where there is none.
+    /// The bytes of the volume, or `None` where there is none; they are lent, not copied.
     pub fn volume_bytes(&self) -> Option<&[u8]>
         ensures { option_copied result ≡ option_map (λ v. v.bytes) self.now.drive.volume }
     {

@@ -5,7 +5,8 @@ ghost use Rattle.sd_base.specs.Record.{Record};
 ghost use Rattle.sd_label.specs.Cutting.{WholeOf, total_bytes};
 ghost use Rattle.sd_core.specs.Volume.{Block, images, AreImages, blocks_of};
 ghost use Rattle.sd_core.specs.ReadFaults.{AreReadable, StopsWithin};
-ghost use Rattle.sd_core.specs.Reader.{HasRead, HandsOver, ReadsOn};
+ghost use Rattle.sd_core.specs.Reader.{HasRead, ReadsOn, HandsOverInBlock, HandsOverInPart};
+ghost use Rattle.sd_core.specs.HandsOver.{GotFirstOf};
 
 use crate::readback::ReadEnd;
 use crate::readback::fault::ReadFault;
@@ -47,7 +48,7 @@ impl Reader {
         ensures stops { IfErr result (λ fault. fault ≢ ReadFault.Memory
             → (key : SpecKey) (before : List Block) (taken : List Record)
             → HasRead key before taken self.old → StopsWithin key before part.now fault) }
-        ensures handed_over { OnErr result (HandsOver (S.got sink.old) (S.got sink.new)) }
+        ensures handed_over { OnErr result (HandsOverInPart self.old (S.got sink.old) (S.got sink.new) part.now) }
     {
         let mut left = part;
         let mut last = None;
@@ -70,7 +71,8 @@ impl Reader {
             → (fault ≡ ReadFault.DamagedBlock)
             × (AreReadable (blocks_of key (before
             ++ record { key = block.now.key; body = block.now.body.now } ∷ [])) → ⊥)) }
-        ensures handed_over { OnErr result (HandsOver (S.got sink.old) (S.got sink.new)) }
+        ensures handed_over { OnErr result (HandsOverInBlock self.old (S.got sink.old) (S.got sink.new)
+            (record { key = block.now.key; body = block.now.body.now })) }
     {
         if self.key != block.key {
             return Ok(());
@@ -93,7 +95,7 @@ impl Reader {
         ensures uncountable { IfErr result (λ fault. fault ≢ ReadFault.Memory → (fault ≡ ReadFault.DamagedBlock)
             × ((2 ^ 64 ≤ self.old.records + length self.old.unpacker.ready)
             ⊎ (2 ^ 64 ≤ self.old.bytes + total_bytes self.old.unpacker.ready))) }
-        ensures handed_over { OnErr result (HandsOver (S.got sink.old) (S.got sink.new)) }
+        ensures handed_over { OnErr result (GotFirstOf self.old.unpacker.ready (S.got sink.old) (S.got sink.new)) }
     {
         while let Some(rec) = self.unpacker.take_record() {
             self.count(&rec)?;

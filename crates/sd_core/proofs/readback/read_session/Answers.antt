@@ -1,4 +1,4 @@
-use Rattle.std.proofs.Common.{sym, subst, ◌∙◌, refl, take, drop, suc, List}
+use Rattle.std.proofs.Common.{sym, subst, ◌∙◌, refl, take, drop, suc, List, [], ◌∷◌, append-nil}
 use Rattle.std.proofs.lemmas.List.{take_all}
 use Rattle.std.proofs.lemmas.Result.{err_from_is_err_and, IfErr-weaker, IfOk-weaker}
 use Rattle.sd_core.specs.declared.span.Span.{Span}
@@ -6,6 +6,7 @@ use Rattle.sd_core.specs.Reading.{shelf_with}
 use Rattle.sd_core.specs.ReadFaults.{PartFault, CantRead}
 use Rattle.sd_core.proofs.ReaderLemmas.{if_err}
 use Rattle.sd_core.proofs.SpanLemmas.{HasReadSpans, spans_begin, spans_go_on, spans_stop, spans_round, spans_more, span_below, spans_read, spans_hold_none, part_cant, stops_cant, none_but_memory}
+use Rattle.sd_core.proofs.HandsOverLemmas.{nothing_front, spans_front, span_front}
 use Rattle.sd_core.proofs.readback.read_session.Goals as goal
 
 pub loop-span-init : goal.loop-span-init
@@ -83,3 +84,40 @@ returns-in_err-read_part-clause-found g c =
 pub returns-clause-found : goal.returns-clause-found
 returns-clause-found g c =
     none_but_memory (shelf_with c.args.name.now c.args.bytes.now) c.args.key c.args.spans.now c.finish.result (returns-clause-first g c)
+
+-- what was handed over before a fault
+
+pub returns-then-not-are_spans-clause-handed_over : goal.returns-then-not-are_spans-clause-handed_over
+returns-then-not-are_spans-clause-handed_over g c =
+    nothing_front (shelf_with c.args.name.now c.args.bytes.now) c.args.key c.args.spans.now (g.S.Sink.got c.args.sink.now)
+
+pub returns-in_err-part-clause-handed_over : goal.returns-in_err-part-clause-handed_over
+returns-in_err-part-clause-handed_over g c =
+    let shelf = shelf_with c.args.name.now c.args.bytes.now in
+    let i = c.loop-span.span-index in
+    let s = c.span-item.result in
+    let p = err_from_is_err_and c.from_residual.result c.from_residual.ensures.1 in
+    if_err c.from_residual.result p.0 _ p.1
+    (spans_front shelf c.args.key c.args.spans.now (take i c.args.spans.now) (s ∷ drop (suc i) c.args.spans.now) c.loop-span.reader (g.S.Sink.got c.args.sink.now) (g.S.Sink.got c.loop-span.sink)
+    (c.if-not-are_spans.ensures.0 refl) (spans_round c.args.spans.now i s c.span-item.is c.loop-span-test.true) c.loop-span.invariant)
+
+pub returns-in_err-read_part-clause-handed_over : goal.returns-in_err-read_part-clause-handed_over
+returns-in_err-read_part-clause-handed_over g c =
+    let shelf = shelf_with c.args.name.now c.args.bytes.now in
+    let i = c.loop-span.span-index in
+    let s = c.span-item.result in
+    let p = err_from_is_err_and c.from_residual-in_err-read_part.result c.from_residual-in_err-read_part.ensures.1 in
+    if_err c.from_residual-in_err-read_part.result p.0 _ p.1
+    (span_front shelf c.args.key c.args.spans.now (take i c.args.spans.now) (drop (suc i) c.args.spans.now) s c.loop-span.reader (g.S.Sink.got c.args.sink.now) (g.S.Sink.got c.loop-span.sink) (g.S.Sink.got c.read_part.new.sink)
+    c.args.bytes.now c.in_ok-part.part.now (c.if-not-are_spans.ensures.0 refl) (spans_round c.args.spans.now i s c.span-item.is c.loop-span-test.true) c.loop-span.invariant
+    c.in_ok-part.ensures.there c.in_ok-part.ensures.part c.in_err-read_part.ensures.handed_over)
+
+pub returns-clause-handed_over : goal.returns-clause-handed_over
+returns-clause-handed_over g c =
+    let shelf = shelf_with c.args.name.now c.args.bytes.now in
+    let past = c.loop-span-test.false in
+    let h = subst (λ (ss : List Span). HasReadSpans shelf c.args.key ss c.loop-span.reader (g.S.Sink.got c.args.sink.now) (g.S.Sink.got c.loop-span.sink)) (take_all c.loop-span.span-index c.args.spans.now past) c.loop-span.invariant in
+    IfErr-weaker c.finish.result _ _
+    (λ fault none. spans_front shelf c.args.key c.args.spans.now c.args.spans.now [] c.loop-span.reader (g.S.Sink.got c.args.sink.now) (g.S.Sink.got c.loop-span.sink)
+    (c.if-not-are_spans.ensures.0 refl) (sym (append-nil c.args.spans.now)) h)
+    c.finish.ensures.none

@@ -1,7 +1,8 @@
 use Rattle.std.proofs.Common.{◌+◌, length, ap, ◌∙◌, sym, subst, arith}
+use Rattle.std.proofs.lemmas.List.{nil_from_length}
 use Rattle.sd_base.specs.Record.{Record}
 use Rattle.sd_core.specs.Session.{SessionView, MayTake}
-use Rattle.sd_core.proofs.SessionLemmas.{takes_record, none_waiting}
+use Rattle.sd_core.proofs.SessionLemmas.{takes_record}
 use Rattle.sd_core.proofs.session.Session.append.Goals as goal
 
 pub returns-clause-ok : goal.returns-clause-ok
@@ -12,7 +13,7 @@ returns-clause-ok c =
     takes_record _ c.args.self.now r c.in-Some.totals.records c.in-Some.totals.bytes c.rec.inside.index c.put.new.self is
     (ap (λ (v : SessionView). v.status) is ∙ c.in_ok-active.ensures.ok)
     (subst (λ (v : SessionView). MayTake v.count v.bytes v.last r) (sym is) c.in-Some.ensures.0)
-    (none_waiting s.packer.waiting (omega arith))
+    (nil_from_length s.packer.waiting (omega arith))
     (c.in-Some.ensures.1 ∙ ap (λ (v : SessionView). v.count + 1) (sym is))
     (c.in-Some.ensures.2 ∙ ap (λ (v : SessionView). v.bytes + length r.bytes) (sym is))
     (ap (λ (v : Record). v.index) c.rec.view_is)

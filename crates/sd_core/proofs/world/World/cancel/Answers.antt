@@ -7,7 +7,7 @@ use Rattle.sd_core.specs.World.{WorldView}
 use Rattle.sd_core.specs.Sound.{IsFoundAt}
 use Rattle.sd_core.specs.Moves.{Moves}
 use Rattle.sd_core.specs.contracts.world.World.{the_view}
-use Rattle.sd_core.proofs.WorldLemmas.{read_entry, session_kept, session_same, same_counts}
+use Rattle.sd_core.proofs.WorldLemmas.{read_entry, session_kept, session_same, same_kept, same_counts}
 use Rattle.sd_core.proofs.world.World.cancel.Goals as goal
 use Rattle.sd_core.proofs.world.World.cancel.Goals.{in-Ok, in-Err}
 
@@ -23,9 +23,7 @@ invariant_of-self c =
       | in-Ok b ↦ (let h = b.in-Ok.ensures.ok.is in
           session_kept w c.args.ticket c.in-Some.at e s c.self.invariant f (ap (λ (x : SessionView). x.key) h) (ap (λ (x : SessionView). x.sent) h)
           (same_counts s e.session (ap (λ (x : SessionView). x.count) h) (ap (λ (x : SessionView). x.bytes) h)))
-      | in-Err b ↦ (let h = b.in-Err.ensures.err in
-          session_kept w c.args.ticket c.in-Some.at e s c.self.invariant f (ap (λ (x : SessionView). x.key) h) (ap (λ (x : SessionView). x.sent) h)
-          (same_counts s e.session (ap (λ (x : SessionView). x.count) h) (ap (λ (x : SessionView). x.bytes) h)))
+      | in-Err b ↦ same_kept w c.args.ticket c.in-Some.at e s c.self.invariant f b.in-Err.ensures.err
     ]
 
 pub returns : goal.returns

@@ -9,7 +9,7 @@ use Rattle.sd_core.specs.World.{WorldView}
 use Rattle.sd_core.specs.Sound.{IsFoundAt, IsWorldView}
 use Rattle.sd_core.specs.Moves.{Moves}
 use Rattle.sd_core.specs.contracts.world.World.{the_view}
-use Rattle.sd_core.proofs.WorldLemmas.{read_entry, session_kept, session_same, same_counts}
+use Rattle.sd_core.proofs.WorldLemmas.{read_entry, session_kept, same_kept, session_same, same_counts}
 use Rattle.sd_core.proofs.SoundLemmas.{sent_fits, sent_kept}
 use Rattle.sd_core.proofs.world.World.despool.Goals as goal
 use Rattle.sd_core.proofs.world.World.despool.Goals.{in-Ok-Sent, in-Ok-LaneFull, in-Ok-Nothing, in-Err}
@@ -41,8 +41,7 @@ invariant_of-self c =
           subst Q (sym h.queue_is) (session_kept w c.args.ticket c.in-Some.at e s c.self.invariant f (ap (λ (x : SessionView). x.key) h.is) (ap (λ (x : SessionView). x.sent) h.is)
           (same_counts s e.session (ap (λ (x : SessionView). x.count) h.is) (ap (λ (x : SessionView). x.bytes) h.is))))
       | in-Err b ↦ (let h = b.in-Err.ensures in
-          subst Q (sym h.err_queue) (session_kept w c.args.ticket c.in-Some.at e s c.self.invariant f (ap (λ (x : SessionView). x.key) h.err) (ap (λ (x : SessionView). x.sent) h.err)
-          (same_counts s e.session (ap (λ (x : SessionView). x.count) h.err) (ap (λ (x : SessionView). x.bytes) h.err))))
+          subst Q (sym h.err_queue) (same_kept w c.args.ticket c.in-Some.at e s c.self.invariant f h.err))
     ]
 
 pub returns : goal.returns

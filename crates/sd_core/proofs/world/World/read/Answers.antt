@@ -1,7 +1,7 @@
 use Rattle.std.proofs.Common.{◌≡◌, ℕ, Option, ◌==◌, inr, sym, ap, ◌∙◌, subst, true, false, List, [], length, Err, All}
 use Rattle.std.proofs.lemmas.Bool.{eqb-true}
 use Rattle.std.proofs.lemmas.List.{nil_from_length}
-use Rattle.std.proofs.lemmas.Result.{IfErr-weaker, IfOk-weaker}
+use Rattle.std.proofs.lemmas.Result.{IfErr-weaker, IfOk-weaker, on_err_weaker}
 use Rattle.std.specs.Option.{option_copied}
 use Rattle.sd_core.specs.declared.span.Span.{Span}
 use Rattle.sd_core.specs.declared.readback.fault.ReadFault.TheVariants.{BadSpan, VolumeNotOnShelf}
@@ -10,9 +10,32 @@ use Rattle.sd_core.specs.Sound.{IsWorldView}
 use Rattle.sd_core.specs.Reading.{Shelf, shelf_with, Reads}
 use Rattle.sd_core.specs.ReadFaults.{MeetsFault}
 use Rattle.sd_core.specs.WorldReading.{AreOnVolume}
+use Rattle.sd_core.specs.HandsOver.{HandsOverFront}
 use Rattle.sd_core.specs.Volume.{VolumeView}
+use Rattle.sd_core.proofs.HandsOverLemmas.{nothing_front}
 use Rattle.sd_core.proofs.WorldAnswers.{reads_whole, nothing_read, spans_on}
 use Rattle.sd_core.proofs.world.World.read.Goals as goal
+
+-- what was handed over before a fault
+
+pub returns-then-is_empty-clause-handed_over : goal.returns-then-is_empty-clause-handed_over
+returns-then-is_empty-clause-handed_over g c =
+    nothing_front (shelf_of c.args.self.now.drive.volume) c.args.key c.args.spans.now (g.S.Sink.got c.args.sink.now)
+
+pub returns-in_default-clause-handed_over : goal.returns-in_default-clause-handed_over
+returns-in_default-clause-handed_over g c =
+    nothing_front (shelf_of c.args.self.now.drive.volume) c.args.key c.args.spans.now (g.S.Sink.got c.args.sink.now)
+
+pub returns-then-not-are_on-clause-handed_over : goal.returns-then-not-are_on-clause-handed_over
+returns-then-not-are_on-clause-handed_over g c =
+    nothing_front (shelf_of c.args.self.now.drive.volume) c.args.key c.args.spans.now (g.S.Sink.got c.args.sink.now)
+
+pub returns-clause-handed_over : goal.returns-clause-handed_over
+returns-clause-handed_over g c =
+    let there = ap (λ (w : WorldView). w.drive.volume) (sym c.self.view_is) ∙ sym c.volume-volume.ensures ∙ ap option_copied c.in-Some.is in
+    let shelf = ap shelf_of there ∙ ap (λ n. shelf_with n c.in-Some.volume.now.bytes) (sym c.name-2.ensures) ∙ ap (λ b. shelf_with c.name-2.result.now b) (sym c.bytes.ensures.bytes) in
+    let P : Shelf → Type 0 = λ sh. HandsOverFront sh c.args.key c.args.spans.now (g.S.Sink.got c.args.sink.now) (g.S.Sink.got c.read_session.new.sink) in
+    on_err_weaker c.read_session.result (λ front. subst P (sym shelf) front) c.read_session.ensures.handed_over
 
 pub returns-then-is_empty-clause-closed : goal.returns-then-is_empty-clause-closed
 returns-then-is_empty-clause-closed g c m h closed =
@@ -20,6 +43,7 @@ returns-then-is_empty-clause-closed g c m h closed =
     let none = nil_from_length c.args.spans.now (eqb-true (length c.args.spans.now) 0 (sym c.is_empty.ensures ∙ c.if-is_empty.true)) in
     reads_whole c.args.self.now m c.args.key c.args.spans.now _ _ (Err BadSpan) (subst W c.self.view_is c.self.invariant) h closed tt
     (λ records ended counted sized reads. absurd (reads.some_span none))
+    (nothing_front (shelf_of c.args.self.now.drive.volume) c.args.key c.args.spans.now (g.S.Sink.got c.args.sink.now))
 
 -- without a volume nothing is read
 pub returns-in_default-clause-found : goal.returns-in_default-clause-found
@@ -36,6 +60,7 @@ returns-in_default-clause-closed g c m h closed =
     let none = ap (λ (w : WorldView). w.drive.volume) (sym c.self.view_is) ∙ sym c.volume-volume.ensures ∙ ap option_copied c.in_default.is in
     let P : Shelf → Type 0 = λ shelf. Reads shelf c.args.key c.args.spans.now records ended in
     nothing_read c.args.key c.args.spans.now records ended (subst P (ap shelf_of none) reads)))
+    (nothing_front (shelf_of c.args.self.now.drive.volume) c.args.key c.args.spans.now (g.S.Sink.got c.args.sink.now))
 
 -- spans that can be read are on the volume
 pub returns-then-not-are_on-clause-found : goal.returns-then-not-are_on-clause-found
@@ -59,6 +84,7 @@ returns-then-not-are_on-clause-closed g c m h closed =
     let A : List ℕ → Type 0 = λ name. All (λ (s : Span). s.volume ≡ name) c.args.spans.now in
     let on = c.are_on.ensures.1 (subst A (sym c.name.ensures) (spans_on v.name v.bytes c.args.spans.now r.blocks r.hold)) in
     let t = sym c.if-not-are_on.true ∙ on in cc t))
+    (nothing_front (shelf_of c.args.self.now.drive.volume) c.args.key c.args.spans.now (g.S.Sink.got c.args.sink.now))
 
 -- what the reader finds it finds on the world's volume
 pub returns-clause-found : goal.returns-clause-found
@@ -80,6 +106,7 @@ returns-clause-closed g c m h closed =
     (λ records ended counted sized reads.
     (let P : Shelf → Type 0 = λ sh. Reads sh c.args.key c.args.spans.now records ended in
     c.read_session.ensures.found records ended counted sized (subst P shelf reads)))
+    (returns-clause-handed_over g c)
 
 pub returns-clause-first : goal.returns-clause-first
 returns-clause-first g c =

@@ -1,11 +1,11 @@
 use Rattle.std.proofs.Common.{◌≡◌, sym, ap, ◌∙◌, subst, arith, List, Some, None, option_map}
+use Rattle.std.proofs.lemmas.Option.{slice_get_within}
 use Rattle.sd_core.specs.declared.entry.Entry.{Entry}
 use Rattle.sd_core.specs.World.{WorldView, entry_of}
 use Rattle.sd_core.specs.Sound.{IsFoundAt}
 use Rattle.sd_core.specs.contracts.world.World.{the_view}
 use Rattle.sd_core.proofs.WorldLemmas.{read_entry}
 use Rattle.sd_core.proofs.WorldAnswers.{one_status}
-use Rattle.sd_core.proofs.SoundLemmas.{place_within}
 use Rattle.sd_core.proofs.world.World.status.Goals as goal
 
 pub index-requires : goal.index-requires
@@ -13,7 +13,7 @@ index-requires c =
     let w = the_view c.self.inside in
     let P : List Entry → Type 0 = λ es. IsFoundAt c.args.ticket es c.in-Some.at in
     let f = subst P c.deref.ensures.value c.in-Some.ensures.found in
-    let within = place_within w.entries c.in-Some.at f.entry f.there in
+    let within = slice_get_within w.entries c.in-Some.at f.entry f.there in
     omega (arith, within, c.self.inside.entries.ok.0)
 
 pub returns-in-None-clause-machine : goal.returns-in-None-clause-machine

@@ -1,7 +1,8 @@
 use Rattle.std.proofs.Common.{refl, sym, ◌∙◌}
 use Rattle.std.proofs.lemmas.Bool.{false≢true}
 use Rattle.sd_core.specs.Volume.{blocks_of}
-use Rattle.sd_core.proofs.ReaderLemmas.{whole_ended, nil_unless}
+use Rattle.sd_core.proofs.ListLemmas.{nil_unless}
+use Rattle.sd_core.proofs.ReaderLemmas.{whole_ended}
 use Rattle.sd_core.proofs.readback.reader.Reader.finish.Goals as goal
 
 pub returns-then-not-self-clause-none : goal.returns-then-not-self-clause-none

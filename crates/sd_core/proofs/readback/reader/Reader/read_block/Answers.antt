@@ -1,8 +1,9 @@
 use Rattle.std.proofs.Common.{◌≡◌, true, false, subst}
-use Rattle.std.proofs.lemmas.Result.{err_from_is_err_and, IfErr-weaker}
+use Rattle.std.proofs.lemmas.Result.{err_from_is_err_and, IfErr-weaker, on_err_weaker}
 use Rattle.sd_base.specs.declared.number.SessionKey.{SessionKey}
 use Rattle.sd_core.specs.Volume.{is_key}
 use Rattle.sd_core.proofs.ReaderLemmas.{other_key, own_key, reads_other, reads_own, refused_added, refused_uncountable, if_err, on_ok_three}
+use Rattle.sd_core.proofs.HandsOverLemmas.{block_front}
 use Rattle.sd_core.proofs.readback.reader.Reader.read_block.Goals as goal
 
 pub returns-then-ne-clause-ok : goal.returns-then-ne-clause-ok
@@ -38,3 +39,11 @@ returns-clause-refused g c =
           (c.in_ok-add.ensures.unpacks _ taken r.unpacks) many.1,
     ))
     c.hand_over.ensures.uncountable
+
+pub returns-clause-handed_over : goal.returns-clause-handed_over
+returns-clause-handed_over g c =
+    let same : is_key c.args.self.now.key c.args.block.now.key ≡ true = own_key _ c.ne.result c.ne.ensures c.if-ne.false in
+    on_err_weaker c.hand_over.result
+    (block_front c.args.self.now (g.S.Sink.got c.args.sink.now) (g.S.Sink.got c.hand_over.new.sink) c.add.new.self _
+    (λ key e. subst (λ (k : SessionKey). is_key k c.args.block.now.key ≡ true) e same) c.in_ok-add.ensures.unpacks)
+    c.hand_over.ensures.handed_over

@@ -3,6 +3,7 @@ use Rattle.std.proofs.lemmas.Result.{err_from_is_err_and}
 use Rattle.sd_core.specs.ReadFaults.{BeginsWithNoBlock}
 use Rattle.sd_core.proofs.ReaderLemmas.{if_err}
 use Rattle.sd_core.proofs.PartLemmas.{part_begins, part_goes_on, part_stops, behind_shorter}
+use Rattle.sd_core.proofs.HandsOverLemmas.{part_front, part_block_front}
 use Rattle.sd_core.proofs.readback.reader.Reader.read_part.Goals as goal
 
 pub loop-left-init : goal.loop-left-init
@@ -46,3 +47,17 @@ loop-left-preserved g c =
     part_goes_on c.args.self.now c.loop-left.self c.read_block.new.self (g.S.Sink.got c.args.sink.now) (g.S.Sink.got c.loop-left.sink) (g.S.Sink.got c.read_block.new.sink)
     c.args.part.now c.loop-left.left.now c.in_ok-front.front.behind.now c.loop-left.last _ c.in_ok-front.front.block.number
     c.loop-left.invariant c.in_ok-front.ensures.ok c.in_ok-read_block.ensures.ok
+
+pub returns-in_err-front-clause-handed_over : goal.returns-in_err-front-clause-handed_over
+returns-in_err-front-clause-handed_over g c =
+    let p = err_from_is_err_and c.from_residual.result c.from_residual.ensures.1 in
+    if_err c.from_residual.result p.0 _ p.1
+    (part_front c.args.self.now c.loop-left.self (g.S.Sink.got c.args.sink.now) (g.S.Sink.got c.loop-left.sink) c.args.part.now c.loop-left.left.now c.loop-left.last c.loop-left.invariant)
+
+pub returns-in_err-read_block-clause-handed_over : goal.returns-in_err-read_block-clause-handed_over
+returns-in_err-read_block-clause-handed_over g c =
+    let p = err_from_is_err_and c.from_residual-in_err-read_block.result c.from_residual-in_err-read_block.ensures.1 in
+    if_err c.from_residual-in_err-read_block.result p.0 _ p.1
+    (part_block_front c.args.self.now c.loop-left.self (g.S.Sink.got c.args.sink.now) (g.S.Sink.got c.loop-left.sink) (g.S.Sink.got c.read_block.new.sink)
+    c.args.part.now c.loop-left.left.now c.in_ok-front.front.behind.now c.loop-left.last _ c.in_ok-front.front.block.number
+    c.loop-left.invariant c.in_ok-front.ensures.ok c.in_err-read_block.ensures.handed_over)
