@@ -1,0 +1,3 @@
+pub mod RoundLemmas
+pub mod SendLemmas
+pub mod StatusLemmas

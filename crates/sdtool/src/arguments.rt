@@ -1,4 +1,7 @@
 // The command line.
+ghost use Rattle.std.specs.Prelude.{◌≡◌, ◌≢◌, ◌⊎◌};
+ghost use Rattle.clap.specs.Values.{kind_of};
+
 use clap::error::ErrorKind;
 use clap::{Command, Error};
 use std::alloc::Global;
@@ -12,6 +15,17 @@ pub enum Task {
     Print(Error),
     /// There was no memory to read the command line.
     NoMemory,
+}
+
+/// The status of a run whose command line was wrong.
+const USAGE: u8 = 2;
+
+/// The status of a run that only prints this: 0 for help and the version, 2 where the command line was wrong.
+pub fn status_of(told: &Error) -> u8
+    ensures shown { (kind_of told.now ≡ ErrorKind.DisplayHelp) ⊎ (kind_of told.now ≡ ErrorKind.DisplayVersion) → result ≡ 0 }
+    ensures wrong { kind_of told.now ≢ ErrorKind.DisplayHelp → kind_of told.now ≢ ErrorKind.DisplayVersion → result ≡ USAGE }
+{
+    if told.use_stderr() { USAGE } else { 0 }
 }
 
 /// What `words`, the program's name first, ask for.

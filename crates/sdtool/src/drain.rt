@@ -1,119 +1,154 @@
 // Playing rounds until nothing moves.
-use sd_base::{DriveNo, Ticket};
+ghost use Rattle.std.specs.Prelude.{◌≡◌, ◌+◌, ◌||◌, Some, ◌∷◌, []};
+ghost use Rattle.sd_core.specs.Machine.{Machine};
+ghost use Rattle.sd_core.specs.Matches.{Matches};
+ghost use Rattle.sd_core.specs.Kept.{ClosedStay};
+ghost use Rattle.sdtool.specs.Rounds.{AreSends, Drains, IsPlacing, IsRound, IsTurn, PlaysOn, RunsOn, SendAll, Tells, counted, is_running};
+
+use sd_base::{DriveNo, MOST_NUMBER, Ticket};
 use sd_core::{Event, Reply, Status, World};
 
 /// The number of the world's one drive.
 const THE_DRIVE: u32 = 1;
 
-/// What came of a round.
+/// What came of the steps of a round, or of a part of it.
 #[derive(Clone, Copy, Debug, PartialEq, Eq)]
 struct Round {
+    /// Whether something moved.
     moved: bool,
+    /// The blocks that were placed.
     placed: u64,
 }
 
-/// Plays rounds to the first in which nothing moves, and counts the blocks that were placed in them.
-pub fn drain(world: &mut World) -> u64 {
-    let mut placed = 0u64;
-    for _ in 0..u64::MAX {
-        let round = play_round(world);
-        placed = placed.saturating_add(round.placed);
-        if !round.moved {
-            break;
+impl Round {
+    /// No step yet.
+    fn new() -> Self
+        ensures { Tells result [] }
+    {
+        Round {
+            moved: false,
+            placed: 0,
         }
     }
-    placed
+
+    /// What came of the one step that was answered so.
+    fn of(reply: &Reply) -> Self
+        ensures { Tells result (reply.now ∷ []) }
+    {
+        match reply {
+            Reply::Placed { .. } => Round {
+                moved: true,
+                placed: 1,
+            },
+            Reply::Spooled
+            | Reply::Sent
+            | Reply::InHand { .. }
+            | Reply::Mounted { .. }
+            | Reply::VolumeFull
+            | Reply::VolumeError => Round {
+                moved: true,
+                placed: 0,
+            },
+            _ => Round::new(),
+        }
+    }
+
+    /// What came of these steps and of the later ones.
+    fn and(self, later: Round) -> Self
+        ensures moved { result.moved ≡ (self.moved || later.moved) }
+        ensures placed { result.placed ≡ counted (self.placed + later.placed) }
+    {
+        Round {
+            moved: self.moved || later.moved,
+            placed: self.placed.saturating_add(later.placed),
+        }
+    }
 }
 
-/// One round: each session spools and despools, then each drive takes, places and syncs. What is
-/// refused in it is passed over.
-fn play_round(world: &mut World) -> Round {
-    let sent = send_all(world);
-    match DriveNo::new(THE_DRIVE) {
-        None => Round {
-            moved: sent,
-            placed: 0,
-        },
-        Some(drive) => {
-            let driven = turn(world, drive);
-            Round {
-                moved: sent || driven.moved,
-                placed: driven.placed,
-            }
+/// Plays rounds to the first in which nothing moves, and counts the blocks that were placed in them.
+pub fn drain(world: &mut World) -> u64
+    ensures rounds { Drains world.old result world.new }
+    ensures follows { (m : Machine) → Matches world.old m → RunsOn m result world.new }
+    ensures kept { (m : Machine) → Matches world.old m → ClosedStay world.old world.new }
+{
+    let mut all = Round::new();
+    for _played in 0..u64::MAX {
+        let round = play_round(world);
+        all = all.and(round);
+        if !round.moved {
+            return all.placed;
         }
     }
+    all.placed
+}
+
+/// One round: each session spools and despools, then the drive takes, places and syncs. What is refused in
+/// it is passed over.
+fn play_round(world: &mut World) -> Round
+    ensures { PlaysOn (IsRound world.old) world.old result world.new }
+{
+    let sent = send_all(world);
+    sent.and(turn(world, DriveNo::new(THE_DRIVE).unwrap()))
 }
 
 /// One step to the spool and one to the queue for each session that is on its way, by rising ticket.
-/// Says whether anything moved.
-fn send_all(world: &mut World) -> bool {
-    let mut moved = false;
-    for number in 1..u32::MAX {
-        let Some(ticket) = Ticket::new(number) else {
-            break;
-        };
+fn send_all(world: &mut World) -> Round
+    ensures { PlaysOn (SendAll world.old) world.old result world.new }
+{
+    let mut sent = Round::new();
+    for number in 1..MOST_NUMBER + 1 {
+        let ticket = Ticket::new(number).unwrap();
         let Some(status) = world.status(ticket) else {
             break;
         };
-        if status == Status::Active || status == Status::Ended {
-            moved |= send(world, ticket);
+        if is_running(status) {
+            sent = sent.and(send(world, ticket));
         }
     }
-    moved
+    sent
 }
 
-fn send(world: &mut World, ticket: Ticket) -> bool {
+/// Whether a session with this status is on its way.
+fn is_running(status: Status) -> bool
+    ensures { result ≡ is_running (Some status) }
+{
+    matches!(status, Status::Active | Status::Ended)
+}
+
+/// One step to the spool and one to the queue.
+fn send(world: &mut World, ticket: Ticket) -> Round
+    ensures { PlaysOn (AreSends (ticket ∷ [])) world.old result world.new }
+{
     let spooled = world.step(Event::Spool { ticket });
     let sent = world.step(Event::Despool { ticket });
-    matches!(spooled, Reply::Spooled) || matches!(sent, Reply::Sent)
+    Round::of(&spooled).and(Round::of(&sent))
 }
 
-/// One step of a drive's each kind.
-fn turn(world: &mut World, drive: DriveNo) -> Round {
+/// One step of the drive's each kind.
+fn turn(world: &mut World, drive: DriveNo) -> Round
+    ensures { PlaysOn (IsTurn drive) world.old result world.new }
+{
     let took = world.step(Event::Take { drive });
-    let round = place(world, drive);
-    let _ = world.step(Event::Sync { drive });
-    Round {
-        moved: matches!(took, Reply::InHand { .. }) || round.moved,
-        placed: round.placed,
-    }
+    let placed = place(world, drive);
+    let synced = world.step(Event::Sync { drive });
+    Round::of(&took).and(placed).and(Round::of(&synced))
 }
 
 /// Places the body in the drive's hand. Where a volume is needed one is sought, and where that mounted
 /// one the body is placed again.
-fn place(world: &mut World, drive: DriveNo) -> Round {
+fn place(world: &mut World, drive: DriveNo) -> Round
+    ensures { PlaysOn (IsPlacing drive) world.old result world.new }
+{
     let placed = world.step(Event::Place { drive });
-    if !matches!(placed, Reply::NeedVolume) {
-        return round_of(&placed);
-    }
+    let first = Round::of(&placed);
+    let Reply::NeedVolume = placed else {
+        return first;
+    };
     let sought = world.step(Event::Seek { drive });
-    if !matches!(sought, Reply::Mounted { .. }) {
-        return Round {
-            moved: false,
-            placed: 0,
-        };
-    }
+    let both = first.and(Round::of(&sought));
+    let Reply::Mounted { .. } = sought else {
+        return both;
+    };
     let again = world.step(Event::Place { drive });
-    Round {
-        moved: true,
-        placed: round_of(&again).placed,
-    }
-}
-
-/// What moved in a step that places.
-fn round_of(placed: &Reply) -> Round {
-    match placed {
-        Reply::Placed { .. } => Round {
-            moved: true,
-            placed: 1,
-        },
-        Reply::VolumeFull | Reply::VolumeError => Round {
-            moved: true,
-            placed: 0,
-        },
-        _ => Round {
-            moved: false,
-            placed: 0,
-        },
-    }
+    both.and(Round::of(&again))
 }

@@ -1,7 +1,10 @@
 // The lines of the input, one at a time, in memory that the longest line bounds.
+ghost use Rattle.std.specs.Prelude.{◌≡◌, ◌⊎◌, []};
+
 use sd_base::MOST_DATA;
 use std::alloc::Global;
 use std::io::{BufRead, ErrorKind, Read};
+use std::marker::Model;
 
 /// The bytes of the longest line that has a form: a `rec` line of the greatest numbers and the longest text.
 pub const LONGEST_LINE: usize = 37 + MOST_DATA;
@@ -24,21 +27,33 @@ pub enum Next {
     End,
 }
 
-/// The line that was read last.
+/// The line that was read last. In a contract it is the list of its bytes.
 #[derive(Drop)]
 pub struct Lines {
     bytes: Vec<u8>,
 }
 
+impl Model for Lines {
+    ghost use Rattle.std.specs.Prelude.{List, ℕ};
+
+    ghost Value = { List ℕ };
+
+    ghost view = { λ l. l.bytes.items };
+}
+
 impl Lines {
-    pub fn new(alloc: Global) -> Self {
+    pub fn new(alloc: Global) -> Self
+        ensures { result ≡ [] }
+    {
         Lines {
             bytes: Vec::new(alloc),
         }
     }
 
     /// The bytes of the line, without the newline behind it.
-    pub fn bytes(&self) -> &[u8] {
+    pub fn bytes(&self) -> &[u8]
+        ensures { result.now ≡ self.now }
+    {
         &self.bytes
     }
 
@@ -70,7 +85,9 @@ impl Lines {
 }
 
 /// Reads on behind the next newline, or to the end of the input. A read fault is told in place of `next`.
-fn pass_over<R: BufRead>(reader: &mut R, next: Next) -> Next {
+fn pass_over<R: BufRead>(reader: &mut R, next: Next) -> Next
+    ensures { (result ≡ next) ⊎ (result ≡ Next.Fault) }
+{
     match reader.skip_until(b'\n') {
         Ok(_) => next,
         Err(_) => Next::Fault,

@@ -14,7 +14,7 @@ mod sink;
 #[cfg(test)]
 mod tests;
 
-use arguments::{Task, task_of};
+use arguments::{Task, status_of, task_of};
 use run::run_lines;
 use sd_base::Refusal;
 use settings::read_settings;
@@ -34,8 +34,7 @@ fn main(rt: HostRuntime) -> ExitCode {
     match task_of(alloc, words.as_slice()) {
         Task::Run => run_script(&rt),
         Task::Print(told) => match told.print(&rt) {
-            Ok(()) if told.use_stderr() => ExitCode::from(2),
-            Ok(()) => ExitCode::SUCCESS,
+            Ok(()) => ExitCode::from(status_of(&told)),
             Err(_) => ExitCode::FAILURE,
         },
         Task::NoMemory => without_memory(&rt),

@@ -1,4 +1,6 @@
 // What a run prints.
+ghost use Rattle.std.specs.Prelude.{◌≡◌, true, false};
+
 use std::fmt::Display;
 use std::io::Write;
 
@@ -10,7 +12,9 @@ pub struct Output<W: Write + Drop> {
 }
 
 impl<W: Write + Drop> Output<W> {
-    pub fn new(writer: W) -> Self {
+    pub fn new(writer: W) -> Self
+        ensures { result.failed ≡ false }
+    {
         Output {
             writer,
             failed: false,
@@ -18,12 +22,16 @@ impl<W: Write + Drop> Output<W> {
     }
 
     /// Whether a line could not be written.
-    pub fn failed(&self) -> bool {
+    pub fn failed(&self) -> bool
+        ensures { result ≡ self.now.failed }
+    {
         self.failed
     }
 
     /// Prints a line, at once.
-    pub fn line<D: Display + Drop>(&mut self, text: D) {
+    pub fn line<D: Display + Drop>(&mut self, text: D)
+        ensures { self.old.failed ≡ true → self.new ≡ self.old }
+    {
         if self.failed {
             return;
         }

@@ -1,4 +1,8 @@
 // The line of each reply.
+ghost use Rattle.std.specs.Prelude.{◌≡◌};
+ghost use Rattle.std.specs.Option.{option_copied};
+ghost use Rattle.sdtool.specs.Replies.{plain_words};
+
 use crate::output::Output;
 use sd_base::VolName;
 use sd_core::Reply;
@@ -30,7 +34,9 @@ fn print_placed<W: Write + Drop>(out: &mut Output<W>, volume: &VolName, start: u
 }
 
 /// The line of a reply that says no more than what it is; `None` for the others.
-fn words_of(reply: &Reply) -> Option<&'static str> {
+fn words_of(reply: &Reply) -> Option<&'static str>
+    ensures { option_copied result ≡ plain_words reply.now }
+{
     match reply {
         Reply::Ended => Some("ok ended"),
         Reply::Cancelled => Some("ok cancelled"),

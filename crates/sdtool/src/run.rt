@@ -1,11 +1,15 @@
 // Running the lines of a script over a world.
+ghost use Rattle.std.specs.Prelude.{◌≡◌, ◌≢◌, ◌⊎◌, ◌-◌, replicate, true, false, IfOk, IfSome, IfNone};
+ghost use Rattle.sd_core.specs.World.{fresh_world};
+ghost use Rattle.sdtool.specs.Refused.{unheld_refusal, unread_refusal};
+
 use crate::drain::drain;
 use crate::lines::Next;
 use crate::output::Output;
 use crate::replies::print_reply;
 use crate::settings::{Settings, Values};
 use crate::sink::RecordLines;
-use sd_base::{Bytes, DriveNo, Items, MOST_NUMBER, Rec, Refusal, SessionKey, Ticket, VolName};
+use sd_base::{Bytes, DriveNo, Items, Rec, Refusal, SessionKey, Ticket, VolName};
 use sd_core::{Event, ReadEnd, ReadFault, Reply, Span, Status, World, WorldConf};
 use sd_script::{Line, read_line};
 use std::alloc::{AllocError, Global};
@@ -17,12 +21,6 @@ const DONE: u8 = 0;
 /// The status of a run whose input could not be read or whose lines could not be written, or for which
 /// there was no memory to begin.
 const FAILED: u8 = 1;
-
-/// The least block limit, in bytes.
-const LEAST_BLOCK: usize = 1024;
-
-/// The greatest block limit, in bytes.
-const MOST_BLOCK: usize = 1_048_576;
 
 /// The letter that a `fill` line fills its record with.
 const FILLING: u8 = b'x';
@@ -54,19 +52,18 @@ pub fn run_lines<R: BufRead, W: Write + Drop>(
     settings: Settings,
     reader: &mut R,
     writer: W,
-) -> u8 {
+) -> u8
+    ensures { (result ≡ DONE) ⊎ (result ≡ FAILED) }
+{
     let Settings {
         values,
         mut lines,
         first,
     } = settings;
     let mut out = Output::new(writer);
-    let world = match new_world(alloc, values) {
-        Ok(world) => world,
-        Err(why) => {
-            out.line(why);
-            return FAILED;
-        }
+    let Ok(world) = new_world(alloc, &values) else {
+        out.line(Refusal::Memory);
+        return FAILED;
     };
     let mut script = Script {
         alloc,
@@ -87,7 +84,11 @@ pub fn run_lines<R: BufRead, W: Write + Drop>(
 
 impl<W: Write + Drop> Script<W> {
     /// Runs the line that came, which stands in `bytes`. Answers the status where the run is over.
-    fn come(&mut self, next: Next, bytes: &[u8]) -> Option<u8> {
+    fn come(&mut self, next: Next, bytes: &[u8]) -> Option<u8>
+        ensures over { IfSome result (λ status. ((status ≡ DONE) × (next ≡ Next.End))
+            ⊎ ((status ≡ FAILED) × ((next ≡ Next.Fault) ⊎ (self.new.out.failed ≡ true)))) }
+        ensures goes_on { IfNone result ((next ≢ Next.End) × (next ≢ Next.Fault) × (self.new.out.failed ≡ false)) }
+    {
         match next {
             Next::Line => self.run(bytes),
             Next::TooLong => self.refuse(Refusal::BadCommand),
@@ -190,7 +191,8 @@ impl<W: Write + Drop> Script<W> {
         bytes: Result<Bytes, AllocError>,
     ) {
         let Ok(bytes) = bytes else {
-            return self.refuse(Refusal::Memory);
+            let status = self.world.status(ticket);
+            return self.refuse(unheld(status));
         };
         match Rec::new(index, stream, bytes) {
             None => self.refuse(Refusal::BadCommand),
@@ -215,19 +217,8 @@ impl<W: Write + Drop> Script<W> {
         let Reply::Closed { key, spans } = reply else {
             return;
         };
-        self.print_jobmedia(key, spans.as_slice());
-        let kept = self.closed.push(Closed { ticket, key, spans });
-        if kept.is_err() {
-            self.refuse(Refusal::Memory);
-        }
-    }
-
-    fn print_jobmedia(&mut self, key: SessionKey, spans: &[Span]) {
-        self.out
-            .line(format_args!("session {} {}", key.time, key.id));
-        for span in spans {
-            self.out.line(span);
-        }
+        print_jobmedia(&mut self.out, key, spans.as_slice());
+        self.closed.push(Closed { ticket, key, spans }).unwrap();
     }
 
     fn read(&mut self, ticket: Ticket) {
@@ -248,22 +239,29 @@ impl<W: Write + Drop> Script<W> {
     }
 }
 
-/// The world of these settings. Those that a script sets are within their limits.
-fn new_world(alloc: Global, values: Values) -> Result<World, Refusal> {
-    let Values { block, time } = values;
-    let is_block = block >= LEAST_BLOCK && block <= MOST_BLOCK;
-    if !is_block || time == 0 || time > MOST_NUMBER {
-        return Err(Refusal::BadCommand);
-    }
-    match World::new(alloc, WorldConf { block }, time) {
-        Ok(world) => Ok(world),
-        Err(_) => Err(Refusal::Memory),
-    }
+/// A world with nothing in it yet, of these settings.
+fn new_world(alloc: Global, values: &Values) -> Result<World, AllocError>
+    ensures { IfOk result (λ world. world ≡ fresh_world (values.now.block - 24) values.now.time) }
+{
+    let conf = WorldConf {
+        block: values.block,
+    };
+    World::new(alloc, conf, values.time)
 }
 
 /// The bytes of a `fill` line's record.
-fn filled(alloc: Global, count: usize) -> Result<Bytes, AllocError> {
+fn filled(alloc: Global, count: usize) -> Result<Bytes, AllocError>
+    ensures { IfOk result (λ bytes. bytes ≡ replicate count FILLING) }
+{
     Ok(Items::from_vec(vec![in alloc; FILLING; count]?))
+}
+
+/// Prints the JobMedia text of a closed session.
+fn print_jobmedia<W: Write + Drop>(out: &mut Output<W>, key: SessionKey, spans: &[Span]) {
+    out.line(format_args!("session {} {}", key.time, key.id));
+    for span in spans {
+        out.line(span);
+    }
 }
 
 /// Prints the records of a closed session as they are read back.
@@ -287,12 +285,26 @@ fn print_end<W: Write + Drop>(out: &mut Output<W>, end: ReadEnd) {
     }
 }
 
+/// Why a record is refused for whose bytes there is no memory. What its session's status says comes first.
+fn unheld(status: Option<Status>) -> Refusal
+    ensures { result ≡ unheld_refusal status }
+{
+    match status {
+        Some(Status::Active) => Refusal::Memory,
+        Some(Status::Cancelled) => Refusal::SessionCancelled,
+        Some(Status::Failed) => Refusal::SessionFailed,
+        Some(Status::Ended | Status::Closed) | None => Refusal::SessionNotOpen,
+    }
+}
+
 /// Why a session that was never closed here can't be read.
-fn unread(status: Option<Status>) -> Refusal {
+fn unread(status: Option<Status>) -> Refusal
+    ensures { result ≡ unread_refusal status }
+{
     match status {
         None => Refusal::SessionNotOpen,
         Some(Status::Failed) => Refusal::SessionFailed,
-        // Where a closed session's spans were lost to want of memory.
+        // It never comes to this: room for the spans is made before a session is closed.
         Some(Status::Closed) => Refusal::Memory,
         Some(Status::Active | Status::Ended | Status::Cancelled) => Refusal::NotYet,
     }

@@ -1,13 +1,15 @@
 // The settings of a run: the lines that stand before all others.
-ghost use Rattle.std.specs.Prelude.{◌≡◌, ℕ, IfSome};
-ghost use Rattle.sd_script.specs.Grammar.{IsWithin};
+ghost use Rattle.std.specs.Prelude.{◌≡◌, IfSome, IfNone};
+ghost use Rattle.sd_script.specs.Grammar.{HasForm, IsWithin};
 ghost use Rattle.sd_script.specs.declared.line.Line.TheVariants.{Set};
-ghost use Rattle.sd_script.specs.declared.line.Setting.TheVariants.{Block, Time};
+ghost use Rattle.sd_script.specs.declared.line.Setting.{Setting as SpecSetting};
+ghost use Rattle.sdtool.specs.Settings.{values_with};
 
 use crate::lines::{Lines, Next};
 use sd_script::{Line, Setting, read_line};
 use std::alloc::Global;
 use std::io::BufRead;
+use std::marker::Model;
 
 /// The block limit of a script that sets none, in bytes.
 const USUAL_BLOCK: usize = 64_512;
@@ -15,13 +17,24 @@ const USUAL_BLOCK: usize = 64_512;
 /// The time of the run of a script that sets none, in seconds.
 const USUAL_TIME: u32 = 1000;
 
-/// What a script sets. A setting that is given twice counts as it was given last.
-#[derive(Clone, Copy, Debug)]
+/// What a script sets, within the limits of its lines; a value that breaks them can't be made. A setting
+/// that is given twice counts as it was given last. In a contract it is the `ValuesView` of its parts.
+#[derive(Debug, Drop)]
 pub struct Values {
     /// The limit of a block, in bytes.
     pub block: usize,
     /// The time of the run, in seconds.
     pub time: u32,
+}
+
+impl Model for Values {
+    ghost use Rattle.sdtool.specs.Settings.{ValuesView, AreSettable};
+
+    ghost Value = { ValuesView };
+
+    ghost view = { λ v. record { block = v.block; time = v.time } };
+
+    ghost invariant = { λ v. AreSettable (record { block = v.block; time = v.time }) };
 }
 
 /// The settings that stand at the head of a script, and the first line that is none.
@@ -34,7 +47,9 @@ pub struct Settings {
 
 /// Reads the settings, and keeps the first other line: any line that is no setting ends them, an
 /// empty one and a refused one too.
-pub fn read_settings<R: BufRead>(alloc: Global, reader: &mut R) -> Settings {
+pub fn read_settings<R: BufRead>(alloc: Global, reader: &mut R) -> Settings
+    ensures { result.first ≡ Next.Line → (setting : SpecSetting) → HasForm result.lines (Set setting) → ⊥ }
+{
     let mut values = Values {
         block: USUAL_BLOCK,
         time: USUAL_TIME,
@@ -61,11 +76,12 @@ pub fn read_settings<R: BufRead>(alloc: Global, reader: &mut R) -> Settings {
 
 /// The setting that was read, where what was read is one.
 fn setting_of(lines: &Lines, read: Next) -> Option<Setting>
-    ensures within { IfSome result (λ setting. IsWithin (Set setting)) }
+    ensures found { IfSome result (λ setting. (read ≡ Next.Line) × HasForm lines.now (Set setting)) }
+    ensures none { IfNone result (read ≡ Next.Line → (setting : SpecSetting) → HasForm lines.now (Set setting) → ⊥) }
 {
-    if read != Next::Line {
+    let Next::Line = read else {
         return None;
-    }
+    };
     match read_line(lines.bytes()) {
         Ok(Line::Set(setting)) => Some(setting),
         _ => None,
@@ -74,8 +90,8 @@ fn setting_of(lines: &Lines, read: Next) -> Option<Setting>
 
 impl Values {
     fn with(self, setting: Setting) -> Self
-        ensures block { (size : ℕ) → setting ≡ Block size → result ≡ record { block = size; time = self.time } }
-        ensures time { (time : ℕ) → setting ≡ Time time → result ≡ record { block = self.block; time = time } }
+        requires { IsWithin (Set setting) }
+        ensures { result ≡ values_with self setting }
     {
         match setting {
             Setting::Block(block) => Values {
