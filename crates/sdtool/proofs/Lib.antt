@@ -1,3 +1,5 @@
+pub mod ClosedLemmas
+pub mod EndLemmas
 pub mod RoundLemmas
 pub mod SendLemmas
 pub mod StatusLemmas

@@ -7,7 +7,7 @@ use Rattle.sd_core.specs.declared.event.Event.TheVariants.{Spool, Despool}
 use Rattle.sd_core.specs.declared.status.Status.{Status}
 use Rattle.sd_core.specs.World.{WorldView}
 use Rattle.sdtool.specs.declared.drain.Round.{Round}
-use Rattle.sdtool.specs.Rounds.{AreSends, PlaysOn, counted, is_running, running, sends, status_of}
+use Rattle.sdtool.specs.Rounds.{AreSends, AtEndBelow, PlaysOn, Tells, counted, is_running, running, sends, status_of}
 use Rattle.sdtool.proofs.RoundLemmas.{on_and, on_kind}
 use Rattle.sdtool.proofs.StatusLemmas.{sends_keep}
 
@@ -37,6 +37,24 @@ pub record SentBelow (old : WorldView) (number : ℕ) (sent : Round) (world : Wo
   pub given : (ticket : ℕ) → 1 ≤ ticket → ticket < number → IsSome (status_of old ticket)
   pub same : (ticket : ℕ) → status_of world ticket ≡ status_of old ticket
   pub plays : PlaysOn (AreSends (running old (number - 1))) old sent world
+
+running_none : (w : WorldView) (n : ℕ) → ((ticket : ℕ) → 1 ≤ ticket → ticket ≤ n → is_running (status_of w ticket) ≡ false) → running w n ≡ []
+running_none w zero rest = refl
+running_none w (suc n) rest =
+    running_more w n
+    ∙ ap (λ b. running w n ++ cond b ((1 + n) ∷ []) []) (rest (1 + n) (omega arith) (omega arith))
+    ∙ ap (λ l. l ++ []) (running_none w n (λ ticket low high. rest ticket low (omega (arith, high))))
+
+-- those that are at their end are done
+pub sent_none : (w : WorldView) (first : ℕ) (sent : Round) → AtEndBelow w first → Tells sent [] → SentBelow w first sent w
+sent_none w first sent below tells =
+    let none : running w (first - 1) ≡ [] =
+    running_none w (first - 1) (λ ticket low high. (below.at_end ticket low (omega (arith, below.least, high))).1) in
+    record {
+      given = (λ ticket low high. (below.at_end ticket low high).0);
+      same = (λ ticket. refl);
+      plays = record { events = []; replies = []; is_kind = ap sends (sym none); plays = refl; tells = tells };
+    }
 
 given_more : (w : WorldView) (number : ℕ) (status : Status) → status_of w number ≡ Some status
     → ((ticket : ℕ) → 1 ≤ ticket → ticket < number → IsSome (status_of w ticket)) → (ticket : ℕ) → 1 ≤ ticket → ticket < number + 1 → IsSome (status_of w ticket)

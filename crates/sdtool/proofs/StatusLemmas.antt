@@ -16,10 +16,10 @@ use Rattle.sdtool.specs.Rounds.{Plays, sends, status_of}
 
 -- Lists of sessions.
 
-abbrev status_in : ℕ → List Entry → Option Status
+abbrev pub status_in : ℕ → List Entry → Option Status
 status_in ticket es = option_map (λ (entry : Entry). entry.session.status) (entry_of ticket es)
 
-entry_id : (ticket : ℕ) (es : List Entry) (e : Entry) → entry_of ticket es ≡ Some e → e.session.key.id ≡ ticket
+pub entry_id : (ticket : ℕ) (es : List Entry) (e : Entry) → entry_of ticket es ≡ Some e → e.session.key.id ≡ ticket
 entry_id ticket [] e at = absurd (cc at)
 entry_id ticket (x ∷ es) e at =
     chosen (λ o. o ≡ Some e → e.session.key.id ≡ ticket) x.session.key.id ticket (Some x) (entry_of ticket es)
@@ -35,7 +35,7 @@ same_here ticket x f es id same =
     (λ n. chosen (λ o. status_in ticket es ≡ option_map (λ (entry : Entry). entry.session.status) o) x.session.key.id ticket (Some x) (entry_of ticket es)
     (λ q. absurd (n (id ∙ q))) (λ m. refl))
 
-same_behind : (ticket : ℕ) (x : Entry) (es fs : List Entry) → status_in ticket fs ≡ status_in ticket es → status_in ticket (x ∷ fs) ≡ status_in ticket (x ∷ es)
+pub same_behind : (ticket : ℕ) (x : Entry) (es fs : List Entry) → status_in ticket fs ≡ status_in ticket es → status_in ticket (x ∷ fs) ≡ status_in ticket (x ∷ es)
 same_behind ticket x es fs same =
     elim (x.session.key.id == ticket) as (λ b. option_map (λ (entry : Entry). entry.session.status) (cond b (Some x) (entry_of ticket fs)) ≡ option_map (λ (entry : Entry). entry.session.status) (cond b (Some x) (entry_of ticket es))) [
       | true ↦ refl
@@ -43,7 +43,7 @@ same_behind ticket x es fs same =
     ]
 
 -- one session in its own place, with its status as before
-status_with : (ticket : ℕ) (f e : Entry) (es : List Entry) → entry_of f.session.key.id es ≡ Some e → f.session.status ≡ e.session.status → status_in ticket (with_entry f es) ≡ status_in ticket es
+pub status_with : (ticket : ℕ) (f e : Entry) (es : List Entry) → entry_of f.session.key.id es ≡ Some e → f.session.status ≡ e.session.status → status_in ticket (with_entry f es) ≡ status_in ticket es
 status_with ticket f e [] at same = refl
 status_with ticket f e (x ∷ es) at same =
     chosen (λ l. status_in ticket l ≡ status_in ticket (x ∷ es)) x.session.key.id f.session.key.id (f ∷ es) (x ∷ with_entry f es)
@@ -58,7 +58,7 @@ status_with ticket f e (x ∷ es) at same =
 
 -- Steps.
 
-stays : (old new : WorldView) → new ≡ old → (k : ℕ) → status_of new k ≡ status_of old k
+pub stays : (old new : WorldView) → new ≡ old → (k : ℕ) → status_of new k ≡ status_of old k
 stays old new same k = ap (λ w. status_of w k) same
 
 changes : (old new : WorldView) (ticket : ℕ) (change : SessionView → List Piece → SessionView → List Piece → Type 0)
@@ -71,12 +71,12 @@ changes old new ticket change keeps (e, s, queue, there, changed, is) k =
     let at : entry_of f.session.key.id old.entries ≡ Some e = subst (λ n. entry_of n old.entries ≡ Some e) id there in
     ap (λ w. status_of w k) is ∙ status_with k f e old.entries at kept.0
 
-spool_keeps : (old new : WorldView) (ticket : ℕ) (reply : Reply) → Moves old (Spool ticket) reply new → (k : ℕ) → status_of new k ≡ status_of old k
+pub spool_keeps : (old new : WorldView) (ticket : ℕ) (reply : Reply) → Moves old (Spool ticket) reply new → (k : ℕ) → status_of new k ≡ status_of old k
 spool_keeps old new ticket NoSpool moves = stays old new moves.1
 spool_keeps old new ticket (Refused why) moves = stays old new moves.1
 spool_keeps old new ticket reply moves = absurd moves
 
-despool_keeps : (old new : WorldView) (ticket : ℕ) (reply : Reply) → Moves old (Despool ticket) reply new → (k : ℕ) → status_of new k ≡ status_of old k
+pub despool_keeps : (old new : WorldView) (ticket : ℕ) (reply : Reply) → Moves old (Despool ticket) reply new → (k : ℕ) → status_of new k ≡ status_of old k
 despool_keeps old new ticket Sent moves =
     changes old new ticket SendsBody (λ x y q r p. (ap (λ (s : SessionView). s.status) p.is, ap (λ (s : SessionView). s.key) p.is)) moves
 despool_keeps old new ticket LaneFull moves =

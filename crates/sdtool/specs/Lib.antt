@@ -1,3 +1,4 @@
+pub mod ClosedSessions
 pub mod Refused
 pub mod Replies
 pub mod Rounds

@@ -1,5 +1,5 @@
 -- What a drain plays: rounds of steps, and what comes of them.
-use Rattle.std.specs.Prelude.{◌≡◌, ◌⊎◌, ℕ, ◌+◌, ◌-◌, ◌^◌, ◌≤◌, min, Bool, true, false, IsTrue, Option, Some, None, IsSome, option_map, List, [], ◌∷◌, ◌++◌, length, All, filter}
+use Rattle.std.specs.Prelude.{◌≡◌, ◌⊎◌, ℕ, ◌+◌, ◌-◌, ◌^◌, ◌≤◌, ◌<◌, min, Bool, true, false, IsTrue, Option, Some, None, IsSome, option_map, List, [], ◌∷◌, ◌++◌, length, All, filter}
 use Rattle.std.specs.List.{list_any, count_by, sum_by, range_with_len}
 use Rattle.sd_base.specs.declared.number.TheConstants.{MOST_NUMBER}
 use Rattle.sd_core.specs.declared.event.Event.{Event}
@@ -79,6 +79,16 @@ abbrev pub is_running : Option Status → Bool
 is_running (Some Active) = true
 is_running (Some Ended) = true
 is_running status = false
+
+-- the session was opened, and is on its way no more
+abbrev pub IsAtEnd : Option Status → Type 0
+IsAtEnd status = IsSome status × (is_running status ≡ false)
+
+-- The sessions of all tickets below this one are at their end.
+pub record AtEndBelow (w : WorldView) (first : ℕ) : Type 0 where
+  pub least : 1 ≤ first
+  pub most : first ≤ MOST_NUMBER + 1
+  pub at_end : (ticket : ℕ) → 1 ≤ ticket → ticket < first → IsAtEnd (status_of w ticket)
 
 -- which of the first so many tickets have a session that is on its way, by rising ticket
 abbrev pub running : WorldView → ℕ → List ℕ

@@ -3,10 +3,11 @@ ghost use Rattle.std.specs.Prelude.{◌≡◌, ◌+◌, ◌||◌, Some, ◌∷�
 ghost use Rattle.sd_core.specs.Machine.{Machine};
 ghost use Rattle.sd_core.specs.Matches.{Matches};
 ghost use Rattle.sd_core.specs.Kept.{ClosedStay};
-ghost use Rattle.sdtool.specs.Rounds.{AreSends, Drains, IsPlacing, IsRound, IsTurn, PlaysOn, RunsOn, SendAll, Tells, counted, is_running};
+ghost use Rattle.sdtool.specs.Rounds.{AreSends, Drains, IsPlacing, IsRound, IsTurn, PlaysOn, RunsOn, SendAll, Tells, counted};
 
+use crate::script_world::{ScriptWorld, is_running};
 use sd_base::{DriveNo, MOST_NUMBER, Ticket};
-use sd_core::{Event, Reply, Status, World};
+use sd_core::{Event, Reply};
 
 /// The number of the world's one drive.
 const THE_DRIVE: u32 = 1;
@@ -66,7 +67,7 @@ impl Round {
 }
 
 /// Plays rounds to the first in which nothing moves, and counts the blocks that were placed in them.
-pub fn drain(world: &mut World) -> u64
+pub fn drain(world: &mut ScriptWorld) -> u64
     ensures rounds { Drains world.old result world.new }
     ensures follows { (m : Machine) → Matches world.old m → RunsOn m result world.new }
     ensures kept { (m : Machine) → Matches world.old m → ClosedStay world.old world.new }
@@ -84,21 +85,23 @@ pub fn drain(world: &mut World) -> u64
 
 /// One round: each session spools and despools, then the drive takes, places and syncs. What is refused in
 /// it is passed over.
-fn play_round(world: &mut World) -> Round
+fn play_round(world: &mut ScriptWorld) -> Round
     ensures { PlaysOn (IsRound world.old) world.old result world.new }
 {
     let sent = send_all(world);
     sent.and(turn(world, DriveNo::new(THE_DRIVE).unwrap()))
 }
 
-/// One step to the spool and one to the queue for each session that is on its way, by rising ticket.
-fn send_all(world: &mut World) -> Round
+/// One step to the spool and one to the queue for each session that is on its way, by rising ticket. Those
+/// that came to their end before the first of them are not asked again.
+fn send_all(world: &mut ScriptWorld) -> Round
     ensures { PlaysOn (SendAll world.old) world.old result world.new }
 {
+    let first = world.first_running();
     let mut sent = Round::new();
-    for number in 1..MOST_NUMBER + 1 {
+    for number in first..MOST_NUMBER + 1 {
         let ticket = Ticket::new(number).unwrap();
-        let Some(status) = world.status(ticket) else {
+        let Some(status) = world.get().status(ticket) else {
             break;
         };
         if is_running(status) {
@@ -108,15 +111,8 @@ fn send_all(world: &mut World) -> Round
     sent
 }
 
-/// Whether a session with this status is on its way.
-fn is_running(status: Status) -> bool
-    ensures { result ≡ is_running (Some status) }
-{
-    matches!(status, Status::Active | Status::Ended)
-}
-
 /// One step to the spool and one to the queue.
-fn send(world: &mut World, ticket: Ticket) -> Round
+fn send(world: &mut ScriptWorld, ticket: Ticket) -> Round
     ensures { PlaysOn (AreSends (ticket ∷ [])) world.old result world.new }
 {
     let spooled = world.step(Event::Spool { ticket });
@@ -125,7 +121,7 @@ fn send(world: &mut World, ticket: Ticket) -> Round
 }
 
 /// One step of the drive's each kind.
-fn turn(world: &mut World, drive: DriveNo) -> Round
+fn turn(world: &mut ScriptWorld, drive: DriveNo) -> Round
     ensures { PlaysOn (IsTurn drive) world.old result world.new }
 {
     let took = world.step(Event::Take { drive });
@@ -136,7 +132,7 @@ fn turn(world: &mut World, drive: DriveNo) -> Round
 
 /// Places the body in the drive's hand. Where a volume is needed one is sought, and where that mounted
 /// one the body is placed again.
-fn place(world: &mut World, drive: DriveNo) -> Round
+fn place(world: &mut ScriptWorld, drive: DriveNo) -> Round
     ensures { PlaysOn (IsPlacing drive) world.old result world.new }
 {
     let placed = world.step(Event::Place { drive });

@@ -3,12 +3,14 @@
 #![tactic(auto)]
 
 mod arguments;
+mod closed;
 mod drain;
 mod handed;
 mod lines;
 mod output;
 mod replies;
 mod run;
+mod script_world;
 mod settings;
 mod sink;
 #[cfg(test)]

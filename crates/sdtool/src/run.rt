@@ -3,10 +3,12 @@ ghost use Rattle.std.specs.Prelude.{◌≡◌, ◌≢◌, ◌⊎◌, ◌-◌, re
 ghost use Rattle.sd_core.specs.World.{fresh_world};
 ghost use Rattle.sdtool.specs.Refused.{unheld_refusal, unread_refusal};
 
+use crate::closed::{Closed, ClosedSessions};
 use crate::drain::drain;
 use crate::lines::Next;
 use crate::output::Output;
 use crate::replies::print_reply;
+use crate::script_world::ScriptWorld;
 use crate::settings::{Settings, Values};
 use crate::sink::RecordLines;
 use sd_base::{Bytes, DriveNo, Items, Rec, Refusal, SessionKey, Ticket, VolName};
@@ -25,22 +27,14 @@ const FAILED: u8 = 1;
 /// The letter that a `fill` line fills its record with.
 const FILLING: u8 = b'x';
 
-/// What a closed session is read back by.
-#[derive(Drop)]
-struct Closed {
-    ticket: Ticket,
-    key: SessionKey,
-    spans: Items<Span>,
-}
-
 /// A script that is run.
 #[derive(Drop)]
 struct Script<W: Write + Drop> {
     alloc: Global,
-    world: World,
+    world: ScriptWorld,
     /// The moment of what happens now, in microseconds.
     moment: i64,
-    closed: Vec<Closed>,
+    closed: ClosedSessions,
     out: Output<W>,
 }
 
@@ -67,9 +61,9 @@ pub fn run_lines<R: BufRead, W: Write + Drop>(
     };
     let mut script = Script {
         alloc,
-        world,
+        world: ScriptWorld::new(world),
         moment: 0,
-        closed: Vec::new(alloc),
+        closed: ClosedSessions::new(alloc),
         out,
     };
     let mut next = first;
@@ -191,7 +185,7 @@ impl<W: Write + Drop> Script<W> {
         bytes: Result<Bytes, AllocError>,
     ) {
         let Ok(bytes) = bytes else {
-            let status = self.world.status(ticket);
+            let status = self.world.get().status(ticket);
             return self.refuse(unheld(status));
         };
         match Rec::new(index, stream, bytes) {
@@ -209,7 +203,7 @@ impl<W: Write + Drop> Script<W> {
 
     /// Closes a session, and keeps its spans for a later `read`. Room for them is made first.
     fn close(&mut self, ticket: Ticket) {
-        if self.closed.try_reserve(1).is_err() {
+        if self.closed.reserve().is_err() {
             return self.refuse(Refusal::Memory);
         }
         let reply = self.world.step(Event::Close { ticket });
@@ -218,16 +212,15 @@ impl<W: Write + Drop> Script<W> {
             return;
         };
         print_jobmedia(&mut self.out, key, spans.as_slice());
-        self.closed.push(Closed { ticket, key, spans }).unwrap();
+        self.closed.insert(Closed { ticket, key, spans });
     }
 
     fn read(&mut self, ticket: Ticket) {
-        let Some(closed) = self.closed.iter().find(|closed| closed.ticket == ticket) else {
-            let status = self.world.status(ticket);
+        let Some(closed) = self.closed.find(ticket) else {
+            let status = self.world.get().status(ticket);
             return self.refuse(unread(status));
         };
-        let read = read_back(&self.world, closed, &mut self.out);
-        match read {
+        match read_back(self.world.get(), closed, &mut self.out) {
             Ok(end) => print_end(&mut self.out, end),
             Err(fault) => self.refuse(fault.refusal()),
         }

@@ -11,6 +11,7 @@ use std::test::Fail;
 use std::{io, str};
 
 mod closed;
+mod closed_sessions;
 mod command_lines;
 mod refusals;
 mod rows;
@@ -151,6 +152,45 @@ span Vol-0001 1 0 0 82 232
 ok read 0 0 ended
 3902 Session not open
 ok ticket 2 drive 1
+";
+    assert_prints(&rt, rt.alloc(), script.as_bytes(), printed);
+}
+
+// A drain passes over sessions that are at their end, and comes to those that were opened after them.
+#[test]
+fn after_a_cancelled_session(rt: HostRuntime) {
+    let script = "label 1 Vol-0001 Default File
+open 7 Default File
+rec 1 1 2 gone
+cancel 1
+drain
+open 7 Default File
+rec 2 1 2 hello
+drain
+end 2
+drain
+close 2
+drain
+read 2
+read 1
+";
+    let printed = "ok labelled
+ok ticket 1 drive 1
+ok taken 1
+ok cancelled
+ok drained 0
+ok ticket 2 drive 1
+ok taken 1
+ok drained 0
+ok ended
+ok drained 1
+ok closed 1
+session 1000 2
+span Vol-0001 1 1 1 82 249
+ok drained 0
+rec 1 2 5 68656c6c6f
+ok read 1 5 ended
+3907 Not yet
 ";
     assert_prints(&rt, rt.alloc(), script.as_bytes(), printed);
 }

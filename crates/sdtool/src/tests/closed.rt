@@ -1,6 +1,7 @@
 // What `close` prints is the text of the core for the same session.
 use super::ran;
 use crate::drain::drain;
+use crate::script_world::ScriptWorld;
 use sd_base::{Bytes, DriveNo, Items, JobId, Name, Rec, SessionKey, Ticket};
 use sd_core::{Event, Reply, Span, World, WorldConf, put_jobmedia};
 use std::alloc::{AllocError, Global};
@@ -27,8 +28,8 @@ ok closed 1
 ";
 
 /// A world whose volume is labelled and whose one session is open.
-fn opened(alloc: Global) -> Option<World> {
-    let mut world = World::new(alloc, WorldConf { block: 64_512 }, 1000).ok()?;
+fn opened(alloc: Global) -> Option<ScriptWorld> {
+    let mut world = ScriptWorld::new(World::new(alloc, WorldConf { block: 64_512 }, 1000).ok()?);
     world.step(Event::Label {
         drive: DriveNo::new(1)?,
         name: Name::parse("Vol-0001").ok()?,
@@ -46,7 +47,7 @@ fn opened(alloc: Global) -> Option<World> {
 }
 
 /// The session of `SCRIPT` over such a world, to its spans.
-fn closed(alloc: Global, world: &mut World) -> Option<(SessionKey, Items<Span>)> {
+fn closed(alloc: Global, world: &mut ScriptWorld) -> Option<(SessionKey, Items<Span>)> {
     let ticket = Ticket::new(1)?;
     for (index, text) in [(1, "hello"), (2, "world")] {
         let bytes = Bytes::from_slice(alloc, text.as_bytes()).ok()?;
