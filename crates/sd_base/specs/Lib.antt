@@ -1,4 +1,5 @@
 pub mod Field
+pub mod Limits
 pub mod Name
 pub mod Record
 pub mod Refusal

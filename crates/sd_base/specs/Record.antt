@@ -1,7 +1,6 @@
 -- A record of a backup session, as data.
 use Rattle.std.specs.Prelude.{ℕ, ◌≤◌, List, length}
-use Rattle.sd_base.specs.declared.number.TheConstants.{MOST_NUMBER}
-use Rattle.sd_base.specs.declared.record.TheConstants.{MOST_DATA}
+use Rattle.sd_base.specs.Limits.{most_number, most_data}
 
 -- the FileIndex, the Stream and the data of a record
 pub record Record : Type 0 where
@@ -12,7 +11,7 @@ pub record Record : Type 0 where
 -- index and stream are 1 or more and fit a signed field, and the data are no longer than a packet may be
 pub record IsRecord (r : Record) : Type 0 where
   pub index_least : 1 ≤ r.index
-  pub index_most : r.index ≤ MOST_NUMBER
+  pub index_most : r.index ≤ most_number
   pub stream_least : 1 ≤ r.stream
-  pub stream_most : r.stream ≤ MOST_NUMBER
-  pub data_most : length r.bytes ≤ MOST_DATA
+  pub stream_most : r.stream ≤ most_number
+  pub data_most : length r.bytes ≤ most_data

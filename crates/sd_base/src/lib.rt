@@ -4,6 +4,7 @@
 
 mod fields;
 mod items;
+mod limits;
 mod name;
 mod number;
 mod record;
@@ -13,6 +14,9 @@ mod tests;
 
 pub use fields::{Short, get_i32, get_i64, get_u32, get_u64, put_i32, put_i64, put_u32, put_u64};
 pub use items::{Bytes, Items};
+pub use limits::{
+    BLOCK_HEADER, LEAST_BLOCK, LEAST_BLOCK_LIMIT, LEAST_BODY, MOST_BLOCK, MOST_BODY, MOST_VOLUME,
+};
 pub use name::{BadName, MediaName, NAME_LENGTH, Name, PoolName, VolName};
 pub use number::{DriveNo, JobId, LaneNo, MOST_NUMBER, Number, SessionKey, Ticket};
 pub use record::{MOST_DATA, Rec};

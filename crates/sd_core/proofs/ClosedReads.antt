@@ -10,7 +10,7 @@ use Rattle.sd_base.specs.declared.number.SessionKey.{SessionKey}
 use Rattle.sd_block.specs.Image.{block_image}
 use Rattle.sd_block.proofs.ImageLemmas.{length-block_image}
 use Rattle.sd_block.specs.declared.layout.TheConstants.{HEADER}
-use Rattle.sd_label.specs.Cutting.{Standing, Ended as WithEnd, joined, WholeOf}
+use Rattle.sd_label.specs.Cutting.{Standing, AtEnd, joined, WholeOf}
 use Rattle.sd_pack.specs.Body.{PackedBody, body_of}
 use Rattle.sd_pack.specs.Packing.{Packs, bytes_of}
 use Rattle.sd_core.specs.declared.entry.Entry.{Entry}
@@ -271,8 +271,8 @@ closed_reads w m s e ticket h session entry closed =
     let sent : bodies_with key (h.placed ++ on_the_way w) ≡ bodies = bodies_with-append key h.placed (on_the_way w) ∙ ap (λ l. bodies ++ l) way ∙ append-nil bodies in
     let all : bodies_in h.placed w e.session ≡ bodies = ap₂ (λ (xs ys : List PackedBody). xs ++ ys) sent parts ∙ append-nil bodies in
     let has : HasBodies h.placed w e.session Closed s.records = subst (λ status. HasBodies h.placed w e.session status s.records) closed own.bodies_are in
-    let packs : Packs e.session.packer.room bodies s.records WithEnd = subst (λ l. Packs e.session.packer.room l s.records WithEnd) all has in
-    let whole : WholeOf (bytes_of bodies) s.records true = (WithEnd, record { placed = packs.placed; places = packs.places }, refl) in
-    let some = some_packed e.session.packer.room bodies s.records WithEnd packs in
+    let packs : Packs e.session.packer.room bodies s.records AtEnd = subst (λ l. Packs e.session.packer.room l s.records AtEnd) all has in
+    let whole : WholeOf (bytes_of bodies) s.records true = (AtEnd, record { placed = packs.placed; places = packs.places }, refl) in
+    let some = some_packed e.session.packer.room bodies s.records AtEnd packs in
     subst (λ k. Reads (shelf_of w.drive.volume) k (spans_of_entry w e) s.records true) (sym own.key_is)
     (placed_reads w.drive.volume h.placed w.entries ticket e s.records (followed_of w m h) entry some whole)

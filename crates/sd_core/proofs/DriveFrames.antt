@@ -7,7 +7,7 @@ use Rattle.sd_base.specs.Record.{Record}
 use Rattle.sd_base.specs.declared.number.SessionKey.{SessionKey}
 use Rattle.sd_block.specs.Image.{block_image}
 use Rattle.sd_block.specs.declared.layout.TheConstants.{HEADER}
-use Rattle.sd_label.specs.Cutting.{Between, Ended as WithEnd}
+use Rattle.sd_label.specs.Cutting.{Between, AtEnd}
 use Rattle.sd_pack.specs.Packing.{Packs}
 use Rattle.sd_core.specs.declared.entry.Entry.{Entry}
 use Rattle.sd_core.specs.declared.journal.Placement.{Placement}
@@ -54,8 +54,8 @@ last_more before after (e ∷ es) more = ((λ r is less. omega arith), last_more
 bodies_stay : (old new : WorldView) (placed placed' : List SentBody) (s : SessionView) (status : Status) (records : List Record)
     → placed ++ on_the_way old ≡ placed' ++ on_the_way new → HasBodies placed old s status records → HasBodies placed' new s status records
 bodies_stay old new placed placed' s Active records same h = subst (λ sent. Packs s.packer.room (bodies_with s.key sent ++ parts_of s) records Between) same h
-bodies_stay old new placed placed' s Ended records same h = subst (λ sent. Packs s.packer.room (bodies_with s.key sent ++ parts_of s) records WithEnd) same h
-bodies_stay old new placed placed' s Closed records same h = subst (λ sent. Packs s.packer.room (bodies_with s.key sent ++ parts_of s) records WithEnd) same h
+bodies_stay old new placed placed' s Ended records same h = subst (λ sent. Packs s.packer.room (bodies_with s.key sent ++ parts_of s) records AtEnd) same h
+bodies_stay old new placed placed' s Closed records same h = subst (λ sent. Packs s.packer.room (bodies_with s.key sent ++ parts_of s) records AtEnd) same h
 bodies_stay old new placed placed' s Cancelled records same h = subst (λ sent. BeginsPacked s.packer.room (bodies_with s.key sent) records) same h
 bodies_stay old new placed placed' s Failed records same h = tt
 

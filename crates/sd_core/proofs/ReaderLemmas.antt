@@ -5,7 +5,7 @@ use Rattle.std.proofs.lemmas.Bool.{false≢true}
 use Rattle.std.proofs.lemmas.List.{append-nil, length-append}
 use Rattle.sd_base.specs.Record.{Record}
 use Rattle.sd_base.specs.declared.number.SessionKey.{SessionKey}
-use Rattle.sd_label.specs.Cutting.{Standing, Between, Within, Ended, Holds, total_bytes, WholeOf, joined, AreBodies, is_ended}
+use Rattle.sd_label.specs.Cutting.{Standing, Between, Within, AtEnd, Holds, total_bytes, WholeOf, joined, AreBodies, is_ended}
 use Rattle.sd_record.specs.Fragment.{Fragment, fragments_bytes}
 use Rattle.sd_unpack.specs.declared.stage.Stage.{Stage}
 use Rattle.sd_unpack.specs.declared.stage.Stage.TheVariants.{Fresh, Whole, Partway, Closed}
@@ -142,7 +142,7 @@ pub stands : (stage : Stage) (fs : List Fragment) (records : List Record) (so_fa
 stands Fresh fs records so_far r some = absurd (some r.0)
 stands Whole fs records so_far r some = (Between, refl)
 stands (Partway due) fs records so_far r some = (Within, refl)
-stands Closed fs records so_far r some = (Ended, refl)
+stands Closed fs records so_far r some = (AtEnd, refl)
 
 some_joined : (placed : List (List Fragment)) → AreBodies placed → map fragments_bytes placed ≢ [] → joined placed ≢ []
 some_joined [] are some e = some refl
@@ -265,13 +265,13 @@ has_read_none reader u sound records bytes found = record {
 }
 
 pub whole_ended : (key : SessionKey) (blocks : List Block) (taken : List Record) (reader : Reader) (ended : Bool) → HasRead key blocks taken reader → blocks_of key blocks ≢ []
-    → (IsTrue ended ↔ (standing_at reader.unpacker.stage ≡ Some Ended)) → WholeOf (blocks_of key blocks) taken ended
+    → (IsTrue ended ↔ (standing_at reader.unpacker.stage ≡ Some AtEnd)) → WholeOf (blocks_of key blocks) taken ended
 whole_ended key blocks taken reader ended r some tells =
     let h = unpacked_holds (blocks_of key blocks) taken reader.unpacker r.unpacks some in
     (h.0, subst (λ l. Holds (blocks_of key blocks) l h.0) (ap (λ l. taken ++ l) r.none_waits ∙ append-nil taken) h.2, end_told h.0 ended reader.unpacker.stage h.1 tells)
   where
-    end_told : (standing : Standing) (ended : Bool) (stage : Stage) → standing_at stage ≡ Some standing → (IsTrue ended ↔ (standing_at stage ≡ Some Ended)) → ended ≡ is_ended standing
-    end_told Ended ended stage at tells = tells.1 at
+    end_told : (standing : Standing) (ended : Bool) (stage : Stage) → standing_at stage ≡ Some standing → (IsTrue ended ↔ (standing_at stage ≡ Some AtEnd)) → ended ≡ is_ended standing
+    end_told AtEnd ended stage at tells = tells.1 at
     end_told Between true stage at tells = let so = tells.0 refl in cc
     end_told Between false stage at tells = refl
     end_told Within true stage at tells = let so = tells.0 refl in cc

@@ -4,7 +4,7 @@ use Rattle.std.proofs.lemmas.List.{length_push}
 use Rattle.std.proofs.lemmas.List.Sums.{sum_by_push}
 use Rattle.sd_base.specs.Record.{Record}
 use Rattle.sd_base.specs.declared.number.SessionKey.{SessionKey}
-use Rattle.sd_label.specs.Cutting.{Between, Ended as WithEnd}
+use Rattle.sd_label.specs.Cutting.{Between, AtEnd}
 use Rattle.sd_pack.specs.Body.{PackedBody}
 use Rattle.sd_pack.specs.Packing.{PackerView, Packs}
 use Rattle.sd_core.specs.declared.entry.Entry.{Entry}
@@ -87,14 +87,14 @@ ends_session placed w es e v s moment ends h =
     let key : v.key ≡ e.session.key = ap (λ (x : SessionView). x.key) ends.is in
     let packs = ends.packs (bodies_with e.session.key (placed ++ on_the_way w)) s.records h.count_is h.bytes_are (active_packs placed w e s h ends.active) in
     status_changes placed w es e v s IsEnded e.session.ready v.packer ends.is
-    (subst₂ (λ k room. Packs room (bodies_with k (placed ++ on_the_way w) ++ parts_of v) s.records WithEnd) (sym key) (sym ends.room_is) packs)
+    (subst₂ (λ k room. Packs room (bodies_with k (placed ++ on_the_way w) ++ parts_of v) s.records AtEnd) (sym key) (sym ends.room_is) packs)
     (λ closed out. cc closed) h
 
 -- what was sent of a session that goes on begins a cutting of its records
 running_begins : (placed : List SentBody) (w : WorldView) (v : SessionView) (status : Status) (records : List Record) → IsRunning status → HasBodies placed w v status records
     → BeginsPacked v.packer.room (bodies_with v.key (placed ++ on_the_way w)) records
 running_begins placed w v status records (inl is) h = record { dropped = parts_of v; standing = Between; packs = subst (λ status. HasBodies placed w v status records) is h }
-running_begins placed w v status records (inr is) h = record { dropped = parts_of v; standing = WithEnd; packs = subst (λ status. HasBodies placed w v status records) is h }
+running_begins placed w v status records (inr is) h = record { dropped = parts_of v; standing = AtEnd; packs = subst (λ status. HasBodies placed w v status records) is h }
 
 pub cancels_session : (placed : List SentBody) (w : WorldView) (es : List Entry) (e : Entry) (v : SessionView) (s : MachineSession) → CancelsSession e.session v → SessionMatches placed w e s
     → SessionMatches placed (record w { entries = es }) (entry_with e v) (record s { status = IsCancelled })

@@ -4,7 +4,7 @@ use Rattle.std.specs.Option.{option_to_list}
 use Rattle.std.proofs.lemmas.List.{map-append}
 use Rattle.sd_base.specs.Record.{Record}
 use Rattle.sd_base.specs.declared.number.SessionKey.{SessionKey}
-use Rattle.sd_label.specs.Cutting.{Between, Ended as WithEnd}
+use Rattle.sd_label.specs.Cutting.{Between, AtEnd}
 use Rattle.sd_pack.specs.Body.{PackedBody}
 use Rattle.sd_pack.specs.Packing.{Packs, unless_empty}
 use Rattle.sd_core.specs.declared.status.Status.{Status}
@@ -26,8 +26,8 @@ pub same_bodies : (placed : List SentBody) (w w' : WorldView) (v v' : SessionVie
     → (status ≡ Cancelled → bodies_with v'.key (placed ++ on_the_way w') ≡ bodies_with v.key (placed ++ on_the_way w))
     → HasBodies placed w v status records → HasBodies placed w' v' status records
 same_bodies placed w w' v v' Active records room same sent h = subst₂ (λ n bodies. Packs n bodies records Between) (sym room) (sym same) h
-same_bodies placed w w' v v' Ended records room same sent h = subst₂ (λ n bodies. Packs n bodies records WithEnd) (sym room) (sym same) h
-same_bodies placed w w' v v' Closed records room same sent h = subst₂ (λ n bodies. Packs n bodies records WithEnd) (sym room) (sym same) h
+same_bodies placed w w' v v' Ended records room same sent h = subst₂ (λ n bodies. Packs n bodies records AtEnd) (sym room) (sym same) h
+same_bodies placed w w' v v' Closed records room same sent h = subst₂ (λ n bodies. Packs n bodies records AtEnd) (sym room) (sym same) h
 same_bodies placed w w' v v' Cancelled records room same sent h = subst₂ (λ n bodies. BeginsPacked n bodies records) (sym room) (sym (sent refl)) h
 same_bodies placed w w' v v' Failed records room same sent h = tt
 

@@ -7,7 +7,7 @@ use Rattle.std.proofs.lemmas.Grind.{flat_map-append}
 use Rattle.sd_base.specs.Record.{Record}
 use Rattle.sd_label.specs.declared.label.SessionLabel.{SessionLabel}
 use Rattle.sd_label.specs.Label.{IsSessionLabel, session_label_bytes}
-use Rattle.sd_label.specs.Cutting.{Standing, Between, Ended as WithEnd, IsEnd, total_bytes}
+use Rattle.sd_label.specs.Cutting.{Standing, Between, AtEnd, IsEnd, total_bytes}
 use Rattle.sd_pack.specs.Body.{PackedBody, empty_body}
 use Rattle.sd_pack.specs.Packing.{PackerView, Packs, HasOpen, bodies_of, unless_empty, all_bytes, PacksRecord, PacksEnd, AddsLabel}
 use Rattle.sd_core.specs.declared.status.Status.TheVariants.{Active, Ended}
@@ -84,9 +84,9 @@ ends_session old now moment label between p now-is active has label-is is packs 
       active = active;
       is = refl;
       room_is = room' ∙ room;
-      packs = (λ before records count bytes. behind_ready old.packer.room ready (bodies_of old.packer) (bodies_of p) records records WithEnd before
-          (λ h. subst (λ l. Packs old.packer.room ((before ++ ready) ++ l) records WithEnd) (sym all)
-          (subst (λ k. Packs k ((before ++ ready) ++ bodies_of between) records WithEnd) room
+      packs = (λ before records count bytes. behind_ready old.packer.room ready (bodies_of old.packer) (bodies_of p) records records AtEnd before
+          (λ h. subst (λ l. Packs old.packer.room ((before ++ ready) ++ l) records AtEnd) (sym all)
+          (subst (λ k. Packs k ((before ++ ready) ++ bodies_of between) records AtEnd) room
           (packs has (before ++ ready) records (ends label old moment records label-is is count bytes) h))));
       bytes_are =
           flat_map-append (λ b. b.bytes) ready (bodies_of p)

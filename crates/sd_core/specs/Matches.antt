@@ -1,7 +1,7 @@
 -- When a world matches a machine.
 use Rattle.std.specs.Prelude.{◌≡◌, ℕ, ◌+◌, ◌≤◌, ◌<◌, Option, Some, None, List, [], ◌∷◌, ◌++◌, length, map}
 use Rattle.sd_base.specs.Record.{Record}
-use Rattle.sd_label.specs.Cutting.{Standing, Between, Ended as WithEnd, total_bytes}
+use Rattle.sd_label.specs.Cutting.{Standing, Between, AtEnd, total_bytes}
 use Rattle.sd_pack.specs.Body.{PackedBody}
 use Rattle.sd_pack.specs.Packing.{Packs}
 use Rattle.sd_core.specs.declared.status.Status.{Status}
@@ -38,8 +38,8 @@ pub record BeginsPacked (room : ℕ) (bodies : List PackedBody) (records : List 
 -- an ended or closed one with its end label; of a cancelled one those that were sent begin a cutting of it.
 abbrev pub HasBodies : List SentBody → WorldView → SessionView → Status → List Record → Type 0
 HasBodies placed w s Active records = Packs s.packer.room (bodies_in placed w s) records Between
-HasBodies placed w s Ended records = Packs s.packer.room (bodies_in placed w s) records WithEnd
-HasBodies placed w s Closed records = Packs s.packer.room (bodies_in placed w s) records WithEnd
+HasBodies placed w s Ended records = Packs s.packer.room (bodies_in placed w s) records AtEnd
+HasBodies placed w s Closed records = Packs s.packer.room (bodies_in placed w s) records AtEnd
 HasBodies placed w s Cancelled records = BeginsPacked s.packer.room (bodies_with s.key (placed ++ on_the_way w)) records
 HasBodies placed w s Failed records = Unit {0}
 

@@ -7,7 +7,7 @@ use Rattle.sd_base.specs.declared.refusal.Refusal.{Refusal}
 use Rattle.sd_base.specs.declared.refusal.Refusal.TheVariants.{SessionNotOpen, BadFileIndex, SessionFailed, SessionCancelled, NotYet, Busy, Memory}
 use Rattle.sd_label.specs.declared.label.SessionLabel.{SessionLabel}
 use Rattle.sd_label.specs.Label.{session_label_bytes}
-use Rattle.sd_label.specs.Cutting.{Between, Ended as WithEnd, total_bytes}
+use Rattle.sd_label.specs.Cutting.{Between, AtEnd, total_bytes}
 use Rattle.sd_pack.specs.Body.{PackedBody, empty_body}
 use Rattle.sd_pack.specs.Packing.{PackerView, Packs, HasOpen, bodies_of, all_bytes}
 use Rattle.sd_core.specs.declared.status.Status.{Status}
@@ -107,7 +107,7 @@ pub record EndsSession (old : SessionView) (moment : ℤ) (new : SessionView) : 
   pub packs : (before : List PackedBody) (records : List Record)
       → length records ≡ old.count → total_bytes records ≡ old.bytes
       → Packs old.packer.room (before ++ parts_of old) records Between
-      → Packs old.packer.room (before ++ parts_of new) records WithEnd
+      → Packs old.packer.room (before ++ parts_of new) records AtEnd
   pub bytes_are : all_bytes (parts_of new) ≡ all_bytes (parts_of old) ++ session_label_bytes (end_label old moment)
 
 -- why a session is not ended: the status, then want of memory

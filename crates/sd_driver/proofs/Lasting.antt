@@ -1,26 +1,26 @@
 -- What a caller of any driver concludes of bytes that a stop leaves: they last over every call but a cut below
 -- their end, and the low mark of their volume is at least their length.
-use Rattle.std.proofs.Common.{◌≡◌, ℕ, zero, suc, ◌+◌, ◌-◌, ◌≤◌, ◌⊎◌, inl, inr, List, [], ◌∷◌, length, take, Option, refl, ap, sym, ◌∙◌, subst, arith}
+use Rattle.std.proofs.Common.{◌≡◌, ℕ, zero, suc, ◌+◌, ◌-◌, ◌≤◌, ◌⊎◌, inl, inr, List, [], ◌∷◌, length, take, Option, Some, refl, ap, sym, ◌∙◌, subst, arith}
 use Rattle.std.proofs.Math.Seq.{take-length}
 use Rattle.std.proofs.lemmas.List.{length-take, take_min}
 use Rattle.std.proofs.lemmas.Bool.{cases_lt}
-use Rattle.sd_driver.specs.Shelf.{Shelf, stable_bytes, Begins, SameShelf, OtherShelf, Passes, KeepsStable, KeepsStableTo, Lasts, lowest, low_mark}
+use Rattle.sd_driver.specs.Shelf.{Shelf, stable_bytes, BeginsWith, SameShelf, OtherShelf, Passes, KeepsStable, KeepsStableTo, Lasts, StillLasts, StillLastsBelow, lowest, low_mark}
 
 -- bytes begin with themselves
-pub Begins-refl : (bytes : List ℕ) → Begins bytes bytes
-Begins-refl bytes = take-length bytes
+pub BeginsWith-refl : (bytes : List ℕ) → BeginsWith bytes bytes
+BeginsWith-refl bytes = take-length bytes
 
 -- and with bytes that are the same
-pub Begins-same : (bytes front : List ℕ) → bytes ≡ front → Begins bytes front
-Begins-same bytes front e = let P : List ℕ → Type 0 = λ x. Begins x front in subst P (sym e) (Begins-refl front)
+pub BeginsWith-same : (bytes front : List ℕ) → bytes ≡ front → BeginsWith bytes front
+BeginsWith-same bytes front e = let P : List ℕ → Type 0 = λ x. BeginsWith x front in subst P (sym e) (BeginsWith-refl front)
 
 -- and with any front of them
-pub Begins-own_take : (bytes : List ℕ) (to : ℕ) → Begins bytes (take to bytes)
-Begins-own_take bytes to = ap (λ n. take n bytes) (length-take to bytes) ∙ take_min to bytes
+pub BeginsWith-own_take : (bytes : List ℕ) (to : ℕ) → BeginsWith bytes (take to bytes)
+BeginsWith-own_take bytes to = ap (λ n. take n bytes) (length-take to bytes) ∙ take_min to bytes
 
 -- bytes that begin with others are at least as long
-pub Begins-length : (bytes front : List ℕ) → Begins bytes front → length front ≤ length bytes
-Begins-length bytes front b = omega (arith, ap length b, length-take (length front) bytes)
+pub BeginsWith-length : (bytes front : List ℕ) → BeginsWith bytes front → length front ≤ length bytes
+BeginsWith-length bytes front b = omega (arith, ap length b, length-take (length front) bytes)
 
 take_front : (a b : ℕ) (xs : List ℕ) → a ≤ b → take a (take b xs) ≡ take a xs
 take_front zero b xs le = refl
@@ -29,14 +29,14 @@ take_front (suc a) (suc b) [] le = refl
 take_front (suc a) (suc b) (x ∷ xs) le = let r = take_front a b xs (omega arith) in ap (λ l. x ∷ l) r
 
 -- what begins with bytes begins with what they begin with
-pub Begins-trans : (bytes middle front : List ℕ) → Begins bytes middle → Begins middle front → Begins bytes front
-Begins-trans bytes middle front outer inner =
-    sym (take_front (length front) (length middle) bytes (Begins-length middle front inner)) ∙ ap (take (length front)) outer ∙ inner
+pub BeginsWith-trans : (bytes middle front : List ℕ) → BeginsWith bytes middle → BeginsWith middle front → BeginsWith bytes front
+BeginsWith-trans bytes middle front outer inner =
+    sym (take_front (length front) (length middle) bytes (BeginsWith-length middle front inner)) ∙ ap (take (length front)) outer ∙ inner
 
 -- bytes begin with any front of what they begin with
-pub Begins-take : (bytes middle front : List ℕ) (to : ℕ) → Begins bytes (take to middle) → Begins middle front → length front ≤ to → Begins bytes front
-Begins-take bytes middle front to outer inner short =
-    Begins-trans bytes (take to middle) front outer (take_front (length front) to middle short ∙ inner)
+pub BeginsWith-take : (bytes middle front : List ℕ) (to : ℕ) → BeginsWith bytes (take to middle) → BeginsWith middle front → length front ≤ to → BeginsWith bytes front
+BeginsWith-take bytes middle front to outer inner short =
+    BeginsWith-trans bytes (take to middle) front outer (take_front (length front) to middle short ∙ inner)
 
 -- moments go on
 pub Passes-later : (old new : Shelf) → Passes old new → old.moment ≤ new.moment
@@ -47,21 +47,22 @@ Passes-later old new passes = later passes.moments
     later (inr more) = omega (arith, more.1)
 
 -- after any call, what is stable now lasts from now on
-pub Lasts-begin : (name bytes : List ℕ) (old new : Shelf) → Passes old new → Begins (stable_bytes (new.volume name)) bytes → Lasts new.moment name bytes new
+pub Lasts-begin : (name bytes : List ℕ) (old new : Shelf) → Passes old new → BeginsWith (stable_bytes (new.volume name)) bytes → Lasts new.moment name bytes new
 Lasts-begin name bytes old new passes stable = record {
   before = λ moment since until.
       let same : moment ≡ new.moment = omega arith in
-      let P : List ℕ → Type 0 = λ x. Begins x bytes in
+      let P : List ℕ → Type 0 = λ x. BeginsWith x bytes in
       subst P (sym (ap (λ m. new.kept m name) same ∙ passes.now name)) stable;
   now = stable;
 }
 
 -- bytes that are still stable after a call have lasted over it
-lasts_over : (since : ℕ) (name bytes : List ℕ) (old new : Shelf) → since ≤ old.moment → Passes old new → Lasts since name bytes old → Begins (stable_bytes (new.volume name)) bytes → Lasts since name bytes new
-lasts_over since name bytes old new known passes lasts stable = record {
+lasts_over : (since : ℕ) (name bytes : List ℕ) (old new : Shelf) → Passes old new → Lasts since name bytes old
+    → BeginsWith (stable_bytes (new.volume name)) bytes → Lasts since name bytes new
+lasts_over since name bytes old new passes lasts stable = record {
   before = λ moment from until. elim (within moment until passes.moments) [
-    | inl earlier ↦ (let P : List ℕ → Type 0 = λ x. Begins x bytes in subst P (sym (passes.past moment name earlier)) (lasts.before moment from earlier))
-    | inr present ↦ (let P : List ℕ → Type 0 = λ x. Begins x bytes in subst P (sym (ap (λ m. new.kept m name) present ∙ passes.now name)) stable)
+    | inl earlier ↦ (let P : List ℕ → Type 0 = λ x. BeginsWith x bytes in subst P (sym (passes.past moment name earlier)) (lasts.before moment from earlier))
+    | inr present ↦ (let P : List ℕ → Type 0 = λ x. BeginsWith x bytes in subst P (sym (ap (λ m. new.kept m name) present ∙ passes.now name)) stable)
   ];
   now = stable;
 }
@@ -71,21 +72,48 @@ lasts_over since name bytes old new known passes lasts stable = record {
     within moment until (inr more) = elim (cases_lt old.moment moment) [ inl lt ↦ inr (omega (arith, more.1)) | inr le ↦ inl le ]
 
 -- a call that keeps all stable bytes
-pub Lasts-keeps : (since : ℕ) (name bytes : List ℕ) (old new : Shelf) → since ≤ old.moment → Passes old new → KeepsStable old new → Lasts since name bytes old → Lasts since name bytes new
-Lasts-keeps since name bytes old new known passes keeps lasts =
-    lasts_over since name bytes old new known passes lasts (Begins-trans _ _ bytes (keeps name) lasts.now)
+pub still_lasts : (old new : Shelf) → Passes old new → KeepsStable old new → StillLasts old new
+still_lasts old new passes keeps since name bytes lasts =
+    lasts_over since name bytes old new passes lasts (BeginsWith-trans _ _ bytes (keeps name) lasts.now)
 
--- a cut at their end or past it
-pub Lasts-cut : (since to : ℕ) (loaded : Option (List ℕ)) (name bytes : List ℕ) (old new : Shelf) → since ≤ old.moment → Passes old new → KeepsStableTo to loaded old new → length bytes ≤ to → Lasts since name bytes old → Lasts since name bytes new
-Lasts-cut since to loaded name bytes old new known passes keeps short lasts = lasts_over since name bytes old new known passes lasts (Begins-take _ _ bytes to (keeps.front name) lasts.now short)
+-- a cut of the loaded volume
+pub still_lasts_below : (to : ℕ) (loaded : Option (List ℕ)) (volume : List ℕ) (old new : Shelf)
+    → loaded ≡ Some volume → Passes old new → KeepsStableTo to loaded old new → StillLastsBelow to volume old new
+still_lasts_below to loaded volume old new is passes keeps = record {
+  below = λ since bytes short lasts.
+      lasts_over since volume bytes old new passes lasts (BeginsWith-take _ _ bytes to (keeps.front volume) lasts.now short);
+  others = λ since name bytes other lasts.
+      lasts_over since name bytes old new passes lasts
+      (BeginsWith-trans _ _ bytes (keeps.others name (λ e. other (some_is (sym e ∙ is)))) lasts.now);
+}
+  where
+    some_is : {a b : List ℕ} → Some a ≡ Some b → a ≡ b
+    some_is e = cc
+
+-- over one call after another
+pub StillLasts-trans : (a b c : Shelf) → StillLasts a b → StillLasts b c → StillLasts a c
+StillLasts-trans a b c first then since name bytes lasts = then since name bytes (first since name bytes lasts)
+
+pub StillLastsBelow-of : (to : ℕ) (volume : List ℕ) (old new : Shelf) → StillLasts old new → StillLastsBelow to volume old new
+StillLastsBelow-of to volume old new still = record {
+  below = λ since bytes short lasts. still since volume bytes lasts;
+  others = λ since name bytes other lasts. still since name bytes lasts;
+}
+
+pub StillLastsBelow-trans : (to : ℕ) (volume : List ℕ) (a b c : Shelf)
+    → StillLastsBelow to volume a b → StillLastsBelow to volume b c → StillLastsBelow to volume a c
+StillLastsBelow-trans to volume a b c first then = record {
+  below = λ since bytes short lasts. then.below since bytes short (first.below since bytes short lasts);
+  others = λ since name bytes other lasts. then.others since name bytes other (first.others since name bytes other lasts);
+}
 
 -- the low mark of a volume since then is at least the length of what lasts since then
 pub low_mark-lasts : (since : ℕ) (name bytes : List ℕ) (shelf : Shelf) → since ≤ shelf.moment → Lasts since name bytes shelf → length bytes ≤ low_mark shelf since name
 low_mark-lasts since name bytes shelf known lasts = from (shelf.moment - since) (omega arith)
   where
     from : (more : ℕ) → since + more ≤ shelf.moment → length bytes ≤ lowest (λ moment. length (shelf.kept moment name)) since more
-    from zero within = Begins-length _ bytes (lasts.before since (omega arith) known)
+    from zero within = BeginsWith-length _ bytes (lasts.before since (omega arith) known)
     from (suc more) within =
         let r = from more (omega arith) in
-        let here = Begins-length _ bytes (lasts.before (since + suc more) (omega arith) within) in
+        let here = BeginsWith-length _ bytes (lasts.before (since + suc more) (omega arith) within) in
         omega arith

@@ -20,8 +20,8 @@ stable_bytes None = []
 stable_bytes (Some held) = take held.stable held.bytes
 
 -- the bytes begin with these
-abbrev pub Begins : List ℕ → List ℕ → Type 0
-Begins bytes front = take (length front) bytes ≡ front
+abbrev pub BeginsWith : List ℕ → List ℕ → Type 0
+BeginsWith bytes front = take (length front) bytes ≡ front
 
 -- every volume is as it was
 abbrev pub SameShelf : Shelf → Shelf → Type 0
@@ -40,12 +40,12 @@ pub record Passes (old new : Shelf) : Type 0 where
 
 -- every stable byte stays so
 abbrev pub KeepsStable : Shelf → Shelf → Type 0
-KeepsStable old new = (name : List ℕ) → Begins (stable_bytes (new.volume name)) (stable_bytes (old.volume name))
+KeepsStable old new = (name : List ℕ) → BeginsWith (stable_bytes (new.volume name)) (stable_bytes (old.volume name))
 
 -- every stable byte before `to` stays so, and in another volume than the loaded one those past it too
 pub record KeepsStableTo (to : ℕ) (loaded : Option (List ℕ)) (old new : Shelf) : Type 0 where
-  pub front : (name : List ℕ) → Begins (stable_bytes (new.volume name)) (take to (stable_bytes (old.volume name)))
-  pub others : (name : List ℕ) → loaded ≢ Some name → Begins (stable_bytes (new.volume name)) (stable_bytes (old.volume name))
+  pub front : (name : List ℕ) → BeginsWith (stable_bytes (new.volume name)) (take to (stable_bytes (old.volume name)))
+  pub others : (name : List ℕ) → loaded ≢ Some name → BeginsWith (stable_bytes (new.volume name)) (stable_bytes (old.volume name))
 
 -- an empty volume of a name that the shelf lacked
 pub record Creates (name : List ℕ) (old new : Shelf) : Type 0 where
@@ -80,22 +80,31 @@ abbrev pub MaySync : Option (List ℕ) → Shelf → Shelf → Type 0
 MaySync = Changes (λ held after. (after.bytes ≡ held.bytes) × (held.stable ≤ after.stable))
 
 -- the volume ends at `to`, or before
-abbrev pub Cuts : ℕ → Option (List ℕ) → Shelf → Shelf → Type 0
-Cuts to = Changes (λ held after. after ≡ record { bytes = take to held.bytes; stable = min to held.stable })
+abbrev pub Truncates : ℕ → Option (List ℕ) → Shelf → Shelf → Type 0
+Truncates to = Changes (λ held after. after ≡ record { bytes = take to held.bytes; stable = min to held.stable })
 
 -- the bytes up to `to` stay, and as many of them are stable; what stands past `to` may be anything
-abbrev pub MayCut : ℕ → Option (List ℕ) → Shelf → Shelf → Type 0
-MayCut to = Changes (λ held after. (tail : List ℕ) × (after.bytes ≡ take to held.bytes ++ tail) × (min to held.stable ≤ after.stable))
+abbrev pub MayTruncate : ℕ → Option (List ℕ) → Shelf → Shelf → Type 0
+MayTruncate to = Changes (λ held after. (tail : List ℕ) × (after.bytes ≡ take to held.bytes ++ tail) × (min to held.stable ≤ after.stable))
 
 -- every stop since that moment, also one inside a call, leaves these bytes of the volume
 pub record Lasts (since : ℕ) (name bytes : List ℕ) (shelf : Shelf) : Type 0 where
-  pub before : (moment : ℕ) → since ≤ moment → moment ≤ shelf.moment → Begins (shelf.kept moment name) bytes
-  pub now : Begins (stable_bytes (shelf.volume name)) bytes
+  pub before : (moment : ℕ) → since ≤ moment → moment ≤ shelf.moment → BeginsWith (shelf.kept moment name) bytes
+  pub now : BeginsWith (stable_bytes (shelf.volume name)) bytes
+
+-- whatever has lasted since some moment has lasted to the new shelf too
+abbrev pub StillLasts : Shelf → Shelf → Type 0
+StillLasts old new = (since : ℕ) (name bytes : List ℕ) → Lasts since name bytes old → Lasts since name bytes new
+
+-- so it has, but for what stood past the byte at `to` of this volume
+pub record StillLastsBelow (to : ℕ) (volume : List ℕ) (old new : Shelf) : Type 0 where
+  pub below : (since : ℕ) (bytes : List ℕ) → length bytes ≤ to → Lasts since volume bytes old → Lasts since volume bytes new
+  pub others : (since : ℕ) (name bytes : List ℕ) → name ≢ volume → Lasts since name bytes old → Lasts since name bytes new
 
 -- what may stand after a stop at some time since that moment, also inside a call: of each volume the bytes
 -- that lasted since then, which are stable still, and then anything; a volume of which none lasted may be missing
 abbrev pub AfterStop : ℕ → Shelf → Shelf → Type 0
-AfterStop since shelf left = (name bytes : List ℕ) → Lasts since name bytes shelf → Begins (stable_bytes (left.volume name)) bytes
+AfterStop since shelf left = (name bytes : List ℕ) → Lasts since name bytes shelf → BeginsWith (stable_bytes (left.volume name)) bytes
 
 -- the least of so many values and one more, beginning at a place
 abbrev pub lowest : (ℕ → ℕ) → ℕ → ℕ → ℕ

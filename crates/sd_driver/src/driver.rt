@@ -1,6 +1,6 @@
 // A device that holds volumes under names, of which at most one is loaded.
 ghost use Rattle.std.specs.Prelude.{◌≡◌, ◌≢◌, ◌≤◌, ◌⊎◌, None, Some, IfOk, IfErr, OnOk, OnErr, IsSome, IsErrOf, length};
-ghost use Rattle.sd_driver.specs.Shelf.{SameShelf, Passes, KeepsStable, KeepsStableTo, Creates, MayCreate, Appends, MayAppend, Syncs, MaySync, Cuts, MayCut};
+ghost use Rattle.sd_driver.specs.Shelf.{SameShelf, Passes, KeepsStable, KeepsStableTo, Creates, MayCreate, Appends, MayAppend, Syncs, MaySync, Truncates, MayTruncate};
 ghost use Rattle.sd_driver.specs.Meaning.{Meaning, IsHonest, Counts, SameCounts, Unchanged, TellsLength, TellsBytes};
 
 use sd_base::VolName;
@@ -144,9 +144,9 @@ pub trait Driver: Send {
         ensures loaded { (meaning self.new).loaded ≡ (meaning self.old).loaded }
 
         ensures ok { IsHonest (meaning self.old) → OnOk result
-            (Cuts to (meaning self.old).loaded (meaning self.old).shelf (meaning self.new).shelf) }
+            (Truncates to (meaning self.old).loaded (meaning self.old).shelf (meaning self.new).shelf) }
         ensures err { IsHonest (meaning self.old) → OnErr result
-            (MayCut to (meaning self.old).loaded (meaning self.old).shelf (meaning self.new).shelf) };
+            (MayTruncate to (meaning self.old).loaded (meaning self.old).shelf (meaning self.new).shelf) };
 
     /// How many calls the device has failed.
     fn failures(&self) -> u64

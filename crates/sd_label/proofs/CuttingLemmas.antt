@@ -9,7 +9,7 @@ use Rattle.sd_record.proofs.FragmentLemmas.{fragments_apart}
 use Rattle.sd_record.proofs.RecordLemmas.{first_same, rest_same, fragments_of_one, AreFragments, AreFragments-back, record_fragments, FragmentsOfAll-more}
 use Rattle.sd_label.specs.declared.label.SessionLabel.{SessionLabel}
 use Rattle.sd_label.specs.Label.{session_label_fragment, session_label_index}
-use Rattle.sd_label.specs.Cutting.{Standing, Between, Within, Ended, Unfinished, Behind, IsSession, AreRecords, AreBodies, joined, Places, Holds, HoldsFront, Begins, Cuts}
+use Rattle.sd_label.specs.Cutting.{Standing, Between, Within, AtEnd, Unfinished, Behind, IsSession, AreRecords, AreBodies, joined, Places, Holds, HoldsFront, BeginsCutting, Cuts}
 
 -- a label's index is negative, a record's is not
 pub label_is_no_record : (label : SessionLabel) (index : ℕ) → (session_label_fragment label).index ≡ pos index → ⊥
@@ -40,7 +40,7 @@ behind_no_record all Within r behind first rest b c e =
     sym (append_assoc first rest b.remaining) ∙ ap (λ l. l ++ b.remaining) (sym e) ∙ sym (append-nil (behind ++ b.remaining)) in
     let same = fragments_of_one r b.unfinished first (behind ++ b.remaining) (rest ++ b.remaining) [] c b.fragments_are whole in
     b.some_remain (append_longer behind b.remaining rest (sym (ap (λ l. l ++ rest) same.1) ∙ sym e))
-behind_no_record all Ended r behind first rest b c e =
+behind_no_record all AtEnd r behind first rest b c e =
     let g = first_fragment r first c in
     let heads : session_label_fragment b.0 ∷ [] ≡ g.0 ∷ (g.1 ++ rest) = sym b.2 ∙ e ∙ ap (λ l. l ++ rest) g.2 in
     label_is_no_record b.0 r.index (ap (λ f. f.index) (first_same _ g.0 [] (g.1 ++ rest) heads) ∙ g.3)
@@ -56,13 +56,13 @@ unfinished_label fs label b e =
 behind_apart : (all all' : List Record) (standing standing' : Standing) (fs : List Fragment) → Behind all standing fs → Behind all' standing' fs → standing ≡ standing'
 behind_apart all all' Between Between fs b c = refl
 behind_apart all all' Between Within fs b c = absurd (c.some_there b)
-behind_apart all all' Between Ended fs b c = absurd (cc (sym b ∙ c.2))
+behind_apart all all' Between AtEnd fs b c = absurd (cc (sym b ∙ c.2))
 behind_apart all all' Within Between fs b c = absurd (b.some_there c)
 behind_apart all all' Within Within fs b c = refl
-behind_apart all all' Within Ended fs b c = absurd (unfinished_label fs c.0 b c.2)
-behind_apart all all' Ended Between fs b c = absurd (cc (sym c ∙ b.2))
-behind_apart all all' Ended Within fs b c = absurd (unfinished_label fs b.0 c b.2)
-behind_apart all all' Ended Ended fs b c = refl
+behind_apart all all' Within AtEnd fs b c = absurd (unfinished_label fs c.0 b c.2)
+behind_apart all all' AtEnd Between fs b c = absurd (cc (sym c ∙ b.2))
+behind_apart all all' AtEnd Within fs b c = absurd (unfinished_label fs b.0 c b.2)
+behind_apart all all' AtEnd AtEnd fs b c = refl
 
 -- the whole records of one list of fragments are one list, and so is what stands behind them
 pub records_apart : (all all' rs rs' : List Record) (standing standing' : Standing) (parts parts' behind behind' : List Fragment)
@@ -135,7 +135,7 @@ record Front (all rs : List Record) (pre : List Fragment) : Type 0 where
   order : pre ≡ parts ++ behind
   parts_are : FragmentsOfAll whole parts
   behind_is : Behind all standing behind
-  ended_is_all : standing ≡ Ended → others ≡ []
+  ended_is_all : standing ≡ AtEnd → others ≡ []
 
 front_of_nothing : (all rs : List Record) → Front all rs []
 front_of_nothing all rs = record {
@@ -183,11 +183,11 @@ front_of_behind all Within pre post behind b e =
     let whole : Fragments b.unfinished (pre ++ (post ++ b.remaining)) =
     subst (Fragments b.unfinished) (ap (λ l. l ++ b.remaining) (sym e) ∙ append_assoc pre post b.remaining) b.fragments_are in
     front_within all [] b.unfinished pre (post ++ b.remaining) b.record_is (λ none. b.some_remain (back_nil post b.remaining none)) whole
-front_of_behind all Ended [] post behind b e = front_of_nothing all []
-front_of_behind all Ended (f ∷ pre) post behind b e = record {
+front_of_behind all AtEnd [] post behind b e = front_of_nothing all []
+front_of_behind all AtEnd (f ∷ pre) post behind b e = record {
   whole = [];
   others = [];
-  standing = Ended;
+  standing = AtEnd;
   parts = [];
   behind = f ∷ pre;
   records_split = refl;
@@ -234,11 +234,11 @@ AreBodies-front (x ∷ xs) ys are = (are.0, are.1, AreBodies-front xs ys are.2)
 
 -- the totals of the whole list serve where the front is the whole
 behind_of_front : (rs whole others : List Record) (standing : Standing) (behind : List Fragment) → rs ≡ whole ++ others
-    → (standing ≡ Ended → others ≡ []) → Behind rs standing behind → Behind whole standing behind
+    → (standing ≡ AtEnd → others ≡ []) → Behind rs standing behind → Behind whole standing behind
 behind_of_front rs whole others Between behind split all b = b
 behind_of_front rs whole others Within behind split all b = b
-behind_of_front rs whole others Ended behind split all b =
-    subst (λ l. Behind l Ended behind) (split ∙ ap (λ l. whole ++ l) (all refl) ∙ append-nil whole) b
+behind_of_front rs whole others AtEnd behind split all b =
+    subst (λ l. Behind l AtEnd behind) (split ∙ ap (λ l. whole ++ l) (all refl) ∙ append-nil whole) b
 
 -- a list of fragments for each body, cut where the bodies are
 pub cut_placed : (xs ys : List (List ℕ)) (placed : List (List Fragment)) → xs ++ ys ≡ map fragments_bytes placed
@@ -330,7 +330,7 @@ nothing_placed : (placed : List (List Fragment)) (rs : List Record) {standing : 
 nothing_placed placed rs none s = cc (ap joined (sym none) ∙ s.order)
 
 -- bodies with an unfinished record become a cutting once its other fragments stand in bodies of their own
-unfinished_begins : (bodies : List (List ℕ)) (rs : List Record) (placed : List (List Fragment)) (p : Places placed bodies rs Within) → Begins bodies
+unfinished_begins : (bodies : List (List ℕ)) (rs : List Record) (placed : List (List Fragment)) (p : Places placed bodies rs Within) → BeginsCutting bodies
 unfinished_begins bodies rs placed p =
     let s = p.session_is in
     let u = s.behind_is in
@@ -363,7 +363,7 @@ unfinished_begins bodies rs placed p =
     }
 
 -- bodies that hold a session begin a cutting
-pub holds_begins : (bodies : List (List ℕ)) (rs : List Record) (standing : Standing) → Holds bodies rs standing → Begins bodies
+pub holds_begins : (bodies : List (List ℕ)) (rs : List Record) (standing : Standing) → Holds bodies rs standing → BeginsCutting bodies
 holds_begins bodies rs Between h = record {
   more = [];
   records = rs;
@@ -372,18 +372,18 @@ holds_begins bodies rs Between h = record {
   cuts = subst (λ l. Holds l rs Between) (sym (append-nil bodies)) h;
 }
 holds_begins bodies rs Within h = unfinished_begins bodies rs h.placed h.places
-holds_begins bodies rs Ended h = record {
+holds_begins bodies rs AtEnd h = record {
   more = [];
   records = rs;
   ended = true;
   some_there = (λ none. nothing_placed h.placed rs (placed_nothing h.placed (sym h.places.bytes_are ∙ none)) h.places.session_is);
-  cuts = subst (λ l. Holds l rs Ended) (sym (append-nil bodies)) h;
+  cuts = subst (λ l. Holds l rs AtEnd) (sym (append-nil bodies)) h;
 }
 
 front_cut : (xs ys : List (List ℕ)) (rs : List Record) (ended : Bool) → xs ≢ [] → Cuts (xs ++ ys) rs ended → HoldsFront xs rs
 front_cut xs ys rs false some c = holds_front xs ys rs Between some c
-front_cut xs ys rs true some c = holds_front xs ys rs Ended some c
+front_cut xs ys rs true some c = holds_front xs ys rs AtEnd some c
 
 -- and bodies that begin a cutting hold a session
-pub begins_holds : (bodies : List (List ℕ)) → (b : Begins bodies) → HoldsFront bodies b.records
+pub begins_holds : (bodies : List (List ℕ)) → (b : BeginsCutting bodies) → HoldsFront bodies b.records
 begins_holds bodies b = front_cut bodies b.more b.records b.ended b.some_there b.cuts

@@ -29,7 +29,7 @@ AreRecords (r ∷ rs) = IsRecord r × AreRecords rs
 pub data Standing : Type 0 where
   Between : Standing
   Within : Standing
-  Ended : Standing
+  AtEnd : Standing
 
 -- the first fragments of a record, but not all of them
 pub record Unfinished (fs : List Fragment) : Type 0 where
@@ -45,7 +45,7 @@ pub record Unfinished (fs : List Fragment) : Type 0 where
 abbrev pub Behind : List Record → Standing → List Fragment → Type 0
 Behind records Between fs = fs ≡ []
 Behind records Within fs = Unfinished fs
-Behind records Ended fs = (label : SessionLabel) × IsEnd label records × (fs ≡ session_label_fragment label ∷ [])
+Behind records AtEnd fs = (label : SessionLabel) × IsEnd label records × (fs ≡ session_label_fragment label ∷ [])
 
 -- the fragments of a session: a start label, those of its records in order, and what stands behind them
 pub record IsSession (fs : List Fragment) (records : List Record) (standing : Standing) : Type 0 where
@@ -81,10 +81,10 @@ pub record Holds (bodies : List (List ℕ)) (records : List Record) (standing : 
 -- a cutting of a list of records into bodies, with its end label or without
 abbrev pub Cuts : List (List ℕ) → List Record → Bool → Type 0
 Cuts bodies records false = Holds bodies records Between
-Cuts bodies records true = Holds bodies records Ended
+Cuts bodies records true = Holds bodies records AtEnd
 
 -- the bodies begin a cutting, and their start label is among them
-pub record Begins (bodies : List (List ℕ)) : Type 0 where
+pub record BeginsCutting (bodies : List (List ℕ)) : Type 0 where
   pub more : List (List ℕ)
   pub records : List Record
   pub ended : Bool
@@ -103,7 +103,7 @@ pub record HoldsFront (bodies : List (List ℕ)) (records : List Record) : Type 
 abbrev pub is_ended : Standing → Bool
 is_ended Between = false
 is_ended Within = false
-is_ended Ended = true
+is_ended AtEnd = true
 
 -- the records all of whose data are in the bodies, in order, and whether the end label is there
 abbrev pub WholeOf : List (List ℕ) → List Record → Bool → Type 0
@@ -154,7 +154,7 @@ FrontHoldsFront = (xs ys : List (List ℕ)) (records : List Record) (standing : 
 
 -- to hold a session is to begin a cutting
 abbrev pub HoldingBeginsACutting : Type 0
-HoldingBeginsACutting = (bodies : List (List ℕ)) (records : List Record) (standing : Standing) → Holds bodies records standing → Begins bodies
+HoldingBeginsACutting = (bodies : List (List ℕ)) (records : List Record) (standing : Standing) → Holds bodies records standing → BeginsCutting bodies
 
 abbrev pub BeginningHolds : Type 0
-BeginningHolds = (bodies : List (List ℕ)) → (begins : Begins bodies) → HoldsFront bodies begins.records
+BeginningHolds = (bodies : List (List ℕ)) → (begins : BeginsCutting bodies) → HoldsFront bodies begins.records

@@ -4,8 +4,8 @@ use Rattle.std.proofs.Math.Seq.{drop-length, take-length, take-nil}
 use Rattle.std.proofs.lemmas.List.{drop-append-le, take-append-le, take-append-drop, length-take, take_all}
 use Rattle.std.proofs.lemmas.Option.{slice_get_read}
 use Rattle.std.specs.Str.{bytes_eq}
-use Rattle.sd_driver.specs.Shelf.{Held, stable_bytes, Begins, OtherShelf, Passes, KeepsStable, KeepsStableTo, Creates, Changes}
-use Rattle.sd_driver.proofs.Lasting.{Begins-same, Begins-own_take}
+use Rattle.sd_driver.specs.Shelf.{Held, stable_bytes, BeginsWith, OtherShelf, Passes, KeepsStable, KeepsStableTo, Creates, Changes}
+use Rattle.sd_driver.proofs.Lasting.{BeginsWith-same, BeginsWith-own_take}
 use Rattle.sd_memdrive.specs.declared.record.Change.{Change}
 use Rattle.sd_memdrive.specs.Volumes.{Volume, volume_of, IsPlaceOf, SameNames}
 use Rattle.sd_memdrive.specs.Record.{undo_change, undo, shelf_of}
@@ -82,22 +82,22 @@ changes_set vs cs cs' name place v v' step at read named made =
 -- no stable byte is lost by another volume in a place that has them
 pub keeps_set : (vs : List Volume) (cs cs' : List Change) (name : List ℕ) (place : ℕ) (v v' : Volume)
     → IsPlaceOf name vs place → v ≡ get_or vs place v → v'.name ≡ v.name
-    → Begins (take v'.held.stable v'.held.bytes) (take v.held.stable v.held.bytes)
+    → BeginsWith (take v'.held.stable v'.held.bytes) (take v.held.stable v.held.bytes)
     → KeepsStable (shelf_of vs cs) (shelf_of (slice_set vs place v') cs')
 keeps_set vs cs cs' name place v v' at read named begins =
     let was = read_at vs name place v at read in
     let is = volume_of-set name vs place v' at (named ∙ was.0) in
     λ other. elim (name_cases other name) [
       | inl same ↦ (
-          let P : List ℕ → Type 0 = λ n. Begins (stable_bytes (volume_of (slice_set vs place v') n)) (stable_bytes (volume_of vs n)) in
+          let P : List ℕ → Type 0 = λ n. BeginsWith (stable_bytes (volume_of (slice_set vs place v') n)) (stable_bytes (volume_of vs n)) in
           subst P (sym same) (rw (is, was.1) begins))
-      | inr o ↦ Begins-same _ _ (ap stable_bytes (volume_of-set_other name other vs place v' at (named ∙ was.0) o))
+      | inr o ↦ BeginsWith-same _ _ (ap stable_bytes (volume_of-set_other name other vs place v' at (named ∙ was.0) o))
     ]
 
 -- none is lost below `to`
 pub keeps_to_set : (vs : List Volume) (cs cs' : List Change) (name : List ℕ) (place to : ℕ) (v v' : Volume)
     → IsPlaceOf name vs place → v ≡ get_or vs place v → v'.name ≡ v.name
-    → Begins (take v'.held.stable v'.held.bytes) (take to (take v.held.stable v.held.bytes))
+    → BeginsWith (take v'.held.stable v'.held.bytes) (take to (take v.held.stable v.held.bytes))
     → KeepsStableTo to (Some name) (shelf_of vs cs) (shelf_of (slice_set vs place v') cs')
 keeps_to_set vs cs cs' name place to v v' at read named begins =
     let was = read_at vs name place v at read in
@@ -105,13 +105,13 @@ keeps_to_set vs cs cs' name place to v v' at read named begins =
     record {
       front = λ other. elim (name_cases other name) [
         | inl same ↦ (
-            let P : List ℕ → Type 0 = λ n. Begins (stable_bytes (volume_of (slice_set vs place v') n)) (take to (stable_bytes (volume_of vs n))) in
+            let P : List ℕ → Type 0 = λ n. BeginsWith (stable_bytes (volume_of (slice_set vs place v') n)) (take to (stable_bytes (volume_of vs n))) in
             subst P (sym same) (rw (is, was.1) begins))
         | inr o ↦ (
-            let P : List ℕ → Type 0 = λ x. Begins x (take to (stable_bytes (volume_of vs other))) in
-            subst P (sym (ap stable_bytes (volume_of-set_other name other vs place v' at (named ∙ was.0) o))) (Begins-own_take (stable_bytes (volume_of vs other)) to))
+            let P : List ℕ → Type 0 = λ x. BeginsWith x (take to (stable_bytes (volume_of vs other))) in
+            subst P (sym (ap stable_bytes (volume_of-set_other name other vs place v' at (named ∙ was.0) o))) (BeginsWith-own_take (stable_bytes (volume_of vs other)) to))
       ];
-      others = λ n other. Begins-same _ _ (ap stable_bytes (volume_of-set_other name n vs place v' at (named ∙ was.0) (λ e. other (ap (λ x. Some x) (sym e)))));
+      others = λ n other. BeginsWith-same _ _ (ap stable_bytes (volume_of-set_other name n vs place v' at (named ∙ was.0) (λ e. other (ap (λ x. Some x) (sym e)))));
     }
 
 -- a volume of a new name at the end, with such an entry
@@ -134,7 +134,7 @@ stable_none vs v other name none named empty = elim (name_cases other name) [
 
 pub keeps_push : (vs : List Volume) (cs cs' : List Change) (name : List ℕ) (v : Volume)
     → volume_of vs name ≡ None → v.name ≡ name → v.held.stable ≡ 0 → KeepsStable (shelf_of vs cs) (shelf_of (vs ++ v ∷ []) cs')
-keeps_push vs cs cs' name v none named empty = λ other. Begins-same _ _ (stable_none vs v other name none named empty)
+keeps_push vs cs cs' name v none named empty = λ other. BeginsWith-same _ _ (stable_none vs v other name none named empty)
 
 pub passes_push : (vs : List Volume) (cs : List Change) (name : List ℕ) (v : Volume) (c : Change)
     → volume_of vs name ≡ None → v.name ≡ name → v.held.stable ≡ 0 → c.name ≡ name → c.stable ≡ 0
@@ -157,16 +157,16 @@ stable-append stable bytes more within = ap (take stable) (append-nil _) ∙ ap 
     take_twice : (n : ℕ) (xs : List ℕ) → take n (take n xs) ≡ take n xs
     take_twice n xs = take_all n (take n xs) (omega (arith, length-take n xs))
 
-pub begins-append : (stable : ℕ) (bytes more : List ℕ) → stable ≤ length bytes → Begins (take stable (bytes ++ more)) (take stable bytes)
-begins-append stable bytes more within = Begins-same _ _ (take-append-le stable bytes more within)
+pub begins-append : (stable : ℕ) (bytes more : List ℕ) → stable ≤ length bytes → BeginsWith (take stable (bytes ++ more)) (take stable bytes)
+begins-append stable bytes more within = BeginsWith-same _ _ (take-append-le stable bytes more within)
 
 pub stable-sync : (stable : ℕ) (bytes : List ℕ) → take stable (take (length bytes) bytes ++ []) ≡ take stable bytes
 stable-sync stable bytes = ap (take stable) (append-nil _ ∙ take-length bytes)
 
-pub begins-sync : (stable : ℕ) (bytes : List ℕ) → Begins (take (length bytes) bytes) (take stable bytes)
+pub begins-sync : (stable : ℕ) (bytes : List ℕ) → BeginsWith (take (length bytes) bytes) (take stable bytes)
 begins-sync stable bytes =
-    let P : List ℕ → Type 0 = λ x. Begins x (take stable bytes) in
-    subst P (sym (take-length bytes)) (Begins-own_take bytes stable)
+    let P : List ℕ → Type 0 = λ x. BeginsWith x (take stable bytes) in
+    subst P (sym (take-length bytes)) (BeginsWith-own_take bytes stable)
 
 take_both : (a b : ℕ) (xs : List ℕ) → take a (take b xs) ≡ take (min b a) xs
 take_both zero b xs = let e : zero ≡ min b zero = omega arith in ap (λ q. take q xs) e
@@ -190,8 +190,8 @@ stable-cut to stable bytes =
     ∙ ap (take stable) (take-append-drop to (take stable bytes))
     ∙ take_all stable (take stable bytes) (omega (arith, length-take stable bytes))
 
-pub begins-cut : (to stable : ℕ) (bytes : List ℕ) → Begins (take (min to stable) (take to bytes)) (take to (take stable bytes))
-begins-cut to stable bytes = Begins-same _ _ (take_cut to stable bytes)
+pub begins-cut : (to stable : ℕ) (bytes : List ℕ) → BeginsWith (take (min to stable) (take to bytes)) (take to (take stable bytes))
+begins-cut to stable bytes = BeginsWith-same _ _ (take_cut to stable bytes)
 
 -- all that a step of one volume does
 pub record Taken (step : Held → Held → Type 0) (name : List ℕ) (vs vs' : List Volume) (cs cs' : List Change) : Type 0 where

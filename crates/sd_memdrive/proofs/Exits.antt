@@ -1,8 +1,8 @@
 -- What a call leaves that did nothing, or that did its work and then failed.
 use Rattle.std.proofs.Common.{◌≡◌, ◌≤◌, ℕ, List, [], take, drop, min, Option, ap, sym, ◌∙◌, subst, append-nil, arith}
 use Rattle.std.proofs.lemmas.List.{take-append-drop}
-use Rattle.sd_driver.proofs.Lasting.{Begins-same, Begins-own_take}
-use Rattle.sd_driver.specs.Shelf.{Held, Shelf, SameShelf, KeepsStableTo, Begins, stable_bytes, Changes, Appends, MayAppend, Cuts, MayCut}
+use Rattle.sd_driver.proofs.Lasting.{BeginsWith-same, BeginsWith-own_take}
+use Rattle.sd_driver.specs.Shelf.{Held, Shelf, SameShelf, KeepsStableTo, BeginsWith, stable_bytes, Changes, Appends, MayAppend, Truncates, MayTruncate}
 
 -- nothing happened
 
@@ -15,7 +15,7 @@ may_same step loaded old new stays same = record {
 pub may_append_same : (loaded : Option (List ℕ)) (old new : Shelf) → SameShelf old new → MayAppend loaded old new
 may_append_same loaded old new same = may_same _ loaded old new (λ held. ([], ap (λ (x : List ℕ). record { bytes = x; stable = held.stable }) (sym (append-nil held.bytes)))) same
 
-pub may_cut_same : (to : ℕ) (loaded : Option (List ℕ)) (old new : Shelf) → SameShelf old new → MayCut to loaded old new
+pub may_cut_same : (to : ℕ) (loaded : Option (List ℕ)) (old new : Shelf) → SameShelf old new → MayTruncate to loaded old new
 may_cut_same to loaded old new same = may_same _ loaded old new (λ held. (drop to held.bytes, sym (take-append-drop to held.bytes), omega arith)) same
 
 -- the work was done
@@ -29,7 +29,7 @@ may_done step may loaded old new then changes = record {
 pub may_append_done : (more : List ℕ) (loaded : Option (List ℕ)) (old new : Shelf) → Appends more loaded old new → MayAppend loaded old new
 may_append_done more loaded old new done = may_done _ _ loaded old new (λ held after e. (more, e)) done
 
-pub may_cut_done : (to : ℕ) (loaded : Option (List ℕ)) (old new : Shelf) → Cuts to loaded old new → MayCut to loaded old new
+pub may_cut_done : (to : ℕ) (loaded : Option (List ℕ)) (old new : Shelf) → Truncates to loaded old new → MayTruncate to loaded old new
 may_cut_done to loaded old new done =
     may_done _ _ loaded old new
     (λ held after e. ([], ap (λ (h : Held). h.bytes) e ∙ sym (append-nil (take to held.bytes)), least held after (ap (λ (h : Held). h.stable) e))) done
@@ -41,6 +41,6 @@ may_cut_done to loaded old new done =
 
 pub keeps_to_same : (to : ℕ) (loaded : Option (List ℕ)) (old new : Shelf) → SameShelf old new → KeepsStableTo to loaded old new
 keeps_to_same to loaded old new same = record {
-  front = λ name. (let P : List ℕ → Type 0 = λ x. Begins x (take to (stable_bytes (old.volume name))) in subst P (sym (ap stable_bytes (same name))) (Begins-own_take (stable_bytes (old.volume name)) to));
-  others = λ name o. Begins-same _ _ (ap stable_bytes (same name));
+  front = λ name. (let P : List ℕ → Type 0 = λ x. BeginsWith x (take to (stable_bytes (old.volume name))) in subst P (sym (ap stable_bytes (same name))) (BeginsWith-own_take (stable_bytes (old.volume name)) to));
+  others = λ name o. BeginsWith-same _ _ (ap stable_bytes (same name));
 }

@@ -3,7 +3,7 @@ use Rattle.std.proofs.Common.{◌≡◌, ◌≢◌, ℕ, zero, suc, inl, inr, Is
 use Rattle.std.specs.List.{filter_map, cons_option}
 use Rattle.std.proofs.Math.Seq.{take-append_seam}
 use Rattle.std.proofs.lemmas.List.{take_rest}
-use Rattle.sd_driver.specs.Shelf.{Held, Shelf, stable_bytes, Begins, AfterStop}
+use Rattle.sd_driver.specs.Shelf.{Held, Shelf, stable_bytes, BeginsWith, AfterStop}
 use Rattle.sd_memdrive.specs.declared.record.Change.{Change}
 use Rattle.sd_memdrive.specs.Volumes.{Volume, volume_of, names_differ, IsPlaceOf}
 use Rattle.sd_memdrive.specs.Record.{undo_change, undo, shelf_of, left_of, left_volume, NoneWithout}
@@ -103,7 +103,7 @@ stable_bytes-left (b ∷ kept) tail = take-append_seam (b ∷ kept) tail
 
 pub AfterStop-left : (calls : ℕ) (shelf left : Shelf) (tail : List ℕ) → calls ≤ shelf.moment → ((name : List ℕ) → left.volume name ≡ left_of (shelf.kept calls name) tail) → AfterStop calls shelf left
 AfterStop-left calls shelf left tail within is = λ name bytes lasts.
-    let P : List ℕ → Type 0 = λ x. Begins x bytes in
+    let P : List ℕ → Type 0 = λ x. BeginsWith x bytes in
     subst P (sym (ap stable_bytes (is name) ∙ stable_bytes-left (shelf.kept calls name) tail)) (lasts.before calls (omega arith) within)
 
 -- the entry of a step in a place, or of a volume at the end, accounts for the new bytes

@@ -1,6 +1,6 @@
 // The volumes of a drive, and the record of what changed them.
 ghost use Rattle.std.specs.Prelude.{◌≡◌, ◌≢◌, ◌+◌, ◌≤◌, ◌<◌, length, [], IfOk, None, Some, OnOk, OnErr, OnSome, IsSome, IfSome, IsTrue, MatchOption, vec_len, vec_capacity};
-ghost use Rattle.sd_driver.specs.Shelf.{SameShelf, Passes, KeepsStable, KeepsStableTo, Creates, Appends, Syncs, MaySync, Cuts};
+ghost use Rattle.sd_driver.specs.Shelf.{SameShelf, Passes, KeepsStable, KeepsStableTo, Creates, Appends, Syncs, MaySync, Truncates};
 ghost use Rattle.sd_memdrive.specs.Record.{NoneWithout};
 ghost use Rattle.sd_memdrive.specs.Volumes.{volume_of, IsPlaceOf, names_differ, unsynced, SameNames};
 
@@ -137,7 +137,7 @@ impl Store {
         requires { IsPlaceOf name.now self.old.volumes.items place }
         ensures passes { Passes (store_shelf self.old) (store_shelf self.new) }
         ensures stable { KeepsStableTo to (Some name.now) (store_shelf self.old) (store_shelf self.new) }
-        ensures ok { OnOk result (Cuts to (Some name.now) (store_shelf self.old) (store_shelf self.new)) }
+        ensures ok { OnOk result (Truncates to (Some name.now) (store_shelf self.old) (store_shelf self.new)) }
         ensures err { OnErr result (SameShelf (store_shelf self.old) (store_shelf self.new)) }
         ensures names { SameNames self.old.volumes.items self.new.volumes.items }
     {

@@ -3,7 +3,7 @@ use Rattle.std.proofs.Common.{◌≡◌, ◌≢◌, ℕ, zero, suc, ◌<◌, ref
 use Rattle.std.proofs.lemmas.List.{append-nil}
 use Rattle.std.proofs.lemmas.Grind.{flat_map-append}
 use Rattle.sd_record.specs.Fragment.{Fragment, fragment_bytes, fragments_bytes}
-use Rattle.sd_pack.specs.Body.{PackedBody, file_index, first_nonzero, first_index, last_index, body_of, with_fragment, empty_body}
+use Rattle.sd_pack.specs.Body.{PackedBody, file_index, first_nonzero, first_file_index, last_file_index, body_of, with_fragment, empty_body}
 use Rattle.sd_pack.specs.Packing.{bytes_of, all_bytes, unless_empty}
 use Rattle.sd_pack.specs.Putting.{bodies_alone}
 
@@ -23,17 +23,17 @@ first_nonzero_assoc : (x y z : ℕ) → first_nonzero (first_nonzero x y) z ≡ 
 first_nonzero_assoc zero y z = refl
 first_nonzero_assoc (suc x) y z = refl
 
-first_index-push : (fs : List Fragment) (f : Fragment) → first_index (fs ++ f ∷ []) ≡ first_nonzero (first_index fs) (file_index f.index)
-first_index-push [] f = first_nonzero-zero (file_index f.index)
-first_index-push (g ∷ fs) f =
-    ap (first_nonzero (file_index g.index)) (first_index-push fs f)
-    ∙ sym (first_nonzero_assoc (file_index g.index) (first_index fs) (file_index f.index))
+first_file_index-push : (fs : List Fragment) (f : Fragment) → first_file_index (fs ++ f ∷ []) ≡ first_nonzero (first_file_index fs) (file_index f.index)
+first_file_index-push [] f = first_nonzero-zero (file_index f.index)
+first_file_index-push (g ∷ fs) f =
+    ap (first_nonzero (file_index g.index)) (first_file_index-push fs f)
+    ∙ sym (first_nonzero_assoc (file_index g.index) (first_file_index fs) (file_index f.index))
 
-last_index-push : (fs : List Fragment) (f : Fragment) → last_index (fs ++ f ∷ []) ≡ first_nonzero (file_index f.index) (last_index fs)
-last_index-push [] f = sym (first_nonzero-zero (file_index f.index))
-last_index-push (g ∷ fs) f =
-    ap (λ n. first_nonzero n (file_index g.index)) (last_index-push fs f)
-    ∙ first_nonzero_assoc (file_index f.index) (last_index fs) (file_index g.index)
+last_file_index-push : (fs : List Fragment) (f : Fragment) → last_file_index (fs ++ f ∷ []) ≡ first_nonzero (file_index f.index) (last_file_index fs)
+last_file_index-push [] f = sym (first_nonzero-zero (file_index f.index))
+last_file_index-push (g ∷ fs) f =
+    ap (λ n. first_nonzero n (file_index g.index)) (last_file_index-push fs f)
+    ∙ first_nonzero_assoc (file_index f.index) (last_file_index fs) (file_index g.index)
 
 pub fragments_bytes-push : (fs : List Fragment) (f : Fragment) → fragments_bytes (fs ++ f ∷ []) ≡ fragments_bytes fs ++ fragment_bytes f
 fragments_bytes-push fs f =
@@ -46,7 +46,7 @@ same_body a b e f l =
 
 pub body_of-push : (fs : List Fragment) (f : Fragment) → body_of (fs ++ f ∷ []) ≡ with_fragment (body_of fs) f
 body_of-push fs f =
-    same_body (body_of (fs ++ f ∷ [])) (with_fragment (body_of fs) f) (fragments_bytes-push fs f) (first_index-push fs f) (last_index-push fs f)
+    same_body (body_of (fs ++ f ∷ [])) (with_fragment (body_of fs) f) (fragments_bytes-push fs f) (first_file_index-push fs f) (last_file_index-push fs f)
 
 pub body_of-one : (f : Fragment) → body_of (f ∷ []) ≡ with_fragment empty_body f
 body_of-one f = body_of-push [] f

@@ -5,7 +5,7 @@ use Rattle.sd_base.specs.Record.{Record}
 use Rattle.sd_record.specs.Fragment.{Fragment, fragments_bytes}
 use Rattle.sd_label.specs.declared.label.SessionLabel.{SessionLabel}
 use Rattle.sd_label.specs.Label.{session_label_fragment, session_label_bytes}
-use Rattle.sd_label.specs.Cutting.{Between, Ended, IsStart, IsEnd, IsSession, joined}
+use Rattle.sd_label.specs.Cutting.{Between, AtEnd, IsStart, IsEnd, IsSession, joined}
 use Rattle.sd_label.proofs.LabelLemmas.{IsFragment-session_label}
 use Rattle.sd_pack.specs.Body.{PackedBody, with_fragment, empty_body}
 use Rattle.sd_pack.specs.Packing.{Packs}
@@ -24,7 +24,7 @@ packs_start room label start fits =
 
 -- behind the records' fragments comes the end label
 ended : (fs gs : List Fragment) (records : List Record) (label : SessionLabel) → IsSession fs records Between → IsEnd label records
-    → gs ≡ fs ++ session_label_fragment label ∷ [] → IsSession gs records Ended
+    → gs ≡ fs ++ session_label_fragment label ∷ [] → IsSession gs records AtEnd
 ended fs gs records label s is more =
     let f = session_label_fragment label in
     record {
@@ -40,25 +40,25 @@ ended fs gs records label s is more =
 
 end_last : (room : ℕ) (front : List PackedBody) (body : PackedBody) (records : List Record) (label : SessionLabel) → IsEnd label records
     → length body.bytes + length (session_label_bytes label) ≤ room → Packs room (front ++ body ∷ []) records Between
-    → Packs room (front ++ with_fragment body (session_label_fragment label) ∷ []) records Ended
+    → Packs room (front ++ with_fragment body (session_label_fragment label) ∷ []) records AtEnd
 end_last room front body records label is fits packs =
     let p = packs_between room front body records packs in
     let f = session_label_fragment label in
     let old : length body.bytes ≡ length (fragments_bytes p.last) = ap (λ b. length b.bytes) p.body_is in
-    packs_placed room (front ++ with_fragment body f ∷ []) records Ended (p.lists ++ (p.last ++ f ∷ []) ∷ [])
+    packs_placed room (front ++ with_fragment body f ∷ []) records AtEnd (p.lists ++ (p.last ++ f ∷ []) ∷ [])
     (bodies-last p.lists p.last front body f p.front_is p.body_is)
     (placed_last room p.lists p.last f p.placed (last_whole p.lists p.last records p.session) (IsFragment-session_label label is.label_is) (omega arith))
     (ended (joined (p.lists ++ p.last ∷ [])) (joined (p.lists ++ (p.last ++ f ∷ []) ∷ [])) records label p.session is (joined-last p.lists p.last f))
 
 end_behind : (room : ℕ) (front : List PackedBody) (body : PackedBody) (records : List Record) (label : SessionLabel) → IsEnd label records
     → room < length body.bytes + length (session_label_bytes label) → length (session_label_bytes label) ≤ room → Packs room (front ++ body ∷ []) records Between
-    → Packs room ((front ++ body ∷ []) ++ with_fragment empty_body (session_label_fragment label) ∷ []) records Ended
+    → Packs room ((front ++ body ∷ []) ++ with_fragment empty_body (session_label_fragment label) ∷ []) records AtEnd
 end_behind room front body records label is narrow fits packs =
     let p = packs_between room front body records packs in
     let f = session_label_fragment label in
     let old : length body.bytes ≡ length (fragments_bytes p.last) = ap (λ b. length b.bytes) p.body_is in
     let whole = last_whole p.lists p.last records p.session in
-    packs_placed room ((front ++ body ∷ []) ++ with_fragment empty_body f ∷ []) records Ended ((p.lists ++ p.last ∷ []) ++ (f ∷ []) ∷ [])
+    packs_placed room ((front ++ body ∷ []) ++ with_fragment empty_body f ∷ []) records AtEnd ((p.lists ++ p.last ∷ []) ++ (f ∷ []) ∷ [])
     (ap (λ b. (front ++ body ∷ []) ++ b ∷ []) (sym (body_of-one f)) ∙ bodies-behind (p.lists ++ p.last ∷ []) (front ++ body ∷ []) f (bodies_and_last p.lists p.last front body p.front_is p.body_is))
     (placed_behind room p.lists p.last f p.placed (record { going_on = (λ more. absurd (whole more)); else_closed = (λ none. inr (label, refl, omega arith)) }) (IsFragment-session_label label is.label_is) fits)
     (ended (joined (p.lists ++ p.last ∷ [])) (joined ((p.lists ++ p.last ∷ []) ++ (f ∷ []) ∷ [])) records label p.session is (joined-behind (p.lists ++ p.last ∷ []) f))
@@ -66,16 +66,16 @@ end_behind room front body records label is narrow fits packs =
 -- an end label in the open body, or behind it
 pub ends_in : (room : ℕ) (taken waiting : List PackedBody) (body : PackedBody) (records : List Record) (label : SessionLabel) → IsEnd label records
     → length body.bytes + length (session_label_bytes label) ≤ room → Packs room (taken ++ (waiting ++ body ∷ [])) records Between
-    → Packs room (taken ++ (waiting ++ with_fragment body (session_label_fragment label) ∷ [])) records Ended
+    → Packs room (taken ++ (waiting ++ with_fragment body (session_label_fragment label) ∷ [])) records AtEnd
 ends_in room taken waiting body records label is fits packs =
     let f = session_label_fragment label in
-    subst (λ l. Packs room l records Ended) (append_assoc taken waiting (with_fragment body f ∷ []))
+    subst (λ l. Packs room l records AtEnd) (append_assoc taken waiting (with_fragment body f ∷ []))
     (end_last room (taken ++ waiting) body records label is fits (subst (λ l. Packs room l records Between) (sym (append_assoc taken waiting (body ∷ []))) packs))
 
 pub ends_behind : (room : ℕ) (taken waiting : List PackedBody) (body : PackedBody) (records : List Record) (label : SessionLabel) → IsEnd label records
     → room < length body.bytes + length (session_label_bytes label) → length (session_label_bytes label) ≤ room → Packs room (taken ++ (waiting ++ body ∷ [])) records Between
-    → Packs room (taken ++ ((waiting ++ body ∷ []) ++ with_fragment empty_body (session_label_fragment label) ∷ [])) records Ended
+    → Packs room (taken ++ ((waiting ++ body ∷ []) ++ with_fragment empty_body (session_label_fragment label) ∷ [])) records AtEnd
 ends_behind room taken waiting body records label is narrow fits packs =
     let next = with_fragment empty_body (session_label_fragment label) in
-    subst (λ l. Packs room l records Ended) (ap (λ l. l ++ next ∷ []) (append_assoc taken waiting (body ∷ [])) ∙ append_assoc taken (waiting ++ body ∷ []) (next ∷ []))
+    subst (λ l. Packs room l records AtEnd) (ap (λ l. l ++ next ∷ []) (append_assoc taken waiting (body ∷ [])) ∙ append_assoc taken (waiting ++ body ∷ []) (next ∷ []))
     (end_behind room (taken ++ waiting) body records label is narrow fits (subst (λ l. Packs room l records Between) (sym (append_assoc taken waiting (body ∷ []))) packs))

@@ -29,18 +29,18 @@ first_nonzero zero y = y
 first_nonzero (suc x) y = suc x
 
 -- the first FileIndex among fragments, 0 if none
-abbrev pub first_index : List Fragment → ℕ
-first_index [] = 0
-first_index (f ∷ fs) = first_nonzero (file_index f.index) (first_index fs)
+abbrev pub first_file_index : List Fragment → ℕ
+first_file_index [] = 0
+first_file_index (f ∷ fs) = first_nonzero (file_index f.index) (first_file_index fs)
 
 -- the last FileIndex among fragments, 0 if none
-abbrev pub last_index : List Fragment → ℕ
-last_index [] = 0
-last_index (f ∷ fs) = first_nonzero (last_index fs) (file_index f.index)
+abbrev pub last_file_index : List Fragment → ℕ
+last_file_index [] = 0
+last_file_index (f ∷ fs) = first_nonzero (last_file_index fs) (file_index f.index)
 
 -- the body of these fragments
 abbrev pub body_of : List Fragment → PackedBody
-body_of fs = record { bytes = fragments_bytes fs; first = first_index fs; last = last_index fs }
+body_of fs = record { bytes = fragments_bytes fs; first = first_file_index fs; last = last_file_index fs }
 
 -- a body with one fragment more
 abbrev pub with_fragment : PackedBody → Fragment → PackedBody

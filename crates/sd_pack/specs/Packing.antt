@@ -5,7 +5,7 @@ use Rattle.sd_base.specs.Record.{Record}
 use Rattle.sd_record.specs.Fragment.{Fragment, fragments_bytes, Fragments}
 use Rattle.sd_label.specs.declared.label.SessionLabel.{SessionLabel}
 use Rattle.sd_label.specs.Label.{session_label_bytes}
-use Rattle.sd_label.specs.Cutting.{Standing, Between, Ended, IsEnd, Places, AreTight, Holds, HoldsTightly}
+use Rattle.sd_label.specs.Cutting.{Standing, Between, AtEnd, IsEnd, Places, AreTight, Holds, HoldsTightly}
 use Rattle.sd_pack.specs.Body.{PackedBody, body_of}
 
 -- the most bytes of a body, the closed bodies that wait, and the open body, which has no bytes where none is open
@@ -57,7 +57,7 @@ PacksRecord old new r = (taken : List PackedBody) (records : List Record)
 abbrev pub PacksEnd : PackerView → PackerView → SessionLabel → Type 0
 PacksEnd old new label = (taken : List PackedBody) (records : List Record) → IsEnd label records
     → Packs old.room (taken ++ bodies_of old) records Between
-    → Packs new.room (taken ++ bodies_of new) records Ended
+    → Packs new.room (taken ++ bodies_of new) records AtEnd
 
 -- all bytes stay, and the record's fragments come behind them
 pub record AddsRecord (old new : PackerView) (r : Record) : Type 0 where

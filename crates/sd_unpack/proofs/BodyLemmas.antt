@@ -7,7 +7,7 @@ use Rattle.sd_base.specs.Record.{Record}
 use Rattle.sd_record.specs.Fragment.{Fragment, fragment_bytes, fragments_bytes, IsFragment, GoesOn, FitTogether}
 use Rattle.sd_record.proofs.FragmentLemmas.{fragment_apart, never_empty}
 use Rattle.sd_record.proofs.RecordLemmas.{first_same, rest_same}
-use Rattle.sd_label.specs.Cutting.{Standing, Between, Within, Ended, AreBodies, joined, IsSession, Places, Holds}
+use Rattle.sd_label.specs.Cutting.{Standing, Between, Within, AtEnd, AreBodies, joined, IsSession, Places, Holds}
 use Rattle.sd_label.proofs.CuttingLemmas.{AreBodies-append, AreBodies-front, cut_placed, placed_apart, front_nil, holds_one}
 use Rattle.sd_unpack.specs.declared.damage.Damage.{Damage}
 use Rattle.sd_unpack.specs.declared.stage.Stage.{Stage}
@@ -147,7 +147,7 @@ reached_session (Partway due) fs records so_far standing r e = let same : Within
   behind_is = opens_unfinished r.behind due so_far r.behind_is;
 })
 reached_session Closed fs records so_far standing r e =
-    let same : Ended ≡ standing = cc e in subst (IsSession fs records) same r
+    let same : AtEnd ≡ standing = cc e in subst (IsSession fs records) same r
 
 pub unpacked_whole : UnpackedAreWhole
 unpacked_whole bodies taken view standing u e = record {
@@ -173,10 +173,10 @@ stage_of (Partway due) bodies records taken view standing is u h =
     let one = holds_one bodies records (taken ++ view.ready) standing Within h (unpacked_whole bodies taken view Within u (ap standing_at is)) in
     (one.0, ap (λ s. Some s) (sym one.1))
 stage_of Closed bodies records taken view standing is u h =
-    let one = holds_one bodies records (taken ++ view.ready) standing Ended h (unpacked_whole bodies taken view Ended u (ap standing_at is)) in
+    let one = holds_one bodies records (taken ++ view.ready) standing AtEnd h (unpacked_whole bodies taken view AtEnd u (ap standing_at is)) in
     (one.0, ap (λ s. Some s) (sym one.1))
 
-closed_of : (stage : Stage) → standing_at stage ≡ Some Ended → stage ≡ Closed
+closed_of : (stage : Stage) → standing_at stage ≡ Some AtEnd → stage ≡ Closed
 closed_of Fresh e = absurd (cc e)
 closed_of Whole e = absurd (cc e)
 closed_of (Partway due) e = absurd (cc e)
@@ -185,5 +185,5 @@ closed_of Closed e = refl
 pub cutting_unpacked : CuttingIsUnpacked
 cutting_unpacked bodies records taken view u = (
   (λ h. (stage_of view.stage bodies records taken view Between refl u h).0),
-  (λ h. let s = stage_of view.stage bodies records taken view Ended refl u h in (s.0, closed_of view.stage s.1)),
+  (λ h. let s = stage_of view.stage bodies records taken view AtEnd refl u h in (s.0, closed_of view.stage s.1)),
 )

@@ -7,7 +7,7 @@ use Rattle.sd_record.specs.Fragment.{Fragment, BeginsData, Continue, Fragments, 
 use Rattle.sd_record.proofs.RecordLemmas.{first_same, rest_same, fragments_of_one}
 use Rattle.sd_label.specs.declared.label.SessionLabel.{SessionLabel}
 use Rattle.sd_label.specs.Label.{session_label_fragment}
-use Rattle.sd_label.specs.Cutting.{Standing, Between, Within, Ended, Unfinished, Behind, IsEnd, AreRecords, IsSession}
+use Rattle.sd_label.specs.Cutting.{Standing, Between, Within, AtEnd, Unfinished, Behind, IsEnd, AreRecords, IsSession}
 use Rattle.sd_label.proofs.CuttingLemmas.{behind_no_record, label_is_no_record, fronts, front_nil}
 use Rattle.sd_unpack.specs.declared.stage.Due.{Due}
 use Rattle.sd_unpack.specs.Stage.{due_record, Opens, IsPartway}
@@ -77,7 +77,7 @@ next_of all records [] Between parts behind f fs split are c b e =
 next_of all records [] Within parts behind f fs split are c b e =
     inl (begins_first b.unfinished (behind ++ b.remaining) f (fs ++ b.remaining) [] b.record_is b.fragments_are
     (ap (λ l. l ++ b.remaining) (e ∙ ap (λ l. l ++ behind) c) ∙ sym (append-nil (behind ++ b.remaining))))
-next_of all records [] Ended parts behind f fs split are c b e =
+next_of all records [] AtEnd parts behind f fs split are c b e =
     inr (b.0, subst (IsEnd b.0) (split ∙ append-nil records) b.1, first_same f (session_label_fragment b.0) fs [] (e ∙ ap (λ l. l ++ behind) c ∙ b.2))
 
 -- two sessions of which one begins the other agree behind the start label
@@ -193,7 +193,7 @@ next_due all [] Within parts behind' behind due so_far f fs opens c b e =
     let whole : behind' ++ b.remaining ≡ behind ++ f ∷ (fs ++ b.remaining) =
     ap (λ l. l ++ b.remaining) (sym (e ∙ ap (λ l. l ++ behind') c)) ∙ append_assoc behind (f ∷ fs) b.remaining in
     opens_next behind due so_far b.unfinished f (fs ++ b.remaining) opens (subst (Fragments b.unfinished) whole b.fragments_are)
-next_due all [] Ended parts behind' behind due so_far f fs opens c b e =
+next_due all [] AtEnd parts behind' behind due so_far f fs opens c b e =
     absurd (label_alone behind f fs b.0 (opens_unfinished behind due so_far opens) (e ∙ ap (λ l. l ++ behind') c ∙ b.2))
 
 -- behind a record's first fragments stands one that goes on with it
@@ -217,11 +217,11 @@ none_after all [] Between parts behind label f fs are c b e = cc (e ∙ ap (λ l
 none_after all [] Within parts behind label f fs are c b e =
     label_begins_none label (begins_first b.unfinished (behind ++ b.remaining) (session_label_fragment label) ((f ∷ fs) ++ b.remaining) [] b.record_is b.fragments_are
     (ap (λ l. l ++ b.remaining) (e ∙ ap (λ l. l ++ behind) c) ∙ sym (append-nil (behind ++ b.remaining))))
-none_after all [] Ended parts behind label f fs are c b e =
+none_after all [] AtEnd parts behind label f fs are c b e =
     cc (rest_same (session_label_fragment label) (session_label_fragment b.0) (f ∷ fs) [] (e ∙ ap (λ l. l ++ behind) c ∙ b.2))
 
 -- behind the end label stands nothing
-pub next_closed : (fs : List Fragment) (records records' : List Record) (standing : Standing) (f : Fragment) (more : List Fragment) → IsSession fs records Ended
+pub next_closed : (fs : List Fragment) (records records' : List Record) (standing : Standing) (f : Fragment) (more : List Fragment) → IsSession fs records AtEnd
     → IsSession (fs ++ f ∷ more) records' standing → ⊥
 next_closed fs records records' standing f more s t =
     let flat = labels_off s.start t.start fs s.parts s.behind t.parts t.behind (f ∷ more) s.order t.order in

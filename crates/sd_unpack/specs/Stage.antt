@@ -7,7 +7,7 @@ use Rattle.sd_record.specs.Fragment.{Fragment, Continue, Fragments, FragmentsOfA
 use Rattle.sd_label.specs.declared.label.SessionLabel.{SessionLabel}
 use Rattle.sd_label.specs.declared.label.Totals.{Totals}
 use Rattle.sd_label.specs.Label.{session_label_fragment}
-use Rattle.sd_label.specs.Cutting.{Standing, Between, Within, Ended, IsStart, AreRecords, IsSession, total_bytes}
+use Rattle.sd_label.specs.Cutting.{Standing, Between, Within, AtEnd, IsStart, AreRecords, IsSession, total_bytes}
 use Rattle.sd_unpack.specs.declared.stage.Due.{Due}
 use Rattle.sd_unpack.specs.declared.stage.Stage.{Stage}
 use Rattle.sd_unpack.specs.declared.stage.Stage.TheVariants.{Fresh, Whole, Partway, Closed}
@@ -50,14 +50,14 @@ abbrev pub Reaches : Stage → List Fragment → List Record → List ℕ → Ty
 Reaches Fresh fs records so_far = (fs ≡ []) × (records ≡ [])
 Reaches Whole fs records so_far = IsSession fs records Between
 Reaches (Partway due) fs records so_far = IsPartway fs records due so_far
-Reaches Closed fs records so_far = IsSession fs records Ended
+Reaches Closed fs records so_far = IsSession fs records AtEnd
 
 -- where a session stands at this stage, once its start label is there
 abbrev pub standing_at : Stage → Option Standing
 standing_at Fresh = None
 standing_at Whole = Some Between
 standing_at (Partway due) = Some Within
-standing_at Closed = Some Ended
+standing_at Closed = Some AtEnd
 
 -- no record is unfinished
 abbrev pub IsAtRest : Stage → Type 0

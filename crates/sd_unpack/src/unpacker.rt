@@ -1,7 +1,7 @@
 // The unpacker: the bodies of a session in, its records out.
 ghost use Rattle.std.specs.Prelude.{◌≡◌, ◌↔◌, ℕ, ◌+◌, ◌<◌, ◌≤◌, [], ◌∷◌, ◌++◌, List, Option, Some, None, Err, length, OnOk, OnErr, IfErr, IfSome, IfNone, IsNone, IsTrue};
 ghost use Rattle.sd_base.specs.Record.{Record};
-ghost use Rattle.sd_label.specs.Cutting.{Standing, Within, Ended, Holds};
+ghost use Rattle.sd_label.specs.Cutting.{Standing, Within, AtEnd, Holds};
 ghost use Rattle.sd_unpack.specs.declared.damage.Damage.{Damage as SpecDamage};
 ghost use Rattle.sd_unpack.specs.declared.damage.AddFault.TheVariants.{Damaged, Memory};
 ghost use Rattle.sd_unpack.specs.declared.stage.Stage.TheVariants.{Partway};
@@ -199,7 +199,7 @@ impl Unpacker {
 
     /// Whether the end label has come.
     pub fn ended(&self) -> bool
-        ensures { IsTrue result ↔ (standing_at self.now.stage ≡ Some Ended) }
+        ensures { IsTrue result ↔ (standing_at self.now.stage ≡ Some AtEnd) }
     {
         matches!(self.stage, Stage::Closed)
     }

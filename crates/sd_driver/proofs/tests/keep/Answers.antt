@@ -1,7 +1,7 @@
 use Rattle.std.proofs.Common.{◌≡◌, length, take, ap, ◌∙◌, arith}
 use Rattle.std.proofs.Math.Seq.{take-length}
 use Rattle.sd_driver.specs.Shelf.{Held, stable_bytes}
-use Rattle.sd_driver.proofs.Lasting.{Begins-same, Passes-later, Lasts-begin, Lasts-keeps, Lasts-cut, low_mark-lasts}
+use Rattle.sd_driver.proofs.Lasting.{BeginsWith-same, Passes-later, Lasts-begin, Lasts-keeps, Lasts-cut, low_mark-lasts}
 use Rattle.sd_driver.proofs.tests.keep.Goals as goal
 
 pub returns : goal.returns
@@ -20,7 +20,7 @@ returns g c =
     ap stable_bytes synced.2 ∙ ap (λ (h : Held). take h.stable h.bytes) synced.1
     ∙ ap (λ (h : Held). take (length h.bytes) h.bytes) appended.1 ∙ take-length bytes in
     let since = (meaning c.sync.new.self).shelf.moment in
-    let lasts_3 = Lasts-begin name bytes _ _ c.in_ok-sync.ensures.passes (Begins-same _ bytes stable) in
+    let lasts_3 = Lasts-begin name bytes _ _ c.in_ok-sync.ensures.passes (BeginsWith-same _ bytes stable) in
     let lasts_4 = Lasts-keeps since name bytes _ _ (omega arith) c.unload.ensures.passes c.unload.ensures.stable lasts_3 in
     let later_4 = Passes-later _ _ c.unload.ensures.passes in
     let lasts_5 = Lasts-keeps since name bytes _ _ later_4 c.in_ok-create-2.ensures.passes c.in_ok-create-2.ensures.stable lasts_4 in

@@ -1,7 +1,7 @@
 use Rattle.std.proofs.Common.{◌≡◌, ap, ◌∙◌, sym, subst, refl, arith, ◌++◌, [], ◌∷◌}
 use Rattle.std.proofs.lemmas.List.{append-nil}
 use Rattle.sd_label.specs.Label.{session_label_fragment, session_label_bytes}
-use Rattle.sd_label.specs.Cutting.{Between, Ended}
+use Rattle.sd_label.specs.Cutting.{Between, AtEnd}
 use Rattle.sd_pack.specs.Body.{IsBody, IsWithin, with_fragment, empty_body}
 use Rattle.sd_pack.specs.Packing.{HasOpen, bodies_of, unless_empty, all_bytes, Packs}
 use Rattle.sd_pack.proofs.KeptLemmas.{open_is_body, open_within, with_fragment_within, within_some, stays_packer, framed, none_packed, adds_in, adds_behind}
@@ -41,7 +41,7 @@ returns-then-free-session_label_length-clause-ends c = λ has taken records is p
     let next = c.replace-full.ensures.after ∙ c.in_ok-next.ensures.body in
     let items = c.push_back_reserved.ensures.items ∙ ap (λ l. l ++ c.close.result ∷ []) c.reserve.ensures.items ∙ ap (λ b. p.waiting.items ++ b ∷ []) (c.close.ensures ∙ c.replace-full.ensures.value) in
     let within = subst (IsWithin p.room) (sym next) (with_fragment_within p.room empty_body f (omega arith)) in
-    framed p.room taken p.waiting.items c.push_back_reserved.new.self.items ((p.waiting.items ++ p.open_body ∷ []) ++ with_fragment empty_body f ∷ []) p.open_body c.replace-full.new.dest records records Ended
+    framed p.room taken p.waiting.items c.push_back_reserved.new.self.items ((p.waiting.items ++ p.open_body ∷ []) ++ with_fragment empty_body f ∷ []) p.open_body c.replace-full.new.dest records records AtEnd
     (subst HasOpen (sym c.self.view_is) has) (within_some p.room c.replace-full.new.dest within)
     (ap (λ l. l ++ c.replace-full.new.dest ∷ []) items ∙ ap (λ b. (p.waiting.items ++ p.open_body ∷ []) ++ b ∷ []) next)
     (ends_behind p.room taken p.waiting.items p.open_body records label is (omega arith) (omega arith))
@@ -91,7 +91,7 @@ returns-clause-ends c = λ has taken records is packs.
     let label = c.args.label.now in
     let f = session_label_fragment label in
     let within = subst (IsWithin p.room) (sym c.in_ok-add_label.ensures.ok) (with_fragment_within p.room p.open_body f (omega arith)) in
-    framed p.room taken p.waiting.items c.reserve-2.new.self.items (p.waiting.items ++ with_fragment p.open_body f ∷ []) p.open_body c.add_label.new.self records records Ended
+    framed p.room taken p.waiting.items c.reserve-2.new.self.items (p.waiting.items ++ with_fragment p.open_body f ∷ []) p.open_body c.add_label.new.self records records AtEnd
     (subst HasOpen (sym c.self.view_is) has) (within_some p.room c.add_label.new.self within)
     (ap (λ l. l ++ c.add_label.new.self ∷ []) c.reserve-2.ensures.items ∙ ap (λ b. p.waiting.items ++ b ∷ []) c.in_ok-add_label.ensures.ok)
     (ends_in p.room taken p.waiting.items p.open_body records label is (omega arith))
