@@ -10,4 +10,5 @@ is_name_char c = is_ascii_alphanumeric c || c == 45 || c == 95 || c == 58 || c =
 -- 1 to 127 such characters, and neither . nor ..
 abbrev pub IsName : List ℕ → Type 0
 IsName text =
-    (0 < length text) × (length text ≤ most_name) × All (λ c. IsTrue (is_name_char c)) text × (text ≢ 46 ∷ []) × (text ≢ 46 ∷ 46 ∷ [])
+    (0 < length text) × (length text ≤ most_name)
+    × All (λ c. IsTrue (is_name_char c)) text × (text ≢ 46 ∷ []) × (text ≢ 46 ∷ 46 ∷ [])

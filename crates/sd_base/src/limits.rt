@@ -1,4 +1,6 @@
 // How long a block, a body and a volume may be: what every layer between a record and a volume names.
+ghost use Rattle.std.specs.Prelude.{◌≡◌};
+ghost use Rattle.sd_base.specs.Limits.{block_header, least_body, most_body, least_block, most_block, least_block_limit, most_volume};
 
 /// The bytes of a block's header.
 pub const BLOCK_HEADER: usize = 24;
@@ -20,3 +22,14 @@ pub const LEAST_BLOCK_LIMIT: usize = 1024;
 
 /// The most bytes of a volume, and the greatest volume limit of a daemon.
 pub const MOST_VOLUME: u64 = 68_719_476_736;
+
+/// These constants are the limits of the formats. A law: it does nothing.
+pub fn block_limits()
+    ensures header { BLOCK_HEADER ≡ block_header }
+    ensures body_least { LEAST_BODY ≡ least_body }
+    ensures body_most { MOST_BODY ≡ most_body }
+    ensures block_least { LEAST_BLOCK ≡ least_block }
+    ensures block_most { MOST_BLOCK ≡ most_block }
+    ensures block_limit_least { LEAST_BLOCK_LIMIT ≡ least_block_limit }
+    ensures volume_most { MOST_VOLUME ≡ most_volume }
+{}

@@ -1,5 +1,7 @@
 // Numbers with a range of their own: a value of such a type is within it, so no call tests it again.
 ghost use Rattle.std.specs.Prelude.{◌≡◌, ◌≤◌, ◌↔◌, IsSome, IfSome};
+ghost use Rattle.std.specs.Option.{SomeIff};
+ghost use Rattle.sd_base.specs.Limits.{most_number};
 
 use std::marker::{Model, PhantomData};
 
@@ -75,6 +77,29 @@ impl<K, const MOST: u32> Number<K, MOST> {
     {
         self.value
     }
+}
+
+/// What `value` numbers, of each type that has a limit: a job or a session up to 2,147,483,647, a drive
+/// up to 8, a lane up to 32.
+pub fn number_limits(
+    value: u32,
+) -> (
+    Option<JobId>,
+    Option<Ticket>,
+    Option<DriveNo>,
+    Option<LaneNo>,
+)
+    ensures job { SomeIff result.0 ((1 ≤ value) × (value ≤ most_number)) value }
+    ensures ticket { SomeIff result.1 ((1 ≤ value) × (value ≤ most_number)) value }
+    ensures drive { SomeIff result.2 ((1 ≤ value) × (value ≤ 8)) value }
+    ensures lane { SomeIff result.3 ((1 ≤ value) × (value ≤ 32)) value }
+{
+    (
+        JobId::new(value),
+        Ticket::new(value),
+        DriveNo::new(value),
+        LaneNo::new(value),
+    )
 }
 
 /// What a block says of its session: the time of the run, in seconds, and the session's number in it

@@ -26,14 +26,17 @@ impl Model for Rec {
 
     ghost view = { λ r. record { index = r.index; stream = r.stream; bytes = r.bytes } };
 
-    ghost invariant = { λ r. IsRecord (record { index = r.index; stream = r.stream; bytes = r.bytes }) };
+    ghost invariant = { λ r.
+        IsRecord (record { index = r.index; stream = r.stream; bytes = r.bytes }) };
 }
 
 impl Rec {
     /// The record of these parts, or `None` where one of them is past its limit.
     pub fn new(index: u32, stream: u32, bytes: Bytes) -> Option<Self>
-        ensures within { IsSome result ↔ IsRecord (record { index = index; stream = stream; bytes = bytes }) }
-        ensures parts { IfSome result (λ rec. rec ≡ record { index = index; stream = stream; bytes = bytes }) }
+        ensures within { IsSome result
+            ↔ IsRecord (record { index = index; stream = stream; bytes = bytes }) }
+        ensures parts { IfSome result
+            (λ rec. rec ≡ record { index = index; stream = stream; bytes = bytes }) }
     {
         let numbered = index >= 1 && index <= MOST_NUMBER && stream >= 1 && stream <= MOST_NUMBER;
         if !numbered || bytes.len() > MOST_DATA {

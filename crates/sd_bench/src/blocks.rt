@@ -3,8 +3,8 @@ ghost use Rattle.std.specs.Prelude.{◌≤◌};
 
 use crate::rate::{Length, print_rate};
 use anyhow::Result;
-use sd_base::SessionKey;
-use sd_block::{MOST_BLOCK, open_block, seal};
+use sd_base::{MOST_BLOCK, SessionKey};
+use sd_block::{open_block, seal};
 use std::rt::Clock;
 use std::time::Instant;
 

@@ -1,18 +1,21 @@
 -- A block has one image, and an image is of one block, also where more bytes stand behind it.
 use Rattle.std.specs.Prelude.{◌≡◌, ℕ, ◌+◌, List, ◌++◌, length, take}
+use Rattle.sd_base.specs.Limits.{block_header}
 use Rattle.sd_base.specs.declared.number.SessionKey.{SessionKey}
 use Rattle.sd_block.specs.Image.{block_image, IsBlockImage, IsImage}
 use Rattle.sd_block.specs.Head.{IsHeadOf}
-use Rattle.sd_block.specs.declared.layout.TheConstants.{HEADER}
 
 -- an image is as long as the header and the body
 abbrev pub LengthOfAnImage : Type 0
-LengthOfAnImage = (key : SessionKey) (number : ℕ) (body : List ℕ) → length (block_image key number body) ≡ HEADER + length body
+LengthOfAnImage =
+    (key : SessionKey) (number : ℕ) (body : List ℕ)
+    → length (block_image key number body) ≡ block_header + length body
 
 -- two blocks with the same image have the same key, number and body
 abbrev pub OneBlockOfAnImage : Type 0
 OneBlockOfAnImage =
-    (max max' : ℕ) (image : List ℕ) (key key' : SessionKey) (number number' : ℕ) (body body' : List ℕ)
+    (max max' : ℕ) (image : List ℕ)
+    (key key' : SessionKey) (number number' : ℕ) (body body' : List ℕ)
     → IsBlockImage max image key number body
     → IsBlockImage max' image key' number' body'
     → (key ≡ key') × (number ≡ number') × (body ≡ body')
@@ -31,5 +34,5 @@ abbrev pub HeadOfAnImage : Type 0
 HeadOfAnImage =
     (max : ℕ) (image bytes : List ℕ) (key : SessionKey) (number : ℕ) (body : List ℕ)
     → IsBlockImage max image key number body
-    → take HEADER bytes ≡ take HEADER image
+    → take block_header bytes ≡ take block_header image
     → IsHeadOf max bytes (record { key = key; number = number; size = length image })

@@ -5,10 +5,8 @@ ghost use Rattle.sd_block.specs.Head.{HasHeader, HasId, SaysFields, IsHeadOf};
 ghost use Rattle.sd_block.specs.Fault.{IsShort, HasBadId, HasBadSize};
 
 use crate::fault::BlockFault;
-use crate::layout::{
-    BLOCK_ID, BLOCK_ID_AT, LEAST_BLOCK, NUMBER_AT, SESSION_ID_AT, SESSION_TIME_AT, SIZE_AT,
-};
-use sd_base::{SessionKey, Short, get_u32};
+use crate::layout::{BLOCK_ID, BLOCK_ID_AT, NUMBER_AT, SESSION_ID_AT, SESSION_TIME_AT, SIZE_AT};
+use sd_base::{LEAST_BLOCK, SessionKey, Short, get_u32};
 
 /// What a header says: whose block it is, its number on the volume, and its bytes, the header included.
 #[derive(Clone, Copy, Debug, PartialEq, Eq)]

@@ -1,19 +1,4 @@
-// How long a block may be, and where its header has its fields.
-
-/// The bytes of a block's header.
-pub const HEADER: usize = 24;
-
-/// The least bytes of a body, which are the header of one record.
-pub const LEAST_BODY: usize = 12;
-
-/// The most bytes of a body.
-pub const MOST_BODY: usize = 1_048_552;
-
-/// The least bytes of a block, its header included.
-pub const LEAST_BLOCK: usize = 36;
-
-/// The most bytes of a block, its header included.
-pub const MOST_BLOCK: usize = 1_048_576;
+// Where the header of a block has its fields.
 
 /// The form of a block, which its header names.
 pub(crate) const BLOCK_ID: [u8; 4] = *b"BB02";

@@ -25,6 +25,5 @@ mod tests;
 pub use fault::BlockFault;
 pub use head::{Head, read_head};
 pub use laws::{head_of_an_image, length_of_an_image, one_block_of_an_image, one_image_at_a_place};
-pub use layout::{HEADER, LEAST_BLOCK, LEAST_BODY, MOST_BLOCK, MOST_BODY};
 pub use opened::{Opened, open_block};
-pub use sealed::seal;
+pub use sealed::{seal, seal_into};

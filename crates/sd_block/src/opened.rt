@@ -7,8 +7,8 @@ ghost use Rattle.sd_block.specs.Fault.{IsShort, HasBadId, HasWrongSize, HasRight
 
 use crate::fault::BlockFault;
 use crate::head::read_head;
-use crate::layout::{HEADER, SUM_AT, SUMMED_AT};
-use sd_base::{SessionKey, get_u32};
+use crate::layout::{SUM_AT, SUMMED_AT};
+use sd_base::{BLOCK_HEADER, SessionKey, get_u32};
 use sd_crc::crc32;
 
 /// A whole block: whose it is, its number on the volume, and its body, which stays where it was read.
@@ -33,7 +33,8 @@ pub fn open_block(bytes: &[u8], max: usize) -> Result<Opened<'_>, BlockFault>
     ensures bad_size { IsErrOf result BlockFault.BadSize
         ↔ (HasHeader bytes.now × HasId bytes.now × HasWrongSize max bytes.now) }
     ensures bad_sum { IsErrOf result BlockFault.BadSum
-        ↔ (HasHeader bytes.now × HasId bytes.now × HasRightSize max bytes.now × HasBadSum bytes.now) }
+        ↔ (HasHeader bytes.now × HasId bytes.now × HasRightSize max bytes.now
+        × HasBadSum bytes.now) }
 {
     let head = read_head(bytes, max)?;
     if head.size != bytes.len() {
@@ -45,7 +46,7 @@ pub fn open_block(bytes: &[u8], max: usize) -> Result<Opened<'_>, BlockFault>
     Ok(Opened {
         key: head.key,
         number: head.number,
-        body: &bytes[HEADER..],
+        body: &bytes[BLOCK_HEADER..],
     })
 }
 

@@ -1,6 +1,7 @@
 use super::BlockFault::{BadId, BadSize, BadSum, Short};
 use super::*;
-use sd_base::SessionKey;
+use sd_base::{BLOCK_HEADER, LEAST_BLOCK, MOST_BLOCK, SessionKey};
+use std::alloc::{AllocError, Global};
 use std::test::Fail;
 
 // The blocks of a volume `Vol-0001` with one session of one record, `hello`: made by Python's `struct`
@@ -29,12 +30,12 @@ const DATA_BLOCK: [u8; 167] = [
 ];
 
 // The headers of the least and the greatest block, of twelve bytes 0x0c and of 1,048,552 bytes 0x7d.
-const LEAST_HEADER: [u8; HEADER] = [
+const LEAST_HEADER: [u8; BLOCK_HEADER] = [
     0xfa, 0x92, 0x73, 0x9d, 0x00, 0x00, 0x00, 0x24, 0xff, 0xff, 0xff, 0xff, 0x42, 0x42, 0x30, 0x32,
     0x80, 0x00, 0x00, 0x00, 0x7f, 0xff, 0xff, 0xff,
 ];
 
-const MOST_HEADER: [u8; HEADER] = [
+const MOST_HEADER: [u8; BLOCK_HEADER] = [
     0x6a, 0x78, 0xdd, 0xa8, 0x00, 0x10, 0x00, 0x00, 0xff, 0xff, 0xff, 0xff, 0x42, 0x42, 0x30, 0x32,
     0x80, 0x00, 0x00, 0x00, 0x7f, 0xff, 0xff, 0xff,
 ];
@@ -50,52 +51,106 @@ const LABEL_KEY: SessionKey = SessionKey { time: 0, id: 0 };
 
 const DATA_KEY: SessionKey = SessionKey { time: 1000, id: 1 };
 
-#[test]
-fn hello_is_sealed(rt: HostRuntime) -> Result<(), Fail> {
-    let label = seal(rt.alloc(), LABEL_KEY, 0, &LABEL_BLOCK[HEADER..])?;
-    assert_eq!(rt; label.as_slice(), LABEL_BLOCK.as_slice());
-    let data = seal(rt.alloc(), DATA_KEY, 1, &DATA_BLOCK[HEADER..])?;
-    assert_eq!(rt; data.as_slice(), DATA_BLOCK.as_slice());
-    Ok(())
+const GREAT_KEY: SessionKey = SessionKey {
+    time: 0x7fff_ffff,
+    id: 0x8000_0000,
+};
+
+// Whether `seal`, and `seal_into` over what `buffer` holds, make this image of its body.
+fn is_sealed(
+    buffer: &mut Vec<u8>,
+    alloc: Global,
+    image: &[u8],
+    key: SessionKey,
+    number: u32,
+) -> bool {
+    if image.len() < LEAST_BLOCK || image.len() > MOST_BLOCK {
+        return false;
+    }
+    let (_, body) = image.split_at(BLOCK_HEADER);
+    let Ok(sealed) = seal(alloc, key, number, body) else {
+        return false;
+    };
+    seal_into(buffer, key, number, body).is_ok()
+        && sealed.as_slice() == image
+        && buffer.as_slice() == image
+}
+
+// Whether this image is opened, and its header alone read, as the block that it is.
+fn is_opened(image: &[u8], key: SessionKey, number: u32) -> bool {
+    if image.len() < LEAST_BLOCK {
+        return false;
+    }
+    let (header, body) = image.split_at(BLOCK_HEADER);
+    let size = image.len();
+    let Ok(block) = open_block(image, size) else {
+        return false;
+    };
+    block.key == key
+        && block.number == number
+        && block.body == body
+        && read_head(header, size) == Ok(Head { key, number, size })
 }
 
 #[test]
-fn hello_is_opened(rt: HostRuntime) -> Result<(), Fail> {
-    let label = open_block(&LABEL_BLOCK, MOST_BLOCK)?;
-    assert_eq!(rt; (label.key, label.number), (LABEL_KEY, 0));
-    assert_eq!(rt; label.body, &LABEL_BLOCK[HEADER..]);
-    let data = open_block(&DATA_BLOCK, MOST_BLOCK)?;
-    assert_eq!(rt; (data.key, data.number), (DATA_KEY, 1));
-    assert_eq!(rt; data.body, &DATA_BLOCK[HEADER..]);
-    let head = read_head(&DATA_BLOCK[..HEADER], MOST_BLOCK)?;
-    assert_eq!(rt; (head.key, head.number, head.size), (DATA_KEY, 1, 167));
+fn hello_is_sealed_and_opened(rt: HostRuntime) {
+    let mut buffer = Vec::new(rt.alloc());
+    for (image, key, number) in [
+        (DATA_BLOCK.as_slice(), DATA_KEY, 1),
+        (LABEL_BLOCK.as_slice(), LABEL_KEY, 0),
+    ] {
+        assert!(rt;
+            is_sealed(&mut buffer, rt.alloc(), image, key, number),
+            "{number}"
+        );
+        assert!(rt; is_opened(image, key, number), "{number}");
+    }
+}
+
+fn filled(alloc: Global, header: &[u8], byte: u8, size: usize) -> Result<Vec<u8>, AllocError> {
+    let mut image = header.to_vec(alloc)?;
+    image.resize(size, byte)?;
+    Ok(image)
+}
+
+#[test]
+fn least_and_greatest_block(rt: HostRuntime) -> Result<(), Fail> {
+    let mut buffer = Vec::new(rt.alloc());
+    for (header, byte, size) in [(MOST_HEADER, 0x7d, 1_048_576), (LEAST_HEADER, 0x0c, 36)] {
+        let image = filled(rt.alloc(), &header, byte, size)?;
+        assert!(rt;
+            is_sealed(&mut buffer, rt.alloc(), &image, GREAT_KEY, u32::MAX),
+            "{size}"
+        );
+        assert!(rt; is_opened(&image, GREAT_KEY, u32::MAX), "{size}");
+        assert_eq!(rt;
+            faults(&image, size - 1),
+            (Some(BadSize), Some(BadSize)),
+            "{size}"
+        );
+    }
     Ok(())
 }
 
-fn fault(bytes: &[u8], max: usize) -> Option<BlockFault> {
-    open_block(bytes, max).err()
-}
-
-fn head_fault(bytes: &[u8], max: usize) -> Option<BlockFault> {
-    read_head(bytes, max).err()
+// The fault of these bytes as a block, and of the header at their front.
+fn faults(bytes: &[u8], max: usize) -> (Option<BlockFault>, Option<BlockFault>) {
+    (open_block(bytes, max).err(), read_head(bytes, max).err())
 }
 
 // Each block has the fault that is wanted and every later one.
 #[test]
 fn first_fault_is_told(rt: HostRuntime) {
     let mut block = LABEL_BLOCK;
-    block[0] ^= 1;
-    assert_eq!(rt; fault(&block, 82), Some(BadSum));
-    assert_eq!(rt; head_fault(&block, 82), None);
-    block[7] ^= 1;
-    assert_eq!(rt; fault(&block, 82), Some(BadSize));
-    block[4] = 1;
-    assert_eq!(rt; head_fault(&block, 82), Some(BadSize));
-    block[15] = b'1';
-    assert_eq!(rt; fault(&block, 82), Some(BadId));
-    assert_eq!(rt; head_fault(&block, 82), Some(BadId));
-    assert_eq!(rt; fault(&block[..23], 82), Some(Short));
-    assert_eq!(rt; head_fault(&block[..23], 82), Some(Short));
+    for (at, byte, whole, head) in [
+        (0, 0x91, Some(BadSum), None),
+        (7, 0x51, Some(BadSize), None),
+        (4, 1, Some(BadSize), Some(BadSize)),
+        (15, b'1', Some(BadId), Some(BadId)),
+    ] {
+        block[at] = byte;
+        assert_eq!(rt; faults(&block, 82), (whole, head), "at {at}");
+    }
+    assert_eq!(rt; faults(&block[..23], 82), (Some(Short), Some(Short)));
 }
 
 // No test but that of the checksum looks at any of these bytes.
@@ -104,49 +159,36 @@ fn each_byte_is_summed(rt: HostRuntime) {
     for at in [0, 3, 8, 11, 16, 19, 20, 23, 24, 81] {
         let mut block = LABEL_BLOCK;
         block[at] ^= 0x80;
-        assert_eq!(rt; fault(&block, 82), Some(BadSum), "at {at}");
+        assert_eq!(rt; faults(&block, 82), (Some(BadSum), None), "at {at}");
     }
 }
 
 #[test]
-fn size_is_the_length(rt: HostRuntime) -> Result<(), Fail> {
-    let mut longer = LABEL_BLOCK.to_vec(rt.alloc())?;
-    longer.push(0)?;
-    assert_eq!(rt; fault(&longer, MOST_BLOCK), Some(BadSize));
-    assert_eq!(rt; read_head(&longer, MOST_BLOCK)?.size, 82);
-    assert_eq!(rt; fault(&LABEL_BLOCK[..81], MOST_BLOCK), Some(BadSize));
-    assert_eq!(rt; read_head(&LABEL_BLOCK[..81], MOST_BLOCK)?.size, 82);
-    Ok(())
+fn size_is_the_length_within_its_limits(rt: HostRuntime) {
+    let mut longer = [0; 83];
+    longer[..82].copy_from_slice(&LABEL_BLOCK);
+    for (bytes, max, whole, head) in [
+        (longer.as_slice(), MOST_BLOCK, Some(BadSize), None),
+        (&LABEL_BLOCK[..81], MOST_BLOCK, Some(BadSize), None),
+        (LABEL_BLOCK.as_slice(), usize::MAX, None, None),
+        (LABEL_BLOCK.as_slice(), 82, None, None),
+        (LABEL_BLOCK.as_slice(), 81, Some(BadSize), Some(BadSize)),
+        (LABEL_BLOCK.as_slice(), 0, Some(BadSize), Some(BadSize)),
+        (
+            TOO_SMALL.as_slice(),
+            MOST_BLOCK,
+            Some(BadSize),
+            Some(BadSize),
+        ),
+    ] {
+        assert_eq!(rt; faults(bytes, max), (whole, head), "{} {max}", bytes.len());
+    }
 }
 
 #[test]
-fn size_is_within_its_limits(rt: HostRuntime) {
-    assert_eq!(rt; fault(&LABEL_BLOCK, usize::MAX), None);
-    assert_eq!(rt; fault(&LABEL_BLOCK, 82), None);
-    assert_eq!(rt; fault(&LABEL_BLOCK, 81), Some(BadSize));
-    assert_eq!(rt; head_fault(&LABEL_BLOCK, 81), Some(BadSize));
-    assert_eq!(rt; fault(&LABEL_BLOCK, 0), Some(BadSize));
-    assert_eq!(rt; fault(&TOO_SMALL, MOST_BLOCK), Some(BadSize));
-    assert_eq!(rt; head_fault(&TOO_SMALL, MOST_BLOCK), Some(BadSize));
-}
-
-#[test]
-fn least_and_greatest_body(rt: HostRuntime) -> Result<(), Fail> {
-    let key = SessionKey {
-        time: 0x7fff_ffff,
-        id: 0x8000_0000,
-    };
-    let body = vec![in rt.alloc(); 0x0c; LEAST_BODY]?;
-    let least = seal(rt.alloc(), key, u32::MAX, &body)?;
-    assert_eq!(rt; least.len(), LEAST_BLOCK);
-    assert!(rt; least.starts_with(&LEAST_HEADER));
-    assert_eq!(rt; open_block(&least, LEAST_BLOCK)?.body, body.as_slice());
-
-    let body = vec![in rt.alloc(); 0x7d; MOST_BODY]?;
-    let most = seal(rt.alloc(), key, u32::MAX, &body)?;
-    assert_eq!(rt; most.len(), MOST_BLOCK);
-    assert!(rt; most.starts_with(&MOST_HEADER));
-    assert_eq!(rt; open_block(&most, MOST_BLOCK)?.body, body.as_slice());
-    assert_eq!(rt; fault(&most, MOST_BLOCK - 1), Some(BadSize));
-    Ok(())
+fn laws_hold(_rt: HostRuntime) {
+    length_of_an_image();
+    one_block_of_an_image();
+    one_image_at_a_place();
+    head_of_an_image();
 }

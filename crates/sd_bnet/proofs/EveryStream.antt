@@ -8,7 +8,7 @@ use Rattle.std.proofs.lemmas.Bool.{cases_lt}
 use Rattle.std.proofs.lemmas.List.{append-nil, append_assoc, length-drop, length-take-le, take-append-drop, get_or_past}
 use Rattle.std.proofs.lemmas.List.Elements.{All-get_or}
 use Rattle.sd_base.specs.Field.{u32_bytes, i32_bytes}
-use Rattle.sd_base.specs.declared.record.TheConstants.{MOST_DATA}
+use Rattle.sd_base.specs.Limits.{most_data}
 use Rattle.sd_base.proofs.FieldLemmas.{AreBytes, AreBytes-take, AreBytes-drop, u32_bytes-read}
 use Rattle.sd_bnet.specs.Packet.{packet_bytes, IsPacket}
 use Rattle.sd_bnet.specs.Stream.{Packets}
@@ -31,7 +31,7 @@ behind_length : (n : ℕ) (z : ℤ) (bytes after : List ℕ) → FitsSigned w32 
     → ((xs : List ℕ) → length xs ≤ n → AreBytes xs → HasPackets xs) → HasPackets bytes
 behind_length n (negsuc m) bytes after fits e short are rest =
     behind_packet (Signal (negsuc m)) bytes after (fits, omega (arith, ints)) e (rest after short are)
-behind_length n (pos size) bytes after fits e short are rest = elim (cases_lt MOST_DATA size) [
+behind_length n (pos size) bytes after fits e short are rest = elim (cases_lt most_data size) [
   | inl long ↦ ([], bytes, record { joined = refl; each = tt; rest = inr (size, after, long, omega (arith, fits.sfits), e) })
   | inr most ↦ elim (cases_lt (length after) size) [
     | inl part ↦ ([], bytes, record { joined = refl; each = tt; rest = inl (inr (inr (size, after, most, part, e))) })

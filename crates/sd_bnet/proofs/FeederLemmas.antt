@@ -9,7 +9,7 @@ use Rattle.sd_bnet.specs.Packet.{packet_bytes, IsPacket}
 use Rattle.sd_bnet.specs.Stream.{stream_of, IsTooLong}
 use Rattle.sd_bnet.specs.declared.packet.Packet.{Packet}
 use Rattle.sd_bnet.specs.declared.packet.Packet.TheVariants.{Bytes}
-use Rattle.sd_base.specs.declared.record.TheConstants.{MOST_DATA}
+use Rattle.sd_base.specs.Limits.{most_data}
 use Rattle.sd_bnet.proofs.PacketLemmas.{long_enough}
 use Rattle.sd_bnet.proofs.StreamLemmas.{packets_behind, joined_with}
 
@@ -41,7 +41,7 @@ failed_more bytes piece packets h =
 
 -- a payload that the next piece completes is a packet, and the others come behind it
 pub whole_payload : (state : FeederState) (size missing : ℕ) (begun piece : List ℕ) (found : List Packet)
-    → length begun + missing ≡ size → missing ≤ length piece → size ≤ MOST_DATA
+    → length begun + missing ≡ size → missing ≤ length piece → size ≤ most_data
     → Fits state (drop missing piece) found → Fits state (i32_bytes (pos size) ++ begun ++ piece) (Bytes (begun ++ take missing piece) ∷ found)
 whole_payload state size missing begun piece found whole there within h =
     let payload = begun ++ take missing piece in

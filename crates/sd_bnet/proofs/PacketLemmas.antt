@@ -7,7 +7,7 @@ use Rattle.std.proofs.lemmas.List.{append_assoc, append_cancel_left, take_at, dr
 use Rattle.std.proofs.lemmas.Bool.{cases_lt}
 use Rattle.std.proofs.lemmas.Bool.Decides.{nat_tests}
 use Rattle.sd_base.specs.Field.{i32_bytes}
-use Rattle.sd_base.specs.declared.record.TheConstants.{MOST_DATA}
+use Rattle.sd_base.specs.Limits.{most_data}
 use Rattle.sd_base.proofs.FieldLemmas.{length-u32_bytes, u32_bytes-injective}
 use Rattle.sd_bnet.specs.Packet.{packet_bytes, IsPacket}
 use Rattle.sd_bnet.specs.Stream.{IsFront, IsUnfinished, IsTooLong}
@@ -39,7 +39,7 @@ pub packet_bytes_split : (p : Packet) (xs : List ℕ) → packet_bytes p ++ xs �
 packet_bytes_split (Bytes payload) xs = append_assoc _ payload xs
 packet_bytes_split (Signal number) xs = refl
 
-size_fits : (size : ℕ) → size ≤ MOST_DATA → FitsSigned w32 (pos size)
+size_fits : (size : ℕ) → size ≤ most_data → FitsSigned w32 (pos size)
 size_fits size most = record { sfits = omega arith }
 
 pub length_field_fits : (p : Packet) → IsPacket p → FitsSigned w32 (length_field p)
@@ -78,7 +78,7 @@ size_of_packet p size xs after proper below e =
     (field, append_cancel_left _ _ _ (split ∙ ap (λ z. i32_bytes z ++ after) (sym field)))
 
 -- a packet of that length has so many bytes, within the limit
-size_within : (p : Packet) (size : ℕ) → IsPacket p → length_field p ≡ pos size → (length (payload_of p) ≡ size) × (size ≤ MOST_DATA)
+size_within : (p : Packet) (size : ℕ) → IsPacket p → length_field p ≡ pos size → (length (payload_of p) ≡ size) × (size ≤ most_data)
 size_within (Bytes payload) size proper e =
     let same : length payload ≡ size = omega (arith, ints) in
     (same, omega arith)

@@ -1,7 +1,7 @@
 -- What a feeder waits for, in the code and as its state.
 use Rattle.std.specs.Prelude.{pos, ◌<◌, ◌≤◌, ◌++◌, length}
 use Rattle.sd_base.specs.Field.{i32_bytes}
-use Rattle.sd_base.specs.declared.record.TheConstants.{MOST_DATA}
+use Rattle.sd_base.specs.Limits.{most_data}
 use Rattle.sd_bnet.specs.Feeder.{FeederState}
 use Rattle.sd_bnet.specs.Feeder.FeederState.{Waiting, Failed}
 use Rattle.sd_bnet.specs.declared.due.Due.{Due}
@@ -16,5 +16,5 @@ state_of TooLong = Failed
 -- what is due isn't whole, and within the limit
 abbrev pub IsDue : Due → Type 0
 IsDue (Length begun) = length begun < 4
-IsDue (Payload pending) = (length pending.bytes.items < pending.size) × (pending.size ≤ MOST_DATA)
+IsDue (Payload pending) = (length pending.bytes.items < pending.size) × (pending.size ≤ most_data)
 IsDue TooLong = Unit {0}

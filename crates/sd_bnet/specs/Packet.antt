@@ -2,7 +2,7 @@
 use Rattle.std.specs.Prelude.{ℕ, pos, ◌≤◌, ◌<ℤ◌, List, ◌++◌, length, FitsSigned}
 use Rattle.std.specs.Int.{w32}
 use Rattle.sd_base.specs.Field.{i32_bytes}
-use Rattle.sd_base.specs.declared.record.TheConstants.{MOST_DATA}
+use Rattle.sd_base.specs.Limits.{most_data}
 use Rattle.sd_bnet.specs.declared.packet.Packet.{Packet}
 use Rattle.sd_bnet.specs.declared.packet.Packet.TheVariants.{Bytes, Signal}
 
@@ -13,5 +13,5 @@ packet_bytes (Signal number) = i32_bytes number
 
 -- a payload is no longer than the greatest, and a signal's number is negative and fits a length
 abbrev pub IsPacket : Packet → Type 0
-IsPacket (Bytes payload) = length payload ≤ MOST_DATA
+IsPacket (Bytes payload) = length payload ≤ most_data
 IsPacket (Signal number) = FitsSigned w32 number × (number <ℤ pos 0)

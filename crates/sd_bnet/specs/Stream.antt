@@ -2,7 +2,7 @@
 use Rattle.std.specs.Prelude.{◌≡◌, ◌≢◌, ℕ, pos, ◌^◌, ◌<◌, ◌≤◌, ◌⊎◌, List, [], ◌++◌, length}
 use Rattle.std.specs.List.{flat_map, AllByRecursion}
 use Rattle.sd_base.specs.Field.{i32_bytes}
-use Rattle.sd_base.specs.declared.record.TheConstants.{MOST_DATA}
+use Rattle.sd_base.specs.Limits.{most_data}
 use Rattle.sd_bnet.specs.Packet.{packet_bytes, IsPacket}
 use Rattle.sd_bnet.specs.declared.packet.Packet.{Packet}
 
@@ -15,7 +15,8 @@ stream_of packets = flat_map packet_bytes packets
 abbrev pub IsFront : List ℕ → Type 0
 IsFront bytes =
     ((bytes ≢ []) × (length bytes < 4))
-    ⊎ ((size : ℕ) × (part : List ℕ) × (size ≤ MOST_DATA) × (length part < size) × (bytes ≡ i32_bytes (pos size) ++ part))
+    ⊎ ((size : ℕ) × (part : List ℕ) × (size ≤ most_data) × (length part < size)
+    × (bytes ≡ i32_bytes (pos size) ++ part))
 
 -- nothing, or the front of a packet
 abbrev pub IsUnfinished : List ℕ → Type 0
@@ -24,7 +25,8 @@ IsUnfinished bytes = (bytes ≡ []) ⊎ IsFront bytes
 -- a length above that of the greatest payload, and whatever follows it
 abbrev pub IsTooLong : List ℕ → Type 0
 IsTooLong bytes =
-    (size : ℕ) × (after : List ℕ) × (MOST_DATA < size) × (size < 2 ^ 31) × (bytes ≡ i32_bytes (pos size) ++ after)
+    (size : ℕ) × (after : List ℕ) × (most_data < size) × (size < 2 ^ 31)
+    × (bytes ≡ i32_bytes (pos size) ++ after)
 
 -- The bytes are these packets, and behind them stands no whole packet: nothing, the front of one, or
 -- a length that is too great.

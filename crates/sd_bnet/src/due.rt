@@ -66,8 +66,10 @@ impl Pending {
         ensures size { self.new.size ≡ self.old.size }
         ensures bytes { self.new.bytes.items ≡ self.old.bytes.items }
         ensures room { OnOk result (vec_len self.old.bytes + come ≤ vec_capacity self.new.bytes) }
+        ensures enough { vec_len self.old.bytes + come ≤ vec_capacity self.old.bytes
+            → vec_capacity self.new.bytes ≡ vec_capacity self.old.bytes }
         ensures ahead { vec_capacity self.new.bytes
-            ≤ max (vec_capacity self.old.bytes) (vec_len self.old.bytes + come + MOST_AHEAD) }
+            ≤ max (vec_capacity self.old.bytes) (vec_len self.old.bytes + come + 65536) }
     {
         if self.bytes.capacity() - self.bytes.len() >= come {
             return Ok(());

@@ -35,7 +35,8 @@ pub fn packets_keep_at_cuts()
         → Packets (bytes ++ more) (packets ++ later) rest }
     ensures apart { (bytes more remainder rest : List ℕ) (packets whole : List Packet)
         → Packets bytes packets remainder → Packets (bytes ++ more) whole rest
-        → (later : List Packet) × (whole ≡ packets ++ later) × Packets (remainder ++ more) later rest }
+        → (later : List Packet) × (whole ≡ packets ++ later)
+        × Packets (remainder ++ more) later rest }
 {}
 
 /// No packet begins another, so no two share their bytes.

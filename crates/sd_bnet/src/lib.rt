@@ -11,8 +11,6 @@ mod packet;
 mod payload;
 mod signal;
 mod stream;
-#[cfg(test)]
-mod tests;
 
 pub use feeder::{Fed, Feeder};
 pub use laws::{

@@ -1,5 +1,6 @@
 // The payload of a packet is a type of its own, so that no packet is longer than a reader takes.
 ghost use Rattle.std.specs.Prelude.{◌≡◌, ◌≤◌, ◌↔◌, [], length, IsTrue, IsSome, IfSome};
+ghost use Rattle.sd_base.specs.Limits.{most_data};
 
 use sd_base::{Bytes, MOST_DATA};
 use std::marker::Model;
@@ -12,19 +13,19 @@ pub struct Payload {
 
 impl Model for Payload {
     ghost use Rattle.std.specs.Prelude.{List, ℕ, ◌≤◌, length};
-    ghost use Rattle.sd_base.specs.declared.record.TheConstants.{MOST_DATA};
+    ghost use Rattle.sd_base.specs.Limits.{most_data};
 
     ghost Value = { List ℕ };
 
     ghost view = { λ p. p.bytes };
 
-    ghost invariant = { λ p. length p.bytes ≤ MOST_DATA };
+    ghost invariant = { λ p. length p.bytes ≤ most_data };
 }
 
 impl Payload {
     /// The payload of these bytes, or `None` where they are more than `MOST_DATA`; takes no memory.
     pub fn new(bytes: Bytes) -> Option<Self>
-        ensures within { IsSome result ↔ (length bytes ≤ MOST_DATA) }
+        ensures within { IsSome result ↔ (length bytes ≤ most_data) }
         ensures bytes { IfSome result (λ payload. payload ≡ bytes) }
     {
         if bytes.len() > MOST_DATA {
@@ -35,7 +36,7 @@ impl Payload {
 
     /// The payload of bytes that are known to be few enough.
     pub(crate) fn within(bytes: Bytes) -> Self
-        requires { length bytes ≤ MOST_DATA }
+        requires { length bytes ≤ most_data }
         ensures { result ≡ bytes }
     {
         Payload { bytes }
@@ -43,7 +44,7 @@ impl Payload {
 
     pub fn as_slice(&self) -> &[u8]
         ensures bytes { result.now ≡ self.now }
-        ensures most { length result.now ≤ MOST_DATA }
+        ensures most { length result.now ≤ most_data }
     {
         self.bytes.as_slice()
     }
@@ -51,7 +52,7 @@ impl Payload {
     /// The bytes on the heap; takes no memory.
     pub fn into_bytes(self) -> Bytes
         ensures bytes { result ≡ self }
-        ensures most { length result ≤ MOST_DATA }
+        ensures most { length result ≤ most_data }
     {
         let Payload { bytes } = self;
         bytes
@@ -59,7 +60,7 @@ impl Payload {
 
     pub fn len(&self) -> usize
         ensures length { result ≡ length self.now }
-        ensures most { result ≤ MOST_DATA }
+        ensures most { result ≤ most_data }
     {
         self.bytes.len()
     }

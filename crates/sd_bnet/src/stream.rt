@@ -1,6 +1,7 @@
 // The packets of a piece, one after another. An error drops what it found and changes nothing.
 ghost use Rattle.std.specs.Prelude.{◌≡◌, ◌+◌, ◌<◌, ◌≤◌, pos, [], ◌++◌, length, vec_len, IfOk, OnOk, OnErr};
 ghost use Rattle.sd_base.specs.Field.{i32_bytes};
+ghost use Rattle.sd_base.specs.Limits.{most_data};
 ghost use Rattle.sd_bnet.specs.Due.{state_of, IsDue};
 ghost use Rattle.sd_bnet.specs.Feeder.{Fits};
 ghost use Rattle.sd_bnet.specs.Step.{IsStep};
@@ -60,7 +61,7 @@ pub(crate) fn take_whole(
     piece: &[u8],
 ) -> Result<Taken, AllocError>
     requires begun { vec_len pending.old.bytes < pending.old.size }
-    requires within { pending.old.size ≤ MOST_DATA }
+    requires within { pending.old.size ≤ most_data }
     requires whole { pending.old.size ≤ vec_len pending.old.bytes + length piece.now }
     ensures due { IfOk result (λ taken. IsDue taken.due) }
     ensures packets { IfOk result (λ taken.

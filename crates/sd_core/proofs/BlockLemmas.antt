@@ -8,8 +8,9 @@ use Rattle.sd_block.specs.Image.{block_image}
 use Rattle.sd_block.proofs.ImageLemmas.{length-block_image}
 use Rattle.sd_pack.specs.Body.{PackedBody}
 use Rattle.sd_pack.specs.Packing.{bytes_of}
-use Rattle.sd_core.specs.Volume.{images, is_key, blocks_of}
-use Rattle.sd_core.specs.Journal.{SentBody}
+use Rattle.sd_core.specs.Volume.{images, blocks_of}
+use Rattle.sd_base.specs.Key.{is_key}
+use Rattle.sd_core.specs.SentBody.{SentBody}
 use Rattle.sd_core.specs.World.{bodies_with}
 use Rattle.sd_core.specs.Matches.{block_of}
 use Rattle.sd_core.proofs.ListLemmas.{cond_more, cond_map}

@@ -5,11 +5,11 @@ use Rattle.std.specs.Str.{bytes_eq}
 use Rattle.std.proofs.lemmas.List.{append_assoc, append-nil, length-append, map-append}
 use Rattle.std.proofs.lemmas.Bool.{cond-true, cond-false}
 use Rattle.std.proofs.lemmas.Slice.Eq.{bytes_eq-Decides}
+use Rattle.sd_base.specs.Limits.{block_header}
 use Rattle.sd_base.specs.Record.{Record}
 use Rattle.sd_base.specs.declared.number.SessionKey.{SessionKey}
 use Rattle.sd_block.specs.Image.{block_image}
 use Rattle.sd_block.proofs.ImageLemmas.{length-block_image}
-use Rattle.sd_block.specs.declared.layout.TheConstants.{HEADER}
 use Rattle.sd_label.specs.Cutting.{Standing, AtEnd, joined, WholeOf}
 use Rattle.sd_pack.specs.Body.{PackedBody, body_of}
 use Rattle.sd_pack.specs.Packing.{Packs, bytes_of}
@@ -19,8 +19,10 @@ use Rattle.sd_core.specs.declared.journal.SessionJournal.{SessionJournal}
 use Rattle.sd_core.specs.declared.status.Status.TheVariants.{Closed}
 use Rattle.sd_core.specs.Machine.{Machine, MachineSession, session_of}
 use Rattle.sd_core.specs.Session.{parts_of}
-use Rattle.sd_core.specs.Volume.{VolumeView, VolumeImage, label_block, images, AreImages, is_key, blocks_of}
-use Rattle.sd_core.specs.Journal.{SentBody, placements_at, placements_of, run_of, run_with, noted, empty_journal, follows_from, spans_in}
+use Rattle.sd_core.specs.Volume.{VolumeView, VolumeImage, label_block, images, AreImages, blocks_of}
+use Rattle.sd_base.specs.Key.{is_key}
+use Rattle.sd_core.specs.Journal.{placements_at, placements_of, run_of, run_with, noted, empty_journal, follows_from, spans_in}
+use Rattle.sd_core.specs.SentBody.{SentBody}
 use Rattle.sd_core.specs.Drive.{volume_name}
 use Rattle.sd_core.specs.World.{WorldView, entry_of, on_the_way, bodies_with, bodies_in, IsOutstanding, spans_of_entry, shelf_of}
 use Rattle.sd_core.specs.Reading.{Reads, SpanHolds, shelf_with}
@@ -58,7 +60,7 @@ record RunsOn (key : SessionKey) (at : ℕ) (bs : List SentBody) (old : Run) (ru
   start_is : new.start ≡ old.start
   end_is : ((bodies_with key bs ≡ []) × (new.end ≡ old.end)) ⊎ Until key at bs new.end
 
-until_more : (key : SessionKey) (at : ℕ) (b : SentBody) (bs : List SentBody) (end : ℕ) → Until key (at + (HEADER + length b.body.bytes)) bs end → Until key at (b ∷ bs) end
+until_more : (key : SessionKey) (at : ℕ) (b : SentBody) (bs : List SentBody) (end : ℕ) → Until key (at + (block_header + length b.body.bytes)) bs end → Until key at (b ∷ bs) end
 until_more key at b bs end h = record {
   until = b ∷ h.until;
   behind = h.behind;
@@ -68,16 +70,16 @@ until_more key at b bs end h = record {
 }
 
 runs_on : (key : SessionKey) (volume : List ℕ) (at : ℕ) (bs : List SentBody) (placed : ℕ) (old : Run)
-    → RunsOn key at bs old (follows_from (record { placed = placed; run = Some old }) (placements_of key (placements_at volume at bs))).run
+    → RunsOn key at bs old (follows_from (record { blocks = placed; run = Some old }) (placements_of key (placements_at volume at bs))).run
 runs_on key volume at [] placed old = record { new = old; run_is = refl; start_is = refl; end_is = inl (refl, refl) }
 runs_on key volume at (b ∷ bs) placed old =
     let p = placement_at volume at b in
-    let behind = at + (HEADER + length b.body.bytes) in
+    let behind = at + (block_header + length b.body.bytes) in
     let rest = placements_of key (placements_at volume behind bs) in
     let own = runs_on key volume behind bs (placed + 1) (run_with old p) in
     let other = runs_on key volume behind bs placed old in
     (elim (is_key key b.key) as
-    (λ t. is_key key b.key ≡ t → RunsOn key at (b ∷ bs) old (follows_from (record { placed = placed; run = Some old }) (cond t (p ∷ rest) rest)).run) [
+    (λ t. is_key key b.key ≡ t → RunsOn key at (b ∷ bs) old (follows_from (record { blocks = placed; run = Some old }) (cond t (p ∷ rest) rest)).run) [
       | true ↦ λ tested. record {
         new = own.new;
         run_is = own.run_is;
@@ -113,9 +115,9 @@ pub record Stretch (key : SessionKey) (at : ℕ) (bs : List SentBody) (run : Opt
 
 -- a stretch begins with this body
 stretch_from : (key : SessionKey) (volume : List ℕ) (at : ℕ) (b : SentBody) (bs : List SentBody)
-    → Stretch key at (b ∷ bs) (follows_from (noted empty_journal (placement_at volume at b)) (placements_of key (placements_at volume (at + (HEADER + length b.body.bytes)) bs))).run
+    → Stretch key at (b ∷ bs) (follows_from (noted empty_journal (placement_at volume at b)) (placements_of key (placements_at volume (at + (block_header + length b.body.bytes)) bs))).run
 stretch_from key volume at b bs =
-    let own = runs_on key volume (at + (HEADER + length b.body.bytes)) bs 1 (run_of (placement_at volume at b)) in
+    let own = runs_on key volume (at + (block_header + length b.body.bytes)) bs 1 (run_of (placement_at volume at b)) in
     elim own.end_is [
       | inl none ↦ record {
         front = [];
@@ -149,7 +151,7 @@ pub stretch_of : (key : SessionKey) (volume : List ℕ) (at : ℕ) (bs : List Se
 stretch_of key volume at [] some = absurd (some refl)
 stretch_of key volume at (b ∷ bs) some =
     let p = placement_at volume at b in
-    let behind = at + (HEADER + length b.body.bytes) in
+    let behind = at + (block_header + length b.body.bytes) in
     let rest = placements_of key (placements_at volume behind bs) in
     let later : bodies_with key bs ≢ [] → Stretch key behind bs (follows_from empty_journal rest).run = stretch_of key volume behind bs in
     (elim (is_key key b.key) as
@@ -256,8 +258,8 @@ placed_reads (Some v) placed es ticket e records h there some whole =
 -- a session that is packed has a body: that of its start label
 pub some_packed : (room : ℕ) (bodies : List PackedBody) (records : List Record) (standing : Standing) → Packs room bodies records standing → bodies ≢ []
 some_packed room bodies records standing h none =
-    let no_fragments = ap joined (nil_from_map body_of h.placed (sym (sym none ∙ h.bodies_are))) in
-    cc (sym no_fragments ∙ h.places.session_is.order)
+    let no_fragments = ap joined (nil_from_map body_of h.fragments (sym (sym none ∙ h.bodies_are))) in
+    cc (sym no_fragments ∙ h.holds_by.session_is.order)
 
 pub closed_reads : (w : WorldView) (m : Machine) (s : MachineSession) (e : Entry) (ticket : ℕ) → Matches w m → session_of ticket m.sessions ≡ Some s
     → entry_of ticket w.entries ≡ Some e → s.status ≡ Closed → Reads (shelf_of w.drive.volume) s.key (spans_of_entry w e) s.records true
@@ -272,7 +274,7 @@ closed_reads w m s e ticket h session entry closed =
     let all : bodies_in h.placed w e.session ≡ bodies = ap₂ (λ (xs ys : List PackedBody). xs ++ ys) sent parts ∙ append-nil bodies in
     let has : HasBodies h.placed w e.session Closed s.records = subst (λ status. HasBodies h.placed w e.session status s.records) closed own.bodies_are in
     let packs : Packs e.session.packer.room bodies s.records AtEnd = subst (λ l. Packs e.session.packer.room l s.records AtEnd) all has in
-    let whole : WholeOf (bytes_of bodies) s.records true = (AtEnd, record { placed = packs.placed; places = packs.places }, refl) in
+    let whole : WholeOf (bytes_of bodies) s.records true = (AtEnd, record { fragments = packs.fragments; holds_by = packs.holds_by }, refl) in
     let some = some_packed e.session.packer.room bodies s.records AtEnd packs in
     subst (λ k. Reads (shelf_of w.drive.volume) k (spans_of_entry w e) s.records true) (sym own.key_is)
     (placed_reads w.drive.volume h.placed w.entries ticket e s.records (followed_of w m h) entry some whole)

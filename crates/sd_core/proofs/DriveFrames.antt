@@ -3,14 +3,14 @@ use Rattle.std.proofs.Common.{◌≡◌, inl, inr, ℕ, ◌+◌, ◌≤◌, ◌<
 use Rattle.std.specs.Prelude.{Bool, true, false, cond, ◌==◌, Option, Some, None}
 use Rattle.std.proofs.lemmas.List.{append-nil, length-append, map-append}
 use Rattle.std.proofs.lemmas.Bool.{eqb-false, cond-true, cond-false}
+use Rattle.sd_base.specs.Limits.{block_header}
 use Rattle.sd_base.specs.Record.{Record}
 use Rattle.sd_base.specs.declared.number.SessionKey.{SessionKey}
 use Rattle.sd_block.specs.Image.{block_image}
-use Rattle.sd_block.specs.declared.layout.TheConstants.{HEADER}
 use Rattle.sd_label.specs.Cutting.{Between, AtEnd}
 use Rattle.sd_pack.specs.Packing.{Packs}
 use Rattle.sd_core.specs.declared.entry.Entry.{Entry}
-use Rattle.sd_core.specs.declared.journal.Placement.{Placement}
+use Rattle.sd_core.specs.declared.placement.Placement.{Placement}
 use Rattle.sd_core.specs.declared.journal.SessionJournal.{SessionJournal}
 use Rattle.sd_core.specs.declared.journal.Run.{Run}
 use Rattle.sd_core.specs.declared.volume.VolumeStatus.{VolumeStatus}
@@ -18,8 +18,10 @@ use Rattle.sd_core.specs.declared.status.Status.{Status}
 use Rattle.sd_core.specs.declared.status.Status.TheVariants.{Active, Ended, Closed, Cancelled, Failed}
 use Rattle.sd_core.specs.Machine.{Machine, MachineSession}
 use Rattle.sd_core.specs.Session.{SessionView, parts_of}
-use Rattle.sd_core.specs.Volume.{VolumeView, VolumeImage, PlacesBlock, label_block, images, is_key}
-use Rattle.sd_core.specs.Journal.{SentBody, placements_at, placements_of, noted_run, noted, empty_journal, follows_from, Follows}
+use Rattle.sd_core.specs.Volume.{VolumeView, VolumeImage, PlacesBlock, label_block, images}
+use Rattle.sd_base.specs.Key.{is_key}
+use Rattle.sd_core.specs.Journal.{placements_at, placements_of, noted_run, noted, empty_journal, follows_from, Follows}
+use Rattle.sd_core.specs.SentBody.{SentBody}
 use Rattle.sd_core.specs.declared.piece.Piece.{Piece}
 use Rattle.sd_core.specs.Drive.{volume_name, DriveView, synced_if, synced_bytes}
 use Rattle.sd_core.specs.World.{WorldView, entry_of, with_entry, on_the_way, bodies_with, IsOnTheWay, IsOutstanding}
@@ -283,7 +285,7 @@ journal_ends : (key : SessionKey) (volume : List ℕ) (at : ℕ) (placed : List 
 journal_ends key volume at [] j h = h
 journal_ends key volume at (b ∷ placed) j h =
     let p = placement_at volume at b in
-    let behind = at + (HEADER + length b.body.bytes) in
+    let behind = at + (block_header + length b.body.bytes) in
     let rest = placements_of key (placements_at volume behind placed) in
     let end : (noted_run j.run p).end ≡ behind = noted_ends j.run p in
     elim (is_key key b.key) as (λ t. EndsWithin (end_at behind placed) (follows_from j (cond t (p ∷ rest) rest)).run) [

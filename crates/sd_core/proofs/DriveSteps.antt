@@ -3,51 +3,52 @@ use Rattle.std.proofs.Common.{◌≡◌, inl, inr, ℕ, ◌≤◌, refl, sym, ap
 use Rattle.std.specs.Prelude.{ℤ, Option, Some, None, true}
 use Rattle.std.specs.Option.{option_to_list}
 use Rattle.std.proofs.lemmas.List.{append_assoc}
+use Rattle.sd_base.specs.Limits.{most_volume}
 use Rattle.sd_base.specs.declared.number.SessionKey.{SessionKey}
 use Rattle.sd_base.specs.declared.refusal.Refusal.{Refusal}
 use Rattle.sd_base.specs.declared.refusal.Refusal.TheVariants.{VolumeNotOnShelf, OtherPoolOrMedia, InUse, NotAppendable, NoSuchDrive, Memory}
 use Rattle.sd_core.specs.declared.event.Event.{Event}
 use Rattle.sd_core.specs.declared.event.Event.TheVariants.{Take, Place, Sync, Label, Mount, Seek}
-use Rattle.sd_core.specs.declared.journal.Placement.{Placement}
+use Rattle.sd_core.specs.declared.placement.Placement.{Placement}
 use Rattle.sd_core.specs.declared.piece.Piece.{Piece}
 use Rattle.sd_core.specs.declared.reply.Reply.{Reply}
 use Rattle.sd_core.specs.declared.reply.Reply.TheVariants.{Refused, InHand, HandFull, Idle, Placed, NeedVolume, VolumeFull, Synced, Labelled, Mounted, Requested, NoNeed}
-use Rattle.sd_core.specs.declared.volume.TheConstants.{MOST_VOLUME}
 use Rattle.sd_core.specs.declared.volume.VolumeStatus.TheVariants.{Full}
 use Rattle.sd_core.specs.Machine.{Machine}
-use Rattle.sd_core.specs.Step.{DriveIsRefused, IsRefused, MayFail}
+use Rattle.sd_core.specs.Step.{MayRefuseDrive, MayRefuse, MayFail}
 use Rattle.sd_core.specs.Volume.{VolumeView}
-use Rattle.sd_core.specs.Journal.{SentBody, noted}
+use Rattle.sd_core.specs.Journal.{noted}
+use Rattle.sd_core.specs.SentBody.{SentBody}
 use Rattle.sd_core.specs.Drive.{DriveView, after_sync, synced_bytes}
 use Rattle.sd_core.specs.World.{WorldView, entry_of, body_of_piece, on_the_way}
 use Rattle.sd_core.specs.Matches.{Matches}
 use Rattle.sd_core.specs.Moves.{Moves, PlacesPiece}
-use Rattle.sd_core.specs.Steps.{StepsTo}
+use Rattle.sd_core.specs.Matches.{StepsTo}
 use Rattle.sd_core.proofs.SessionSteps.{steps, stays}
 use Rattle.sd_core.proofs.DriveFrames.{LastsOn, last_more, VolumeFollowed, followed_of, followed_labelled, followed_marked, followed_placed, followed_synced, drive_changes, after_placing, body_placed}
 
 -- a refusal for this reason
-refused : (old new : WorldView) (m : Machine) (event : Event) (why reason : Refusal) → why ≡ reason → IsRefused m event reason → MayFail m event (Refused reason) []
+refused : (old new : WorldView) (m : Machine) (event : Event) (why reason : Refusal) → why ≡ reason → MayRefuse m event reason → MayFail m event (Refused reason) []
     → new ≡ old → Matches old m → StepsTo m event (Refused why) new
 refused old new m event why reason is cause fail same h =
     subst (λ (x : Refusal). StepsTo m event (Refused x) new) (sym is) (stays old new m event (Refused reason) (cause, refl) fail h same)
 
-no_such_drive : DriveIsRefused NoSuchDrive
+no_such_drive : MayRefuseDrive NoSuchDrive
 no_such_drive = inl refl
 
-not_on_shelf : DriveIsRefused VolumeNotOnShelf
+not_on_shelf : MayRefuseDrive VolumeNotOnShelf
 not_on_shelf = inr (inr (inl refl))
 
-other_pool : DriveIsRefused OtherPoolOrMedia
+other_pool : MayRefuseDrive OtherPoolOrMedia
 other_pool = inr (inr (inr (inl refl)))
 
-in_use : DriveIsRefused InUse
+in_use : MayRefuseDrive InUse
 in_use = inr (inr (inr (inr (inl refl))))
 
-not_appendable : DriveIsRefused NotAppendable
+not_appendable : MayRefuseDrive NotAppendable
 not_appendable = inr (inr (inr (inr (inr (inl refl)))))
 
-no_memory : DriveIsRefused Memory
+no_memory : MayRefuseDrive Memory
 no_memory = inr (inr (inr (inr (inr (inr (inr (inr (inr refl))))))))
 
 -- The drive alone changes, and no body comes onto the volume.
@@ -93,7 +94,7 @@ piece_placed old new m drive volume start end moves h =
     let queued = map body_of_piece old.queue in
     let way : on_the_way old ≡ b ∷ queued = ap (λ x. map body_of_piece (option_to_list x) ++ queued) hand.hand_is in
     let lasts : synced_bytes old.drive.volume ≤ hand.after.synced = omega (arith, ap synced_bytes hand.ready.volume_is, ap (λ (v : VolumeView). v.synced) hand.places.is) in
-    let followed = followed_placed MOST_VOLUME hand.before hand.after h.placed b moves.placement entry old.time 1 m.next old.entries
+    let followed = followed_placed most_volume hand.before hand.after h.placed b moves.placement entry old.time 1 m.next old.entries
     hand.places key_is h.numbers_rise there (followed_at old m hand.before h hand.ready.volume_is) in
     subst (λ w. Matches w m) (sym (moves.new_is ∙ ap (after_placing old entry j) hand.new_is))
     (body_placed old m after entry j b h

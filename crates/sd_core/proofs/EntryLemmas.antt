@@ -2,9 +2,10 @@
 use Rattle.std.proofs.Common.{◌≡◌, ◌≢◌, ℕ, zero, suc, ◌+◌, ◌-◌, ◌≤◌, ◌<◌, ◌==◌, cond, true, false, Some, None, List, [], ◌∷◌, ◌++◌, length, slice_get, slice_set, refl, sym, ◌∙◌, ap, subst, arith}
 use Rattle.std.proofs.lemmas.Bool.{eq-eqb, ne_eqb}
 use Rattle.sd_core.specs.declared.entry.Entry.{Entry}
-use Rattle.sd_core.specs.Journal.{SentBody}
+use Rattle.sd_core.specs.SentBody.{SentBody}
 use Rattle.sd_core.specs.World.{entry_of, with_entry, last_entry}
-use Rattle.sd_core.specs.Sound.{IsEntry, AreEntries, IsFoundAt}
+use Rattle.sd_core.specs.Invariants.{IsEntry, AreEntries}
+use Rattle.sd_core.specs.World.{IsFoundAt}
 
 -- the session of a ticket is where its number says
 pub found_at : (time : ℕ) (way : List SentBody) (blocks number ticket : ℕ) (es : List Entry) (at : ℕ)

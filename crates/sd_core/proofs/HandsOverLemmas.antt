@@ -10,7 +10,8 @@ use Rattle.sd_label.proofs.CuttingLemmas.{front_nil, holds_one, holds_front}
 use Rattle.sd_unpack.specs.Unpacking.{Unpacking, Unpacks}
 use Rattle.sd_core.specs.declared.span.Span.{Span}
 use Rattle.sd_core.specs.declared.readback.reader.Reader.{Reader}
-use Rattle.sd_core.specs.Volume.{Block, images, blocks_of, is_key}
+use Rattle.sd_core.specs.Volume.{Block, images, blocks_of}
+use Rattle.sd_base.specs.Key.{is_key}
 use Rattle.sd_core.specs.Reading.{Shelf, SpanHolds, AllHold, Reads}
 use Rattle.sd_core.specs.ReadFaults.{AreSpans, IsPartOf, BeginsWithBlock}
 use Rattle.sd_core.specs.HandsOver.{GotFirstOf, SpanBegins, NextBegins, AreHeldFirst, HandsOverFront}
@@ -196,8 +197,8 @@ first_held shelf before (s ∷ after) held last all hold begins whole =
 -- no bodies hold no session
 nothing_holds : (records : List Record) (standing : Standing) → Holds [] records standing → ⊥
 nothing_holds records standing h =
-    let none = no_fragments h.placed (sym h.places.bytes_are) in
-    cc (sym none ∙ h.places.session_is.order)
+    let none = no_fragments h.fragments (sym h.holds_by.bytes_are) in
+    cc (sym none ∙ h.holds_by.session_is.order)
 
 -- the first of the bodies hold the first of the records whole
 held_first_front : (bodies others : List (List ℕ)) (first records : List Record) (ended : Bool) → AreHeldFirst bodies first → WholeOf (bodies ++ others) records ended

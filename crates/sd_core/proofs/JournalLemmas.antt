@@ -3,16 +3,17 @@ use Rattle.std.proofs.Common.{◌≡◌, ℕ, zero, suc, ◌+◌, Some, List, []
 use Rattle.std.specs.Str.{bytes_eq}
 use Rattle.std.proofs.lemmas.Bool.{cond-true}
 use Rattle.std.proofs.lemmas.Slice.Eq.{bytes_eq-Decides}
+use Rattle.sd_base.specs.Limits.{block_header}
 use Rattle.sd_base.specs.declared.number.SessionKey.{SessionKey}
-use Rattle.sd_block.specs.declared.layout.TheConstants.{HEADER}
-use Rattle.sd_pack.specs.Body.{first_nonzero}
+use Rattle.sd_base.specs.FileIndex.{first_nonzero}
 use Rattle.sd_core.specs.declared.span.Span.{Span}
-use Rattle.sd_core.specs.declared.journal.Placement.{Placement}
+use Rattle.sd_core.specs.declared.placement.Placement.{Placement}
 use Rattle.sd_core.specs.declared.journal.Run.{Run}
 use Rattle.sd_core.specs.declared.journal.SessionJournal.{SessionJournal}
-use Rattle.sd_core.specs.Volume.{is_key}
+use Rattle.sd_base.specs.Key.{is_key}
 use Rattle.sd_core.proofs.ListLemmas.{cond_more}
-use Rattle.sd_core.specs.Journal.{SentBody, placements_at, placements_of, AreOn, run_of, noted, empty_journal, follows_from, Follows, spans_in, in_front, stretches, numbered_from, spans_of}
+use Rattle.sd_core.specs.Journal.{placements_at, placements_of, AreOn, run_of, noted, empty_journal, follows_from, Follows, spans_in, in_front, stretches, numbered_from, spans_of}
+use Rattle.sd_core.specs.SentBody.{SentBody}
 
 -- One placement more.
 
@@ -45,7 +46,7 @@ run_of_all p (q ∷ qs) = joined (run_of p) (run_of_all q qs)
 
 -- noting them one after another gives their run
 run_behind : (n : ℕ) (r : Run) (q : Placement) (qs : List Placement)
-    → (follows_from (record { placed = n; run = Some r }) (q ∷ qs)).run ≡ Some (joined r (run_of_all q qs))
+    → (follows_from (record { blocks = n; run = Some r }) (q ∷ qs)).run ≡ Some (joined r (run_of_all q qs))
 unfolding joined run_of_all
 run_behind n r q [] = refl
 run_behind n r q (t ∷ ts) =
@@ -87,18 +88,18 @@ journal_gives_spans j volume (p ∷ ps) follows on =
 -- where a body lies that is placed from byte `at` on
 abbrev pub placement_at : List ℕ → ℕ → SentBody → Placement
 placement_at volume at b =
-    record { key = b.key; volume = volume; start = at; length = HEADER + length b.body.bytes; first = b.body.first; last = b.body.last }
+    record { key = b.key; volume = volume; start = at; length = block_header + length b.body.bytes; first = b.body.first; last = b.body.last }
 
 -- where the bodies end that lie one behind another from byte `at` on
 abbrev pub end_at : ℕ → List SentBody → ℕ
 end_at at [] = at
-end_at at (b ∷ bs) = end_at (at + (HEADER + length b.body.bytes)) bs
+end_at at (b ∷ bs) = end_at (at + (block_header + length b.body.bytes)) bs
 
 pub placements_at-append : (volume : List ℕ) (at : ℕ) (bs cs : List SentBody)
     → placements_at volume at (bs ++ cs) ≡ placements_at volume at bs ++ placements_at volume (end_at at bs) cs
 placements_at-append volume at [] cs = refl
 placements_at-append volume at (b ∷ bs) cs =
-    ap (λ l. placement_at volume at b ∷ l) (placements_at-append volume (at + (HEADER + length b.body.bytes)) bs cs)
+    ap (λ l. placement_at volume at b ∷ l) (placements_at-append volume (at + (block_header + length b.body.bytes)) bs cs)
 
 pub placements_of-append : (key : SessionKey) (ps qs : List Placement) → placements_of key (ps ++ qs) ≡ placements_of key ps ++ placements_of key qs
 placements_of-append key [] qs = refl

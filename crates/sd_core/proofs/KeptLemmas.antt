@@ -8,7 +8,7 @@ use Rattle.sd_label.specs.Cutting.{total_bytes}
 use Rattle.sd_core.specs.declared.entry.Entry.{Entry}
 use Rattle.sd_core.specs.declared.event.Event.{Event}
 use Rattle.sd_core.specs.declared.event.Event.TheVariants.{Open, Append, End, Close, Cancel, Spool, Despool, Take, Place, Sync, Label, Mount, Seek}
-use Rattle.sd_core.specs.declared.journal.Placement.{Placement}
+use Rattle.sd_core.specs.declared.placement.Placement.{Placement}
 use Rattle.sd_core.specs.declared.journal.SessionJournal.{SessionJournal}
 use Rattle.sd_core.specs.declared.piece.Piece.{Piece}
 use Rattle.sd_core.specs.declared.reply.Reply.{Reply}
@@ -17,14 +17,16 @@ use Rattle.sd_core.specs.declared.span.Span.{Span}
 use Rattle.sd_core.specs.declared.status.Status.TheVariants.{Closed as IsClosed}
 use Rattle.sd_core.specs.Machine.{Machine, MachineSession, session_of}
 use Rattle.sd_core.specs.Session.{SessionView, IsRunning, TakesRecord, EndsSession, CancelsSession, SendsBody, FindsQueueFull, HasNothingDue}
-use Rattle.sd_core.specs.Volume.{VolumeView, is_key}
-use Rattle.sd_core.specs.Journal.{SentBody, placements_at, placements_of, follows_from, empty_journal, spans_in}
+use Rattle.sd_core.specs.Volume.{VolumeView}
+use Rattle.sd_base.specs.Key.{is_key}
+use Rattle.sd_core.specs.Journal.{placements_at, placements_of, follows_from, empty_journal, spans_in}
+use Rattle.sd_core.specs.SentBody.{SentBody}
 use Rattle.sd_core.specs.Drive.{DriveView, volume_name, synced_if}
 use Rattle.sd_core.specs.Reading.{Reads}
 use Rattle.sd_core.specs.World.{WorldView, entry_of, with_entry, on_the_way, body_of_piece, bodies_with, IsOnTheWay, spans_of_entry, shelf_of}
 use Rattle.sd_core.specs.Matches.{Matches}
 use Rattle.sd_core.specs.Moves.{HasEntry, ChangesSession, ChangesQueue, OpensSession, ClosesSession, TakesPiece, PlacesPiece, Moves}
-use Rattle.sd_core.specs.Kept.{IsClosedAt, ClosedStands, ClosedStay}
+use Rattle.sd_core.specs.Kept.{IsClosedAt, ClosedStands, StatusesStay, SpansStay, ClosedStay}
 use Rattle.sd_core.proofs.BlockLemmas.{is_key_same}
 use Rattle.sd_core.proofs.SessionLookups.{chosen, found_session, journal_follows}
 use Rattle.sd_core.proofs.SessionFrames.{not_closed}
@@ -238,6 +240,26 @@ closed_stay old new (Seek drive) Requested m moves h = unchanged old new moves.2
 closed_stay old new (Seek drive) NoNeed m moves h = unchanged old new moves.2
 closed_stay old new event (Refused why) m moves h = unchanged old new (refused_stays old new event why moves)
 closed_stay old new event reply m moves h = absurd moves
+
+-- what closed sessions keep, apart and together
+
+pub statuses_stay : (old new : WorldView) → ClosedStay old new → StatusesStay old new
+statuses_stay old new stay key h =
+    let at = stay key (spans_of_entry old h.entry) (record { entry = h.entry; there = h.there; key_is = h.key_is; closed = h.closed; spans_are = refl }) in
+    record { entry = at.entry; there = at.there; key_is = at.key_is; closed = at.closed }
+
+pub spans_stay : (old new : WorldView) → ClosedStay old new → SpansStay old new
+spans_stay old new stay key spans h =
+    let at = stay key spans h in
+    record { entry = at.entry; there = at.there; key_is = at.key_is; spans_are = at.spans_are }
+
+pub both_stay : (old new : WorldView) → StatusesStay old new → SpansStay old new → ClosedStay old new
+both_stay old new statuses spans key own h =
+    let at = statuses key (record { entry = h.entry; there = h.there; key_is = h.key_is; closed = h.closed }) in
+    let on = spans key own h in
+    let one : Some on.entry ≡ Some at.entry = sym on.there ∙ at.there in
+    let same : on.entry ≡ at.entry = cc one in
+    record { entry = at.entry; there = at.there; key_is = at.key_is; closed = at.closed; spans_are = on.spans_are ∙ ap (spans_of_entry new) same }
 
 -- the session that a reply closed
 closes_stands : (old new : WorldView) (ticket : ℕ) (key : SessionKey) (spans : List Span) → ClosesSession old ticket key spans new → IsClosedAt new key spans

@@ -7,6 +7,8 @@ pub mod EntryLemmas
 pub mod FirstFaultLemmas
 pub mod FrontLemmas
 pub mod HandsOverLemmas
+pub mod InvariantLemmas
+pub mod JobMediaLemmas
 pub mod JournalLemmas
 pub mod KeptLemmas
 pub mod ListLemmas
@@ -20,7 +22,6 @@ pub mod SessionFrames
 pub mod SessionLemmas
 pub mod SessionLookups
 pub mod SessionSteps
-pub mod SoundLemmas
 pub mod SpanLemmas
 pub mod StepLemmas
 pub mod VolumeLemmas

@@ -2,10 +2,10 @@
 use Rattle.std.proofs.Common.{◌≡◌, ◌≢◌, ℕ, suc, ◌+◌, ◌<◌, refl, sym, ap, subst, ◌∙◌, arith, ◌⊎◌, List, [], ◌∷◌, ◌++◌, length, add-zero}
 use Rattle.std.specs.Prelude.{Option, Some, None}
 use Rattle.std.proofs.lemmas.List.{append_assoc, append-nil, length-append}
+use Rattle.sd_base.specs.Limits.{most_block}
 use Rattle.sd_base.specs.Record.{Record}
 use Rattle.sd_base.specs.declared.number.SessionKey.{SessionKey}
 use Rattle.sd_block.specs.Image.{block_image, IsBlockImage}
-use Rattle.sd_block.specs.declared.layout.TheConstants.{MOST_BLOCK}
 use Rattle.sd_block.proofs.ImageLemmas.{length-block_image}
 use Rattle.sd_core.specs.declared.readback.fault.ReadFault.{ReadFault}
 use Rattle.sd_core.specs.declared.readback.fault.ReadFault.TheVariants.{DamagedBlock}
@@ -65,7 +65,7 @@ numbered_for part left behind number (d ∷ ds) b at e are begins =
       part_is =
           e ∙ ap (λ l. images number (d ∷ ds) ++ l) (begins.bytes_are ∙ ap (λ l. l ++ behind) (sym (append-nil (block_image b.key at b.body))))
           ∙ sym (append_assoc (images number (d ∷ ds)) (block_image b.key at b.body ++ []) behind) ∙ ap (λ l. l ++ behind) (sym more);
-      done_are = AreImages-append number (d ∷ ds) (b ∷ []) are ((subst (λ n. IsBlockImage MOST_BLOCK (block_image b.key n b.body) b.key n b.body) next own), tt);
+      done_are = AreImages-append number (d ∷ ds) (b ∷ []) are ((subst (λ n. IsBlockImage most_block (block_image b.key n b.body) b.key n b.body) next own), tt);
       at_is = next;
     }
 

@@ -4,13 +4,13 @@ use Rattle.std.specs.Prelude.{Option}
 use Rattle.std.proofs.lemmas.List.{append_assoc, append-nil, length-append, take_at, take-append-le}
 use Rattle.std.proofs.lemmas.Grind.{flat_map-append}
 use Rattle.std.proofs.lemmas.List.Sums.{sum_by-append}
+use Rattle.sd_base.specs.Limits.{most_block}
 use Rattle.sd_base.specs.Record.{Record}
 use Rattle.sd_base.specs.declared.number.SessionKey.{SessionKey}
 use Rattle.sd_block.specs.Image.{block_image}
 use Rattle.sd_block.specs.Head.{IsHeadOf}
 use Rattle.sd_block.specs.Fault.{HasBadSum}
 use Rattle.sd_block.specs.declared.head.Head.{Head}
-use Rattle.sd_block.specs.declared.layout.TheConstants.{MOST_BLOCK}
 use Rattle.sd_block.proofs.HeaderLemmas.{SaysFields-same, SaysSize-same}
 use Rattle.sd_block.proofs.ImageLemmas.{length-block_image, IsHeadOf-image, HasSum-image}
 use Rattle.sd_label.specs.Cutting.{total_bytes, WholeOf}
@@ -62,19 +62,19 @@ pub image_size : (bytes : List ℕ) (b : Block) (number : ℕ) (behind : List �
 image_size bytes b number behind e = sym (ap length e ∙ length-append (block_image b.key number b.body) behind)
 
 head_of_block : (bytes : List ℕ) (last : Option ℕ) (b : Block) (number : ℕ) (behind : List ℕ) → BeginsWithBlock last bytes b number behind
-    → IsHeadOf MOST_BLOCK bytes (record { key = b.key; number = number; size = length (block_image b.key number b.body) })
+    → IsHeadOf most_block bytes (record { key = b.key; number = number; size = length (block_image b.key number b.body) })
 head_of_block bytes last b number behind begins =
     let image = block_image b.key number b.body in
     let long = length-block_image b.key number b.body in
     let front : take 24 bytes ≡ take 24 image = ap (take 24) begins.bytes_are ∙ take-append-le 24 image behind (omega arith) in
-    IsHeadOf-image MOST_BLOCK image bytes b.key number b.body begins.block_is front
+    IsHeadOf-image most_block image bytes b.key number b.body begins.block_is front
 
-same_head : (bytes : List ℕ) (last : Option ℕ) (b : Block) (number : ℕ) (behind : List ℕ) (head : Head) → BeginsWithBlock last bytes b number behind → IsHeadOf MOST_BLOCK bytes head
+same_head : (bytes : List ℕ) (last : Option ℕ) (b : Block) (number : ℕ) (behind : List ℕ) (head : Head) → BeginsWithBlock last bytes b number behind → IsHeadOf most_block bytes head
     → head ≡ record { key = b.key; number = number; size = length (block_image b.key number b.body) }
 same_head bytes last b number behind head begins is =
     SaysFields-same bytes _ _ is.fields (head_of_block bytes last b number behind begins).fields
 
-pub no_bad_head : (bytes : List ℕ) (head : Head) → IsHeadOf MOST_BLOCK bytes head → HasBadHead bytes → ⊥
+pub no_bad_head : (bytes : List ℕ) (head : Head) → IsHeadOf most_block bytes head → HasBadHead bytes → ⊥
 no_bad_head bytes head own (inl bad) = bad own.block_id
 no_bad_head bytes head own (inr bad) =
     let size = bad.1 in
@@ -84,7 +84,7 @@ no_bad_head bytes head own (inr bad) =
     let outside = size.1.1 in
     omega (arith, outside)
 
-no_bad_block : (bytes : List ℕ) (last : Option ℕ) (b : Block) (number : ℕ) (behind : List ℕ) (head : Head) → BeginsWithBlock last bytes b number behind → IsHeadOf MOST_BLOCK bytes head
+no_bad_block : (bytes : List ℕ) (last : Option ℕ) (b : Block) (number : ℕ) (behind : List ℕ) (head : Head) → BeginsWithBlock last bytes b number behind → IsHeadOf most_block bytes head
     → HasBadBlock last bytes head → ⊥
 no_bad_block bytes last b number behind head begins is (inl bad) =
     let image = block_image b.key number b.body in

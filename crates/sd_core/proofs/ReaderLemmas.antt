@@ -20,7 +20,8 @@ use Rattle.sd_unpack.specs.declared.damage.AddFault.TheVariants as adding
 use Rattle.sd_core.specs.declared.readback.fault.ReadFault.{ReadFault}
 use Rattle.sd_core.specs.declared.readback.fault.ReadFault.TheVariants.{DamagedBlock, Memory}
 use Rattle.sd_core.specs.declared.readback.reader.Reader.{Reader}
-use Rattle.sd_core.specs.Volume.{Block, blocks_of, is_key}
+use Rattle.sd_core.specs.Volume.{Block, blocks_of}
+use Rattle.sd_base.specs.Key.{is_key}
 use Rattle.sd_core.specs.ReadFaults.{fault_of, AreCountable, AreReadable}
 use Rattle.sd_core.specs.Reader.{HasRead, ReadsOn}
 use Rattle.sd_core.proofs.ListLemmas.{push_not_nil, nil_from_map}
@@ -77,10 +78,10 @@ unpacks_emptied : (bodies : List (List ℕ)) (taken : List Record) (view : Unpac
 unpacks_emptied bodies taken view u =
     let all = sym (append-nil (taken ++ view.ready)) in
     record {
-      placed = u.placed;
+      fragments = u.fragments;
       bytes_are = u.bytes_are;
       bodies_are = u.bodies_are;
-      reaches = subst (λ l. Reaches view.stage (joined u.placed) l view.so_far) all u.reaches;
+      reaches = subst (λ l. Reaches view.stage (joined u.fragments) l view.so_far) all u.reaches;
       totals_are = subst (AreTotalsOf view.totals) all u.totals_are;
     }
 
@@ -152,8 +153,8 @@ some_joined (fs ∷ rest) are some e = are.0 (front_nil fs (joined rest) e)
 pub unpacked_holds : (bodies : List (List ℕ)) (taken : List Record) (view : Unpacking) → Unpacks bodies taken view → bodies ≢ []
     → (standing : Standing) × (standing_at view.stage ≡ Some standing) × Holds bodies (taken ++ view.ready) standing
 unpacked_holds bodies taken view u some =
-    let parts = some_joined u.placed u.bodies_are (λ none. some (u.bytes_are ∙ none)) in
-    let at = stands view.stage (joined u.placed) (taken ++ view.ready) view.so_far u.reaches parts in
+    let parts = some_joined u.fragments u.bodies_are (λ none. some (u.bytes_are ∙ none)) in
+    let at = stands view.stage (joined u.fragments) (taken ++ view.ready) view.so_far u.reaches parts in
     (at.0, at.1, unpacked_whole bodies taken view at.0 u at.1)
 
 -- what was read so far can be read
@@ -249,7 +250,7 @@ no_fragments placed e = ap joined (nil_from_map fragments_bytes placed e)
 
 -- no record was handed out and none waits where no body was given
 pub nothing_held : (taken : List Record) (view : Unpacking) → Unpacks [] taken view → taken ++ view.ready ≡ []
-nothing_held taken view u = reaches_nil view.stage (joined u.placed) (taken ++ view.ready) view.so_far (no_fragments u.placed (sym u.bytes_are)) u.reaches
+nothing_held taken view u = reaches_nil view.stage (joined u.fragments) (taken ++ view.ready) view.so_far (no_fragments u.fragments (sym u.bytes_are)) u.reaches
 
 pub has_read_none : (reader : Reader) → Unpacks [] [] reader.unpacker → reader.unpacker.damage ≡ None
     → reader.records ≡ 0 → reader.bytes ≡ 0 → reader.found ≡ false → HasRead reader.key [] [] reader

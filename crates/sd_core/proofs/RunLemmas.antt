@@ -8,8 +8,8 @@ use Rattle.sd_core.specs.declared.reply.Reply.TheVariants.{Refused, Opened, Take
 use Rattle.sd_core.specs.declared.status.Status.{Status}
 use Rattle.sd_core.specs.declared.status.Status.TheVariants.{Closed as IsClosed}
 use Rattle.sd_core.specs.Machine.{Machine, MachineSession, session_of, with_session, changed, opened, failed_status, with_failed_session, with_failed}
-use Rattle.sd_core.specs.Step.{Turns, HasSession, Step}
-use Rattle.sd_core.specs.Kept.{KeepsClosed, ClosedKeepTheirRecords}
+use Rattle.sd_core.specs.Step.{Run, Turns, HasSession, Step}
+use Rattle.sd_core.specs.Kept.{ClosedKeepTheirRecords, ClosedKeepTheirStatus}
 use Rattle.sd_core.proofs.SessionLookups.{chosen}
 use Rattle.sd_core.proofs.SessionFrames.{not_closed}
 
@@ -64,6 +64,11 @@ failed_session_keeps failing ticket (y ∷ ss) s at closed =
         | false ↦ λ later. failed_session_keeps failing ticket ss s later closed
       ]) at
     ])
+
+-- each closed session of the one machine is in the other as it was
+abbrev KeepsClosed : Machine → Machine → Type 0
+KeepsClosed old new = (ticket : ℕ) (s : MachineSession)
+    → session_of ticket old.sessions ≡ Some s → s.status ≡ IsClosed → session_of ticket new.sessions ≡ Some s
 
 -- Steps.
 
@@ -126,9 +131,16 @@ step_keeps failing old new event reply step ticket s at closed =
     stays (with_failed failing step.between) new step.new_is ticket s
     (failed_keeps failing step.between ticket s (turn_keeps old step.between event reply step.turns ticket s at closed) closed) closed
 
-pub closed_stays : ClosedKeepTheirRecords
-closed_stays m m' [] [] run = stays m m' run
-closed_stays m m' [] (reply ∷ replies) run = absurd run
-closed_stays m m' (event ∷ events) [] run = absurd run
-closed_stays m m' (event ∷ events) (reply ∷ replies) run =
-    λ ticket s at closed. closed_stays run.1 m' events replies run.3 ticket s (step_keeps run.0 m run.1 event reply run.2 ticket s at closed) closed
+run_keeps : (m m' : Machine) (events : List Event) (replies : List Reply) → Run m events replies m' → KeepsClosed m m'
+run_keeps m m' [] [] run = stays m m' run
+run_keeps m m' [] (reply ∷ replies) run = absurd run
+run_keeps m m' (event ∷ events) [] run = absurd run
+run_keeps m m' (event ∷ events) (reply ∷ replies) run =
+    λ ticket s at closed. run_keeps run.1 m' events replies run.3 ticket s (step_keeps run.0 m run.1 event reply run.2 ticket s at closed) closed
+
+pub closed_keep_their_records : ClosedKeepTheirRecords
+closed_keep_their_records m m' events replies run ticket s at closed =
+    record { session = s; there = run_keeps m m' events replies run ticket s at closed; key_is = refl; records_are = refl }
+
+pub closed_keep_their_status : ClosedKeepTheirStatus
+closed_keep_their_status m m' events replies run ticket s at closed = (s, run_keeps m m' events replies run ticket s at closed, closed)

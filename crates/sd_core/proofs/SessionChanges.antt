@@ -1,5 +1,5 @@
 -- What a session that an event changed matches: the machine's session that the event changed.
-use Rattle.std.proofs.Common.{◌≡◌, ℕ, ◌+◌, refl, sym, ap, subst, subst₂, ap₂, ◌∙◌, inl, inr, ℤ, Option, Some, None, List, [], ◌∷◌, ◌++◌, length}
+use Rattle.std.proofs.Common.{◌≡◌, ℕ, true, false, ◌+◌, refl, sym, ap, subst, subst₂, ap₂, ◌∙◌, inl, inr, ℤ, Option, Some, None, List, [], ◌∷◌, ◌++◌, length}
 use Rattle.std.proofs.lemmas.List.{length_push}
 use Rattle.std.proofs.lemmas.List.Sums.{sum_by_push}
 use Rattle.sd_base.specs.Record.{Record}
@@ -12,7 +12,8 @@ use Rattle.sd_core.specs.declared.status.Status.{Status}
 use Rattle.sd_core.specs.declared.status.Status.TheVariants.{Active as IsActive, Ended as IsEnded, Closed as IsClosed, Cancelled as IsCancelled}
 use Rattle.sd_core.specs.Machine.{Machine, MachineSession, last_index}
 use Rattle.sd_core.specs.Session.{SessionView, IsRunning, MayTake, parts_of, StartsSession, TakesRecord, EndsSession, CancelsSession}
-use Rattle.sd_core.specs.Journal.{SentBody, empty_journal}
+use Rattle.sd_core.specs.Journal.{empty_journal}
+use Rattle.sd_core.specs.SentBody.{SentBody}
 use Rattle.sd_core.specs.World.{WorldView, next_of, on_the_way, bodies_with, bodies_in, IsOutstanding}
 use Rattle.sd_core.specs.Matches.{HasBodies, BeginsPacked, SessionMatches, Matches}
 use Rattle.sd_core.specs.Step.{SessionMayTake}
@@ -93,8 +94,8 @@ ends_session placed w es e v s moment ends h =
 -- what was sent of a session that goes on begins a cutting of its records
 running_begins : (placed : List SentBody) (w : WorldView) (v : SessionView) (status : Status) (records : List Record) → IsRunning status → HasBodies placed w v status records
     → BeginsPacked v.packer.room (bodies_with v.key (placed ++ on_the_way w)) records
-running_begins placed w v status records (inl is) h = record { dropped = parts_of v; standing = Between; packs = subst (λ status. HasBodies placed w v status records) is h }
-running_begins placed w v status records (inr is) h = record { dropped = parts_of v; standing = AtEnd; packs = subst (λ status. HasBodies placed w v status records) is h }
+running_begins placed w v status records (inl is) h = record { dropped = parts_of v; ended = false; packs = subst (λ status. HasBodies placed w v status records) is h }
+running_begins placed w v status records (inr is) h = record { dropped = parts_of v; ended = true; packs = subst (λ status. HasBodies placed w v status records) is h }
 
 pub cancels_session : (placed : List SentBody) (w : WorldView) (es : List Entry) (e : Entry) (v : SessionView) (s : MachineSession) → CancelsSession e.session v → SessionMatches placed w e s
     → SessionMatches placed (record w { entries = es }) (entry_with e v) (record s { status = IsCancelled })

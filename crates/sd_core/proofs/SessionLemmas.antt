@@ -5,11 +5,12 @@ use Rattle.std.specs.Option.{option_to_list}
 use Rattle.std.proofs.lemmas.List.{append_assoc, append-nil}
 use Rattle.std.proofs.lemmas.Grind.{flat_map-append}
 use Rattle.sd_base.specs.Record.{Record}
+use Rattle.sd_record.specs.Fragment.{fragments_bytes}
 use Rattle.sd_label.specs.declared.label.SessionLabel.{SessionLabel}
 use Rattle.sd_label.specs.Label.{IsSessionLabel, session_label_bytes}
 use Rattle.sd_label.specs.Cutting.{Standing, Between, AtEnd, IsEnd, total_bytes}
 use Rattle.sd_pack.specs.Body.{PackedBody, empty_body}
-use Rattle.sd_pack.specs.Packing.{PackerView, Packs, HasOpen, bodies_of, unless_empty, all_bytes, PacksRecord, PacksEnd, AddsLabel}
+use Rattle.sd_pack.specs.Packing.{PackerView, Packs, HasOpen, bodies_of, unless_empty, all_bytes, PacksRecord, PacksEnd, AddsRecord, AddsLabel}
 use Rattle.sd_core.specs.declared.status.Status.TheVariants.{Active, Ended}
 use Rattle.sd_core.specs.declared.piece.Piece.{Piece}
 use Rattle.sd_core.specs.Session.{SessionView, due_of, IsRunning, MayTake, end_label, TakesRecord, EndsSession, HasNothingDue}
@@ -43,13 +44,22 @@ behind_ready room ready bodies bodies' records records' standing before step pac
     subst (λ l. Packs room l records' standing) (append_assoc before ready bodies')
     (step (subst (λ l. Packs room l records Between) (sym (append_assoc before ready bodies)) packs))
 
+-- what the packer adds to its bytes is added to the session's
+bytes_behind : (ready bodies bodies' : List PackedBody) (more : List ℕ) → all_bytes bodies' ≡ all_bytes bodies ++ more
+    → all_bytes (ready ++ bodies') ≡ all_bytes (ready ++ bodies) ++ more
+bytes_behind ready bodies bodies' more adds =
+    flat_map-append (λ b. b.bytes) ready bodies'
+    ∙ ap (λ l. all_bytes ready ++ l) adds
+    ∙ sym (append_assoc (all_bytes ready) (all_bytes bodies) more)
+    ∙ ap (λ l. l ++ more) (sym (flat_map-append (λ b. b.bytes) ready bodies))
+
 -- a record is taken; `now` is the session before it, as is `old`
 pub takes_record : (old now : SessionView) (r : Record) (n bytes last : ℕ) (p : PackerView)
     → old ≡ now → old.status ≡ Active → MayTake old.count old.bytes old.last r → old.packer.waiting ≡ []
     → n ≡ old.count + 1 → bytes ≡ old.bytes + length r.bytes → last ≡ r.index
-    → PacksRecord old.packer p r → p.room ≡ old.packer.room
+    → PacksRecord old.packer p r → AddsRecord old.packer p r → HasOpen p → p.room ≡ old.packer.room
     → TakesRecord now r n (record old { count = n; bytes = bytes; last = last; packer = p })
-takes_record old now r n bytes last p now-is active may none n-is bytes-is last-is packs room = subst (λ v. TakesRecord v r n (record old { count = n; bytes = bytes; last = last; packer = p })) now-is (record {
+takes_record old now r n bytes last p now-is active may none n-is bytes-is last-is packs adds opens room = subst (λ v. TakesRecord v r n (record old { count = n; bytes = bytes; last = last; packer = p })) now-is (record {
   active = active;
   may_take = may;
   none_waits = none;
@@ -58,6 +68,10 @@ takes_record old now r n bytes last p now-is active may none n-is bytes-is last-
       ∙ ap (λ k. let s : SessionView = record old { count = old.count + 1; bytes = k; last = last; packer = p } in s) bytes-is
       ∙ ap (λ k. let s : SessionView = record old { count = old.count + 1; bytes = old.bytes + length r.bytes; last = k; packer = p } in s) last-is;
   room_is = room;
+  body_open = opens;
+  fragments = adds.parts;
+  fragments_are = adds.parts_are;
+  bytes_are = bytes_behind (option_to_list old.ready) (bodies_of old.packer) (bodies_of p) (fragments_bytes adds.parts) adds.bytes_are;
   packs = (λ before records. behind_ready old.packer.room (option_to_list old.ready) (bodies_of old.packer) (bodies_of p) records (records ++ r ∷ []) Between before
       (λ h. subst (λ k. Packs k ((before ++ option_to_list old.ready) ++ bodies_of p) (records ++ r ∷ []) Between) room (packs (before ++ option_to_list old.ready) records h)));
 })
@@ -84,15 +98,13 @@ ends_session old now moment label between p now-is active has label-is is packs 
       active = active;
       is = refl;
       room_is = room' ∙ room;
+      none_open = none;
       packs = (λ before records count bytes. behind_ready old.packer.room ready (bodies_of old.packer) (bodies_of p) records records AtEnd before
           (λ h. subst (λ l. Packs old.packer.room ((before ++ ready) ++ l) records AtEnd) (sym all)
           (subst (λ k. Packs k ((before ++ ready) ++ bodies_of between) records AtEnd) room
           (packs has (before ++ ready) records (ends label old moment records label-is is count bytes) h))));
-      bytes_are =
-          flat_map-append (λ b. b.bytes) ready (bodies_of p)
-          ∙ ap (λ l. all_bytes ready ++ l) (ap all_bytes all ∙ adds ∙ ap (λ l. all_bytes (bodies_of old.packer) ++ session_label_bytes l) label-is)
-          ∙ sym (append_assoc (all_bytes ready) (all_bytes (bodies_of old.packer)) (session_label_bytes (end_label old moment)))
-          ∙ ap (λ l. l ++ session_label_bytes (end_label old moment)) (sym (flat_map-append (λ b. b.bytes) ready (bodies_of old.packer)));
+      bytes_are = bytes_behind ready (bodies_of old.packer) (bodies_of p) (session_label_bytes (end_label old moment))
+          (ap all_bytes all ∙ adds ∙ ap (λ l. all_bytes (bodies_of old.packer) ++ session_label_bytes l) label-is);
     })
 
 pub nothing_due : (old now : SessionView) (queue : List Piece) (ready : Option PackedBody) (p : PackerView)

@@ -1,11 +1,12 @@
 -- Looking up a session by its ticket: in the world and in the machine.
 use Rattle.std.proofs.Common.{◌≡◌, ◌≢◌, ℕ, suc, ◌+◌, ◌<◌, ◌≤◌, ◌==◌, cond, refl, sym, ap, subst, ◌∙◌, arith, inl, inr, Some, None, List, [], ◌∷◌, ◌++◌, length, append-nil}
 use Rattle.std.proofs.lemmas.Bool.Decides.{eqb_tells}
+use Rattle.sd_base.specs.Limits.{block_header}
 use Rattle.sd_base.specs.declared.number.SessionKey.{SessionKey}
-use Rattle.sd_block.specs.declared.layout.TheConstants.{HEADER}
 use Rattle.sd_core.specs.declared.entry.Entry.{Entry}
 use Rattle.sd_core.specs.Machine.{MachineSession, session_of, with_session}
-use Rattle.sd_core.specs.Journal.{SentBody, placements_at, placements_of, Follows}
+use Rattle.sd_core.specs.Journal.{placements_at, placements_of, Follows}
+use Rattle.sd_core.specs.SentBody.{SentBody}
 use Rattle.sd_core.specs.World.{WorldView, entry_of, with_entry, bodies_with}
 use Rattle.sd_core.specs.Matches.{SessionMatches, SessionsMatch, JournalsFollow, NumbersRise, AreOfOpened}
 use Rattle.sd_core.proofs.BlockLemmas.{is_key_same, is_key_other, bodies_with-append}
@@ -161,7 +162,7 @@ bodies_with_next key next (b ∷ bs) is h =
 pub no_placements : (key : SessionKey) (next : ℕ) (volume : List ℕ) (at : ℕ) (bs : List SentBody) → key.id ≡ next → AreOfOpened next bs → placements_of key (placements_at volume at bs) ≡ []
 no_placements key next volume at [] is h = refl
 no_placements key next volume at (b ∷ bs) is h =
-    rw (is_key_other key b.key (λ e. let below = h.0 in omega arith)) (no_placements key next volume (at + (HEADER + length b.body.bytes)) bs is h.1)
+    rw (is_key_other key b.key (λ e. let below = h.0 in omega arith)) (no_placements key next volume (at + (block_header + length b.body.bytes)) bs is h.1)
 
 pub of_opened-append : (next : ℕ) (xs ys : List SentBody) → AreOfOpened next xs → AreOfOpened next ys → AreOfOpened next (xs ++ ys)
 of_opened-append next [] ys h g = g

@@ -1,9 +1,9 @@
 -- Each session event of the world is a step of the list machine.
 use Rattle.std.proofs.Common.{◌≡◌, ◌≢◌, ℕ, ◌+◌, ◌<◌, ◌≤◌, refl, sym, ap, subst, ap₂, ◌∙◌, inl, inr, ℤ, Some, None, List, [], ◌∷◌, ◌++◌, append_assoc}
 use Rattle.std.proofs.lemmas.List.{length_push}
+use Rattle.sd_base.specs.Limits.{most_number}
 use Rattle.sd_base.specs.Record.{Record}
 use Rattle.sd_base.specs.declared.number.SessionKey.{SessionKey}
-use Rattle.sd_base.specs.declared.number.TheConstants.{MOST_NUMBER}
 use Rattle.sd_base.specs.declared.refusal.Refusal.{Refusal}
 use Rattle.sd_base.specs.declared.refusal.Refusal.TheVariants.{SessionNotOpen, SessionCancelled, SessionFailed}
 use Rattle.sd_core.specs.declared.entry.Entry.{Entry}
@@ -16,14 +16,14 @@ use Rattle.sd_core.specs.declared.span.Span.{Span}
 use Rattle.sd_core.specs.declared.status.Status.{Status}
 use Rattle.sd_core.specs.declared.status.Status.TheVariants.{Active as IsActive, Ended as IsEnded, Closed as IsClosed, Cancelled as IsCancelled, Failed as IsFailed}
 use Rattle.sd_core.specs.Machine.{Machine, MachineSession, session_of, changed, opened}
-use Rattle.sd_core.specs.Session.{SessionView, IsRunning, refusal_of, parts_of, TakesRecord, AppendRefused, EndsSession, EndRefused, CancelsSession, NotRunning, SendsBody, FindsQueueFull, HasNothingDue}
+use Rattle.sd_core.specs.Session.{SessionView, IsRunning, status_refusal, parts_of, TakesRecord, AppendRefused, EndsSession, EndRefused, CancelsSession, NotRunning, SendsBody, FindsQueueFull, HasNothingDue}
 use Rattle.sd_core.specs.Journal.{empty_journal, follows_from}
 use Rattle.sd_core.specs.Drive.{volume_name}
 use Rattle.sd_core.specs.World.{WorldView, next_of, with_entry, on_the_way, body_of_piece, bodies_with, bodies_in}
 use Rattle.sd_core.specs.Matches.{HasBodies, SessionMatches, AreOfOpened, Matches, first_block}
-use Rattle.sd_core.specs.Moves.{HasEntry, TicketRefused, ChangesSession, OpensSession, OpenIsRefused, ClosesSession, CloseCauses, Moves}
-use Rattle.sd_core.specs.Step.{Turns, MayFail, IsRefused, StatusRefused, OpenRefused, RunningStays, HasSession}
-use Rattle.sd_core.specs.Steps.{StepsTo}
+use Rattle.sd_core.specs.Moves.{HasEntry, TicketRefused, ChangesSession, OpensSession, OpenRefused, ClosesSession, CloseCauses, Moves}
+use Rattle.sd_core.specs.Step.{Turns, MayFail, MayRefuse, StatusRefused, MayRefuseOpen, RunningStays, HasSession}
+use Rattle.sd_core.specs.Matches.{StepsTo}
 use Rattle.sd_core.proofs.SessionLookups.{FoundSession, found_session, no_session_found, with_session_same, numbered_key, numbers_more, journals_more, bodies_with_other, no_placements, of_opened-append, of_opened-front, of_opened-more}
 use Rattle.sd_core.proofs.SessionChanges.{machine_may_take, world_may_take, takes_record, status_changes, ends_session, cancels_session, moves_bodies, new_session_matches}
 use Rattle.sd_core.proofs.SessionFrames.{entry_with, world_with, one_changed, sessions_more, same_session, bodies_moved, MovesBodies, parts_behind, last_on_the_way, sent_on}
@@ -75,12 +75,12 @@ append_taken old new ticket r n m moves h =
     (takes_record h.placed old (with_entry (entry_with e moves.1) old.entries) e moves.1 s r n takes f.matches)
 
 append_refused : (old : WorldView) (ticket : ℕ) (r : Record) (why : Refusal) (m : Machine)
-    → TicketRefused old ticket why (λ e. AppendRefused e.session r why) → Matches old m → IsRefused m (Append ticket r) why
+    → TicketRefused old ticket why (λ e. AppendRefused e.session r why) → Matches old m → MayRefuse m (Append ticket r) why
 append_refused old ticket r why m refused h =
-    ticket_refused (IsRefused m (Append ticket r) why) old m ticket why (λ e. AppendRefused e.session r why) h
+    ticket_refused (MayRefuse m (Append ticket r) why) old m ticket why (λ e. AppendRefused e.session r why) h
     (λ none is. inl (inl (none, is)))
     (λ e s there match causes. elim causes [
-      | inl c ↦ inl (inr (s, there, (λ active. c.0 (sym match.status_is ∙ active)), c.1 ∙ ap refusal_of (sym match.status_is)))
+      | inl c ↦ inl (inr (s, there, (λ active. c.0 (sym match.status_is ∙ active)), c.1 ∙ ap status_refusal (sym match.status_is)))
       | inr (inl c) ↦ inr (inl (s, there, match.status_is ∙ c.0, ((λ may. c.1 (world_may_take h.placed old e s r match may)), c.2)))
       | inr (inr (inl c)) ↦ inr (inr (s, there, match.status_is ∙ c.0, (machine_may_take h.placed old e s r match c.1, inl c.3)))
       | inr (inr (inr c)) ↦ inr (inr (s, there, match.status_is ∙ c.0, (machine_may_take h.placed old e s r match c.1, inr c.3)))
@@ -108,12 +108,12 @@ end_ended old new ticket moment m moves h =
     (ends_session h.placed old (with_entry (entry_with e moves.1) old.entries) e moves.1 s moment ends f.matches)
 
 end_refused : (old : WorldView) (ticket : ℕ) (moment : ℤ) (why : Refusal) (m : Machine)
-    → TicketRefused old ticket why (λ e. EndRefused e.session why) → Matches old m → IsRefused m (End ticket moment) why
+    → TicketRefused old ticket why (λ e. EndRefused e.session why) → Matches old m → MayRefuse m (End ticket moment) why
 end_refused old ticket moment why m refused h =
-    ticket_refused (IsRefused m (End ticket moment) why) old m ticket why (λ e. EndRefused e.session why) h
+    ticket_refused (MayRefuse m (End ticket moment) why) old m ticket why (λ e. EndRefused e.session why) h
     (λ none is. inl (inl (none, is)))
     (λ e s there match causes. elim causes [
-      | inl c ↦ inl (inr (s, there, (λ active. c.0 (sym match.status_is ∙ active)), c.1 ∙ ap refusal_of (sym match.status_is)))
+      | inl c ↦ inl (inr (s, there, (λ active. c.0 (sym match.status_is ∙ active)), c.1 ∙ ap status_refusal (sym match.status_is)))
       | inr c ↦ inr (s, there, match.status_is ∙ c.0, c.1)
     ])
     refused
@@ -140,12 +140,12 @@ close_closed old new ticket key spans m closes h =
     (subst (λ status. HasBodies h.placed old e.session status s.records) (f.matches.status_is ∙ closes.ended) f.matches.bodies_are)
     (λ closed out. closes.none_outstanding out) f.matches)
 
-close_refused : (old : WorldView) (ticket : ℕ) (why : Refusal) (m : Machine) → TicketRefused old ticket why (CloseCauses old why) → Matches old m → IsRefused m (Close ticket) why
+close_refused : (old : WorldView) (ticket : ℕ) (why : Refusal) (m : Machine) → TicketRefused old ticket why (CloseCauses old why) → Matches old m → MayRefuse m (Close ticket) why
 close_refused old ticket why m refused h =
-    ticket_refused (IsRefused m (Close ticket) why) old m ticket why (CloseCauses old why) h
+    ticket_refused (MayRefuse m (Close ticket) why) old m ticket why (CloseCauses old why) h
     (λ none is. inl (inl (none, is)))
     (λ e s there match causes. elim causes [
-      | inl c ↦ inl (inr (s, there, (λ ended. c.0 (sym match.status_is ∙ ended)), c.1 ∙ ap refusal_of (sym match.status_is)))
+      | inl c ↦ inl (inr (s, there, (λ ended. c.0 (sym match.status_is ∙ ended)), c.1 ∙ ap status_refusal (sym match.status_is)))
       | inr (inl c) ↦ inr (s, there, match.status_is ∙ c.0, inr (inl c.2))
       | inr (inr c) ↦ inr (s, there, match.status_is ∙ c.0, inr (inr c.2))
     ])
@@ -173,7 +173,7 @@ not_running : (old : WorldView) (ticket : ℕ) (why : Refusal) (m : Machine) →
 not_running old ticket why m refused h =
     ticket_refused (StatusRefused IsRunning m ticket why) old m ticket why (λ e. NotRunning e.session why) h
     (λ none is. inl (none, is))
-    (λ e s there match c. inr (s, there, (λ runs. c.0 (subst IsRunning match.status_is runs)), c.1 ∙ ap refusal_of (sym match.status_is)))
+    (λ e s there match c. inr (s, there, (λ runs. c.0 (subst IsRunning match.status_is runs)), c.1 ∙ ap status_refusal (sym match.status_is)))
     refused
 
 pub cancel_steps : (old new : WorldView) (ticket : ℕ) (reply : Reply) (m : Machine) → Moves old (Cancel ticket) reply new → Matches old m → StepsTo m (Cancel ticket) reply new
@@ -184,7 +184,7 @@ cancel_steps old new ticket reply m moves h = absurd moves
 -- Spool.
 
 -- what holds of the three refusals by status holds of this one
-of_status : (P : Refusal → Type 0) (status : Status) → P SessionNotOpen → P SessionCancelled → P SessionFailed → P (refusal_of status)
+of_status : (P : Refusal → Type 0) (status : Status) → P SessionNotOpen → P SessionCancelled → P SessionFailed → P (status_refusal status)
 of_status P IsActive other cancelled failed = other
 of_status P IsEnded other cancelled failed = other
 of_status P IsClosed other cancelled failed = other
@@ -302,14 +302,14 @@ open_opened old new job pool media moment ticket drive m opens h =
           (λ x y. same_session h.placed old new' x y refl refl) h.sessions;
     } in
     steps m (opened m) (Open job pool media moment) (Opened ticket drive) new
-    (subst (λ n. n ≤ MOST_NUMBER) (sym h.next_is) opens.number_left, opens.ticket_is ∙ sym h.next_is, refl) refl
+    (subst (λ n. n ≤ most_number) (sym h.next_is) opens.number_left, opens.ticket_is ∙ sym h.next_is, refl) refl
     (subst (λ w. Matches w (opened m)) (sym opens.new_is) matches)
 
-open_refused : (w : WorldView) (media : List ℕ) (why : Refusal) (m : Machine) → m.next ≡ next_of w → OpenIsRefused w media why → OpenRefused m why
-open_refused w media why m next (inl c) = inl (subst (λ n. MOST_NUMBER < n) (sym next) c.0, c.1)
-open_refused w media why m next (inr (inl c)) = inr (subst (λ n. n ≤ MOST_NUMBER) (sym next) c.0, inl c.2)
-open_refused w media why m next (inr (inr (inl c))) = inr (subst (λ n. n ≤ MOST_NUMBER) (sym next) c.0, inr (inr (inl c.3)))
-open_refused w media why m next (inr (inr (inr c))) = inr (subst (λ n. n ≤ MOST_NUMBER) (sym next) c.0, inr (inr (inr (inl c.3))))
+open_refused : (w : WorldView) (media : List ℕ) (why : Refusal) (m : Machine) → m.next ≡ next_of w → OpenRefused w media why → MayRefuseOpen m why
+open_refused w media why m next (inl c) = inl (subst (λ n. most_number < n) (sym next) c.0, c.1)
+open_refused w media why m next (inr (inl c)) = inr (subst (λ n. n ≤ most_number) (sym next) c.0, inl c.2)
+open_refused w media why m next (inr (inr (inl c))) = inr (subst (λ n. n ≤ most_number) (sym next) c.0, inr (inr (inl c.3)))
+open_refused w media why m next (inr (inr (inr c))) = inr (subst (λ n. n ≤ most_number) (sym next) c.0, inr (inr (inr (inl c.3))))
 
 pub open_steps : (old new : WorldView) (job : ℕ) (pool media : List ℕ) (moment : ℤ) (reply : Reply) (m : Machine) → Moves old (Open job pool media moment) reply new → Matches old m
     → StepsTo m (Open job pool media moment) reply new

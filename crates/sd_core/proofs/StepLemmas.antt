@@ -7,7 +7,7 @@ use Rattle.sd_core.specs.Machine.{Machine, empty_machine}
 use Rattle.sd_core.specs.World.{WorldView, fresh_world}
 use Rattle.sd_core.specs.Matches.{Matches}
 use Rattle.sd_core.specs.Moves.{Moves}
-use Rattle.sd_core.specs.Steps.{StepsTo}
+use Rattle.sd_core.specs.Matches.{StepsTo}
 use Rattle.sd_core.proofs.SessionSteps.{open_steps, append_steps, end_steps, close_steps, cancel_steps, spool_steps, despool_steps}
 use Rattle.sd_core.proofs.DriveSteps.{take_steps, place_steps, sync_steps, label_steps, mount_steps, seek_steps}
 

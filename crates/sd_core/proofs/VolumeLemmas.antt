@@ -1,18 +1,18 @@
 -- Blocks one behind the other on a volume: where they are parted, that their bytes tell them, and one block more.
 use Rattle.std.proofs.Common.{◌≡◌, ◌⊎◌, inl, inr, ℕ, suc, ◌+◌, List, [], ◌∷◌, ◌++◌, length, refl, ap, ap₂, sym, ◌∙◌, subst, arith, add-zero}
 use Rattle.std.proofs.lemmas.List.{append_assoc, append-nil, length-append}
+use Rattle.sd_base.specs.Limits.{block_header, most_block}
 use Rattle.sd_base.specs.declared.number.SessionKey.{SessionKey}
 use Rattle.sd_block.specs.Image.{block_image, IsBlockImage, IsImage}
-use Rattle.sd_block.specs.declared.layout.TheConstants.{HEADER, MOST_BLOCK}
 use Rattle.sd_block.proofs.ImageLemmas.{length-block_image, one_block, one_image}
 use Rattle.sd_label.proofs.CuttingLemmas.{front_nil}
 use Rattle.sd_pack.specs.Body.{PackedBody}
-use Rattle.sd_core.specs.declared.journal.Placement.{Placement}
+use Rattle.sd_core.specs.declared.placement.Placement.{Placement}
 use Rattle.sd_core.specs.Volume.{VolumeView, Block, images, AreImages, VolumeImage, PlacesBlock, label_block}
 
 -- an image is as long as its header and its body
-pub length-image : (image : List ℕ) (key : SessionKey) (number : ℕ) (body : List ℕ) → IsBlockImage MOST_BLOCK image key number body
-    → length image ≡ HEADER + length body
+pub length-image : (image : List ℕ) (key : SessionKey) (number : ℕ) (body : List ℕ) → IsBlockImage most_block image key number body
+    → length image ≡ block_header + length body
 length-image image key number body is = ap length is.image_is ∙ length-block_image key number body
 
 -- the number behind one block and n more
@@ -43,7 +43,7 @@ AreImages-behind number (b ∷ bs) cs are = subst (λ n. AreImages n cs) (suc_nu
 -- Images that stand at one place.
 
 -- the image of a block is some image
-pub IsImage-of : (image : List ℕ) (key : SessionKey) (number : ℕ) (body : List ℕ) → IsBlockImage MOST_BLOCK image key number body → IsImage MOST_BLOCK image
+pub IsImage-of : (image : List ℕ) (key : SessionKey) (number : ℕ) (body : List ℕ) → IsBlockImage most_block image key number body → IsImage most_block image
 IsImage-of image key number body is = record { key = key; number = number; body = body; block = is }
 
 never_nil : (key : SessionKey) (number : ℕ) (body rest : List ℕ) → block_image key number body ++ rest ≡ [] → ⊥
@@ -68,15 +68,15 @@ pub record IsOneBlock (b c : Block) (n m : ℕ) (behind behind' : List ℕ) : Ty
   pub behind_is : behind ≡ behind'
 
 pub one_block_there : (b c : Block) (n m : ℕ) (behind behind' : List ℕ)
-    → IsBlockImage MOST_BLOCK (block_image b.key n b.body) b.key n b.body
-    → IsBlockImage MOST_BLOCK (block_image c.key m c.body) c.key m c.body
+    → IsBlockImage most_block (block_image b.key n b.body) b.key n b.body
+    → IsBlockImage most_block (block_image c.key m c.body) c.key m c.body
     → block_image b.key n b.body ++ behind ≡ block_image c.key m c.body ++ behind'
     → IsOneBlock b c n m behind behind'
 unfolding block_of
 one_block_there b c n m behind behind' is is' e =
-    let same = one_image MOST_BLOCK MOST_BLOCK _ _ behind behind' (IsImage-of _ b.key n b.body is) (IsImage-of _ c.key m c.body is') e in
-    let there : IsBlockImage MOST_BLOCK (block_image b.key n b.body) c.key m c.body = subst (λ image. IsBlockImage MOST_BLOCK image c.key m c.body) (sym same.0) is' in
-    let parts = one_block MOST_BLOCK MOST_BLOCK (block_image b.key n b.body) b.key c.key n m b.body c.body is there in
+    let same = one_image most_block most_block _ _ behind behind' (IsImage-of _ b.key n b.body is) (IsImage-of _ c.key m c.body is') e in
+    let there : IsBlockImage most_block (block_image b.key n b.body) c.key m c.body = subst (λ image. IsBlockImage most_block image c.key m c.body) (sym same.0) is' in
+    let parts = one_block most_block most_block (block_image b.key n b.body) b.key c.key n m b.body c.body is there in
     record {
       block_is = ap₂ block_of parts.0 parts.2;
       number_is = parts.1;
@@ -122,12 +122,12 @@ pub one_image_of_a_volume : (v : VolumeView) (blocks others : List Block) → Vo
 one_image_of_a_volume v blocks others is is' =
     let label = IsImage-of (label_block is.label) _ _ _ is.label_image in
     let label' = IsImage-of (label_block is'.label) _ _ _ is'.label_image in
-    let parts = one_image MOST_BLOCK MOST_BLOCK (label_block is.label) (label_block is'.label) (images 1 blocks) (images 1 others) label label' (sym is.bytes_are ∙ is'.bytes_are) in
+    let parts = one_image most_block most_block (label_block is.label) (label_block is'.label) (images 1 blocks) (images 1 others) label label' (sym is.bytes_are ∙ is'.bytes_are) in
     images_one 1 1 blocks others is.blocks_are is'.blocks_are parts.1
 
 -- one block more at the end of a volume, behind the same label
 pub image_more : (v : VolumeView) (blocks all : List Block) (key : SessionKey) (body : PackedBody) (h : VolumeImage v blocks)
-    → IsBlockImage MOST_BLOCK (block_image key v.next body.bytes) key v.next body.bytes → all ≡ blocks ++ record { key = key; body = body.bytes } ∷ []
+    → IsBlockImage most_block (block_image key v.next body.bytes) key v.next body.bytes → all ≡ blocks ++ record { key = key; body = body.bytes } ∷ []
     → (new : VolumeImage (record v { bytes = v.bytes ++ block_image key v.next body.bytes; next = v.next + 1 }) all) × (new.label ≡ h.label)
 image_more v blocks all key body h image is =
     let block : Block = record { key = key; body = body.bytes } in

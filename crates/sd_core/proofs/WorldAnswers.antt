@@ -20,13 +20,13 @@ use Rattle.sd_core.specs.HandsOver.{HandsOverFront}
 use Rattle.sd_core.specs.World.{WorldView, entry_of, shelf_of}
 use Rattle.sd_core.specs.WorldReading.{ReadsWhole}
 use Rattle.sd_core.specs.Matches.{Matches}
-use Rattle.sd_core.specs.Sound.{AreEntries, IsWorldView, CountsFit}
+use Rattle.sd_core.specs.Invariants.{AreEntries, IsWorldView, CountsFit}
 use Rattle.sd_core.specs.Kept.{IsClosedAt, ClosedStands, ClosedStand, ClosedStay}
 use Rattle.sd_core.proofs.HandsOverLemmas.{front_of_records}
 use Rattle.sd_core.proofs.KeptLemmas.{closed_session}
 use Rattle.sd_core.proofs.ReadingLemmas.{reads_one}
 use Rattle.sd_core.proofs.SessionLookups.{found_session, no_session_found, chosen}
-use Rattle.sd_core.specs.Journal.{SentBody}
+use Rattle.sd_core.specs.SentBody.{SentBody}
 
 -- a session that a world keeps has counts that fit
 pub counts_of : (time : ℕ) (way : List SentBody) (blocks number ticket : ℕ) (es : List Entry) (e : Entry)

@@ -7,7 +7,8 @@ use Rattle.sd_core.specs.declared.entry.Entry.{Entry}
 use Rattle.sd_base.specs.Record.{Record}
 use Rattle.sd_core.specs.Session.{SessionView, MayTake}
 use Rattle.sd_core.specs.World.{WorldView, entry_of, with_entry, on_the_way, bodies_with}
-use Rattle.sd_core.specs.Sound.{AreOfSessions, IsWorldView, IsFoundAt, CountsFit, blocks_on}
+use Rattle.sd_core.specs.Invariants.{AreOfSessions, IsWorldView, CountsFit, blocks_on}
+use Rattle.sd_core.specs.World.{IsFoundAt}
 use Rattle.sd_core.proofs.EntryLemmas.{change_entries}
 
 -- to write what stands there changes nothing
@@ -57,8 +58,8 @@ session_kept w t at e s h f key sent fit =
           (λ is. record {
             time_is = ap (λ (k : SessionKey). k.time) key ∙ is.time_is;
             id_is = ap (λ (k : SessionKey). k.id) key ∙ is.id_is;
-            sent_is = sent ∙ is.sent_is ∙ ap (λ k. e.journal.placed + length (bodies_with k way)) (sym key);
-            placed_most = is.placed_most;
+            sent_is = sent ∙ is.sent_is ∙ ap (λ k. e.journal.blocks + length (bodies_with k way)) (sym key);
+            blocks_most = is.blocks_most;
             counts_fit = fit is.counts_fit;
             none_placed = is.none_placed;
           });

@@ -1,13 +1,12 @@
 -- A drive, as data, and what each of its steps does to it.
 use Rattle.std.specs.Prelude.{◌≡◌, ◌≢◌, ◌⊎◌, ℕ, ◌+◌, ◌≤◌, Bool, true, false, Option, Some, None, List, [], length}
+use Rattle.sd_base.specs.Limits.{block_header, most_volume}
 use Rattle.sd_base.specs.declared.refusal.Refusal.{Refusal}
 use Rattle.sd_base.specs.declared.refusal.Refusal.TheVariants.{VolumeNotOnShelf, OtherPoolOrMedia, InUse, NotAppendable, Memory}
-use Rattle.sd_block.specs.declared.layout.TheConstants.{HEADER}
 use Rattle.sd_label.specs.declared.label.VolumeLabel.{VolumeLabel}
 use Rattle.sd_core.specs.declared.piece.Piece.{Piece}
-use Rattle.sd_core.specs.declared.journal.Placement.{Placement}
+use Rattle.sd_core.specs.declared.placement.Placement.{Placement}
 use Rattle.sd_core.specs.declared.volume.VolumeStatus.TheVariants.{Append as Appendable}
-use Rattle.sd_core.specs.declared.volume.TheConstants.{MOST_VOLUME}
 use Rattle.sd_core.specs.declared.drive.Placing.{Placing}
 use Rattle.sd_core.specs.declared.drive.Placing.TheVariants.{Placed, NeedVolume, VolumeFull, Idle, Memory as NoMemory}
 use Rattle.sd_core.specs.declared.drive.Seeking.{Seeking}
@@ -82,7 +81,7 @@ pub record PlacesHand (old : DriveView) (p : Placement) (new : DriveView) : Type
   pub before : VolumeView
   pub ready : IsReadyToPlace old before
   pub after : VolumeView
-  pub places : PlacesBlock MOST_VOLUME before piece.key piece.body p after
+  pub places : PlacesBlock most_volume before piece.key piece.body p after
   pub new_is : new ≡ record old { volume = Some after; hand = None }
 
 -- the hand is full
@@ -100,7 +99,7 @@ pub record FindsFull (old new : DriveView) : Type 0 where
   pub before : VolumeView
   pub ready : IsReadyToPlace old before
   pub after : VolumeView
-  pub full : FindsVolumeFull MOST_VOLUME before piece.body after
+  pub full : FindsVolumeFull most_volume before piece.body after
   pub new_is : new ≡ record old { volume = Some after }
 
 -- a body is in the hand, and there is room for it on the loaded volume
@@ -109,7 +108,7 @@ pub record WouldPlace (d : DriveView) : Type 0 where
   pub hand_is : d.hand ≡ Some piece
   pub volume : VolumeView
   pub ready : IsReadyToPlace d volume
-  pub fits : length volume.bytes + (HEADER + length piece.body.bytes) ≤ MOST_VOLUME
+  pub fits : length volume.bytes + (block_header + length piece.body.bytes) ≤ most_volume
 
 -- a volume is labelled; there was none
 pub record LabelsNew (old : DriveView) (label : VolumeLabel) (new : DriveView) : Type 0 where
@@ -163,9 +162,9 @@ pub record FindsNone (d : DriveView) : Type 0 where
 abbrev pub PlacesOn : Option Piece → Option VolumeView → Placing → Option VolumeView → Type 0
 PlacesOn None volume placing new = (placing ≡ Idle) × (new ≡ volume)
 PlacesOn (Some piece) None placing new = (placing ≡ NeedVolume) × (new ≡ None)
-PlacesOn (Some piece) (Some v) (Placed p) new = (after : VolumeView) × PlacesBlock MOST_VOLUME v piece.key piece.body p after × (new ≡ Some after)
-PlacesOn (Some piece) (Some v) VolumeFull new = (after : VolumeView) × FindsVolumeFull MOST_VOLUME v piece.body after × (new ≡ Some after)
-PlacesOn (Some piece) (Some v) NoMemory new = (length v.bytes + (HEADER + length piece.body.bytes) ≤ MOST_VOLUME) × (new ≡ Some v)
+PlacesOn (Some piece) (Some v) (Placed p) new = (after : VolumeView) × PlacesBlock most_volume v piece.key piece.body p after × (new ≡ Some after)
+PlacesOn (Some piece) (Some v) VolumeFull new = (after : VolumeView) × FindsVolumeFull most_volume v piece.body after × (new ≡ Some after)
+PlacesOn (Some piece) (Some v) NoMemory new = (length v.bytes + (block_header + length piece.body.bytes) ≤ most_volume) × (new ≡ Some v)
 PlacesOn (Some piece) (Some v) NeedVolume new = ⊥
 PlacesOn (Some piece) (Some v) Idle new = ⊥
 

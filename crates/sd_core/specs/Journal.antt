@@ -1,31 +1,27 @@
 -- Journals and spans: which blocks of a session were placed, and the stretches of a volume that they lie on.
-use Rattle.std.specs.Prelude.{◌≡◌, ℕ, ◌+◌, cond, Option, Some, None, List, [], ◌∷◌, length}
+use Rattle.std.specs.Prelude.{◌≡◌, ℕ, ◌+◌, if◌then◌else◌, Option, Some, None, List, [], ◌∷◌, length}
 use Rattle.std.specs.Str.{bytes_eq}
+use Rattle.sd_base.specs.Limits.{block_header}
 use Rattle.sd_base.specs.declared.number.SessionKey.{SessionKey}
-use Rattle.sd_pack.specs.Body.{PackedBody, first_nonzero}
-use Rattle.sd_block.specs.declared.layout.TheConstants.{HEADER}
+use Rattle.sd_base.specs.FileIndex.{first_nonzero}
 use Rattle.sd_core.specs.declared.span.Span.{Span}
-use Rattle.sd_core.specs.declared.journal.Placement.{Placement}
+use Rattle.sd_core.specs.declared.placement.Placement.{Placement}
 use Rattle.sd_core.specs.declared.journal.Run.{Run}
 use Rattle.sd_core.specs.declared.journal.SessionJournal.{SessionJournal}
-use Rattle.sd_core.specs.Volume.{is_key}
-
--- A body of a session that was sent to a drive.
-pub record SentBody : Type 0 where
-  pub key : SessionKey
-  pub body : PackedBody
+use Rattle.sd_core.specs.SentBody.{SentBody}
+use Rattle.sd_base.specs.Key.{is_key}
 
 -- where bodies lie that were placed on a volume one behind the other, from byte `at` on
 abbrev pub placements_at : List ℕ → ℕ → List SentBody → List Placement
 placements_at volume at [] = []
 placements_at volume at (b ∷ bs) =
-    record { key = b.key; volume = volume; start = at; length = HEADER + length b.body.bytes; first = b.body.first; last = b.body.last }
-    ∷ placements_at volume (at + (HEADER + length b.body.bytes)) bs
+    record { key = b.key; volume = volume; start = at; length = block_header + length b.body.bytes; first = b.body.first; last = b.body.last }
+    ∷ placements_at volume (at + (block_header + length b.body.bytes)) bs
 
 -- a session's own placements, in order
 abbrev pub placements_of : SessionKey → List Placement → List Placement
 placements_of key [] = []
-placements_of key (p ∷ ps) = cond (is_key key p.key) (p ∷ placements_of key ps) (placements_of key ps)
+placements_of key (p ∷ ps) = if is_key key p.key then p ∷ placements_of key ps else placements_of key ps
 
 -- all of them are on that volume
 abbrev pub AreOn : List ℕ → List Placement → Type 0
@@ -40,16 +36,18 @@ run_of p = record { first = p.first; last = p.last; start = p.start; end = p.sta
 abbrev pub run_with : Run → Placement → Run
 run_with r p = record { first = first_nonzero r.first p.first; last = first_nonzero p.last r.last; start = r.start; end = p.start + p.length }
 
--- the journal of a session with one placement more
+-- the stretch of a session with one placement more
 abbrev pub noted_run : Option Run → Placement → Run
 noted_run None p = run_of p
 noted_run (Some r) p = run_with r p
 
+-- the journal with one placement more
 abbrev pub noted : SessionJournal → Placement → SessionJournal
-noted j p = record { placed = j.placed + 1; run = Some (noted_run j.run p) }
+noted j p = record { blocks = j.blocks + 1; run = Some (noted_run j.run p) }
 
+-- a journal in which nothing was noted
 abbrev pub empty_journal : SessionJournal
-empty_journal = record { placed = 0; run = None }
+empty_journal = record { blocks = 0; run = None }
 
 -- a journal after these placements were noted, one after another
 abbrev pub follows_from : SessionJournal → List Placement → SessionJournal
@@ -71,9 +69,9 @@ spans_in volume (Some r) = record { volume = volume; vol_index = 1; first = r.fi
 abbrev pub in_front : Placement → List Span → List Span
 in_front p [] = record { volume = p.volume; vol_index = 1; first = p.first; last = p.last; start = p.start; end = p.start + p.length } ∷ []
 in_front p (s ∷ ss) =
-    cond (bytes_eq p.volume s.volume)
-    (record s { first = first_nonzero p.first s.first; last = first_nonzero s.last p.last; start = p.start } ∷ ss)
-    (record { volume = p.volume; vol_index = 1; first = p.first; last = p.last; start = p.start; end = p.start + p.length } ∷ s ∷ ss)
+    if bytes_eq p.volume s.volume
+    then record s { first = first_nonzero p.first s.first; last = first_nonzero s.last p.last; start = p.start } ∷ ss
+    else record { volume = p.volume; vol_index = 1; first = p.first; last = p.last; start = p.start; end = p.start + p.length } ∷ s ∷ ss
 
 -- the stretches, not numbered yet
 abbrev pub stretches : List Placement → List Span
@@ -85,6 +83,7 @@ abbrev pub numbered_from : ℕ → List Span → List Span
 numbered_from index [] = []
 numbered_from index (s ∷ ss) = record s { vol_index = index } ∷ numbered_from (index + 1) ss
 
+-- the longest stretches of a session's placements on one volume, numbered from 1 on
 abbrev pub spans_of : List Placement → List Span
 spans_of ps = numbered_from 1 (stretches ps)
 

@@ -1,5 +1,5 @@
 -- The list machine: sessions that only append to their own lists. It has no blocks, volumes, drives or queues.
-use Rattle.std.specs.Prelude.{ℕ, ◌+◌, ◌==◌, cond, Option, Some, None, List, [], ◌∷◌, ◌++◌}
+use Rattle.std.specs.Prelude.{ℕ, ◌+◌, ◌==◌, if◌then◌else◌, Option, Some, None, List, [], ◌∷◌, ◌++◌}
 use Rattle.sd_base.specs.Record.{Record}
 use Rattle.sd_base.specs.declared.number.SessionKey.{SessionKey}
 use Rattle.sd_core.specs.declared.status.Status.{Status}
@@ -25,12 +25,12 @@ empty_machine time = record { time = time; sessions = []; next = 1 }
 -- the session of a ticket
 abbrev pub session_of : ℕ → List MachineSession → Option MachineSession
 session_of ticket [] = None
-session_of ticket (s ∷ ss) = cond (s.key.id == ticket) (Some s) (session_of ticket ss)
+session_of ticket (s ∷ ss) = if s.key.id == ticket then Some s else session_of ticket ss
 
 -- the sessions, with this one in the place of the one that has its ticket
 abbrev pub with_session : MachineSession → List MachineSession → List MachineSession
 with_session new [] = []
-with_session new (s ∷ ss) = cond (s.key.id == new.key.id) (new ∷ ss) (s ∷ with_session new ss)
+with_session new (s ∷ ss) = if s.key.id == new.key.id then new ∷ ss else s ∷ with_session new ss
 
 -- the machine with one session changed
 abbrev pub changed : Machine → MachineSession → Machine
@@ -62,7 +62,7 @@ failed_status Failed = Failed
 abbrev pub with_failed_session : ℕ → List MachineSession → List MachineSession
 with_failed_session ticket [] = []
 with_failed_session ticket (s ∷ ss) =
-    cond (s.key.id == ticket) (record s { status = failed_status s.status } ∷ ss) (s ∷ with_failed_session ticket ss)
+    if s.key.id == ticket then record s { status = failed_status s.status } ∷ ss else s ∷ with_failed_session ticket ss
 
 -- the machine with all the sessions of these tickets failed
 abbrev pub with_failed : List ℕ → Machine → Machine

@@ -1,16 +1,20 @@
--- When a world matches a machine.
-use Rattle.std.specs.Prelude.{◌≡◌, ℕ, ◌+◌, ◌≤◌, ◌<◌, Option, Some, None, List, [], ◌∷◌, ◌++◌, length, map}
+-- When a world matches a machine, and that a move of the world is a step of the machine.
+use Rattle.std.specs.Prelude.{◌≡◌, ℕ, ◌+◌, ◌≤◌, ◌<◌, Bool, true, false, Option, Some, None, List, [], ◌∷◌, ◌++◌, length, map}
 use Rattle.sd_base.specs.Record.{Record}
-use Rattle.sd_label.specs.Cutting.{Standing, Between, AtEnd, total_bytes}
+use Rattle.sd_label.specs.Cutting.{Between, AtEnd, total_bytes}
 use Rattle.sd_pack.specs.Body.{PackedBody}
 use Rattle.sd_pack.specs.Packing.{Packs}
 use Rattle.sd_core.specs.declared.status.Status.{Status}
 use Rattle.sd_core.specs.declared.status.Status.TheVariants.{Active, Ended, Closed, Cancelled, Failed}
 use Rattle.sd_core.specs.declared.entry.Entry.{Entry}
+use Rattle.sd_core.specs.declared.event.Event.{Event}
+use Rattle.sd_core.specs.declared.reply.Reply.{Reply}
 use Rattle.sd_core.specs.Machine.{Machine, MachineSession, last_index}
 use Rattle.sd_core.specs.Session.{SessionView}
+use Rattle.sd_core.specs.Step.{Step}
 use Rattle.sd_core.specs.Volume.{VolumeView, VolumeImage, Block, label_block}
-use Rattle.sd_core.specs.Journal.{SentBody, placements_at, placements_of, Follows}
+use Rattle.sd_core.specs.Journal.{placements_at, placements_of, Follows}
+use Rattle.sd_core.specs.SentBody.{SentBody}
 use Rattle.sd_core.specs.Drive.{volume_name}
 use Rattle.sd_core.specs.World.{WorldView, next_of, on_the_way, bodies_with, bodies_in, IsOutstanding}
 
@@ -28,11 +32,16 @@ abbrev pub first_block : (volume : Option VolumeView) (placed : List SentBody) �
 first_block None placed h = 0
 first_block (Some v) placed h = length (label_block h.label)
 
--- some bodies are left out at the end of a cutting
+-- the bodies are a packed cutting of the list, with its end label or without
+abbrev pub PacksCutting : ℕ → List PackedBody → List Record → Bool → Type 0
+PacksCutting room bodies records false = Packs room bodies records Between
+PacksCutting room bodies records true = Packs room bodies records AtEnd
+
+-- the bodies begin a packed cutting of the list: those behind them were dropped
 pub record BeginsPacked (room : ℕ) (bodies : List PackedBody) (records : List Record) : Type 0 where
   pub dropped : List PackedBody
-  pub standing : Standing
-  pub packs : Packs room (bodies ++ dropped) records standing
+  pub ended : Bool
+  pub packs : PacksCutting room (bodies ++ dropped) records ended
 
 -- How the bodies of a session stand to its list of records: of an active session they are a cutting of it, of
 -- an ended or closed one with its end label; of a cancelled one those that were sent begin a cutting of it.
@@ -88,3 +97,7 @@ pub record Matches (w : WorldView) (m : Machine) : Type 0 where
   pub of_opened : AreOfOpened m.next (placed ++ on_the_way w)
   pub journals : JournalsFollow (volume_name w.drive.volume) (first_block w.drive.volume placed placed_are) placed w.entries
   pub sessions : SessionsMatch placed w w.entries m.sessions
+
+-- from this machine the event and the reply lead, with no session failing, to one that the new world matches
+abbrev pub StepsTo : Machine → Event → Reply → WorldView → Type 0
+StepsTo m event reply new = (m' : Machine) × Step [] m event reply m' × Matches new m'

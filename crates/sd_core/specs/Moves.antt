@@ -1,7 +1,7 @@
 -- What each event does to a world, and exactly when each reply and refusal comes.
 use Rattle.std.specs.Prelude.{◌≡◌, ◌≢◌, ◌⊎◌, ℕ, ◌+◌, ◌≤◌, ◌<◌, ℤ, Some, None, List, [], ◌∷◌, ◌++◌}
+use Rattle.sd_base.specs.Limits.{most_number}
 use Rattle.sd_base.specs.declared.number.SessionKey.{SessionKey}
-use Rattle.sd_base.specs.declared.number.TheConstants.{MOST_NUMBER}
 use Rattle.sd_base.specs.declared.refusal.Refusal.{Refusal}
 use Rattle.sd_base.specs.declared.refusal.Refusal.TheVariants.{SessionNotOpen, NotYet, NoSessionNumberLeft, NoDriveOfMedia, NoFreeLane, NoSuchDrive, Memory}
 use Rattle.sd_core.specs.declared.event.Event.{Event}
@@ -11,9 +11,9 @@ use Rattle.sd_core.specs.declared.reply.Reply.TheVariants.{Refused, Opened, Take
 use Rattle.sd_core.specs.declared.status.Status.TheVariants.{Ended as IsEnded, Closed as IsClosed}
 use Rattle.sd_core.specs.declared.piece.Piece.{Piece}
 use Rattle.sd_core.specs.declared.span.Span.{Span}
-use Rattle.sd_core.specs.declared.journal.Placement.{Placement}
+use Rattle.sd_core.specs.declared.placement.Placement.{Placement}
 use Rattle.sd_core.specs.declared.entry.Entry.{Entry}
-use Rattle.sd_core.specs.Session.{SessionView, IsRunning, refusal_of, StartsSession, TakesRecord, AppendRefused, EndsSession, EndRefused, CancelsSession, NotRunning, SendsBody, FindsQueueFull, HasNothingDue}
+use Rattle.sd_core.specs.Session.{SessionView, IsRunning, status_refusal, StartsSession, TakesRecord, AppendRefused, EndsSession, EndRefused, CancelsSession, NotRunning, SendsBody, FindsQueueFull, HasNothingDue}
 use Rattle.sd_core.specs.Journal.{empty_journal, noted}
 use Rattle.sd_core.specs.Drive.{DriveView, after_sync, HoldsPiece, PlacesHand, NeedsVolume, FindsFull, WouldPlace, LabelsNew, LabelRefused, Mounts, MountRefused, NeedsNone, SeeksOut, FindsNone}
 use Rattle.sd_core.specs.World.{WorldView, next_of, entry_of, with_entry, IsOutstanding, LaneIsFree, spans_of_entry}
@@ -39,7 +39,7 @@ ChangesSession old ticket new change =
 
 -- A session is opened: it has the next number, and its pool is the drive's from now on.
 pub record OpensSession (old : WorldView) (job : ℕ) (pool media : List ℕ) (moment : ℤ) (ticket drive : ℕ) (new : WorldView) : Type 0 where
-  pub number_left : next_of old ≤ MOST_NUMBER
+  pub number_left : next_of old ≤ most_number
   pub media_is : media ≡ old.drive.media
   pub lane_free : LaneIsFree old
   pub ticket_is : ticket ≡ next_of old
@@ -53,12 +53,12 @@ pub record OpensSession (old : WorldView) (job : ℕ) (pool media : List ℕ) (m
 
 -- Why no session is opened, in this order: no number is left; the drive has another media; its lane isn't
 -- free; want of memory.
-abbrev pub OpenIsRefused : WorldView → List ℕ → Refusal → Type 0
-OpenIsRefused w media why =
-    ((MOST_NUMBER < next_of w) × (why ≡ NoSessionNumberLeft))
-    ⊎ ((next_of w ≤ MOST_NUMBER) × (media ≢ w.drive.media) × (why ≡ NoDriveOfMedia))
-    ⊎ ((next_of w ≤ MOST_NUMBER) × (media ≡ w.drive.media) × (LaneIsFree w → ⊥) × (why ≡ NoFreeLane))
-    ⊎ ((next_of w ≤ MOST_NUMBER) × (media ≡ w.drive.media) × LaneIsFree w × (why ≡ Memory))
+abbrev pub OpenRefused : WorldView → List ℕ → Refusal → Type 0
+OpenRefused w media why =
+    ((most_number < next_of w) × (why ≡ NoSessionNumberLeft))
+    ⊎ ((next_of w ≤ most_number) × (media ≢ w.drive.media) × (why ≡ NoDriveOfMedia))
+    ⊎ ((next_of w ≤ most_number) × (media ≡ w.drive.media) × (LaneIsFree w → ⊥) × (why ≡ NoFreeLane))
+    ⊎ ((next_of w ≤ most_number) × (media ≡ w.drive.media) × LaneIsFree w × (why ≡ Memory))
 
 -- A session is closed, exactly where nothing of it is outstanding. The reply has its key and its spans.
 pub record ClosesSession (old : WorldView) (ticket : ℕ) (key : SessionKey) (spans : List Span) (new : WorldView) : Type 0 where
@@ -73,7 +73,7 @@ pub record ClosesSession (old : WorldView) (ticket : ℕ) (key : SessionKey) (sp
 -- why a session isn't closed: the status; something outstanding; want of memory
 abbrev pub CloseCauses : WorldView → Refusal → Entry → Type 0
 CloseCauses w why e =
-    ((e.session.status ≢ IsEnded) × (why ≡ refusal_of e.session.status))
+    ((e.session.status ≢ IsEnded) × (why ≡ status_refusal e.session.status))
     ⊎ ((e.session.status ≡ IsEnded) × IsOutstanding w e × (why ≡ NotYet))
     ⊎ ((e.session.status ≡ IsEnded) × (IsOutstanding w e → ⊥) × (why ≡ Memory))
 
@@ -128,7 +128,7 @@ DriveRefused drive why causes = OtherDrive drive why ⊎ ((drive ≡ 1) × cause
 -- pair of event and reply.
 abbrev pub Moves : WorldView → Event → Reply → WorldView → Type 0
 Moves old (Open job pool media moment) (Opened ticket drive) new = OpensSession old job pool media moment ticket drive new
-Moves old (Open job pool media moment) (Refused why) new = OpenIsRefused old media why × StaysAs old new
+Moves old (Open job pool media moment) (Refused why) new = OpenRefused old media why × StaysAs old new
 Moves old (Append ticket r) (Taken n) new = ChangesSession old ticket new (λ s t. TakesRecord s r n t)
 Moves old (Append ticket r) (Refused why) new = TicketRefused old ticket why (λ e. AppendRefused e.session r why) × StaysAs old new
 Moves old (End ticket moment) Ended new = ChangesSession old ticket new (λ s t. EndsSession s moment t)

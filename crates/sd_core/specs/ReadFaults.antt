@@ -1,6 +1,7 @@
 -- Why spans can't be read: the first fault, in the order in which they are looked for.
 use Rattle.std.specs.Prelude.{◌≡◌, ◌≢◌, ◌⊎◌, ℕ, ◌+◌, ◌<◌, ◌≤◌, ◌^◌, Bool, Option, Some, None, List, [], ◌∷◌, ◌++◌, length, take}
 use Rattle.std.specs.List.{flat_map}
+use Rattle.sd_base.specs.Limits.{least_block, most_block}
 use Rattle.sd_base.specs.Record.{Record}
 use Rattle.sd_base.specs.declared.number.SessionKey.{SessionKey}
 use Rattle.sd_base.specs.declared.refusal.Refusal.{Refusal}
@@ -9,7 +10,6 @@ use Rattle.sd_block.specs.Image.{block_image, IsBlockImage}
 use Rattle.sd_block.specs.Head.{HasId, IsHeadOf}
 use Rattle.sd_block.specs.Fault.{HasBadId, HasBadSize, HasBadSum}
 use Rattle.sd_block.specs.declared.head.Head.{Head}
-use Rattle.sd_block.specs.declared.layout.TheConstants.{LEAST_BLOCK, MOST_BLOCK}
 use Rattle.sd_label.specs.Cutting.{Standing, Holds, total_bytes}
 use Rattle.sd_unpack.specs.declared.damage.AddFault.{AddFault}
 use Rattle.sd_unpack.specs.declared.damage.AddFault.TheVariants as adding
@@ -20,12 +20,12 @@ use Rattle.sd_core.specs.Volume.{Block, images, AreImages, blocks_of}
 use Rattle.sd_core.specs.Reading.{Shelf, AreNumbered, AllHold, Reads}
 
 -- the refusal of a fault
-abbrev pub refusal_of : ReadFault → Refusal
-refusal_of BadSpan = refusal.BadSpan
-refusal_of VolumeNotOnShelf = refusal.VolumeNotOnShelf
-refusal_of SpanEndsEarly = refusal.SpanEndsEarly
-refusal_of DamagedBlock = refusal.DamagedBlock
-refusal_of Memory = refusal.Memory
+abbrev pub fault_refusal : ReadFault → Refusal
+fault_refusal BadSpan = refusal.BadSpan
+fault_refusal VolumeNotOnShelf = refusal.VolumeNotOnShelf
+fault_refusal SpanEndsEarly = refusal.SpanEndsEarly
+fault_refusal DamagedBlock = refusal.DamagedBlock
+fault_refusal Memory = refusal.Memory
 
 -- what a fault of the unpacker is to the reader
 abbrev pub fault_of : AddFault → ReadFault
@@ -72,12 +72,12 @@ ComesNext (Some last) number = number ≡ last + 1
 -- the bytes begin with this block, whose number comes next
 pub record BeginsWithBlock (last : Option ℕ) (bytes : List ℕ) (b : Block) (number : ℕ) (behind : List ℕ) : Type 0 where
   pub bytes_are : bytes ≡ block_image b.key number b.body ++ behind
-  pub block_is : IsBlockImage MOST_BLOCK (block_image b.key number b.body) b.key number b.body
+  pub block_is : IsBlockImage most_block (block_image b.key number b.body) b.key number b.body
   pub next_is : ComesNext last number
 
 -- the header of the bytes has a bad id or a bad size
 abbrev pub HasBadHead : List ℕ → Type 0
-HasBadHead bytes = HasBadId bytes ⊎ (HasId bytes × HasBadSize MOST_BLOCK bytes)
+HasBadHead bytes = HasBadId bytes ⊎ (HasId bytes × HasBadSize most_block bytes)
 
 -- the block with this header has a bad checksum, or its number doesn't come next
 abbrev pub HasBadBlock : Option ℕ → List ℕ → Head → Type 0
@@ -87,10 +87,10 @@ HasBadBlock last bytes head = HasBadSum (take head.size bytes) ⊎ (ComesNext la
 -- them for any block, or for this one, or what stands there is no such block.
 abbrev pub BeginsWithNoBlock : ReadFault → Option ℕ → List ℕ → Type 0
 BeginsWithNoBlock BadSpan last bytes =
-    (length bytes < LEAST_BLOCK) ⊎ ((head : Head) × IsHeadOf MOST_BLOCK bytes head × (length bytes < head.size))
+    (length bytes < least_block) ⊎ ((head : Head) × IsHeadOf most_block bytes head × (length bytes < head.size))
 BeginsWithNoBlock DamagedBlock last bytes =
-    (LEAST_BLOCK ≤ length bytes)
-    × (HasBadHead bytes ⊎ ((head : Head) × IsHeadOf MOST_BLOCK bytes head × (head.size ≤ length bytes) × HasBadBlock last bytes head))
+    (least_block ≤ length bytes)
+    × (HasBadHead bytes ⊎ ((head : Head) × IsHeadOf most_block bytes head × (head.size ≤ length bytes) × HasBadBlock last bytes head))
 BeginsWithNoBlock fault last bytes = ⊥
 
 -- the bytes begin with the block that comes next, and with its body the session can't be read

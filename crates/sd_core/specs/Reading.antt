@@ -1,5 +1,5 @@
 -- What spans read to.
-use Rattle.std.specs.Prelude.{◌≡◌, ◌≢◌, ℕ, ◌+◌, ◌<◌, Bool, cond, Option, Some, None, List, [], ◌∷◌, ◌++◌, length}
+use Rattle.std.specs.Prelude.{◌≡◌, ◌≢◌, ℕ, ◌+◌, ◌<◌, Bool, if◌then◌else◌, Option, Some, None, List, [], ◌∷◌, ◌++◌, length}
 use Rattle.std.specs.List.{flat_map}
 use Rattle.std.specs.Str.{bytes_eq}
 use Rattle.sd_base.specs.Record.{Record}
@@ -12,12 +12,13 @@ use Rattle.sd_core.specs.Volume.{Block, images, AreImages, blocks_of}
 abbrev pub Shelf : Type 0
 Shelf = List ℕ → Option (List ℕ)
 
--- a shelf with no volume, and one with one volume
+-- a shelf with no volume
 abbrev pub empty_shelf : Shelf
 empty_shelf name = None
 
+-- a shelf with one volume
 abbrev pub shelf_with : List ℕ → List ℕ → Shelf
-shelf_with volume bytes name = cond (bytes_eq volume name) (Some bytes) None
+shelf_with volume bytes name = if bytes_eq volume name then Some bytes else None
 
 -- each span begins below its end, and their numbers are `index` and on
 abbrev pub AreNumbered : ℕ → List Span → Type 0

@@ -1,7 +1,7 @@
 -- What a step of the list machine is, and a run of steps.
 use Rattle.std.specs.Prelude.{◌≡◌, ◌⊎◌, ℕ, ◌+◌, ◌≤◌, ◌<◌, Some, None, List, [], ◌∷◌, ◌++◌, length}
+use Rattle.sd_base.specs.Limits.{most_number}
 use Rattle.sd_base.specs.Record.{Record}
-use Rattle.sd_base.specs.declared.number.TheConstants.{MOST_NUMBER}
 use Rattle.sd_base.specs.declared.refusal.Refusal.{Refusal}
 use Rattle.sd_base.specs.declared.refusal.Refusal.TheVariants.{SessionNotOpen, BadFileIndex, SessionFailed, NotYet, Busy, NoSessionNumberLeft, NoDriveOfMedia, NoFreeLane, DriveOffline, SpoolFault, VolumeNotOnShelf, OtherPoolOrMedia, InUse, NotAppendable, AlreadyLabelled, NoSuchDrive, NoRoom, DeviceFault, Memory}
 use Rattle.sd_label.specs.Cutting.{total_bytes}
@@ -11,7 +11,7 @@ use Rattle.sd_core.specs.declared.reply.Reply.{Reply}
 use Rattle.sd_core.specs.declared.reply.Reply.TheVariants.{Refused, Opened, Taken, Ended, Closed, Cancelled, Spooled, SpoolFull, Nothing, NoSpool, Sent, LaneFull, NotDue, InHand, HandFull, Idle, Placed, NeedVolume, VolumeFull, VolumeError, Synced, Labelled, Mounted, Requested, NoNeed}
 use Rattle.sd_core.specs.declared.status.Status.{Status}
 use Rattle.sd_core.specs.declared.status.Status.TheVariants.{Active as IsActive, Ended as IsEnded, Closed as IsClosed, Cancelled as IsCancelled}
-use Rattle.sd_core.specs.Session.{IsRunning, MayTake, refusal_of}
+use Rattle.sd_core.specs.Session.{IsRunning, MayTake, status_refusal}
 use Rattle.sd_core.specs.Machine.{Machine, MachineSession, session_of, changed, opened, last_index, with_failed}
 
 -- the ticket's session is this one
@@ -34,7 +34,7 @@ RunningStays old ticket new = (s : MachineSession) × HasSession old ticket s ×
 abbrev pub StatusRefused : (Status → Type 0) → Machine → ℕ → Refusal → Type 0
 StatusRefused allowed m ticket why =
     ((session_of ticket m.sessions ≡ None) × (why ≡ SessionNotOpen))
-    ⊎ ((s : MachineSession) × HasSession m ticket s × (allowed s.status → ⊥) × (why ≡ refusal_of s.status))
+    ⊎ ((s : MachineSession) × HasSession m ticket s × (allowed s.status → ⊥) × (why ≡ status_refusal s.status))
 
 -- the event meets a session whose status allows it, and is refused for another cause
 abbrev pub OtherRefused : (Status → Type 0) → Machine → ℕ → (MachineSession → Type 0) → Type 0
@@ -48,56 +48,57 @@ WhereActive status = status ≡ IsActive
 abbrev pub WhereEnded : Status → Type 0
 WhereEnded status = status ≡ IsEnded
 
--- why no session is opened
-abbrev pub OpenRefused : Machine → Refusal → Type 0
-OpenRefused m why =
-    ((MOST_NUMBER < m.next) × (why ≡ NoSessionNumberLeft))
-    ⊎ ((m.next ≤ MOST_NUMBER) × ((why ≡ NoDriveOfMedia) ⊎ (why ≡ DriveOffline) ⊎ (why ≡ NoFreeLane) ⊎ (why ≡ Memory) ⊎ (why ≡ SpoolFault)))
+-- what an open may be refused for
+abbrev pub MayRefuseOpen : Machine → Refusal → Type 0
+MayRefuseOpen m why =
+    ((most_number < m.next) × (why ≡ NoSessionNumberLeft))
+    ⊎ ((m.next ≤ most_number)
+    × ((why ≡ NoDriveOfMedia) ⊎ (why ≡ DriveOffline) ⊎ (why ≡ NoFreeLane) ⊎ (why ≡ Memory) ⊎ (why ≡ SpoolFault)))
 
--- Why a record isn't taken: the status; or else a wrong index or a count that would run out; or else a
+-- What a record may be refused for: the status; or else a wrong index or a count that would run out; or else a
 -- closed body that waits, or want of memory.
-abbrev pub AppendIsRefused : Machine → ℕ → Record → Refusal → Type 0
-AppendIsRefused m ticket r why =
+abbrev pub MayRefuseAppend : Machine → ℕ → Record → Refusal → Type 0
+MayRefuseAppend m ticket r why =
     StatusRefused WhereActive m ticket why
     ⊎ OtherRefused WhereActive m ticket (λ s. (SessionMayTake s r → ⊥) × (why ≡ BadFileIndex))
     ⊎ OtherRefused WhereActive m ticket (λ s. SessionMayTake s r × ((why ≡ Busy) ⊎ (why ≡ Memory)))
 
--- why a session isn't ended
-abbrev pub EndIsRefused : Machine → ℕ → Refusal → Type 0
-EndIsRefused m ticket why = StatusRefused WhereActive m ticket why ⊎ OtherRefused WhereActive m ticket (λ s. why ≡ Memory)
+-- what an end may be refused for
+abbrev pub MayRefuseEnd : Machine → ℕ → Refusal → Type 0
+MayRefuseEnd m ticket why = StatusRefused WhereActive m ticket why ⊎ OtherRefused WhereActive m ticket (λ s. why ≡ Memory)
 
--- why a session isn't closed: the status; or a block that failed; or else something is outstanding, or want of memory
-abbrev pub CloseIsRefused : Machine → ℕ → Refusal → Type 0
-CloseIsRefused m ticket why =
+-- what a close may be refused for: the status; or a block that failed; or else something is outstanding, or want of memory
+abbrev pub MayRefuseClose : Machine → ℕ → Refusal → Type 0
+MayRefuseClose m ticket why =
     StatusRefused WhereEnded m ticket why
     ⊎ OtherRefused WhereEnded m ticket (λ s. (why ≡ SessionFailed) ⊎ (why ≡ NotYet) ⊎ (why ≡ Memory))
 
--- why a body goes neither to the spool nor to the queue
-abbrev pub SpoolIsRefused : Machine → ℕ → Refusal → Type 0
-SpoolIsRefused m ticket why =
+-- what a step to the spool or to the queue may be refused for
+abbrev pub MayRefuseSpool : Machine → ℕ → Refusal → Type 0
+MayRefuseSpool m ticket why =
     StatusRefused IsRunning m ticket why ⊎ OtherRefused IsRunning m ticket (λ s. (why ≡ SpoolFault) ⊎ (why ≡ Memory))
 
 -- what a drive or an operator may be refused for, with whatever of it the machine can't see
-abbrev pub DriveIsRefused : Refusal → Type 0
-DriveIsRefused why =
+abbrev pub MayRefuseDrive : Refusal → Type 0
+MayRefuseDrive why =
     (why ≡ NoSuchDrive) ⊎ (why ≡ DriveOffline) ⊎ (why ≡ VolumeNotOnShelf) ⊎ (why ≡ OtherPoolOrMedia) ⊎ (why ≡ InUse)
     ⊎ (why ≡ NotAppendable) ⊎ (why ≡ AlreadyLabelled) ⊎ (why ≡ NoRoom) ⊎ (why ≡ DeviceFault) ⊎ (why ≡ Memory)
 
--- why the event is refused, as far as the machine can see it
-abbrev pub IsRefused : Machine → Event → Refusal → Type 0
-IsRefused m (Open job pool media moment) why = OpenRefused m why
-IsRefused m (Append ticket r) why = AppendIsRefused m ticket r why
-IsRefused m (End ticket moment) why = EndIsRefused m ticket why
-IsRefused m (Close ticket) why = CloseIsRefused m ticket why
-IsRefused m (Cancel ticket) why = StatusRefused IsRunning m ticket why
-IsRefused m (Spool ticket) why = SpoolIsRefused m ticket why
-IsRefused m (Despool ticket) why = SpoolIsRefused m ticket why
-IsRefused m (Take drive) why = DriveIsRefused why
-IsRefused m (Place drive) why = DriveIsRefused why
-IsRefused m (Sync drive) why = DriveIsRefused why
-IsRefused m (Label drive name pool media moment) why = DriveIsRefused why
-IsRefused m (Mount drive name) why = DriveIsRefused why
-IsRefused m (Seek drive) why = DriveIsRefused why
+-- what an event may be refused for, as far as the machine can see it
+abbrev pub MayRefuse : Machine → Event → Refusal → Type 0
+MayRefuse m (Open job pool media moment) why = MayRefuseOpen m why
+MayRefuse m (Append ticket r) why = MayRefuseAppend m ticket r why
+MayRefuse m (End ticket moment) why = MayRefuseEnd m ticket why
+MayRefuse m (Close ticket) why = MayRefuseClose m ticket why
+MayRefuse m (Cancel ticket) why = StatusRefused IsRunning m ticket why
+MayRefuse m (Spool ticket) why = MayRefuseSpool m ticket why
+MayRefuse m (Despool ticket) why = MayRefuseSpool m ticket why
+MayRefuse m (Take drive) why = MayRefuseDrive why
+MayRefuse m (Place drive) why = MayRefuseDrive why
+MayRefuse m (Sync drive) why = MayRefuseDrive why
+MayRefuse m (Label drive name pool media moment) why = MayRefuseDrive why
+MayRefuse m (Mount drive name) why = MayRefuseDrive why
+MayRefuse m (Seek drive) why = MayRefuseDrive why
 
 -- a session with that status gets another one
 abbrev pub ChangesStatus : (Status → Type 0) → Machine → ℕ → Status → Machine → Type 0
@@ -107,9 +108,9 @@ ChangesStatus allowed old ticket status new =
 -- From `old` the machine may give this reply to the event and go on to `new`, no session failing.
 -- There is nothing for any other pair of event and reply.
 abbrev pub Turns : Machine → Event → Reply → Machine → Type 0
-Turns old event (Refused why) new = IsRefused old event why × Stays old new
+Turns old event (Refused why) new = MayRefuse old event why × Stays old new
 Turns old (Open job pool media moment) (Opened ticket drive) new =
-    (old.next ≤ MOST_NUMBER) × (ticket ≡ old.next) × (new ≡ opened old)
+    (old.next ≤ most_number) × (ticket ≡ old.next) × (new ≡ opened old)
 Turns old (Append ticket r) (Taken n) new =
     (s : MachineSession) × HasSession old ticket s × (s.status ≡ IsActive) × SessionMayTake s r
     × (n ≡ length s.records + 1) × (new ≡ changed old (record s { records = s.records ++ r ∷ [] }))

@@ -1,15 +1,15 @@
 -- A volume as plain bytes, and which blocks stand on it.
-use Rattle.std.specs.Prelude.{◌≡◌, ℕ, ◌+◌, ◌*◌, ◌<◌, ◌≤◌, ◌==◌, ◌&&◌, Bool, cond, List, [], ◌∷◌, ◌++◌, length}
+use Rattle.std.specs.Prelude.{◌≡◌, ℕ, ◌+◌, ◌*◌, ◌<◌, ◌≤◌, ◌==◌, ◌&&◌, Bool, if◌then◌else◌, List, [], ◌∷◌, ◌++◌, length}
+use Rattle.sd_base.specs.Limits.{block_header, least_block, most_block, most_volume}
 use Rattle.sd_base.specs.declared.number.SessionKey.{SessionKey}
 use Rattle.sd_block.specs.Image.{block_image, IsBlockImage}
-use Rattle.sd_block.specs.declared.layout.TheConstants.{HEADER, LEAST_BLOCK, MOST_BLOCK}
 use Rattle.sd_label.specs.declared.label.VolumeLabel.{VolumeLabel}
 use Rattle.sd_label.specs.Label.{IsVolumeLabel, volume_label_bytes}
 use Rattle.sd_pack.specs.Body.{PackedBody}
-use Rattle.sd_core.specs.declared.volume.TheConstants.{MOST_VOLUME}
 use Rattle.sd_core.specs.declared.volume.VolumeStatus.{VolumeStatus}
 use Rattle.sd_core.specs.declared.volume.VolumeStatus.TheVariants.{Append, Full}
-use Rattle.sd_core.specs.declared.journal.Placement.{Placement}
+use Rattle.sd_core.specs.declared.placement.Placement.{Placement}
+use Rattle.sd_base.specs.Key.{is_key}
 
 -- A volume: its name, pool and media; whether blocks are added; its bytes, of which the first `synced` last
 -- whatever happens; and the number of its next block.
@@ -24,10 +24,10 @@ pub record VolumeView : Type 0 where
 
 -- it is no longer than a volume may be, and it has as many blocks as its numbers say, each of them at least the least one
 pub record IsVolumeView (v : VolumeView) : Type 0 where
-  pub most : length v.bytes ≤ MOST_VOLUME
+  pub most : length v.bytes ≤ most_volume
   pub synced_most : v.synced ≤ length v.bytes
   pub next_least : 1 ≤ v.next
-  pub next_most : v.next * LEAST_BLOCK ≤ length v.bytes
+  pub next_most : v.next * least_block ≤ length v.bytes
 
 -- a block of a session, as it stands on a volume
 pub record Block : Type 0 where
@@ -43,21 +43,18 @@ images number (b ∷ bs) = block_image b.key number b.body ++ images (number + 1
 abbrev pub AreImages : ℕ → List Block → Type 0
 AreImages number [] = Unit {0}
 AreImages number (b ∷ bs) =
-    IsBlockImage MOST_BLOCK (block_image b.key number b.body) b.key number b.body × AreImages (number + 1) bs
-
--- the two keys are one
-abbrev pub is_key : SessionKey → SessionKey → Bool
-is_key a b = (a.time == b.time) && (a.id == b.id)
+    IsBlockImage most_block (block_image b.key number b.body) b.key number b.body × AreImages (number + 1) bs
 
 -- the bodies of one session among blocks, in order
 abbrev pub blocks_of : SessionKey → List Block → List (List ℕ)
 blocks_of key [] = []
-blocks_of key (b ∷ bs) = cond (is_key key b.key) (b.body ∷ blocks_of key bs) (blocks_of key bs)
+blocks_of key (b ∷ bs) = if is_key key b.key then b.body ∷ blocks_of key bs else blocks_of key bs
 
--- the label block of a volume: its number is 0, and so are the session's number and time
+-- a label block is of no session: the session's number and time are 0
 abbrev pub no_session : SessionKey
 no_session = record { time = 0; id = 0 }
 
+-- the label block of a volume, whose number is 0
 abbrev pub label_block : VolumeLabel → List ℕ
 label_block label = block_image no_session 0 (volume_label_bytes label)
 
@@ -69,7 +66,7 @@ pub record VolumeImage (v : VolumeView) (blocks : List Block) : Type 0 where
   pub media_is : label.media ≡ v.media
   pub label_is : IsVolumeLabel label
   pub bytes_are : v.bytes ≡ label_block label ++ images 1 blocks
-  pub label_image : IsBlockImage MOST_BLOCK (label_block label) no_session 0 (volume_label_bytes label)
+  pub label_image : IsBlockImage most_block (label_block label) no_session 0 (volume_label_bytes label)
   pub blocks_are : AreImages 1 blocks
   pub next_is : v.next ≡ 1 + length blocks
 
@@ -80,15 +77,15 @@ pub record LabelsVolume (label : VolumeLabel) (v : VolumeView) : Type 0 where
 
 -- the body was placed as the next block, at the end of the volume
 pub record PlacesBlock (limit : ℕ) (old : VolumeView) (key : SessionKey) (body : PackedBody) (p : Placement) (new : VolumeView) : Type 0 where
-  pub fits : length old.bytes + (HEADER + length body.bytes) ≤ limit
+  pub fits : length old.bytes + (block_header + length body.bytes) ≤ limit
   pub is : new ≡ record old { bytes = new.bytes; next = old.next + 1 }
   pub bytes_are : new.bytes ≡ old.bytes ++ block_image key old.next body.bytes
-  pub image : IsBlockImage MOST_BLOCK (block_image key old.next body.bytes) key old.next body.bytes
-  pub placement_is : p ≡ record { key = key; volume = old.name; start = length old.bytes; length = HEADER + length body.bytes; first = body.first; last = body.last }
+  pub image : IsBlockImage most_block (block_image key old.next body.bytes) key old.next body.bytes
+  pub placement_is : p ≡ record { key = key; volume = old.name; start = length old.bytes; length = block_header + length body.bytes; first = body.first; last = body.last }
 
 -- the block would pass the limit: the volume takes no more
 pub record FindsVolumeFull (limit : ℕ) (old : VolumeView) (body : PackedBody) (new : VolumeView) : Type 0 where
-  pub no_room : limit < length old.bytes + (HEADER + length body.bytes)
+  pub no_room : limit < length old.bytes + (block_header + length body.bytes)
   pub is : new ≡ record old { status = Full }
 
 -- Laws.

@@ -1,17 +1,18 @@
 -- A world: its sessions, its drive with the volume, and the queue between them.
-use Rattle.std.specs.Prelude.{◌≡◌, ◌≢◌, ◌⊎◌, ℕ, ◌+◌, ◌<◌, ◌==◌, cond, false, Option, Some, None, List, [], ◌∷◌, ◌++◌, length, map, IfSome, codes}
+use Rattle.std.specs.Prelude.{◌≡◌, ◌≢◌, ℕ, ◌+◌, ◌<◌, ◌==◌, if◌then◌else◌, false, Option, Some, None, List, [], ◌∷◌, ◌++◌, length, map, IfSome, codes, slice_get, slice_set}
 use Rattle.std.specs.Option.{option_to_list}
 use Rattle.sd_base.specs.declared.number.SessionKey.{SessionKey}
 use Rattle.sd_pack.specs.Body.{PackedBody}
-use Rattle.sd_core.specs.declared.status.Status.TheVariants.{Closed, Cancelled, Failed}
 use Rattle.sd_core.specs.declared.piece.Piece.{Piece}
 use Rattle.sd_core.specs.declared.span.Span.{Span}
 use Rattle.sd_core.specs.declared.journal.Run.{Run}
 use Rattle.sd_core.specs.declared.journal.SessionJournal.{SessionJournal}
 use Rattle.sd_core.specs.Drive.{DriveView, synced_bytes, volume_name}
-use Rattle.sd_core.specs.Session.{SessionView, parts_of}
-use Rattle.sd_core.specs.Volume.{VolumeView, is_key}
-use Rattle.sd_core.specs.Journal.{SentBody, spans_in}
+use Rattle.sd_core.specs.Session.{SessionView, parts_of, LeavesLane, HasOutstanding}
+use Rattle.sd_core.specs.Volume.{VolumeView}
+use Rattle.sd_base.specs.Key.{is_key}
+use Rattle.sd_core.specs.Journal.{spans_in}
+use Rattle.sd_core.specs.SentBody.{SentBody}
 use Rattle.sd_core.specs.Reading.{Shelf, empty_shelf, shelf_with}
 use Rattle.sd_core.specs.declared.entry.Entry.{Entry}
 
@@ -31,12 +32,20 @@ next_of w = length w.entries + 1
 -- the session of a ticket
 abbrev pub entry_of : ℕ → List Entry → Option Entry
 entry_of ticket [] = None
-entry_of ticket (e ∷ es) = cond (e.session.key.id == ticket) (Some e) (entry_of ticket es)
+entry_of ticket (e ∷ es) = if e.session.key.id == ticket then Some e else entry_of ticket es
 
 -- the sessions, with this one in the place of the one that has its ticket
 abbrev pub with_entry : Entry → List Entry → List Entry
 with_entry new [] = []
-with_entry new (e ∷ es) = cond (e.session.key.id == new.session.key.id) (new ∷ es) (e ∷ with_entry new es)
+with_entry new (e ∷ es) = if e.session.key.id == new.session.key.id then new ∷ es else e ∷ with_entry new es
+
+-- where the session of a ticket stands among the sessions
+pub record IsFoundAt (ticket : ℕ) (entries : List Entry) (at : ℕ) : Type 0 where
+  pub entry : Entry
+  pub there : slice_get entries at ≡ Some entry
+  pub found : entry_of ticket entries ≡ Some entry
+  pub id_is : entry.session.key.id ≡ ticket
+  pub changes : (new : Entry) → new.session.key.id ≡ ticket → slice_set entries at new ≡ with_entry new entries
 
 -- the last session that was opened, whose lane it is
 abbrev pub last_entry : List Entry → Option Entry
@@ -55,7 +64,7 @@ on_the_way w = map body_of_piece (option_to_list w.drive.hand) ++ map body_of_pi
 -- the bodies of one session among those sent, in order
 abbrev pub bodies_with : SessionKey → List SentBody → List PackedBody
 bodies_with key [] = []
-bodies_with key (b ∷ bs) = cond (is_key key b.key) (b.body ∷ bodies_with key bs) (bodies_with key bs)
+bodies_with key (b ∷ bs) = if is_key key b.key then b.body ∷ bodies_with key bs else bodies_with key bs
 
 -- All bodies of a session, in their order: those placed, of which `placed` are the bodies of all sessions,
 -- in the hand, in the queue, ready, waiting, and the open one. This is the one place that lists the stations of a body.
@@ -72,13 +81,11 @@ IsOnTheWay w key = bodies_with key (on_the_way w) ≢ []
 
 -- the session has a body that is on no volume yet, or a block that isn't synced
 abbrev pub IsOutstanding : WorldView → Entry → Type 0
-IsOutstanding w e = (parts_of e.session ≢ []) ⊎ IsOnTheWay w e.session.key ⊎ IsUnsynced w e.journal
+IsOutstanding w e = HasOutstanding e.session (IsOnTheWay w e.session.key) (IsUnsynced w e.journal)
 
--- The session no longer keeps its lane: it is closed, or it is cancelled or failed and all that was sent of it is placed.
+-- the session no longer keeps its lane
 abbrev pub IsFree : WorldView → Entry → Type 0
-IsFree w e =
-    (e.session.status ≡ Closed)
-    ⊎ (((e.session.status ≡ Cancelled) ⊎ (e.session.status ≡ Failed)) × (IsOnTheWay w e.session.key → ⊥))
+IsFree w e = LeavesLane e.session.status (IsOnTheWay w e.session.key → ⊥)
 
 -- the drive's one lane is free
 abbrev pub LaneIsFree : WorldView → Type 0

@@ -5,11 +5,12 @@ ghost use Rattle.sd_core.specs.Volume.{VolumeView};
 ghost use Rattle.sd_core.specs.Journal.{spans_in};
 ghost use Rattle.sd_core.specs.Drive.{synced_bytes, volume_name, after_sync, HoldsPiece, IsReadyToPlace, TakesBlocksOf, SuitsPool, LabelsNew, LabelRefused, Mounts, MountRefused, PlacesBody, PlacesOn, Seeks};
 
-use crate::journal::{Placement, SessionJournal};
+use crate::journal::SessionJournal;
 use crate::piece::Piece;
+use crate::placement::Placement;
 use crate::span::Span;
-use crate::volume::{MOST_VOLUME, NotAppended, Volume, VolumeStatus};
-use sd_base::{Items, MediaName, PoolName, Refusal, VolName};
+use crate::volume::{NotAppended, Volume, VolumeStatus};
+use sd_base::{Items, MOST_VOLUME, MediaName, PoolName, Refusal, VolName};
 use sd_label::VolumeLabel;
 use std::alloc::{AllocError, Global};
 use std::marker::Model;
@@ -56,13 +57,25 @@ impl Model for Drive {
 
     ghost Value = { DriveView };
 
-    ghost view = { λ d. record { media = d.media; pool = d.pool; volume = d.volume; loaded = d.loaded; hand = d.hand } };
+    ghost view = { λ d. record {
+      media = d.media;
+      pool = d.pool;
+      volume = d.volume;
+      loaded = d.loaded;
+      hand = d.hand;
+    } };
 }
 
 impl Drive {
     /// A drive with no volume, which had no session yet.
     pub fn new(alloc: Global, media: MediaName) -> Self
-        ensures { result ≡ record { media = media; pool = None; volume = None; loaded = false; hand = None } }
+        ensures { result ≡ record {
+          media = media;
+          pool = None;
+          volume = None;
+          loaded = false;
+          hand = None;
+        } }
     {
         Drive {
             alloc,
@@ -99,7 +112,8 @@ impl Drive {
     /// Where the blocks of a session lie on the volume; no block is looked at.
     pub fn spans(&self, journal: &SessionJournal) -> Result<Items<Span>, AllocError>
         requires { self.now.volume ≡ None → journal.now.run ≡ None }
-        ensures { IfOk result (λ spans. spans ≡ spans_in (volume_name self.now.volume) journal.now.run) }
+        ensures { IfOk result
+            (λ spans. spans ≡ spans_in (volume_name self.now.volume) journal.now.run) }
     {
         match &self.volume {
             None => Ok(Items::new(self.alloc)),

@@ -1,23 +1,12 @@
-// What was placed, and where.
+// The journal of a session: how much of it was placed, and where.
 ghost use Rattle.std.specs.Prelude.{◌≡◌, ◌+◌, ◌^◌, ◌<◌, ◌≤◌, ◌↔◌, IfOk, IfSome, IsTrue};
 ghost use Rattle.sd_core.specs.Journal.{empty_journal, noted, run_of, run_with, spans_in};
-ghost use Rattle.sd_pack.specs.Body.{first_nonzero};
+ghost use Rattle.sd_base.specs.FileIndex.{first_nonzero};
 
+use crate::placement::Placement;
 use crate::span::Span;
-use sd_base::{Items, SessionKey, VolName};
+use sd_base::{Items, VolName};
 use std::alloc::{AllocError, Global};
-
-/// One block on a volume: whose it is, where it begins, its bytes, and the first and the last FileIndex in
-/// its body.
-#[derive(Drop)]
-pub struct Placement {
-    pub key: SessionKey,
-    pub volume: VolName,
-    pub start: u64,
-    pub length: u64,
-    pub first: u32,
-    pub last: u32,
-}
 
 /// Where the blocks of one session lie on one volume.
 #[derive(Clone, Copy, Debug, PartialEq, Eq)]
@@ -28,11 +17,11 @@ pub struct Run {
     pub end: u64,
 }
 
-/// The journal of one session: how many of its bodies were placed, and where. Until volumes can be several
+/// The journal of one session: how many blocks of it were placed, and where. Until volumes can be several
 /// it has one run at most, so each call costs the same however many bodies were placed.
 #[derive(Clone, Copy, Debug, PartialEq, Eq)]
 pub struct SessionJournal {
-    pub(crate) placed: u64,
+    pub(crate) blocks: u64,
     pub(crate) run: Option<Run>,
 }
 
@@ -77,14 +66,14 @@ impl SessionJournal {
         ensures { result ≡ empty_journal }
     {
         SessionJournal {
-            placed: 0,
+            blocks: 0,
             run: None,
         }
     }
 
     /// Notes one block more of the session, on the same volume.
     pub fn note(&mut self, placement: &Placement)
-        requires count { self.old.placed + 1 < 2 ^ 64 }
+        requires count { self.old.blocks + 1 < 2 ^ 64 }
         requires end { placement.now.start + placement.now.length < 2 ^ 64 }
         ensures { self.new ≡ noted self.old placement.now }
     {
@@ -92,15 +81,15 @@ impl SessionJournal {
             None => Run::of(placement),
             Some(run) => run.with(placement),
         };
-        self.placed += 1;
+        self.blocks += 1;
         self.run = Some(run);
     }
 
     /// How many blocks of the session were placed.
-    pub fn placed(&self) -> u64
-        ensures { result ≡ self.now.placed }
+    pub fn blocks(&self) -> u64
+        ensures { result ≡ self.now.blocks }
     {
-        self.placed
+        self.blocks
     }
 
     /// Whether all blocks of the session are within the first `synced` bytes of the volume.

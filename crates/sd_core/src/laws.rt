@@ -1,7 +1,8 @@
 // What holds of volumes, journals and runs, whoever made them.
 ghost use Rattle.sd_core.specs.Volume.{PlacedBlockStands, OneImageOfAVolume};
 ghost use Rattle.sd_core.specs.Journal.{JournalGivesSpans};
-ghost use Rattle.sd_core.specs.Kept.{ClosedKeepTheirRecords};
+ghost use Rattle.sd_core.specs.JobMedia.{JobMediaTextsApart};
+ghost use Rattle.sd_core.specs.Kept.{ClosedKeepTheirRecords, ClosedKeepTheirStatus};
 
 /// A block that was placed stands on the volume behind those that stood there before.
 pub fn placed_block_stands()
@@ -18,7 +19,17 @@ pub fn journal_gives_spans()
     ensures { JournalGivesSpans }
 {}
 
+/// No two sessions, and no two lists of spans, have one JobMedia text.
+pub fn jobmedia_texts_apart()
+    ensures { JobMediaTextsApart }
+{}
+
 /// Whatever events follow, a closed session of the list machine keeps its records.
 pub fn closed_keep_their_records()
     ensures { ClosedKeepTheirRecords }
+{}
+
+/// Whatever events follow, a closed session of the list machine stays closed.
+pub fn closed_keep_their_status()
+    ensures { ClosedKeepTheirStatus }
 {}

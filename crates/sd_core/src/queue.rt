@@ -1,6 +1,7 @@
 // The queue before a drive.
 ghost use Rattle.std.specs.Prelude.{◌≡◌, ◌<◌, ◌≤◌, ◌↔◌, [], ◌∷◌, ◌++◌, length, IfOk, IfErr, IsOk, IsNone, OnOk, OnErr};
 ghost use Rattle.std.specs.Option.{option_to_list};
+ghost use Rattle.sd_core.specs.Queue.{queue_length};
 
 use crate::piece::Piece;
 use std::alloc::{AllocError, Global};
@@ -21,13 +22,14 @@ impl Model for Queue {
     ghost use Rattle.std.specs.Prelude.{List, ◌≤◌};
     ghost use Rattle.std.specs.VecDeque.{deque_len, deque_capacity};
     ghost use Rattle.sd_core.specs.declared.piece.Piece.{Piece};
-    ghost use Rattle.sd_core.specs.declared.queue.TheConstants.{QUEUE_LENGTH};
+    ghost use Rattle.sd_core.specs.Queue.{queue_length};
 
     ghost Value = { List Piece };
 
     ghost view = { λ q. q.pieces.items };
 
-    ghost invariant = { λ q. (deque_len q.pieces ≤ QUEUE_LENGTH) × (QUEUE_LENGTH ≤ deque_capacity q.pieces) };
+    ghost invariant = { λ q.
+        (deque_len q.pieces ≤ queue_length) × (queue_length ≤ deque_capacity q.pieces) };
 }
 
 impl Queue {
@@ -42,8 +44,8 @@ impl Queue {
 
     /// Adds a piece behind the others, or gives it back where there is no room. Takes no memory.
     pub fn try_push(&mut self, piece: Piece) -> Result<(), Piece>
-        ensures most { length self.old ≤ QUEUE_LENGTH }
-        ensures room { IsOk result ↔ (length self.old < QUEUE_LENGTH) }
+        ensures most { length self.old ≤ queue_length }
+        ensures room { IsOk result ↔ (length self.old < queue_length) }
         ensures ok { OnOk result (self.new ≡ self.old ++ piece ∷ []) }
         ensures given_back { IfErr result (λ back. back ≡ piece) }
         ensures err { OnErr result (self.new ≡ self.old) }

@@ -53,7 +53,8 @@ pub fn read_session<S: Sink>(
         → IfErr result (λ fault. fault ≡ ReadFault.Memory) }
     ensures first { IfErr result (λ fault. fault ≢ ReadFault.Memory
         → MeetsFault (shelf_with name.now bytes.now) key spans.now fault) }
-    ensures handed_over { OnErr result (HandsOverFront (shelf_with name.now bytes.now) key spans.now (S.got sink.old) (S.got sink.new)) }
+    ensures handed_over { OnErr result (HandsOverFront (shelf_with name.now bytes.now) key spans.now
+        (S.got sink.old) (S.got sink.new)) }
 {
     if !are_spans(spans) {
         return Err(ReadFault::BadSpan);

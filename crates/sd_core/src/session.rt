@@ -1,10 +1,11 @@
 // One session's own parts.
 ghost use Rattle.std.specs.Prelude.{◌≡◌, ◌≢◌, ◌+◌, ◌-◌, ◌^◌, ◌<◌, ◌≤◌, [], ◌++◌, length, IfOk, IfErr, IfNone, OnOk, OnErr, MatchOption, Some};
 ghost use Rattle.std.specs.Option.{option_to_list};
+ghost use Rattle.sd_base.specs.Limits.{block_header, least_block_limit, most_block};
 ghost use Rattle.sd_label.specs.Label.{IsSessionLabel};
 ghost use Rattle.sd_pack.specs.Body.{empty_body};
 ghost use Rattle.sd_pack.specs.Packing.{bodies_of};
-ghost use Rattle.sd_core.specs.Session.{IsRunning, NotRunning, MayTake, refusal_of, StartsSession, TakesRecord, AppendRefused, EndsSession, EndRefused, CancelsSession, Despools, MayClose, CloseRefused};
+ghost use Rattle.sd_core.specs.Session.{IsRunning, NotRunning, MayTake, status_refusal, StartsSession, TakesRecord, AppendRefused, EndsSession, EndRefused, CancelsSession, Despools, MayClose, CloseRefused};
 
 use crate::despool::Despooled;
 use crate::piece::Piece;
@@ -12,7 +13,7 @@ use crate::queue::Queue;
 use crate::status::Status;
 use sd_base::{JobId, MediaName, PoolName, Rec, Refusal, SessionKey};
 use sd_label::{SessionLabel, Totals};
-use sd_pack::{BLOCK_HEADER, Body, Packer};
+use sd_pack::{Body, Packer};
 use std::alloc::{AllocError, Global};
 use std::marker::Model;
 
@@ -77,9 +78,10 @@ impl Session {
         moment: i64,
         max: usize,
     ) -> Result<Self, AllocError>
-        requires least { 1024 ≤ max }
-        requires most { max ≤ 1048576 }
-        ensures { IfOk result (λ s. StartsSession key job pool media moment (max - BLOCK_HEADER) s) }
+        requires least { least_block_limit ≤ max }
+        requires most { max ≤ most_block }
+        ensures { IfOk result
+            (λ s. StartsSession key job pool media moment (max - block_header) s) }
     {
         let mut packer = Packer::new(alloc, max)?;
         packer.put_label(&SessionLabel {
@@ -210,7 +212,7 @@ impl Session {
     fn active(&self) -> Result<(), Refusal>
         ensures ok { OnOk result (self.now.status ≡ Status.Active) }
         ensures err { OnErr result (self.now.status ≢ Status.Active) }
-        ensures why { IfErr result (λ why. why ≡ refusal_of self.now.status) }
+        ensures why { IfErr result (λ why. why ≡ status_refusal self.now.status) }
     {
         match self.status {
             Status::Active => Ok(()),
@@ -222,7 +224,8 @@ impl Session {
     /// no room the body is ready from then on, and waits no longer. Takes no memory.
     pub fn despool(&mut self, queue: &mut Queue) -> Result<Despooled, Refusal>
         requires { self.old.sent + 1 < 2 ^ 64 }
-        ensures ok { IfOk result (λ despooled. Despools despooled self.old queue.old self.new queue.new) }
+        ensures ok { IfOk result
+            (λ despooled. Despools despooled self.old queue.old self.new queue.new) }
         ensures why { IfErr result (λ why. NotRunning self.old why) }
         ensures err { OnErr result (self.new ≡ self.old) }
         ensures err_queue { OnErr result (queue.new ≡ queue.old) }
@@ -245,15 +248,15 @@ impl Session {
         }
     }
 
-    /// Whether the session may be closed, of which `placed` bodies were placed, all of them `synced` or not.
-    pub fn check_close(&self, placed: u64, synced: bool) -> Result<(), Refusal>
-        ensures ok { OnOk result (MayClose self.now placed synced) }
-        ensures why { IfErr result (λ why. CloseRefused self.now placed synced why) }
+    /// Whether the session may be closed, which has so many `blocks` on volumes, all of them `synced` or not.
+    pub fn check_close(&self, blocks: u64, synced: bool) -> Result<(), Refusal>
+        ensures ok { OnOk result (MayClose self.now blocks synced) }
+        ensures why { IfErr result (λ why. CloseRefused self.now blocks synced why) }
     {
         let Status::Ended = self.status else {
             return Err(refusal_for(self.status));
         };
-        if self.ready.is_some() || self.packer.waiting() > 0 || self.sent != placed || !synced {
+        if self.ready.is_some() || self.packer.waiting() > 0 || self.sent != blocks || !synced {
             return Err(Refusal::NotYet);
         }
         Ok(())
@@ -276,7 +279,13 @@ fn end_label(
     moment: i64,
     totals: Totals,
 ) -> SessionLabel
-    ensures label { result ≡ record { job = job; pool = pool.now; media = media.now; moment = moment; totals = Some totals } }
+    ensures label { result ≡ record {
+      job = job;
+      pool = pool.now;
+      media = media.now;
+      moment = moment;
+      totals = Some totals;
+    } }
     ensures is_label { IsSessionLabel result }
 {
     SessionLabel {
@@ -290,7 +299,7 @@ fn end_label(
 
 // Why a session is refused that has this status.
 fn refusal_for(status: Status) -> Refusal
-    ensures { result ≡ refusal_of status }
+    ensures { result ≡ status_refusal status }
 {
     match status {
         Status::Active | Status::Ended | Status::Closed => Refusal::SessionNotOpen,

@@ -13,7 +13,7 @@ use std::fmt;
 #[derive(Drop)]
 pub struct Span {
     pub volume: VolName,
-    pub vol_index: u32,
+    pub vol_index: u64,
     pub first: u32,
     pub last: u32,
     pub start: u64,
@@ -41,7 +41,8 @@ impl fmt::Display for Span {
 /// Adds the JobMedia text of a session at the end of `out`: a line that names the session, then a line
 /// for each span. After an Err `out` is as before.
 pub fn put_jobmedia(out: &mut String, key: SessionKey, spans: &[Span]) -> Result<(), AllocError>
-    ensures ok { OnOk result (string_bytes out.new ≡ string_bytes out.old ++ jobmedia_text key spans.now) }
+    ensures ok { OnOk result
+        (string_bytes out.new ≡ string_bytes out.old ++ jobmedia_text key spans.now) }
     ensures err { OnErr result (string_bytes out.new ≡ string_bytes out.old) }
 {
     let alloc = *out.allocator();

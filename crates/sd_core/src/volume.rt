@@ -1,17 +1,14 @@
 // A volume as plain bytes.
 ghost use Rattle.std.specs.Prelude.{◌≡◌, ◌+◌, ◌≤◌, ◌↔◌, length, IfOk, IsErrOf, IsTrue};
-ghost use Rattle.sd_block.specs.declared.layout.TheConstants.{HEADER};
+ghost use Rattle.sd_base.specs.Limits.{block_header, most_volume};
 
-use crate::journal::Placement;
-use sd_base::{MediaName, PoolName, SessionKey, VolName};
-use sd_block::{HEADER, seal};
+use crate::placement::Placement;
+use sd_base::{BLOCK_HEADER, MediaName, PoolName, SessionKey, VolName};
+use sd_block::seal;
 use sd_label::{VolumeLabel, put_volume_label, volume_label_length};
 use sd_pack::Body;
 use std::alloc::{AllocError, Global};
 use std::marker::Model;
-
-/// The most bytes of a volume.
-pub const MOST_VOLUME: u64 = 68_719_476_736;
 
 /// Whether blocks are added to a volume.
 #[derive(Clone, Copy, Debug, PartialEq, Eq)]
@@ -121,17 +118,17 @@ impl Volume {
         body: &Body,
         limit: u64,
     ) -> Result<Placement, NotAppended>
-        requires { limit ≤ MOST_VOLUME }
+        requires { limit ≤ most_volume }
         ensures placed { IfOk result
             (λ placement. PlacesBlock limit self.old key body.now placement self.new) }
         ensures no_room { IsErrOf result NotAppended.NoRoom
             → FindsVolumeFull limit self.old body.now self.new }
         ensures memory { IsErrOf result NotAppended.Memory → self.new ≡ self.old }
         ensures memory_fits { IsErrOf result NotAppended.Memory
-            → length self.old.bytes + (HEADER + length body.now.bytes) ≤ limit }
+            → length self.old.bytes + (block_header + length body.now.bytes) ≤ limit }
     {
         let start = self.bytes.len() as u64;
-        let length = (HEADER + body.bytes.len()) as u64;
+        let length = (BLOCK_HEADER + body.bytes.len()) as u64;
         if start + length > limit {
             self.status = VolumeStatus::Full;
             return Err(NotAppended::NoRoom);
@@ -184,7 +181,7 @@ impl Volume {
 
     pub fn bytes(&self) -> &[u8]
         ensures bytes { result.now ≡ self.now.bytes }
-        ensures most { length result.now ≤ MOST_VOLUME }
+        ensures most { length result.now ≤ most_volume }
     {
         &self.bytes
     }

@@ -2,20 +2,19 @@
 ghost use Rattle.std.specs.Prelude.{◌≡◌, ◌≢◌, ◌↔◌, ℕ, ◌+◌, ◌-◌, ◌≤◌, ◌<◌, ◌^◌, Bool, List, ◌++◌, length, All, IfOk, IfErr, IfSome, IsTrue, OnErr, option_map};
 ghost use Rattle.std.specs.Option.{option_copied};
 ghost use Rattle.sd_base.specs.Record.{Record};
-ghost use Rattle.sd_base.specs.declared.number.TheConstants.{MOST_NUMBER};
+ghost use Rattle.sd_base.specs.Limits.{block_header, least_block_limit, most_block, most_number};
 ghost use Rattle.sd_label.specs.Cutting.{total_bytes};
 ghost use Rattle.sd_core.specs.declared.event.Event.TheVariants.{Open, Append, End, Close, Cancel, Spool, Despool, Take, Place, Sync, Label, Mount, Seek};
 ghost use Rattle.sd_core.specs.Machine.{Machine, empty_machine, session_of};
 ghost use Rattle.sd_core.specs.Step.{Run};
-ghost use Rattle.sd_core.specs.Steps.{StepsTo};
-ghost use Rattle.sd_core.specs.Matches.{Matches};
+ghost use Rattle.sd_core.specs.Matches.{Matches, StepsTo};
 ghost use Rattle.sd_core.specs.Moves.{Moves};
-ghost use Rattle.sd_core.specs.Kept.{ClosedStand, ClosedStands, ClosedStay, IsClosedAt};
+ghost use Rattle.sd_core.specs.Kept.{ClosedStand, ClosedStands, StatusesStay, SpansStay, IsClosedAt};
 ghost use Rattle.sd_core.specs.Reading.{Reads};
 ghost use Rattle.sd_core.specs.HandsOver.{HandsOverFront};
 ghost use Rattle.sd_core.specs.World.{entry_of, fresh_world, last_entry, shelf_of};
 ghost use Rattle.sd_core.specs.WorldReading.{ReadsWhole, AreOnVolume, MeetsWorldFault};
-ghost use Rattle.sd_core.specs.Sound.{IsGone};
+ghost use Rattle.sd_core.specs.Session.{LeavesLane};
 
 use crate::conf::WorldConf;
 use crate::despool::Despooled;
@@ -56,26 +55,39 @@ pub struct World {
 
 impl Model for World {
     ghost use Rattle.std.specs.Prelude.{◌-◌};
+    ghost use Rattle.sd_base.specs.Limits.{block_header};
     ghost use Rattle.sd_core.specs.World.{WorldView};
-    ghost use Rattle.sd_core.specs.Sound.{IsWorldView};
+    ghost use Rattle.sd_core.specs.Invariants.{IsWorldView};
 
     ghost Value = { WorldView };
 
-    ghost view = { λ w. record { time = w.time; room = w.block - 24; entries = w.entries.items; drive = w.drive; queue = w.queue } };
+    ghost view = { λ w. record {
+      time = w.time;
+      room = w.block - block_header;
+      entries = w.entries.items;
+      drive = w.drive;
+      queue = w.queue;
+    } };
 
-    ghost invariant = { λ w.
-        IsWorldView (record { time = w.time; room = w.block - 24; entries = w.entries.items; drive = w.drive; queue = w.queue }) };
+    ghost invariant = { λ w. IsWorldView (record {
+      time = w.time;
+      room = w.block - block_header;
+      entries = w.entries.items;
+      drive = w.drive;
+      queue = w.queue;
+    }) };
 }
 
 impl World {
     /// A world with no session, no volume and nothing on the way. The limits of `conf` and `time`, the time
     /// of the run in seconds, are the caller's.
     pub fn new(alloc: Global, conf: WorldConf, time: u32) -> Result<Self, AllocError>
-        requires block_least { 1024 ≤ conf.block }
-        requires block_most { conf.block ≤ 1048576 }
+        requires block_least { least_block_limit ≤ conf.block }
+        requires block_most { conf.block ≤ most_block }
         requires time_least { 1 ≤ time }
-        requires time_most { time ≤ MOST_NUMBER }
-        ensures fresh { IfOk result (λ world. world ≡ fresh_world (conf.block - 24) time) }
+        requires time_most { time ≤ most_number }
+        ensures fresh { IfOk result
+            (λ world. world ≡ fresh_world (conf.block - block_header) time) }
         ensures matches { IfOk result (λ world. Matches world (empty_machine time)) }
     {
         Ok(World {
@@ -96,7 +108,8 @@ impl World {
         ensures moves { Moves self.old event result self.new }
         ensures follows { (m : Machine) → Matches self.old m → StepsTo m event result self.new }
         ensures closed { (m : Machine) → Matches self.old m → ClosedStands self.new result }
-        ensures kept { (m : Machine) → Matches self.old m → ClosedStay self.old self.new }
+        ensures status_stays { (m : Machine) → Matches self.old m → StatusesStay self.old self.new }
+        ensures spans_stay { (m : Machine) → Matches self.old m → SpansStay self.old self.new }
     {
         self.apply(event)
     }
@@ -145,8 +158,10 @@ impl World {
     pub fn run(&mut self, events: Vec<Event>) -> Result<Vec<Reply>, AllocError>
         ensures follows { IfOk result (λ replies. (m : Machine) → Matches self.old m
             → (m' : Machine) × Run m events.items replies.items m' × Matches self.new m') }
-        ensures closed { IfOk result (λ replies. (m : Machine) → Matches self.old m → ClosedStand self.new replies.items) }
-        ensures kept { (m : Machine) → Matches self.old m → ClosedStay self.old self.new }
+        ensures closed { IfOk result (λ replies. (m : Machine) → Matches self.old m
+            → ClosedStand self.new replies.items) }
+        ensures status_stays { (m : Machine) → Matches self.old m → StatusesStay self.old self.new }
+        ensures spans_stay { (m : Machine) → Matches self.old m → SpansStay self.old self.new }
         ensures length { IfOk result (λ replies. length replies.items ≡ length events.items) }
         ensures err { OnErr result (self.new ≡ self.old) }
     {
@@ -179,9 +194,12 @@ impl World {
             → IfErr result (λ fault. fault ≡ ReadFault.Memory) }
         ensures closed { (m : Machine) → Matches self.now m → IsClosedAt self.now key spans.now
             → ReadsWhole m key (S.got sink.old) (S.got sink.new) result }
-        ensures first { IfErr result (λ fault. fault ≢ ReadFault.Memory → MeetsWorldFault self.now.drive.volume key spans.now fault) }
-        ensures handed_over { OnErr result (HandsOverFront (shelf_of self.now.drive.volume) key spans.now (S.got sink.old) (S.got sink.new)) }
-        ensures elsewhere { (AreOnVolume self.now.drive.volume spans.now → ⊥) → S.got sink.new ≡ S.got sink.old }
+        ensures first { IfErr result (λ fault. fault ≢ ReadFault.Memory
+            → MeetsWorldFault self.now.drive.volume key spans.now fault) }
+        ensures handed_over { OnErr result (HandsOverFront (shelf_of self.now.drive.volume) key
+            spans.now (S.got sink.old) (S.got sink.new)) }
+        ensures elsewhere { (AreOnVolume self.now.drive.volume spans.now → ⊥)
+            → S.got sink.new ≡ S.got sink.old }
     {
         let volume = self.drive.volume();
         if spans.is_empty() {
@@ -198,8 +216,10 @@ impl World {
 
     /// The status of a session, or `None` for a ticket that was not given. No other session is looked at.
     pub fn status(&self, ticket: Ticket) -> Option<Status>
-        ensures status { result ≡ option_map (λ entry. entry.session.status) (entry_of ticket self.now.entries) }
-        ensures machine { (m : Machine) → Matches self.now m → result ≡ option_map (λ s. s.status) (session_of ticket m.sessions) }
+        ensures status { result
+            ≡ option_map (λ entry. entry.session.status) (entry_of ticket self.now.entries) }
+        ensures machine { (m : Machine) → Matches self.now m
+            → result ≡ option_map (λ s. s.status) (session_of ticket m.sessions) }
     {
         match find(&self.entries, ticket) {
             None => None,
@@ -297,7 +317,7 @@ impl World {
         };
         let entry = &mut self.entries[at];
         let synced = entry.journal.is_synced(self.drive.synced());
-        if let Err(why) = entry.session.check_close(entry.journal.placed(), synced) {
+        if let Err(why) = entry.session.check_close(entry.journal.blocks(), synced) {
             return Reply::Refused(why);
         }
         let Ok(spans) = self.drive.spans(&entry.journal) else {
@@ -391,7 +411,8 @@ impl World {
     }
 
     fn label(&mut self, drive: DriveNo, label: VolumeLabel) -> Reply
-        ensures { Moves self.old (Label drive label.name label.pool label.media label.moment) result self.new }
+        ensures { Moves self.old (Label drive label.name label.pool label.media label.moment)
+            result self.new }
     {
         if drive.get() != THE_DRIVE {
             return Reply::Refused(Refusal::NoSuchDrive);
@@ -437,7 +458,8 @@ fn are_on(name: &VolName, spans: &[Span]) -> bool
 
 // The session last opened no longer keeps the lane.
 fn lane_is_free(entries: &[Entry]) -> bool
-    ensures { IsTrue result ↔ IfSome (last_entry entries.now) IsGone }
+    ensures { IsTrue result ↔ IfSome (last_entry entries.now)
+        (λ e. LeavesLane e.session.status (e.session.sent ≡ e.journal.blocks)) }
 {
     match entries.last() {
         None => true,

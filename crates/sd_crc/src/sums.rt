@@ -50,7 +50,8 @@ impl Sums {
     /// The sums after `bytes`, which 300 more at least follow.
     pub(crate) fn after(bytes: &[u8]) -> Sums
         ensures { (rest : List ℕ) → WINDOW ≤ length rest
-            → register_after (take WINDOW result.places) rest ≡ fold byte_step 0xFFFFFFFF (bytes.now ++ rest) }
+            → register_after (take WINDOW result.places) rest
+            ≡ fold byte_step 0xFFFFFFFF (bytes.now ++ rest) }
     {
         let (blocks, rest) = bytes.as_chunks::<BLOCK>();
         let mut sums = Sums::new();

@@ -1,10 +1,11 @@
 -- What a caller of any driver concludes of bytes that a stop leaves: they last over every call but a cut below
 -- their end, and the low mark of their volume is at least their length.
-use Rattle.std.proofs.Common.{◌≡◌, ℕ, zero, suc, ◌+◌, ◌-◌, ◌≤◌, ◌⊎◌, inl, inr, List, [], ◌∷◌, length, take, Option, Some, refl, ap, sym, ◌∙◌, subst, arith}
+use Rattle.std.proofs.Common.{◌≡◌, ◌≢◌, ℕ, zero, suc, ◌+◌, ◌-◌, ◌≤◌, ◌⊎◌, inl, inr, List, [], ◌∷◌, length, take, Option, Some, None, refl, ap, sym, ◌∙◌, subst, arith}
 use Rattle.std.proofs.Math.Seq.{take-length}
 use Rattle.std.proofs.lemmas.List.{length-take, take_min}
 use Rattle.std.proofs.lemmas.Bool.{cases_lt}
-use Rattle.sd_driver.specs.Shelf.{Shelf, stable_bytes, BeginsWith, SameShelf, OtherShelf, Passes, KeepsStable, KeepsStableTo, Lasts, StillLasts, StillLastsBelow, lowest, low_mark}
+use Rattle.sd_driver.proofs.Names.{name_cases}
+use Rattle.sd_driver.specs.Shelf.{Shelf, Held, stable_bytes, BeginsWith, SameShelf, OtherShelf, Passes, KeepsStable, KeepsStableTo, Syncs, Lasts, StillLasts, StillLastsBelow, AfterStop, lowest, low_mark}
 
 -- bytes begin with themselves
 pub BeginsWith-refl : (bytes : List ℕ) → BeginsWith bytes bytes
@@ -90,6 +91,18 @@ still_lasts_below to loaded volume old new is passes keeps = record {
     some_is : {a b : List ℕ} → Some a ≡ Some b → a ≡ b
     some_is e = cc
 
+-- every stable byte stays where every volume does
+pub KeepsStable-same : (old new : Shelf) → SameShelf old new → KeepsStable old new
+KeepsStable-same old new same name = BeginsWith-same _ _ (ap stable_bytes (same name))
+
+-- a call that leaves every volume as it was
+pub still_lasts_same : (old new : Shelf) → Passes old new → SameShelf old new → StillLasts old new
+still_lasts_same old new passes same = still_lasts old new passes (KeepsStable-same old new same)
+
+-- over no call
+pub StillLasts-refl : (shelf : Shelf) → StillLasts shelf shelf
+StillLasts-refl shelf since name bytes lasts = lasts
+
 -- over one call after another
 pub StillLasts-trans : (a b c : Shelf) → StillLasts a b → StillLasts b c → StillLasts a c
 StillLasts-trans a b c first then since name bytes lasts = then since name bytes (first since name bytes lasts)
@@ -100,11 +113,46 @@ StillLastsBelow-of to volume old new still = record {
   others = λ since name bytes other lasts. still since name bytes lasts;
 }
 
+pub StillLastsBelow-refl : (to : ℕ) (volume : List ℕ) (shelf : Shelf) → StillLastsBelow to volume shelf shelf
+StillLastsBelow-refl to volume shelf = StillLastsBelow-of to volume shelf shelf (StillLasts-refl shelf)
+
+-- what lasts below a place lasts below a lower one
+pub StillLastsBelow-lower : (low to : ℕ) (volume : List ℕ) (old new : Shelf)
+    → low ≤ to → StillLastsBelow to volume old new → StillLastsBelow low volume old new
+StillLastsBelow-lower low to volume old new less still = record {
+  below = λ since bytes short lasts. still.below since bytes (omega arith) lasts;
+  others = still.others;
+}
+
 pub StillLastsBelow-trans : (to : ℕ) (volume : List ℕ) (a b c : Shelf)
     → StillLastsBelow to volume a b → StillLastsBelow to volume b c → StillLastsBelow to volume a c
 StillLastsBelow-trans to volume a b c first then = record {
   below = λ since bytes short lasts. then.below since bytes short (first.below since bytes short lasts);
   others = λ since name bytes other lasts. then.others since name bytes other (first.others since name bytes other lasts);
+}
+
+-- bytes no longer than that last, whatever their volume
+pub short_lasts : (to since : ℕ) (volume name bytes : List ℕ) (old new : Shelf)
+    → StillLastsBelow to volume old new → length bytes ≤ to → Lasts since name bytes old → Lasts since name bytes new
+short_lasts to since volume name bytes old new still short lasts = elim (name_cases name volume) [
+  | inl same ↦ (
+      let P : List ℕ → Type 0 = λ n. Lasts since n bytes old → Lasts since n bytes new in
+      subst P (sym same) (still.below since bytes short) lasts)
+  | inr other ↦ still.others since name bytes other lasts
+]
+
+-- what lasts since a moment lasts since each later one
+pub Lasts-later : (since later : ℕ) (name bytes : List ℕ) (shelf : Shelf) → since ≤ later → Lasts since name bytes shelf → Lasts later name bytes shelf
+Lasts-later since later name bytes shelf le lasts = record {
+  before = λ moment from until. lasts.before moment (omega arith) until;
+  now = lasts.now;
+}
+
+-- so does any front of what lasts
+pub Lasts-front : (since : ℕ) (name bytes front : List ℕ) (shelf : Shelf) → BeginsWith bytes front → Lasts since name bytes shelf → Lasts since name front shelf
+Lasts-front since name bytes front shelf begins lasts = record {
+  before = λ moment from until. BeginsWith-trans _ bytes front (lasts.before moment from until) begins;
+  now = BeginsWith-trans _ bytes front lasts.now begins;
 }
 
 -- the low mark of a volume since then is at least the length of what lasts since then
@@ -117,3 +165,31 @@ low_mark-lasts since name bytes shelf known lasts = from (shelf.moment - since) 
         let r = from more (omega arith) in
         let here = BeginsWith-length _ bytes (lasts.before (since + suc more) (omega arith) within) in
         omega arith
+
+-- all bytes of a volume are stable after its sync
+pub synced_bytes : (name : List ℕ) (loaded : Option (List ℕ)) (held : Held) (old new : Shelf)
+    → loaded ≡ Some name → Syncs loaded old new → old.volume name ≡ Some held → stable_bytes (new.volume name) ≡ held.bytes
+synced_bytes name loaded held old new is syncs there =
+    let after = syncs.here name held is there in
+    ap stable_bytes after.2 ∙ ap (λ (h : Held). take h.stable h.bytes) after.1 ∙ take-length held.bytes
+
+pub synced_last : (name : List ℕ) (loaded : Option (List ℕ)) (held : Held) (old new : Shelf)
+    → Passes old new → loaded ≡ Some name → Syncs loaded old new → old.volume name ≡ Some held → Lasts new.moment name held.bytes new
+synced_last name loaded held old new passes is syncs there =
+    Lasts-begin name held.bytes old new passes (BeginsWith-same _ held.bytes (synced_bytes name loaded held old new is syncs there))
+
+pub stable_last : (name : List ℕ) (old new : Shelf) → Passes old new → Lasts new.moment name (stable_bytes (new.volume name)) new
+stable_last name old new passes = Lasts-begin name _ old new passes (BeginsWith-refl _)
+
+-- a volume whose stable bytes begin with some bytes is there, and so do all its bytes
+stands : (volume : Option Held) (bytes : List ℕ) → BeginsWith (stable_bytes volume) bytes → bytes ≢ []
+    → (held : Held) × (volume ≡ Some held) × BeginsWith held.bytes bytes × (length bytes ≤ held.stable)
+stands None [] begins some = absurd (some refl)
+stands None (b ∷ bytes) begins some = cc
+stands (Some held) bytes begins some =
+    let within : length bytes ≤ held.stable = omega (arith, BeginsWith-length (take held.stable held.bytes) bytes begins, length-take held.stable held.bytes) in
+    (held, refl, sym (take_front (length bytes) held.stable held.bytes within) ∙ begins, within)
+
+pub stop_leaves : (since : ℕ) (name bytes : List ℕ) (shelf left : Shelf) → AfterStop since shelf left → Lasts since name bytes shelf → bytes ≢ []
+    → (held : Held) × (left.volume name ≡ Some held) × BeginsWith held.bytes bytes × (length bytes ≤ held.stable)
+stop_leaves since name bytes shelf left after lasts some = stands (left.volume name) bytes (after name bytes lasts) some

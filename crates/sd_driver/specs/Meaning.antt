@@ -15,6 +15,7 @@ pub record Meaning : Type 0 where
   -- how many appends it answered with `NoRoom`
   pub told : ℕ
 
+-- the device keeps what it was given, and tells what it holds
 abbrev pub IsHonest : Meaning → Type 0
 IsHonest meaning = IsTrue meaning.honest
 

@@ -34,8 +34,10 @@ pub trait Driver: Send {
     fn create(&mut self, name: &VolName) -> Result<(), DriverFault>
         requires { (meaning self.old).loaded ≡ None }
         ensures counts { Counts result (meaning self.old) (meaning self.new) }
-        ensures faults { IfErr result (λ fault. (fault ≢ DriverFault.NotThere) × (fault ≢ DriverFault.NoRoom)) }
-        ensures memory { IsErrOf result DriverFault.Memory → Unchanged (meaning self.old) (meaning self.new) }
+        ensures faults { IfErr result
+            (λ fault. (fault ≢ DriverFault.NotThere) × (fault ≢ DriverFault.NoRoom)) }
+        ensures memory { IsErrOf result DriverFault.Memory
+            → Unchanged (meaning self.old) (meaning self.new) }
         ensures passes { Passes (meaning self.old).shelf (meaning self.new).shelf }
         ensures stable { KeepsStable (meaning self.old).shelf (meaning self.new).shelf }
         ensures loaded { OnOk result ((meaning self.new).loaded ≡ Some name.now) }
@@ -46,23 +48,29 @@ pub trait Driver: Send {
         ensures err { IsHonest (meaning self.old)
             → OnErr result (MayCreate name.now (meaning self.old).shelf (meaning self.new).shelf) }
         ensures exists { IsHonest (meaning self.old)
-            → IsErrOf result DriverFault.Exists → IsSome ((meaning self.old).shelf.volume name.now) };
+            → IsErrOf result DriverFault.Exists
+            → IsSome ((meaning self.old).shelf.volume name.now) };
 
     /// Loads a volume.
     fn load(&mut self, name: &VolName) -> Result<(), DriverFault>
         requires { (meaning self.old).loaded ≡ None }
         ensures counts { Counts result (meaning self.old) (meaning self.new) }
-        ensures faults { IfErr result (λ fault. (fault ≢ DriverFault.Exists) × (fault ≢ DriverFault.NoRoom)) }
-        ensures memory { IsErrOf result DriverFault.Memory → Unchanged (meaning self.old) (meaning self.new) }
+        ensures faults { IfErr result
+            (λ fault. (fault ≢ DriverFault.Exists) × (fault ≢ DriverFault.NoRoom)) }
+        ensures memory { IsErrOf result DriverFault.Memory
+            → Unchanged (meaning self.old) (meaning self.new) }
         ensures passes { Passes (meaning self.old).shelf (meaning self.new).shelf }
         ensures stable { KeepsStable (meaning self.old).shelf (meaning self.new).shelf }
         ensures loaded { OnOk result ((meaning self.new).loaded ≡ Some name.now) }
         ensures not_loaded { OnErr result ((meaning self.new).loaded ≡ None) }
 
-        ensures ok { IsHonest (meaning self.old) → OnOk result (IsSome ((meaning self.old).shelf.volume name.now)) }
+        ensures ok { IsHonest (meaning self.old)
+            → OnOk result (IsSome ((meaning self.old).shelf.volume name.now)) }
         ensures not_there { IsHonest (meaning self.old)
-            → IsErrOf result DriverFault.NotThere → (meaning self.old).shelf.volume name.now ≡ None }
-        ensures same { IsHonest (meaning self.old) → SameShelf (meaning self.old).shelf (meaning self.new).shelf };
+            → IsErrOf result DriverFault.NotThere
+            → (meaning self.old).shelf.volume name.now ≡ None }
+        ensures same { IsHonest (meaning self.old)
+            → SameShelf (meaning self.old).shelf (meaning self.new).shelf };
 
     /// Unloads the volume, if one is loaded. Can't fail.
     fn unload(&mut self)
@@ -70,13 +78,16 @@ pub trait Driver: Send {
         ensures passes { Passes (meaning self.old).shelf (meaning self.new).shelf }
         ensures stable { KeepsStable (meaning self.old).shelf (meaning self.new).shelf }
         ensures loaded { (meaning self.new).loaded ≡ None }
-        ensures same { IsHonest (meaning self.old) → SameShelf (meaning self.old).shelf (meaning self.new).shelf };
+        ensures same { IsHonest (meaning self.old)
+            → SameShelf (meaning self.old).shelf (meaning self.new).shelf };
 
     /// The length of a volume, in bytes.
     fn len(&mut self, name: &VolName) -> Result<u64, DriverFault>
         ensures counts { Counts result (meaning self.old) (meaning self.new) }
-        ensures faults { IfErr result (λ fault. (fault ≢ DriverFault.Exists) × (fault ≢ DriverFault.NoRoom)) }
-        ensures memory { IsErrOf result DriverFault.Memory → Unchanged (meaning self.old) (meaning self.new) }
+        ensures faults { IfErr result
+            (λ fault. (fault ≢ DriverFault.Exists) × (fault ≢ DriverFault.NoRoom)) }
+        ensures memory { IsErrOf result DriverFault.Memory
+            → Unchanged (meaning self.old) (meaning self.new) }
         ensures passes { Passes (meaning self.old).shelf (meaning self.new).shelf }
         ensures stable { KeepsStable (meaning self.old).shelf (meaning self.new).shelf }
         ensures loaded { (meaning self.new).loaded ≡ (meaning self.old).loaded }
@@ -84,40 +95,51 @@ pub trait Driver: Send {
         ensures ok { IsHonest (meaning self.old)
             → IfOk result (λ count. TellsLength name.now count (meaning self.old).shelf) }
         ensures not_there { IsHonest (meaning self.old)
-            → IsErrOf result DriverFault.NotThere → (meaning self.old).shelf.volume name.now ≡ None }
-        ensures same { IsHonest (meaning self.old) → SameShelf (meaning self.old).shelf (meaning self.new).shelf };
+            → IsErrOf result DriverFault.NotThere
+            → (meaning self.old).shelf.volume name.now ≡ None }
+        ensures same { IsHonest (meaning self.old)
+            → SameShelf (meaning self.old).shelf (meaning self.new).shelf };
 
     /// Fills `into` from the byte at `at` of a volume on, and says how many bytes it filled: all, or fewer
     /// only at the volume's end. After a fault `into` may hold anything.
     fn read_at(&mut self, name: &VolName, at: u64, into: &mut [u8]) -> Result<usize, DriverFault>
         ensures within { IfOk result (λ count. count ≤ length into.old) }
         ensures counts { Counts result (meaning self.old) (meaning self.new) }
-        ensures faults { IfErr result (λ fault. (fault ≢ DriverFault.Exists) × (fault ≢ DriverFault.NoRoom)) }
-        ensures memory { IsErrOf result DriverFault.Memory → Unchanged (meaning self.old) (meaning self.new) }
+        ensures faults { IfErr result
+            (λ fault. (fault ≢ DriverFault.Exists) × (fault ≢ DriverFault.NoRoom)) }
+        ensures memory { IsErrOf result DriverFault.Memory
+            → Unchanged (meaning self.old) (meaning self.new) }
         ensures passes { Passes (meaning self.old).shelf (meaning self.new).shelf }
         ensures stable { KeepsStable (meaning self.old).shelf (meaning self.new).shelf }
         ensures loaded { (meaning self.new).loaded ≡ (meaning self.old).loaded }
 
         ensures ok { IsHonest (meaning self.old)
-            → IfOk result (λ count. TellsBytes name.now at (length into.old) count into.new (meaning self.old).shelf) }
+            → IfOk result (λ count.
+            TellsBytes name.now at (length into.old) count into.new (meaning self.old).shelf) }
         ensures not_there { IsHonest (meaning self.old)
-            → IsErrOf result DriverFault.NotThere → (meaning self.old).shelf.volume name.now ≡ None }
-        ensures same { IsHonest (meaning self.old) → SameShelf (meaning self.old).shelf (meaning self.new).shelf };
+            → IsErrOf result DriverFault.NotThere
+            → (meaning self.old).shelf.volume name.now ≡ None }
+        ensures same { IsHonest (meaning self.old)
+            → SameShelf (meaning self.old).shelf (meaning self.new).shelf };
 
     /// Adds bytes at the end of the loaded volume. They are not stable before a sync.
     fn append(&mut self, bytes: &[u8]) -> Result<(), DriverFault>
         requires { IsSome (meaning self.old).loaded }
         ensures counts { Counts result (meaning self.old) (meaning self.new) }
-        ensures faults { IfErr result (λ fault. (fault ≢ DriverFault.NotThere) × (fault ≢ DriverFault.Exists)) }
-        ensures memory { IsErrOf result DriverFault.Memory → Unchanged (meaning self.old) (meaning self.new) }
+        ensures faults { IfErr result
+            (λ fault. (fault ≢ DriverFault.NotThere) × (fault ≢ DriverFault.Exists)) }
+        ensures memory { IsErrOf result DriverFault.Memory
+            → Unchanged (meaning self.old) (meaning self.new) }
         ensures passes { Passes (meaning self.old).shelf (meaning self.new).shelf }
         ensures stable { KeepsStable (meaning self.old).shelf (meaning self.new).shelf }
         ensures loaded { (meaning self.new).loaded ≡ (meaning self.old).loaded }
 
         ensures ok { IsHonest (meaning self.old) → OnOk result
-            (Appends bytes.now (meaning self.old).loaded (meaning self.old).shelf (meaning self.new).shelf) }
+            (Appends bytes.now (meaning self.old).loaded
+            (meaning self.old).shelf (meaning self.new).shelf) }
         ensures err { IsHonest (meaning self.old) → OnErr result
-            (MayAppend (meaning self.old).loaded (meaning self.old).shelf (meaning self.new).shelf) };
+            (MayAppend (meaning self.old).loaded
+            (meaning self.old).shelf (meaning self.new).shelf) };
 
     /// Makes all bytes of the loaded volume stable: a stop leaves them. Takes no memory.
     fn sync(&mut self) -> Result<(), DriverFault>
@@ -137,16 +159,21 @@ pub trait Driver: Send {
     fn cut(&mut self, to: u64) -> Result<(), DriverFault>
         requires { IsSome (meaning self.old).loaded }
         ensures counts { Counts result (meaning self.old) (meaning self.new) }
-        ensures faults { IfErr result (λ fault. (fault ≡ DriverFault.Device) ⊎ (fault ≡ DriverFault.Memory)) }
-        ensures memory { IsErrOf result DriverFault.Memory → Unchanged (meaning self.old) (meaning self.new) }
+        ensures faults { IfErr result
+            (λ fault. (fault ≡ DriverFault.Device) ⊎ (fault ≡ DriverFault.Memory)) }
+        ensures memory { IsErrOf result DriverFault.Memory
+            → Unchanged (meaning self.old) (meaning self.new) }
         ensures passes { Passes (meaning self.old).shelf (meaning self.new).shelf }
-        ensures stable { KeepsStableTo to (meaning self.old).loaded (meaning self.old).shelf (meaning self.new).shelf }
+        ensures stable { KeepsStableTo to (meaning self.old).loaded
+            (meaning self.old).shelf (meaning self.new).shelf }
         ensures loaded { (meaning self.new).loaded ≡ (meaning self.old).loaded }
 
         ensures ok { IsHonest (meaning self.old) → OnOk result
-            (Truncates to (meaning self.old).loaded (meaning self.old).shelf (meaning self.new).shelf) }
+            (Truncates to (meaning self.old).loaded
+            (meaning self.old).shelf (meaning self.new).shelf) }
         ensures err { IsHonest (meaning self.old) → OnErr result
-            (MayTruncate to (meaning self.old).loaded (meaning self.old).shelf (meaning self.new).shelf) };
+            (MayTruncate to (meaning self.old).loaded
+            (meaning self.old).shelf (meaning self.new).shelf) };
 
     /// How many calls the device has failed.
     fn failures(&self) -> u64

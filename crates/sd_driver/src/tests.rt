@@ -1,5 +1,5 @@
 // The trait as its implementations see it: a device that is always broken, a bare one that has no volume and
-// no memory, and an enum of the two, which shows that drivers of several kinds go together.
+// no memory, and an enum and a box of the two, which show that drivers of several kinds go together.
 ghost use Rattle.std.specs.Prelude.{◌≡◌, ◌≤◌, ℕ, OnOk, None, length};
 ghost use Rattle.sd_driver.specs.Meaning.{Rose, IsHonest};
 ghost use Rattle.sd_driver.specs.Shelf.{Lasts, low_mark};
@@ -264,6 +264,32 @@ fn kinds_go_together(rt: HostRuntime) -> Result<(), Fail> {
     assert_eq!(rt; bare.failures(), 0);
 
     let mut bare = Either::Bare(Bare { loaded: None });
+    assert_eq!(rt;
+        keep(&mut bare, &name, &name, &[1]).err(),
+        Some(DriverFault::Memory)
+    );
+    Ok(())
+}
+
+#[test]
+fn a_box_is_a_device(rt: HostRuntime) -> Result<(), Fail> {
+    let alloc = rt.alloc();
+    let name = VolName::parse("Vol-0001")?;
+    let mut broken: Box<dyn Driver + Drop> = Box::new(
+        alloc,
+        Broken {
+            loaded: None,
+            failures: 0,
+        },
+    )?;
+    let device = Some(DriverFault::Device);
+    assert_eq!(rt;
+        faults(&mut broken, &name),
+        [device, device, device, device]
+    );
+    assert_eq!(rt; broken.failures(), 4);
+
+    let mut bare: Box<dyn Driver + Drop> = Box::new(alloc, Bare { loaded: None })?;
     assert_eq!(rt;
         keep(&mut bare, &name, &name, &[1]).err(),
         Some(DriverFault::Memory)

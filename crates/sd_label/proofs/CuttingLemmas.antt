@@ -9,7 +9,7 @@ use Rattle.sd_record.proofs.FragmentLemmas.{fragments_apart}
 use Rattle.sd_record.proofs.RecordLemmas.{first_same, rest_same, fragments_of_one, AreFragments, AreFragments-back, record_fragments, FragmentsOfAll-more}
 use Rattle.sd_label.specs.declared.label.SessionLabel.{SessionLabel}
 use Rattle.sd_label.specs.Label.{session_label_fragment, session_label_index}
-use Rattle.sd_label.specs.Cutting.{Standing, Between, Within, AtEnd, Unfinished, Behind, IsSession, AreRecords, AreBodies, joined, Places, Holds, HoldsFront, BeginsCutting, Cuts}
+use Rattle.sd_label.specs.Cutting.{Standing, Between, Within, AtEnd, Unfinished, Behind, IsSession, AreRecords, AreBodies, joined, HoldsBy, Holds, HoldsFront, BeginsCutting, Cuts}
 
 -- a label's index is negative, a record's is not
 pub label_is_no_record : (label : SessionLabel) (index : ℕ) → (session_label_fragment label).index ≡ pos index → ⊥
@@ -84,15 +84,15 @@ records_apart all all' (r ∷ rs) (s ∷ rs') standing standing' parts parts' be
     (ap (λ x. x ∷ rs) one.0 ∙ ap (λ l. s ∷ l) ih.0, ih.1)
 
 -- bodies are the bytes of one list of fragments each
-pub placed_apart : (placed placed' : List (List Fragment)) → AreBodies placed → AreBodies placed'
-    → map fragments_bytes placed ≡ map fragments_bytes placed' → placed ≡ placed'
-placed_apart [] [] b b' e = refl
-placed_apart [] (gs ∷ placed') b b' e = absurd (cc e)
-placed_apart (fs ∷ placed) [] b b' e = absurd (cc e)
-placed_apart (fs ∷ placed) (gs ∷ placed') b b' e =
+pub bodies_apart : (fragments fragments' : List (List Fragment)) → AreBodies fragments → AreBodies fragments'
+    → map fragments_bytes fragments ≡ map fragments_bytes fragments' → fragments ≡ fragments'
+bodies_apart [] [] b b' e = refl
+bodies_apart [] (gs ∷ fragments') b b' e = absurd (cc e)
+bodies_apart (fs ∷ fragments) [] b b' e = absurd (cc e)
+bodies_apart (fs ∷ fragments) (gs ∷ fragments') b b' e =
     let first = fragments_apart fs gs b.1 b'.1 (first_same _ _ _ _ e) in
-    let rest = placed_apart placed placed' b.2 b'.2 (rest_same (fragments_bytes fs) (fragments_bytes gs) _ _ e) in
-    ap (λ x. x ∷ placed) first ∙ ap (λ l. gs ∷ l) rest
+    let rest = bodies_apart fragments fragments' b.2 b'.2 (rest_same (fragments_bytes fs) (fragments_bytes gs) _ _ e) in
+    ap (λ x. x ∷ fragments) first ∙ ap (λ l. gs ∷ l) rest
 
 -- one list of fragments is one session
 pub session_apart : (fs : List Fragment) (rs rs' : List Record) (standing standing' : Standing)
@@ -106,9 +106,9 @@ session_apart fs rs rs' standing standing' s t =
 pub holds_one : (bodies : List (List ℕ)) (rs rs' : List Record) (standing standing' : Standing)
     → Holds bodies rs standing → Holds bodies rs' standing' → (rs ≡ rs') × (standing ≡ standing')
 holds_one bodies rs rs' standing standing' h h' =
-    let same = placed_apart h.placed h'.placed h.places.bodies_are h'.places.bodies_are (sym h.places.bytes_are ∙ h'.places.bytes_are) in
-    session_apart (joined h'.placed) rs rs' standing standing'
-    (subst (λ p. IsSession (joined p) rs standing) same h.places.session_is) h'.places.session_is
+    let same = bodies_apart h.fragments h'.fragments h.holds_by.bodies_are h'.holds_by.bodies_are (sym h.holds_by.bytes_are ∙ h'.holds_by.bytes_are) in
+    session_apart (joined h'.fragments) rs rs' standing standing'
+    (subst (λ p. IsSession (joined p) rs standing) same h.holds_by.session_is) h'.holds_by.session_is
 
 -- The front of a session.
 
@@ -241,25 +241,25 @@ behind_of_front rs whole others AtEnd behind split all b =
     subst (λ l. Behind l AtEnd behind) (split ∙ ap (λ l. whole ++ l) (all refl) ∙ append-nil whole) b
 
 -- a list of fragments for each body, cut where the bodies are
-pub cut_placed : (xs ys : List (List ℕ)) (placed : List (List Fragment)) → xs ++ ys ≡ map fragments_bytes placed
-    → (front : List (List Fragment)) × (back : List (List Fragment)) × (placed ≡ front ++ back) × (xs ≡ map fragments_bytes front)
-cut_placed [] ys placed e = ([], placed, refl, refl)
-cut_placed (x ∷ xs) ys [] e = absurd (cc e)
-cut_placed (x ∷ xs) ys (fs ∷ placed) e =
-    let more = cut_placed xs ys placed (rest_same _ _ _ _ e) in (
+pub cut_bodies : (xs ys : List (List ℕ)) (fragments : List (List Fragment)) → xs ++ ys ≡ map fragments_bytes fragments
+    → (front : List (List Fragment)) × (back : List (List Fragment)) × (fragments ≡ front ++ back) × (xs ≡ map fragments_bytes front)
+cut_bodies [] ys fragments e = ([], fragments, refl, refl)
+cut_bodies (x ∷ xs) ys [] e = absurd (cc e)
+cut_bodies (x ∷ xs) ys (fs ∷ fragments) e =
+    let more = cut_bodies xs ys fragments (rest_same _ _ _ _ e) in (
       fs ∷ more.0,
       more.1,
       ap (λ l. fs ∷ l) more.2,
-      ap (λ b. b ∷ xs) (first_same x (fragments_bytes fs) (xs ++ ys) (map fragments_bytes placed) e) ∙ ap (λ l. fragments_bytes fs ∷ l) more.3,
+      ap (λ b. b ∷ xs) (first_same x (fragments_bytes fs) (xs ++ ys) (map fragments_bytes fragments) e) ∙ ap (λ l. fragments_bytes fs ∷ l) more.3,
     )
 
--- the placed lists of the front hold the front
-front_held : (xs : List (List ℕ)) (rs : List Record) (standing : Standing) (placed front back : List (List Fragment)) (bodies : List (List ℕ))
-    → placed ≡ front ++ back → xs ≡ map fragments_bytes front → front ≢ [] → Places placed bodies rs standing → HoldsFront xs rs
-front_held xs rs standing placed [] back bodies split bytes some p = absurd (some refl)
-front_held xs rs standing placed ([] ∷ front) back bodies split bytes some p =
+-- the fragments of the front hold the front
+front_held : (xs : List (List ℕ)) (rs : List Record) (standing : Standing) (fragments front back : List (List Fragment)) (bodies : List (List ℕ))
+    → fragments ≡ front ++ back → xs ≡ map fragments_bytes front → front ≢ [] → HoldsBy fragments bodies rs standing → HoldsFront xs rs
+front_held xs rs standing fragments [] back bodies split bytes some p = absurd (some refl)
+front_held xs rs standing fragments ([] ∷ front) back bodies split bytes some p =
     let are = subst AreBodies split p.bodies_are in absurd (are.0 refl)
-front_held xs rs standing placed ((f ∷ fs) ∷ front) back bodies split bytes some p =
+front_held xs rs standing fragments ((f ∷ fs) ∷ front) back bodies split bytes some p =
     let s = p.session_is in
     let are = subst AreBodies split p.bodies_are in
     let all : f ∷ ((fs ++ joined front) ++ joined back) ≡ session_label_fragment s.start ∷ (s.parts ++ s.behind) =
@@ -272,8 +272,8 @@ front_held xs rs standing placed ((f ∷ fs) ∷ front) back bodies split bytes 
       standing = held.standing;
       records_split = held.records_split;
       holds = record {
-        placed = (f ∷ fs) ∷ front;
-        places = record {
+        fragments = (f ∷ fs) ∷ front;
+        holds_by = record {
           bytes_are = bytes;
           bodies_are = AreBodies-front ((f ∷ fs) ∷ front) back are;
           session_is = record {
@@ -294,9 +294,9 @@ front_held xs rs standing placed ((f ∷ fs) ∷ front) back bodies split bytes 
 pub holds_front : (xs ys : List (List ℕ)) (rs : List Record) (standing : Standing) → xs ≢ [] → Holds (xs ++ ys) rs standing → HoldsFront xs rs
 holds_front [] ys rs standing some h = absurd (some refl)
 holds_front (x ∷ xs) ys rs standing some h =
-    let p = h.places in
-    let cut = cut_placed (x ∷ xs) ys h.placed p.bytes_are in
-    front_held (x ∷ xs) rs standing h.placed cut.0 cut.1 ((x ∷ xs) ++ ys) cut.2 cut.3 (λ none. cc (cut.3 ∙ ap (map fragments_bytes) none)) p
+    let p = h.holds_by in
+    let cut = cut_bodies (x ∷ xs) ys h.fragments p.bytes_are in
+    front_held (x ∷ xs) rs standing h.fragments cut.0 cut.1 ((x ∷ xs) ++ ys) cut.2 cut.3 (λ none. cc (cut.3 ∙ ap (map fragments_bytes) none)) p
 
 -- What begins a cutting.
 
@@ -321,33 +321,33 @@ pub AreRecords-more : (rs : List Record) (r : Record) → AreRecords rs → IsRe
 AreRecords-more [] r are is = (is, tt)
 AreRecords-more (x ∷ xs) r are is = (are.0, AreRecords-more xs r are.1 is)
 
-placed_nothing : (placed : List (List Fragment)) → map fragments_bytes placed ≡ [] → placed ≡ []
-placed_nothing [] e = refl
-placed_nothing (fs ∷ placed) e = cc
+nothing_without_bodies : (fragments : List (List Fragment)) → map fragments_bytes fragments ≡ [] → fragments ≡ []
+nothing_without_bodies [] e = refl
+nothing_without_bodies (fs ∷ fragments) e = cc
 
 -- no bodies hold no start label
-nothing_placed : (placed : List (List Fragment)) (rs : List Record) {standing : Standing} → placed ≡ [] → IsSession (joined placed) rs standing → ⊥
-nothing_placed placed rs none s = cc (ap joined (sym none) ∙ s.order)
+session_with_bodies : (fragments : List (List Fragment)) (rs : List Record) {standing : Standing} → fragments ≡ [] → IsSession (joined fragments) rs standing → ⊥
+session_with_bodies fragments rs none s = cc (ap joined (sym none) ∙ s.order)
 
 -- bodies with an unfinished record become a cutting once its other fragments stand in bodies of their own
-unfinished_begins : (bodies : List (List ℕ)) (rs : List Record) (placed : List (List Fragment)) (p : Places placed bodies rs Within) → BeginsCutting bodies
-unfinished_begins bodies rs placed p =
+unfinished_begins : (bodies : List (List ℕ)) (rs : List Record) (fragments : List (List Fragment)) (p : HoldsBy fragments bodies rs Within) → BeginsCutting bodies
+unfinished_begins bodies rs fragments p =
     let s = p.session_is in
     let u = s.behind_is in
-    let all : joined (placed ++ alone u.remaining) ≡ session_label_fragment s.start ∷ ((s.parts ++ (s.behind ++ u.remaining)) ++ []) =
-    flat_map-append (λ l. l) placed (alone u.remaining) ∙ ap (λ l. joined placed ++ l) (joined-alone u.remaining)
+    let all : joined (fragments ++ alone u.remaining) ≡ session_label_fragment s.start ∷ ((s.parts ++ (s.behind ++ u.remaining)) ++ []) =
+    flat_map-append (λ l. l) fragments (alone u.remaining) ∙ ap (λ l. joined fragments ++ l) (joined-alone u.remaining)
     ∙ ap (λ l. l ++ u.remaining) s.order
     ∙ ap (λ l. session_label_fragment s.start ∷ l) (append_assoc s.parts s.behind u.remaining ∙ sym (append-nil (s.parts ++ (s.behind ++ u.remaining)))) in
     record {
       more = map fragments_bytes (alone u.remaining);
       records = rs ++ u.unfinished ∷ [];
       ended = false;
-      some_there = (λ none. nothing_placed placed rs (placed_nothing placed (sym p.bytes_are ∙ none)) s);
+      some_there = (λ none. session_with_bodies fragments rs (nothing_without_bodies fragments (sym p.bytes_are ∙ none)) s);
       cuts = record {
-        placed = placed ++ alone u.remaining;
-        places = record {
-          bytes_are = ap (λ l. l ++ map fragments_bytes (alone u.remaining)) p.bytes_are ∙ sym (map-append fragments_bytes placed (alone u.remaining));
-          bodies_are = AreBodies-append placed (alone u.remaining) p.bodies_are (alone_bodies u.remaining (AreFragments-back s.behind u.remaining (record_fragments u.unfinished (s.behind ++ u.remaining) u.record_is u.fragments_are)));
+        fragments = fragments ++ alone u.remaining;
+        holds_by = record {
+          bytes_are = ap (λ l. l ++ map fragments_bytes (alone u.remaining)) p.bytes_are ∙ sym (map-append fragments_bytes fragments (alone u.remaining));
+          bodies_are = AreBodies-append fragments (alone u.remaining) p.bodies_are (alone_bodies u.remaining (AreFragments-back s.behind u.remaining (record_fragments u.unfinished (s.behind ++ u.remaining) u.record_is u.fragments_are)));
           session_is = record {
             start = s.start;
             parts = s.parts ++ (s.behind ++ u.remaining);
@@ -368,15 +368,15 @@ holds_begins bodies rs Between h = record {
   more = [];
   records = rs;
   ended = false;
-  some_there = (λ none. nothing_placed h.placed rs (placed_nothing h.placed (sym h.places.bytes_are ∙ none)) h.places.session_is);
+  some_there = (λ none. session_with_bodies h.fragments rs (nothing_without_bodies h.fragments (sym h.holds_by.bytes_are ∙ none)) h.holds_by.session_is);
   cuts = subst (λ l. Holds l rs Between) (sym (append-nil bodies)) h;
 }
-holds_begins bodies rs Within h = unfinished_begins bodies rs h.placed h.places
+holds_begins bodies rs Within h = unfinished_begins bodies rs h.fragments h.holds_by
 holds_begins bodies rs AtEnd h = record {
   more = [];
   records = rs;
   ended = true;
-  some_there = (λ none. nothing_placed h.placed rs (placed_nothing h.placed (sym h.places.bytes_are ∙ none)) h.places.session_is);
+  some_there = (λ none. session_with_bodies h.fragments rs (nothing_without_bodies h.fragments (sym h.holds_by.bytes_are ∙ none)) h.holds_by.session_is);
   cuts = subst (λ l. Holds l rs AtEnd) (sym (append-nil bodies)) h;
 }
 

@@ -5,24 +5,23 @@ use Rattle.std.specs.Int.{w32}
 use Rattle.std.proofs.lemmas.List.{append_assoc, append-nil, length-append, append_cancel_left}
 use Rattle.sd_base.specs.Field.{u32_bytes, i64_bytes}
 use Rattle.sd_base.proofs.FieldLemmas.{length-u32_bytes, length-u64_bytes, u32_apart, u64_apart, i32_apart, i64_apart}
-use Rattle.sd_base.specs.declared.number.TheConstants.{MOST_NUMBER}
+use Rattle.sd_base.specs.Limits.{most_number}
 use Rattle.sd_record.specs.Fragment.{Fragment, IsFragment, GoesOn}
 use Rattle.sd_record.proofs.FragmentLemmas.{length-fragment_bytes, fragment_apart}
-use Rattle.sd_label.specs.Label.{AreTotals, IsVolumeLabel, IsSessionLabel, VolumeLabelsApart, SessionLabelsApart, LabelKindsApart, text_bytes, front_bytes, totals_bytes, volume_label_data, session_label_data, session_label_index, volume_label_fragment, session_label_fragment, volume_label_bytes, session_label_bytes}
+use Rattle.sd_label.specs.Label.{volume_label_index, start_label_index, end_label_index, volume_label_version, session_label_version, most_volume_label, most_session_label, AreTotals, IsVolumeLabel, IsSessionLabel, VolumeLabelsApart, SessionLabelsApart, LabelKindsApart, text_bytes, front_bytes, totals_bytes, volume_label_data, session_label_data, session_label_index, volume_label_fragment, session_label_fragment, volume_label_bytes, session_label_bytes}
 use Rattle.sd_label.specs.declared.label.Totals.{Totals}
-use Rattle.sd_label.specs.declared.label.TheConstants.{VOLUME_LABEL, LABEL_VERSION, START_LABEL, END_LABEL}
 use Rattle.sd_label.specs.declared.label.VolumeLabel.{VolumeLabel}
 use Rattle.sd_label.specs.declared.label.SessionLabel.{SessionLabel}
 use Rattle.sd_label.proofs.TextLemmas.{IsName-no_zero, length-text_bytes, length-front_bytes, text_apart}
 
 -- the data of a volume label, field by field
 pub volume_data_parts : (l : VolumeLabel) (xs : List ℕ) → xs ≡ volume_label_data l
-    → xs ≡ front_bytes LABEL_VERSION ++ (i64_bytes l.moment ++ (text_bytes l.name ++ (text_bytes l.pool ++ (text_bytes l.media ++ []))))
+    → xs ≡ front_bytes volume_label_version ++ (i64_bytes l.moment ++ (text_bytes l.name ++ (text_bytes l.pool ++ (text_bytes l.media ++ []))))
 unfolding volume_label_data
 volume_data_parts l xs e = e ∙ simp (append_assoc, append-nil)
 
 pub session_data_parts : (l : SessionLabel) (xs : List ℕ) → xs ≡ session_label_data l
-    → xs ≡ front_bytes LABEL_VERSION ++ (u32_bytes l.job ++ (i64_bytes l.moment ++ (text_bytes l.pool ++ (text_bytes l.media ++ totals_bytes l.totals))))
+    → xs ≡ front_bytes session_label_version ++ (u32_bytes l.job ++ (i64_bytes l.moment ++ (text_bytes l.pool ++ (text_bytes l.media ++ totals_bytes l.totals))))
 unfolding session_label_data
 session_data_parts l xs e = e ∙ simp append_assoc
 
@@ -46,30 +45,30 @@ pub length-session_label_bytes : (l : SessionLabel)
 length-session_label_bytes l = omega (arith, length-fragment_bytes (session_label_fragment l), length-session_label_data l)
 
 -- the index of an end label is that of totals, and the index of a start label that of none
-pub ends_with_totals : (totals : Option Totals) → session_label_index totals ≡ END_LABEL → IfSome totals AreTotals
+pub ends_with_totals : (totals : Option Totals) → session_label_index totals ≡ end_label_index → IfSome totals AreTotals
     → (t : Totals) × (totals ≡ Some t) × AreTotals t
 ends_with_totals None e fits = absurd (cc e)
 ends_with_totals (Some t) e fits = (t, refl, fits)
 
-pub starts_with_none : (totals : Option Totals) → session_label_index totals ≡ START_LABEL → totals ≡ None
+pub starts_with_none : (totals : Option Totals) → session_label_index totals ≡ start_label_index → totals ≡ None
 starts_with_none None e = refl
 starts_with_none (Some t) e = absurd (cc e)
 
 -- fields that are read one after another are the data
-pub volume_data_whole : (l : VolumeLabel) (xs front moment name pool media : List ℕ) → xs ≡ front_bytes LABEL_VERSION ++ front
+pub volume_data_whole : (l : VolumeLabel) (xs front moment name pool media : List ℕ) → xs ≡ front_bytes volume_label_version ++ front
     → front ≡ i64_bytes l.moment ++ moment → moment ≡ text_bytes l.name ++ name → name ≡ text_bytes l.pool ++ pool
     → pool ≡ text_bytes l.media ++ media → media ≡ [] → xs ≡ volume_label_data l
 unfolding volume_label_data
 volume_data_whole l xs front moment name pool media e_front e_moment e_name e_pool e_media none =
-    e_front ∙ ap (λ r. front_bytes LABEL_VERSION ++ r) (e_moment ∙ ap (λ r. i64_bytes l.moment ++ r) (e_name ∙ ap (λ r. text_bytes l.name ++ r)
+    e_front ∙ ap (λ r. front_bytes volume_label_version ++ r) (e_moment ∙ ap (λ r. i64_bytes l.moment ++ r) (e_name ∙ ap (λ r. text_bytes l.name ++ r)
     (e_pool ∙ ap (λ r. text_bytes l.pool ++ r) (e_media ∙ ap (λ r. text_bytes l.media ++ r) none)))) ∙ simp (append_assoc, append-nil)
 
-pub session_data_whole : (l : SessionLabel) (xs front job moment pool media : List ℕ) → xs ≡ front_bytes LABEL_VERSION ++ front
+pub session_data_whole : (l : SessionLabel) (xs front job moment pool media : List ℕ) → xs ≡ front_bytes session_label_version ++ front
     → front ≡ u32_bytes l.job ++ job → job ≡ i64_bytes l.moment ++ moment → moment ≡ text_bytes l.pool ++ pool
     → pool ≡ text_bytes l.media ++ media → media ≡ totals_bytes l.totals → xs ≡ session_label_data l
 unfolding session_label_data
 session_data_whole l xs front job moment pool media e_front e_job e_moment e_pool e_media e_totals =
-    e_front ∙ ap (λ r. front_bytes LABEL_VERSION ++ r) (e_job ∙ ap (λ r. u32_bytes l.job ++ r) (e_moment ∙ ap (λ r. i64_bytes l.moment ++ r)
+    e_front ∙ ap (λ r. front_bytes session_label_version ++ r) (e_job ∙ ap (λ r. u32_bytes l.job ++ r) (e_moment ∙ ap (λ r. i64_bytes l.moment ++ r)
     (e_pool ∙ ap (λ r. text_bytes l.pool ++ r) (e_media ∙ ap (λ r. text_bytes l.media ++ r) e_totals)))) ∙ simp append_assoc
 
 abbrev volume_label_of : List ℕ → List ℕ → List ℕ → ℤ → VolumeLabel
@@ -105,10 +104,10 @@ length-totals_bytes-le : (totals : Option Totals) → length (totals_bytes total
 length-totals_bytes-le None = omega arith
 length-totals_bytes-le (Some t) = omega (arith, length-totals_bytes t)
 
-pub length-volume_label_bytes-le : (l : VolumeLabel) → IsVolumeLabel l → length (volume_label_bytes l) ≤ 420
+pub length-volume_label_bytes-le : (l : VolumeLabel) → IsVolumeLabel l → length (volume_label_bytes l) ≤ most_volume_label
 length-volume_label_bytes-le l fits = omega (arith, length-volume_label_bytes l, fits.name.1, fits.pool.1, fits.media.1)
 
-pub length-session_label_bytes-le : (l : SessionLabel) → IsSessionLabel l → length (session_label_bytes l) ≤ 316
+pub length-session_label_bytes-le : (l : SessionLabel) → IsSessionLabel l → length (session_label_bytes l) ≤ most_session_label
 length-session_label_bytes-le l fits = omega (arith, length-session_label_bytes l, length-totals_bytes-le l.totals, fits.pool.1, fits.media.1)
 
 session_index_fits : (totals : Option Totals) → FitsSigned w32 (session_label_index totals)
@@ -130,7 +129,7 @@ IsFragment-session_label l fits = record {
 -- the data are those of one label
 volume_data_apart : (l m : VolumeLabel) → IsVolumeLabel l → IsVolumeLabel m → volume_label_data l ≡ volume_label_data m → l ≡ m
 volume_data_apart l m l_fits m_fits e =
-    let behind = append_cancel_left (front_bytes LABEL_VERSION) _ _ (sym (volume_data_parts l (volume_label_data l) refl) ∙ e ∙ volume_data_parts m (volume_label_data m) refl) in
+    let behind = append_cancel_left (front_bytes volume_label_version) _ _ (sym (volume_data_parts l (volume_label_data l) refl) ∙ e ∙ volume_data_parts m (volume_label_data m) refl) in
     let moment = i64_apart l.moment m.moment _ _ l_fits.moment m_fits.moment behind in
     let name = text_apart l.name m.name _ _ (IsName-no_zero l.name l_fits.name) (IsName-no_zero m.name m_fits.name) moment.1 in
     let pool = text_apart l.pool m.pool _ _ (IsName-no_zero l.pool l_fits.pool) (IsName-no_zero m.pool m_fits.pool) name.1 in
@@ -153,7 +152,7 @@ volume_labels_apart l m l_fits m_fits e =
 abbrev totals_of : ℕ → ℕ → Totals
 totals_of r b = record { records = r; bytes = b }
 
-job_fits : (job : ℕ) → job ≤ MOST_NUMBER → job < 2 ^ 32
+job_fits : (job : ℕ) → job ≤ most_number → job < 2 ^ 32
 job_fits job most = omega arith
 
 -- totals that have one index and the same bytes are one
@@ -171,7 +170,7 @@ totals_apart (Some t) (Some u) t_fits u_fits index e =
 session_data_apart : (l m : SessionLabel) → IsSessionLabel l → IsSessionLabel m → session_label_index l.totals ≡ session_label_index m.totals
     → session_label_data l ≡ session_label_data m → l ≡ m
 session_data_apart l m l_fits m_fits index e =
-    let behind = append_cancel_left (front_bytes LABEL_VERSION) _ _ (sym (session_data_parts l (session_label_data l) refl) ∙ e ∙ session_data_parts m (session_label_data m) refl) in
+    let behind = append_cancel_left (front_bytes session_label_version) _ _ (sym (session_data_parts l (session_label_data l) refl) ∙ e ∙ session_data_parts m (session_label_data m) refl) in
     let job = u32_apart l.job m.job _ _ (job_fits l.job l_fits.job_most) (job_fits m.job m_fits.job_most) behind in
     let moment = i64_apart l.moment m.moment _ _ l_fits.moment m_fits.moment job.1 in
     let pool = text_apart l.pool m.pool _ _ (IsName-no_zero l.pool l_fits.pool) (IsName-no_zero m.pool m_fits.pool) moment.1 in
@@ -189,11 +188,11 @@ session_labels_apart l m l_fits m_fits e =
     session_fragments_apart l m l_fits m_fits same.0
 
 -- no session label has the index of a volume label
-session_index_other : (totals : Option Totals) → VOLUME_LABEL ≡ session_label_index totals → ⊥
+session_index_other : (totals : Option Totals) → volume_label_index ≡ session_label_index totals → ⊥
 session_index_other None e = cc
 session_index_other (Some t) e = cc
 
 pub label_kinds_apart : LabelKindsApart
 label_kinds_apart l m xs ys e =
     let flat = simp append_assoc at e in
-    session_index_other m.totals (i32_apart VOLUME_LABEL (session_label_index m.totals) _ _ (record { sfits = omega arith }) (session_index_fits m.totals) flat).0
+    session_index_other m.totals (i32_apart volume_label_index (session_label_index m.totals) _ _ (record { sfits = omega arith }) (session_index_fits m.totals) flat).0

@@ -18,7 +18,8 @@ pub record IsStart (label : SessionLabel) : Type 0 where
 -- an end label with the totals of these records
 pub record IsEnd (label : SessionLabel) (records : List Record) : Type 0 where
   pub label_is : IsSessionLabel label
-  pub totals_are : label.totals ≡ Some (record { records = length records; bytes = total_bytes records })
+  pub totals_are : label.totals
+      ≡ Some (record { records = length records; bytes = total_bytes records })
 
 -- each of them is a record
 abbrev pub AreRecords : List Record → Type 0
@@ -40,15 +41,18 @@ pub record Unfinished (fs : List Fragment) : Type 0 where
   pub some_remain : remaining ≢ []
   pub fragments_are : Fragments unfinished (fs ++ remaining)
 
--- what stands behind the whole records: nothing, the front of one more record, or the end label with
--- their totals and nothing after it
+-- what stands behind the whole records: nothing, the front of one more record, or the end label
+-- with their totals and nothing after it
 abbrev pub Behind : List Record → Standing → List Fragment → Type 0
 Behind records Between fs = fs ≡ []
 Behind records Within fs = Unfinished fs
-Behind records AtEnd fs = (label : SessionLabel) × IsEnd label records × (fs ≡ session_label_fragment label ∷ [])
+Behind records AtEnd fs =
+    (label : SessionLabel) × IsEnd label records × (fs ≡ session_label_fragment label ∷ [])
 
--- the fragments of a session: a start label, those of its records in order, and what stands behind them
-pub record IsSession (fs : List Fragment) (records : List Record) (standing : Standing) : Type 0 where
+-- the fragments of a session: a start label, those of its records in order, and what stands behind
+-- them
+pub record IsSession (fs : List Fragment) (records : List Record) (standing : Standing)
+    : Type 0 where
   pub start : SessionLabel
   pub parts : List Fragment
   pub behind : List Fragment
@@ -58,25 +62,29 @@ pub record IsSession (fs : List Fragment) (records : List Record) (standing : St
   pub parts_are : FragmentsOfAll records parts
   pub behind_is : Behind records standing behind
 
--- fragments for each body: no body is empty, and in each only the last fragment goes on
+-- the fragments of each body: no body is empty, and in each only the last fragment goes on
 abbrev pub AreBodies : List (List Fragment) → Type 0
 AreBodies [] = Unit {0}
 AreBodies (fs ∷ rest) = (fs ≢ []) × FitTogether fs × AreBodies rest
 
 -- all the fragments, in order
 abbrev pub joined : List (List Fragment) → List Fragment
-joined placed = flat_map (λ fs. fs) placed
+joined fragments = flat_map (λ fs. fs) fragments
 
--- the bodies are the bytes of these fragments, which joined are a session with those records whole
-pub record Places (placed : List (List Fragment)) (bodies : List (List ℕ)) (records : List Record) (standing : Standing) : Type 0 where
-  pub bytes_are : bodies ≡ map fragments_bytes placed
-  pub bodies_are : AreBodies placed
-  pub session_is : IsSession (joined placed) records standing
+-- the bodies are the bytes of these fragments, listed for each body, which joined are a session with
+-- those records whole
+pub record HoldsBy (fragments : List (List Fragment)) (bodies : List (List ℕ)) (records : List Record)
+    (standing : Standing) : Type 0 where
+  pub bytes_are : bodies ≡ map fragments_bytes fragments
+  pub bodies_are : AreBodies fragments
+  pub session_is : IsSession (joined fragments) records standing
 
 -- the bodies hold a session so far
-pub record Holds (bodies : List (List ℕ)) (records : List Record) (standing : Standing) : Type 0 where
-  pub placed : List (List Fragment)
-  pub places : Places placed bodies records standing
+pub record Holds (bodies : List (List ℕ)) (records : List Record) (standing : Standing)
+    : Type 0 where
+  -- the fragments of each body
+  pub fragments : List (List Fragment)
+  pub holds_by : HoldsBy fragments bodies records standing
 
 -- a cutting of a list of records into bodies, with its end label or without
 abbrev pub Cuts : List (List ℕ) → List Record → Bool → Type 0
@@ -107,7 +115,8 @@ is_ended AtEnd = true
 
 -- the records all of whose data are in the bodies, in order, and whether the end label is there
 abbrev pub WholeOf : List (List ℕ) → List Record → Bool → Type 0
-WholeOf bodies records ended = (standing : Standing) × Holds bodies records standing × (ended ≡ is_ended standing)
+WholeOf bodies records ended =
+    (standing : Standing) × Holds bodies records standing × (ended ≡ is_ended standing)
 
 -- the last fragment goes on in the next body
 abbrev pub LastGoesOn : List Fragment → Type 0
@@ -119,13 +128,16 @@ LastGoesOn (f ∷ g ∷ fs) = LastGoesOn (g ∷ fs)
 abbrev pub BeginsWithLongLabel : ℕ → ℕ → List Fragment → Type 0
 BeginsWithLongLabel room taken [] = ⊥
 BeginsWithLongLabel room taken (f ∷ fs) =
-    (label : SessionLabel) × (f ≡ session_label_fragment label) × (room < taken + length (fragment_bytes f))
+    (label : SessionLabel) × (f ≡ session_label_fragment label)
+    × (room < taken + length (fragment_bytes f))
 
 -- a body of at most `room` bytes that others follow: full where its last record goes on; else it has
 -- fewer than twelve bytes free, or a label follows that is longer than what is free
 pub record IsFilled (room : ℕ) (fs next : List Fragment) : Type 0 where
   pub going_on : LastGoesOn fs → length (fragments_bytes fs) ≡ room
-  pub else_closed : (LastGoesOn fs → ⊥) → (room < length (fragments_bytes fs) + 12) ⊎ BeginsWithLongLabel room (length (fragments_bytes fs)) next
+  pub else_closed : (LastGoesOn fs → ⊥)
+      → (room < length (fragments_bytes fs) + 12)
+      ⊎ BeginsWithLongLabel room (length (fragments_bytes fs)) next
 
 -- each body fits into `room` bytes, and each with one after it is filled
 abbrev pub AreTight : ℕ → List (List Fragment) → Type 0
@@ -135,17 +147,21 @@ AreTight room (fs ∷ gs ∷ rest) =
     (length (fragments_bytes fs) ≤ room) × IsFilled room fs gs × AreTight room (gs ∷ rest)
 
 -- the bodies hold a session so far, tightly in bodies of at most `room` bytes
-pub record HoldsTightly (room : ℕ) (bodies : List (List ℕ)) (records : List Record) (standing : Standing) : Type 0 where
-  pub placed : List (List Fragment)
-  pub places : Places placed bodies records standing
-  pub tight : AreTight room placed
+pub record HoldsTightly (room : ℕ) (bodies : List (List ℕ)) (records : List Record)
+    (standing : Standing) : Type 0 where
+  -- the fragments of each body
+  pub fragments : List (List Fragment)
+  pub holds_by : HoldsBy fragments bodies records standing
+  pub tight : AreTight room fragments
 
 -- Laws.
 
 -- bodies hold one list of whole records and stand in one way; so a cutting has one list and one end
 abbrev pub HoldOneList : Type 0
-HoldOneList = (bodies : List (List ℕ)) (records others : List Record) (standing standing' : Standing)
-    → Holds bodies records standing → Holds bodies others standing' → (records ≡ others) × (standing ≡ standing')
+HoldOneList = (bodies : List (List ℕ)) (records others : List Record)
+    (standing standing' : Standing)
+    → Holds bodies records standing → Holds bodies others standing'
+    → (records ≡ others) × (standing ≡ standing')
 
 -- what the front of bodies holds whole begins the list of them all
 abbrev pub FrontHoldsFront : Type 0
@@ -154,7 +170,10 @@ FrontHoldsFront = (xs ys : List (List ℕ)) (records : List Record) (standing : 
 
 -- to hold a session is to begin a cutting
 abbrev pub HoldingBeginsACutting : Type 0
-HoldingBeginsACutting = (bodies : List (List ℕ)) (records : List Record) (standing : Standing) → Holds bodies records standing → BeginsCutting bodies
+HoldingBeginsACutting = (bodies : List (List ℕ)) (records : List Record) (standing : Standing)
+    → Holds bodies records standing → BeginsCutting bodies
 
+-- what bodies that begin a cutting hold whole begins the list of that cutting
 abbrev pub BeginningHolds : Type 0
-BeginningHolds = (bodies : List (List ℕ)) → (begins : BeginsCutting bodies) → HoldsFront bodies begins.records
+BeginningHolds =
+    (bodies : List (List ℕ)) → (begins : BeginsCutting bodies) → HoldsFront bodies begins.records

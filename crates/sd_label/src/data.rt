@@ -3,9 +3,9 @@
 ghost use Rattle.std.specs.Prelude.{◌≡◌, ◌+◌, ◌≤◌, [], ◌++◌, length, IfSome};
 ghost use Rattle.sd_base.specs.Field.{u32_bytes, u64_bytes, i64_bytes};
 ghost use Rattle.sd_base.specs.Name.{IsName};
-ghost use Rattle.sd_label.specs.Label.{text_bytes, front_bytes, totals_bytes, AreTotals};
+ghost use Rattle.sd_label.specs.Label.{most_label_data, text_bytes, front_bytes, totals_bytes, AreTotals};
 
-use crate::label::{ENDED_STATUS, LABEL_VERSION, PROFILE, Totals};
+use crate::label::{ENDED_STATUS, PROFILE, Totals};
 use sd_base::{put_i64, put_u32, put_u64};
 use std::marker::Model;
 
@@ -25,18 +25,18 @@ pub const TOTALS_LENGTH: usize = 20;
 #[derive(Drop)]
 pub struct LabelData {
     bytes: [u8; MOST_LABEL_DATA],
-    length: usize,
+    used: usize,
 }
 
 impl Model for LabelData {
-    ghost use Rattle.std.specs.Prelude.{List, ℕ, ◌≤◌, take};
-    ghost use Rattle.sd_label.specs.declared.data.TheConstants.{MOST_LABEL_DATA};
+    ghost use Rattle.std.specs.Prelude.{◌≡◌, List, ℕ, ◌≤◌, length, take};
+    ghost use Rattle.sd_label.specs.Label.{most_label_data};
 
     ghost Value = { List ℕ };
 
-    ghost view = { λ d. take d.length d.bytes };
+    ghost view = { λ d. take d.used d.bytes };
 
-    ghost invariant = { λ d. d.length ≤ MOST_LABEL_DATA };
+    ghost invariant = { λ d. (length d.bytes ≡ most_label_data) × (d.used ≤ most_label_data) };
 }
 
 impl LabelData {
@@ -45,68 +45,68 @@ impl LabelData {
     {
         LabelData {
             bytes: [0; MOST_LABEL_DATA],
-            length: 0,
+            used: 0,
         }
     }
 
     pub fn as_slice(&self) -> &[u8]
         ensures bytes { result.now ≡ self.now }
-        ensures most { length result.now ≤ MOST_LABEL_DATA }
+        ensures most { length result.now ≤ most_label_data }
     {
-        &self.bytes[..self.length]
+        &self.bytes[..self.used]
     }
 
     pub fn add_u32(&mut self, value: u32)
-        requires { length self.old + 4 ≤ MOST_LABEL_DATA }
+        requires { length self.old + 4 ≤ most_label_data }
         ensures bytes { self.new ≡ self.old ++ u32_bytes value }
         ensures length { length self.new ≡ length self.old + 4 }
     {
-        put_u32(&mut self.bytes, self.length, value);
-        self.length += 4;
+        put_u32(&mut self.bytes, self.used, value);
+        self.used += 4;
     }
 
     pub fn add_u64(&mut self, value: u64)
-        requires { length self.old + 8 ≤ MOST_LABEL_DATA }
+        requires { length self.old + 8 ≤ most_label_data }
         ensures bytes { self.new ≡ self.old ++ u64_bytes value }
         ensures length { length self.new ≡ length self.old + 8 }
     {
-        put_u64(&mut self.bytes, self.length, value);
-        self.length += 8;
+        put_u64(&mut self.bytes, self.used, value);
+        self.used += 8;
     }
 
     pub fn add_i64(&mut self, value: i64)
-        requires { length self.old + 8 ≤ MOST_LABEL_DATA }
+        requires { length self.old + 8 ≤ most_label_data }
         ensures bytes { self.new ≡ self.old ++ i64_bytes value }
         ensures length { length self.new ≡ length self.old + 8 }
     {
-        put_i64(&mut self.bytes, self.length, value);
-        self.length += 8;
+        put_i64(&mut self.bytes, self.used, value);
+        self.used += 8;
     }
 
     pub fn add_text(&mut self, text: &str)
-        requires { length self.old + length text.now + 1 ≤ MOST_LABEL_DATA }
+        requires { length self.old + length text.now + 1 ≤ most_label_data }
         ensures bytes { self.new ≡ self.old ++ text_bytes text.now }
         ensures length { length self.new ≡ length self.old + length text.now + 1 }
     {
-        let end = self.length + text.len();
-        self.bytes[self.length..end].copy_from_slice(text.as_bytes());
+        let end = self.used + text.len();
+        self.bytes[self.used..end].copy_from_slice(text.as_bytes());
         self.bytes[end] = 0;
-        self.length = end + 1;
+        self.used = end + 1;
     }
 
-    /// Adds what every label begins with.
-    pub fn add_front(&mut self)
-        requires { length self.old + FRONT_LENGTH ≤ MOST_LABEL_DATA }
-        ensures bytes { self.new ≡ self.old ++ front_bytes LABEL_VERSION }
-        ensures length { length self.new ≡ length self.old + FRONT_LENGTH }
+    /// Adds what every label begins with, in this version.
+    pub fn add_front(&mut self, version: u32)
+        requires { length self.old + 16 ≤ most_label_data }
+        ensures bytes { self.new ≡ self.old ++ front_bytes version }
+        ensures length { length self.new ≡ length self.old + 16 }
     {
         self.add_text(PROFILE);
-        self.add_u32(LABEL_VERSION);
+        self.add_u32(version);
     }
 
     /// Adds what an end label has behind the fields that every session label has.
     pub fn add_totals(&mut self, totals: Option<Totals>)
-        requires { length self.old + TOTALS_LENGTH ≤ MOST_LABEL_DATA }
+        requires { length self.old + 20 ≤ most_label_data }
         ensures totals { IfSome totals AreTotals }
         ensures bytes { self.new ≡ self.old ++ totals_bytes totals }
     {

@@ -3,12 +3,13 @@
 ghost use Rattle.std.specs.Prelude.{◌≡◌, ℕ, ℤ, ◌+◌, ◌^◌, ◌<◌, ◌≤◌, ◌==◌, ◌↔◌, List, [], ◌++◌, codes, All, FitsSigned, IfOk, IsOk, IsOkAnd, IfSome, IsTrue, OnOk, Ok, Some, Option, length, position};
 ghost use Rattle.std.specs.Int.{w64};
 ghost use Rattle.sd_base.specs.Field.{u32_bytes, u64_bytes, i64_bytes};
+ghost use Rattle.sd_base.specs.Limits.{most_number};
 ghost use Rattle.sd_base.specs.Name.{IsName};
 ghost use Rattle.sd_label.specs.Label.{HasNoZero, text_bytes, front_bytes, totals_bytes, session_label_index, AreTotals};
 ghost use Rattle.sd_label.specs.declared.label.Totals.{Totals as SpecTotals};
 
-use crate::label::{END_LABEL, ENDED_STATUS, LABEL_VERSION, NotOurs, PROFILE, START_LABEL, Totals};
-use sd_base::{JobId, MOST_NUMBER, Name, get_i64, get_u32, get_u64};
+use crate::label::{END_LABEL, ENDED_STATUS, NotOurs, PROFILE, START_LABEL, Totals};
+use sd_base::{JobId, Name, get_i64, get_u32, get_u64};
 use std::marker::Model;
 use std::str;
 
@@ -71,9 +72,9 @@ impl<'a> Fields<'a> {
 
     /// The number of a job.
     pub fn take_job(&mut self) -> Result<JobId, NotOurs>
-        ensures job { IfOk result (λ job. (1 ≤ job) × (job ≤ MOST_NUMBER)) }
+        ensures job { IfOk result (λ job. (1 ≤ job) × (job ≤ most_number)) }
         ensures field { IfOk result (λ job. self.old ≡ u32_bytes job ++ self.new) }
-        ensures read_back { (job : ℕ) (more : List ℕ) → 1 ≤ job → job ≤ MOST_NUMBER
+        ensures read_back { (job : ℕ) (more : List ℕ) → 1 ≤ job → job ≤ most_number
             → self.old ≡ u32_bytes job ++ more → (result ≡ Ok job) × (self.new ≡ more) }
     {
         let value = self.take_u32()?;
@@ -88,7 +89,8 @@ impl<'a> Fields<'a> {
         ensures no_zero { IfOk result (λ text. HasNoZero text.now) }
         ensures field { IfOk result (λ text. self.old ≡ text_bytes text.now ++ self.new) }
         ensures read_back { (text more : List ℕ) → HasNoZero text
-            → self.old ≡ text_bytes text ++ more → IsOkAnd result (λ found. found.now ≡ text) × (self.new ≡ more) }
+            → self.old ≡ text_bytes text ++ more
+            → IsOkAnd result (λ found. found.now ≡ text) × (self.new ≡ more) }
     {
         let Some(end) = zero_byte(self.rest) else {
             return Err(NotOurs);
@@ -109,18 +111,18 @@ impl<'a> Fields<'a> {
         name_of(text)
     }
 
-    /// What every label begins with: the text of the profile, and the version.
-    pub fn take_front(&mut self) -> Result<(), NotOurs>
-        ensures field { OnOk result (self.old ≡ front_bytes LABEL_VERSION ++ self.new) }
-        ensures read_back { (more : List ℕ) → self.old ≡ front_bytes LABEL_VERSION ++ more
+    /// What every label begins with: the text of the profile, and this version.
+    pub fn take_front(&mut self, version: u32) -> Result<(), NotOurs>
+        ensures field { OnOk result (self.old ≡ front_bytes version ++ self.new) }
+        ensures read_back { (more : List ℕ) → self.old ≡ front_bytes version ++ more
             → IsOk result × (self.new ≡ more) }
     {
         let text = self.take_text()?;
         if !is_profile(text) {
             return Err(NotOurs);
         }
-        let version = self.take_u32()?;
-        if version != LABEL_VERSION {
+        let said = self.take_u32()?;
+        if said != version {
             return Err(NotOurs);
         }
         Ok(())
@@ -131,7 +133,8 @@ impl<'a> Fields<'a> {
         ensures totals { IfOk result (λ totals. AreTotals totals) }
         ensures field { IfOk result (λ totals. self.old ≡ totals_bytes (Some totals) ++ self.new) }
         ensures read_back { (totals : SpecTotals) (more : List ℕ) → AreTotals totals
-            → self.old ≡ totals_bytes (Some totals) ++ more → (result ≡ Ok totals) × (self.new ≡ more) }
+            → self.old ≡ totals_bytes (Some totals) ++ more
+            → (result ≡ Ok totals) × (self.new ≡ more) }
     {
         let records = self.take_u64()?;
         let bytes = self.take_u64()?;
@@ -149,7 +152,8 @@ impl<'a> Fields<'a> {
         ensures index { IfOk result (λ totals. session_label_index totals ≡ index) }
         ensures field { IfOk result (λ totals. self.old ≡ totals_bytes totals) }
         ensures read_back { (totals : Option SpecTotals) → IfSome totals AreTotals
-            → session_label_index totals ≡ index → self.old ≡ totals_bytes totals → result ≡ Ok totals }
+            → session_label_index totals ≡ index → self.old ≡ totals_bytes totals
+            → result ≡ Ok totals }
     {
         let totals = match index {
             START_LABEL => None,

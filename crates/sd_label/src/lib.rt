@@ -17,10 +17,8 @@ pub use label::{
     VOLUME_LABEL, VOLUME_STREAM, VolumeLabel,
 };
 pub use laws::{label_kinds_apart, session_labels_apart, volume_labels_apart};
-pub use session::{
-    MOST_SESSION_LABEL, put_session_label, read_session_label, session_label_length,
-};
-pub use volume::{MOST_VOLUME_LABEL, put_volume_label, read_volume_label, volume_label_length};
+pub use session::{put_session_label, read_session_label, session_label_length};
+pub use volume::{put_volume_label, read_volume_label, volume_label_length};
 
 #[cfg(test)]
 mod tests;

@@ -1,11 +1,11 @@
 // Session labels, both ways: what is read is exactly what is written.
 ghost use Rattle.std.specs.Prelude.{◌≡◌, ◌↔◌, ◌≤◌, ◌++◌, length, IfOk, IsOk, OnOk, OnErr, Ok};
-ghost use Rattle.sd_label.specs.Label.{IsSessionLabel, session_label_bytes, session_label_data, session_label_index, totals_bytes};
+ghost use Rattle.sd_label.specs.Label.{most_session_label, IsSessionLabel, session_label_bytes, session_label_data, session_label_index, totals_bytes};
 ghost use Rattle.sd_label.specs.declared.label.SessionLabel.{SessionLabel as SpecSessionLabel};
 
 use crate::data::{FRONT_LENGTH, LabelData, MOMENT_LENGTH, TOTALS_LENGTH, text_length};
 use crate::fields::Fields;
-use crate::label::{END_LABEL, NotOurs, START_LABEL, SessionLabel, Totals};
+use crate::label::{END_LABEL, LABEL_VERSION, NotOurs, START_LABEL, SessionLabel, Totals};
 use crate::record::whole_record;
 use sd_record::{Fragment, HEADER_LENGTH, put_fragment};
 use std::alloc::AllocError;
@@ -37,13 +37,10 @@ pub fn put_session_label(out: &mut Vec<u8>, label: &SessionLabel) -> Result<(), 
     )
 }
 
-/// The most bytes of a session label's record.
-pub const MOST_SESSION_LABEL: usize = 316;
-
 /// The bytes of the record that `put_session_label` adds.
 pub fn session_label_length(label: &SessionLabel) -> usize
     ensures length { result ≡ length (session_label_bytes label.now) }
-    ensures most { result ≤ MOST_SESSION_LABEL }
+    ensures most { result ≤ most_session_label }
 {
     HEADER_LENGTH
         + FRONT_LENGTH
@@ -75,7 +72,7 @@ pub fn read_session_label(bytes: &[u8]) -> Result<SessionLabel, NotOurs>
 
 fn totals_length(totals: Option<Totals>) -> usize
     ensures length { result ≡ length (totals_bytes totals) }
-    ensures most { result ≤ TOTALS_LENGTH }
+    ensures most { result ≤ 20 }
 {
     match totals {
         None => 0,
@@ -88,7 +85,7 @@ fn data_of(label: &SessionLabel) -> LabelData
     ensures bytes { result ≡ session_label_data label.now }
 {
     let mut data = LabelData::new();
-    data.add_front();
+    data.add_front(LABEL_VERSION);
     data.add_u32(label.job.get());
     data.add_i64(label.moment);
     data.add_text(label.pool.as_str());
@@ -102,10 +99,11 @@ fn label_of(index: i32, bytes: &[u8]) -> Result<SessionLabel, NotOurs>
     ensures index { IfOk result (λ label. session_label_index label.totals ≡ index) }
     ensures bytes { IfOk result (λ label. bytes.now ≡ session_label_data label) }
     ensures read_back { (label : SpecSessionLabel) → IsSessionLabel label
-        → session_label_index label.totals ≡ index → bytes.now ≡ session_label_data label → result ≡ Ok label }
+        → session_label_index label.totals ≡ index → bytes.now ≡ session_label_data label
+        → result ≡ Ok label }
 {
     let mut fields = Fields::new(bytes);
-    fields.take_front()?;
+    fields.take_front(LABEL_VERSION)?;
     let job = fields.take_job()?;
     let moment = fields.take_i64()?;
     let pool = fields.take_name()?;

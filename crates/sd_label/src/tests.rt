@@ -1,11 +1,12 @@
 // The example labels byte for byte, the longest names, and each way in which bytes are no label.
 use crate::{
-    SessionLabel, Totals, VolumeLabel, put_session_label, put_volume_label, read_session_label,
-    read_volume_label, session_label_length, volume_label_length,
+    SessionLabel, VolumeLabel, label_kinds_apart, put_session_label, put_volume_label,
+    read_session_label, read_volume_label, session_label_length, session_labels_apart,
+    volume_label_length, volume_labels_apart,
 };
-use sd_base::{JobId, MediaName, PoolName, VolName};
 use sd_record::{Fragment, put_fragment};
-use std::alloc::Global;
+use std::alloc::{AllocError, Global};
+use std::process::Abort;
 use std::test::Fail;
 
 // Data of labels, worked out by hand from the format.
@@ -16,34 +17,209 @@ const START_DATA: &[u8] = b"sd-profile\n\0\0\0\0\x01\0\0\0\x07\0\0\0\0\0\0\0\0De
 const END_DATA: &[u8] =
     b"sd-profile\n\0\0\0\0\x01\0\0\0\x07\0\0\0\0\0\0\0\0Default\0File\0\0\0\0\0\0\0\0\x01\0\0\0\0\0\0\0\x05\0\0\0\x54";
 
-fn volume_label(name: &str, pool: &str, media: &str, moment: i64) -> Option<VolumeLabel> {
-    let name = VolName::parse(name).ok()?;
-    let pool = PoolName::parse(pool).ok()?;
-    let media = MediaName::parse(media).ok()?;
-    Some(VolumeLabel {
-        name,
-        pool,
-        media,
-        moment,
-    })
+const EARLY_DATA: &[u8] = b"sd-profile\n\0\0\0\0\x01\xff\xff\xff\xff\xff\xff\xff\xfeA\0B\0C\0";
+
+// The header and the data of a label's record, and what the readers tell of it.
+const LABELS: [(&[u8], &[u8], &str); 4] = [
+    (
+        b"\xff\xff\xff\xfe\0\0\0\x01\0\0\0\x2e",
+        VOLUME_DATA,
+        "volume Vol-0001 Default File 0, 58 bytes",
+    ),
+    (
+        b"\xff\xff\xff\xfc\0\0\0\x07\0\0\0\x29",
+        START_DATA,
+        "session 7 Default File 0, 53 bytes",
+    ),
+    (
+        b"\xff\xff\xff\xfb\0\0\0\x07\0\0\0\x3d",
+        END_DATA,
+        "session 7 Default File 0 of 1 and 5, 73 bytes",
+    ),
+    (
+        b"\xff\xff\xff\xfe\0\0\0\x01\0\0\0\x1e",
+        EARLY_DATA,
+        "volume A B C -2, 42 bytes",
+    ),
+];
+
+// Why it is no label; the index and the stream of its header, how far its size is from the length of its
+// data, and its data.
+const NO_LABELS: [(&str, i32, i32, i32, &[u8]); 24] = [
+    ("a session's index", -4, 1, 0, VOLUME_DATA),
+    ("other stream", -2, 2, 0, VOLUME_DATA),
+    (
+        "profile",
+        -2,
+        1,
+        0,
+        b"sd-profile \0\0\0\0\x01\0\0\0\0\0\0\0\0Vol-0001\0Default\0File\0",
+    ),
+    (
+        "version 2",
+        -2,
+        1,
+        0,
+        b"sd-profile\n\0\0\0\0\x02\0\0\0\0\0\0\0\0Vol-0001\0Default\0File\0",
+    ),
+    (
+        "no zero byte",
+        -2,
+        1,
+        0,
+        b"sd-profile\n\0\0\0\0\x01\0\0\0\0\0\0\0\0Vol-0001\0Default\0File",
+    ),
+    (
+        "behind the end",
+        -2,
+        1,
+        0,
+        b"sd-profile\n\0\0\0\0\x01\0\0\0\0\0\0\0\0Vol-0001\0Default\0File\0\0",
+    ),
+    (
+        "bad character",
+        -2,
+        1,
+        0,
+        b"sd-profile\n\0\0\0\0\x01\0\0\0\0\0\0\0\0Vol/0001\0Default\0File\0",
+    ),
+    (
+        "no text",
+        -2,
+        1,
+        0,
+        b"sd-profile\n\0\0\0\0\x01\0\0\0\0\0\0\0\0Vol-0001\0\xff\0File\0",
+    ),
+    (
+        "empty name",
+        -2,
+        1,
+        0,
+        b"sd-profile\n\0\0\0\0\x01\0\0\0\0\0\0\0\0Vol-0001\0\0File\0",
+    ),
+    ("cut moment", -2, 1, 0, b"sd-profile\n\0\0\0\0\x01\0\0\0\0"),
+    ("no data", -2, 1, 0, b""),
+    ("size too small", -2, 1, -1, VOLUME_DATA),
+    ("size too great", -2, 1, 1, VOLUME_DATA),
+    ("a volume's index", -2, 7, 0, START_DATA),
+    ("a volume's header", -2, 1, 0, START_DATA),
+    ("another job's stream", -4, 8, 0, START_DATA),
+    (
+        "job 0",
+        -4,
+        1,
+        0,
+        b"sd-profile\n\0\0\0\0\x01\0\0\0\0\0\0\0\0\0\0\0\0Default\0File\0",
+    ),
+    (
+        "job past the greatest",
+        -4,
+        1,
+        0,
+        b"sd-profile\n\0\0\0\0\x01\x80\0\0\0\0\0\0\0\0\0\0\0Default\0File\0",
+    ),
+    ("start with totals", -4, 7, 0, END_DATA),
+    ("end without totals", -5, 7, 0, START_DATA),
+    ("a record's index", 1, 7, 0, START_DATA),
+    (
+        "other status",
+        -5,
+        7,
+        0,
+        b"sd-profile\n\0\0\0\0\x01\0\0\0\x07\0\0\0\0\0\0\0\0Default\0File\0\0\0\0\0\0\0\0\x01\0\0\0\0\0\0\0\x05\0\0\0\x55",
+    ),
+    (
+        "behind the totals",
+        -5,
+        7,
+        0,
+        b"sd-profile\n\0\0\0\0\x01\0\0\0\x07\0\0\0\0\0\0\0\0Default\0File\0\0\0\0\0\0\0\0\x01\0\0\0\0\0\0\0\x05\0\0\0\x54\0",
+    ),
+    ("an end's size too small", -5, 7, -1, END_DATA),
+];
+
+fn tell_volume(text: &mut String, label: &VolumeLabel) -> Result<(), AllocError> {
+    let length = volume_label_length(label);
+    let name = label.name.as_str();
+    let pool = label.pool.as_str();
+    let media = label.media.as_str();
+    let moment = label.moment;
+    write!(
+        text,
+        "volume {name} {pool} {media} {moment}, {length} bytes"
+    )
 }
 
-fn session_label(totals: Option<Totals>) -> Option<SessionLabel> {
-    let job = JobId::new(7)?;
-    let pool = PoolName::parse("Default").ok()?;
-    let media = MediaName::parse("File").ok()?;
-    Some(SessionLabel {
-        job,
-        pool,
-        media,
-        moment: 0,
-        totals,
-    })
+fn tell_session(text: &mut String, label: &SessionLabel) -> Result<(), AllocError> {
+    let length = session_label_length(label);
+    let job = label.job.get();
+    let pool = label.pool.as_str();
+    let media = label.media.as_str();
+    let moment = label.moment;
+    write!(text, "session {job} {pool} {media} {moment}")?;
+    if let Some(totals) = label.totals {
+        write!(text, " of {} and {}", totals.records, totals.bytes)?;
+    }
+    write!(text, ", {length} bytes")
 }
 
-fn record(alloc: Global, index: i32, stream: i32, part: &[u8]) -> Result<Vec<u8>, Fail> {
+// What the volume reader finds, and the same label's record again behind other bytes.
+fn tell_as_volume(text: &mut String, again: &mut Vec<u8>, bytes: &[u8]) -> Result<(), AllocError> {
+    match read_volume_label(bytes) {
+        Ok(label) => {
+            tell_volume(text, &label)?;
+            put_volume_label(again, &label)
+        }
+        Err(_) => Ok(()),
+    }
+}
+
+fn tell_as_session(text: &mut String, again: &mut Vec<u8>, bytes: &[u8]) -> Result<(), AllocError> {
+    match read_session_label(bytes) {
+        Ok(label) => {
+            tell_session(text, &label)?;
+            put_session_label(again, &label)
+        }
+        Err(_) => Ok(()),
+    }
+}
+
+// Both readers tell this of the bytes, and a label that one of them found is written as these bytes.
+fn assert_tell(
+    rt: &impl Abort,
+    alloc: Global,
+    bytes: &[u8],
+    wanted: &str,
+) -> Result<(), AllocError> {
+    let mut text = String::new(alloc);
+    let mut again = b"xyz".as_slice().to_vec(alloc)?;
+    tell_as_volume(&mut text, &mut again, bytes)?;
+    tell_as_session(&mut text, &mut again, bytes)?;
+    assert_eq!(rt; text.as_str(), wanted);
+    let (front, label) = again.as_slice().split_at(3.min(again.len()));
+    assert_eq!(rt; front, b"xyz".as_slice());
+    if !wanted.is_empty() {
+        assert_eq!(rt; label, bytes);
+    }
+    Ok(())
+}
+
+fn joined(alloc: Global, parts: &[&[u8]]) -> Result<Vec<u8>, AllocError> {
     let mut bytes = Vec::new(alloc);
-    let size = u32::try_from(part.len())?;
+    for part in parts {
+        bytes.extend_from_slice(part)?;
+    }
+    Ok(bytes)
+}
+
+fn record(
+    alloc: Global,
+    index: i32,
+    stream: i32,
+    size: u32,
+    part: &[u8],
+) -> Result<Vec<u8>, AllocError> {
+    let mut bytes = Vec::new(alloc);
     put_fragment(
         &mut bytes,
         &Fragment {
@@ -57,235 +233,51 @@ fn record(alloc: Global, index: i32, stream: i32, part: &[u8]) -> Result<Vec<u8>
 }
 
 #[test]
-fn volume_label_bytes(rt: HostRuntime) -> Result<(), Fail> {
-    let label = volume_label("Vol-0001", "Default", "File", 0).ok_or("label")?;
-    let mut bytes = Vec::new(rt.alloc());
-    put_volume_label(&mut bytes, &label)?;
-    assert_eq!(rt; bytes.len(), 58);
-    assert_eq!(rt; volume_label_length(&label), 58);
-    let (header, data) = bytes.as_slice().split_at(12);
-    assert_eq!(rt; header, b"\xff\xff\xff\xfe\0\0\0\x01\0\0\0\x2e".as_slice());
-    assert_eq!(rt; data, VOLUME_DATA);
-    let read = read_volume_label(bytes.as_slice())?;
-    assert_eq!(rt; read.name.as_str(), "Vol-0001");
-    assert_eq!(rt; read.pool.as_str(), "Default");
-    assert_eq!(rt; read.media.as_str(), "File");
-    assert_eq!(rt; read.moment, 0);
+fn labels(rt: HostRuntime) -> Result<(), Fail> {
+    for (header, data, wanted) in LABELS {
+        let bytes = joined(rt.alloc(), &[header, data])?;
+        assert_tell(&rt, rt.alloc(), &bytes, wanted)?;
+        let behind = joined(rt.alloc(), &[header, data, b"\0"])?;
+        assert_tell(&rt, rt.alloc(), &behind, "")?;
+    }
+    volume_labels_apart();
+    session_labels_apart();
+    label_kinds_apart();
     Ok(())
 }
 
 #[test]
-fn start_label_bytes(rt: HostRuntime) -> Result<(), Fail> {
-    let label = session_label(None).ok_or("label")?;
-    let mut bytes = Vec::new(rt.alloc());
-    put_session_label(&mut bytes, &label)?;
-    assert_eq!(rt; bytes.len(), 53);
-    assert_eq!(rt; session_label_length(&label), 53);
-    let (header, data) = bytes.as_slice().split_at(12);
-    assert_eq!(rt; header, b"\xff\xff\xff\xfc\0\0\0\x07\0\0\0\x29".as_slice());
-    assert_eq!(rt; data, START_DATA);
-    let read = read_session_label(bytes.as_slice())?;
-    assert_eq!(rt; read.job.get(), 7);
-    assert_eq!(rt; read.totals, None);
+fn no_labels(rt: HostRuntime) -> Result<(), Fail> {
+    for (why, index, stream, more, data) in NO_LABELS {
+        let size = u32::try_from(data.len())?.wrapping_add_signed(more);
+        let bytes = record(rt.alloc(), index, stream, size, data)?;
+        assert!(rt; read_volume_label(&bytes).is_err(), "{why}");
+        assert!(rt; read_session_label(&bytes).is_err(), "{why}");
+    }
     Ok(())
 }
 
-#[test]
-fn end_label_bytes(rt: HostRuntime) -> Result<(), Fail> {
-    let totals = Totals {
-        records: 1,
-        bytes: 5,
-    };
-    let label = session_label(Some(totals)).ok_or("label")?;
-    let mut bytes = Vec::new(rt.alloc());
-    put_session_label(&mut bytes, &label)?;
-    assert_eq!(rt; bytes.len(), 73);
-    assert_eq!(rt; session_label_length(&label), 73);
-    let (header, data) = bytes.as_slice().split_at(12);
-    assert_eq!(rt; header, b"\xff\xff\xff\xfb\0\0\0\x07\0\0\0\x3d".as_slice());
-    assert_eq!(rt; data, END_DATA);
-    let read = read_session_label(bytes.as_slice())?;
-    assert_eq!(rt; read.pool.as_str(), "Default");
-    assert_eq!(rt; read.media.as_str(), "File");
-    assert_eq!(rt; read.totals, Some(totals));
-    Ok(())
+// A volume label whose names have this many characters.
+fn named(alloc: Global, lengths: [u8; 3]) -> Result<Vec<u8>, AllocError> {
+    let (front, _) = VOLUME_DATA.split_at(24);
+    let mut data = front.to_vec(alloc)?;
+    for length in lengths {
+        for _ in 0..length {
+            data.push(b'n')?;
+        }
+        data.push(0)?;
+    }
+    record(alloc, -2, 1, u32::try_from(data.len()).unwrap_or(0), &data)
 }
 
-// A label goes behind what stands there already, and moments and job numbers are whole numbers of
-// their widths.
-#[test]
-fn behind_other_bytes(rt: HostRuntime) -> Result<(), Fail> {
-    let label = volume_label("A", "B", "C", -2).ok_or("label")?;
-    let mut bytes = b"xyz".as_slice().to_vec(rt.alloc())?;
-    put_volume_label(&mut bytes, &label)?;
-    assert_eq!(rt; bytes.len(), 45);
-    let (front, label) = bytes.as_slice().split_at(3);
-    assert_eq!(rt; front, b"xyz".as_slice());
-    assert_eq!(rt; read_volume_label(label)?.moment, -2);
-    let (_, moment) = label.split_at(28);
-    assert_eq!(rt;
-        moment,
-        b"\xff\xff\xff\xff\xff\xff\xff\xfeA\0B\0C\0".as_slice()
-    );
-    Ok(())
-}
-
+// Names of 127 characters are the longest, and a block header of 24 bytes before their label makes 444.
 #[test]
 fn longest_names(rt: HostRuntime) -> Result<(), Fail> {
-    let mut text = String::new(rt.alloc());
-    for _ in 0..127u8 {
-        text.push('n')?;
+    let name = "n".repeat(rt.alloc(), 127)?;
+    let wanted = format!(in rt.alloc(); "volume {name} {name} {name} 0, 420 bytes")?;
+    assert_tell(&rt, rt.alloc(), &named(rt.alloc(), [127; 3])?, &wanted)?;
+    for lengths in [[128, 127, 127], [127, 128, 127], [127, 127, 128]] {
+        assert_tell(&rt, rt.alloc(), &named(rt.alloc(), lengths)?, "")?;
     }
-    let name = text.as_str();
-    let label = volume_label(name, name, name, 1).ok_or("label")?;
-    let mut bytes = Vec::new(rt.alloc());
-    put_volume_label(&mut bytes, &label)?;
-    // A block header of 24 bytes before it makes 444.
-    assert_eq!(rt; bytes.len(), 420);
-    assert_eq!(rt; volume_label_length(&label), 420);
-    let read = read_volume_label(bytes.as_slice())?;
-    assert_eq!(rt; read.name.as_str(), name);
-    assert_eq!(rt; read.media.as_str(), name);
-    Ok(())
-}
-
-#[test]
-fn no_volume_label(rt: HostRuntime) -> Result<(), Fail> {
-    let cases: [(&str, i32, i32, &[u8]); 12] = [
-        ("other index", -4, 1, VOLUME_DATA),
-        ("other stream", -2, 2, VOLUME_DATA),
-        (
-            "profile",
-            -2,
-            1,
-            b"sd-profile \0\0\0\0\x01\0\0\0\0\0\0\0\0Vol-0001\0Default\0File\0",
-        ),
-        (
-            "version 2",
-            -2,
-            1,
-            b"sd-profile\n\0\0\0\0\x02\0\0\0\0\0\0\0\0Vol-0001\0Default\0File\0",
-        ),
-        (
-            "no zero byte",
-            -2,
-            1,
-            b"sd-profile\n\0\0\0\0\x01\0\0\0\0\0\0\0\0Vol-0001\0Default\0File",
-        ),
-        (
-            "behind the end",
-            -2,
-            1,
-            b"sd-profile\n\0\0\0\0\x01\0\0\0\0\0\0\0\0Vol-0001\0Default\0File\0\0",
-        ),
-        (
-            "bad character",
-            -2,
-            1,
-            b"sd-profile\n\0\0\0\0\x01\0\0\0\0\0\0\0\0Vol/0001\0Default\0File\0",
-        ),
-        (
-            "no text",
-            -2,
-            1,
-            b"sd-profile\n\0\0\0\0\x01\0\0\0\0\0\0\0\0Vol-0001\0\xff\0File\0",
-        ),
-        (
-            "empty name",
-            -2,
-            1,
-            b"sd-profile\n\0\0\0\0\x01\0\0\0\0\0\0\0\0Vol-0001\0\0File\0",
-        ),
-        ("cut moment", -2, 1, b"sd-profile\n\0\0\0\0\x01\0\0\0\0"),
-        ("no data", -2, 1, b""),
-        ("start label", -4, 7, START_DATA),
-    ];
-    for (what, index, stream, part) in cases {
-        let bytes = record(rt.alloc(), index, stream, part)?;
-        assert!(rt; read_volume_label(bytes.as_slice()).is_err(), "{what}");
-    }
-    let good = record(rt.alloc(), -2, 1, VOLUME_DATA)?;
-    assert!(rt; read_volume_label(good.as_slice()).is_ok());
-    Ok(())
-}
-
-#[test]
-fn no_session_label(rt: HostRuntime) -> Result<(), Fail> {
-    let cases: [(&str, i32, i32, &[u8]); 9] = [
-        ("volume label", -2, 1, VOLUME_DATA),
-        ("other stream", -4, 8, START_DATA),
-        (
-            "job 0",
-            -4,
-            1,
-            b"sd-profile\n\0\0\0\0\x01\0\0\0\0\0\0\0\0\0\0\0\0Default\0File\0",
-        ),
-        (
-            "job past the greatest",
-            -4,
-            1,
-            b"sd-profile\n\0\0\0\0\x01\x80\0\0\0\0\0\0\0\0\0\0\0Default\0File\0",
-        ),
-        ("start with totals", -4, 7, END_DATA),
-        ("end without totals", -5, 7, START_DATA),
-        ("record's index", 1, 7, START_DATA),
-        (
-            "other status",
-            -5,
-            7,
-            b"sd-profile\n\0\0\0\0\x01\0\0\0\x07\0\0\0\0\0\0\0\0Default\0File\0\0\0\0\0\0\0\0\x01\0\0\0\0\0\0\0\x05\0\0\0\x55",
-        ),
-        (
-            "behind the end",
-            -5,
-            7,
-            b"sd-profile\n\0\0\0\0\x01\0\0\0\x07\0\0\0\0\0\0\0\0Default\0File\0\0\0\0\0\0\0\0\x01\0\0\0\0\0\0\0\x05\0\0\0\x54\0",
-        ),
-    ];
-    for (what, index, stream, part) in cases {
-        let bytes = record(rt.alloc(), index, stream, part)?;
-        assert!(rt; read_session_label(bytes.as_slice()).is_err(), "{what}");
-    }
-    let good = record(rt.alloc(), -5, 7, END_DATA)?;
-    assert!(rt; read_session_label(good.as_slice()).is_ok());
-    Ok(())
-}
-
-// The size in the header is the length of the data, and nothing stands behind the record.
-#[test]
-fn other_size(rt: HostRuntime) -> Result<(), Fail> {
-    for (size, more) in [(45u32, 0usize), (47, 0), (46, 1), (47, 1)] {
-        let mut bytes = Vec::new(rt.alloc());
-        put_fragment(
-            &mut bytes,
-            &Fragment {
-                index: -2,
-                stream: 1,
-                size,
-                part: VOLUME_DATA,
-            },
-        )?;
-        for _ in 0..more {
-            bytes.push(0)?;
-        }
-        assert!(rt;
-            read_volume_label(bytes.as_slice()).is_err(),
-            "{size} and {more}"
-        );
-    }
-    Ok(())
-}
-
-// A name of 128 characters is too long, whatever stands round it.
-#[test]
-fn name_of_128(rt: HostRuntime) -> Result<(), Fail> {
-    let mut data = VOLUME_DATA.to_vec(rt.alloc())?;
-    data.truncate(24);
-    for _ in 0..128u8 {
-        data.push(b'n')?;
-    }
-    data.extend_from_slice(b"\0Default\0File\0")?;
-    let bytes = record(rt.alloc(), -2, 1, data.as_slice())?;
-    assert!(rt; read_volume_label(bytes.as_slice()).is_err());
     Ok(())
 }

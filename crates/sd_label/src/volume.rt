@@ -1,11 +1,11 @@
 // Volume labels, both ways: what is read is exactly what is written.
 ghost use Rattle.std.specs.Prelude.{◌≡◌, ◌↔◌, ◌≤◌, ◌++◌, length, IfOk, IsOk, OnOk, OnErr, Ok};
-ghost use Rattle.sd_label.specs.Label.{IsVolumeLabel, volume_label_bytes, volume_label_data};
+ghost use Rattle.sd_label.specs.Label.{most_volume_label, IsVolumeLabel, volume_label_bytes, volume_label_data};
 ghost use Rattle.sd_label.specs.declared.label.VolumeLabel.{VolumeLabel as SpecVolumeLabel};
 
 use crate::data::{FRONT_LENGTH, LabelData, MOMENT_LENGTH, text_length};
 use crate::fields::Fields;
-use crate::label::{NotOurs, VOLUME_LABEL, VOLUME_STREAM, VolumeLabel};
+use crate::label::{LABEL_VERSION, NotOurs, VOLUME_LABEL, VOLUME_STREAM, VolumeLabel};
 use crate::record::whole_record;
 use sd_record::{Fragment, HEADER_LENGTH, put_fragment};
 use std::alloc::AllocError;
@@ -30,13 +30,10 @@ pub fn put_volume_label(out: &mut Vec<u8>, label: &VolumeLabel) -> Result<(), Al
     )
 }
 
-/// The most bytes of a volume label's record.
-pub const MOST_VOLUME_LABEL: usize = 420;
-
 /// The bytes of the record that `put_volume_label` adds.
 pub fn volume_label_length(label: &VolumeLabel) -> usize
     ensures length { result ≡ length (volume_label_bytes label.now) }
-    ensures most { result ≤ MOST_VOLUME_LABEL }
+    ensures most { result ≤ most_volume_label }
 {
     HEADER_LENGTH
         + FRONT_LENGTH
@@ -69,7 +66,7 @@ fn data_of(label: &VolumeLabel) -> LabelData
     ensures bytes { result ≡ volume_label_data label.now }
 {
     let mut data = LabelData::new();
-    data.add_front();
+    data.add_front(LABEL_VERSION);
     data.add_i64(label.moment);
     data.add_text(label.name.as_str());
     data.add_text(label.pool.as_str());
@@ -84,7 +81,7 @@ fn label_of(bytes: &[u8]) -> Result<VolumeLabel, NotOurs>
         → bytes.now ≡ volume_label_data label → result ≡ Ok label }
 {
     let mut fields = Fields::new(bytes);
-    fields.take_front()?;
+    fields.take_front(LABEL_VERSION)?;
     let moment = fields.take_i64()?;
     let name = fields.take_name()?;
     let pool = fields.take_name()?;

@@ -10,7 +10,8 @@ use Rattle.sd_unpack.specs.declared.stage.Stage.TheVariants.{Closed}
 -- Whoever unpacked bodies that a packer made has, taken or still to be taken, exactly the records that
 -- were put, once each and in order; and with the end label knows that the session ended.
 abbrev pub PackedComesBack : Type 0
-PackedComesBack = (room : ℕ) (bodies : List PackedBody) (records taken : List Record) (view : Unpacking)
+PackedComesBack = (room : ℕ) (bodies : List PackedBody) (records taken : List Record)
+    (view : Unpacking)
     → Unpacks (bytes_of bodies) taken view
     → (Packs room bodies records Between → records ≡ taken ++ view.ready)
     × (Packs room bodies records AtEnd → (records ≡ taken ++ view.ready) × (view.stage ≡ Closed))

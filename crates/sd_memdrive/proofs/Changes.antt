@@ -1,4 +1,4 @@
--- What one change of the volumes, with its entry in the record, does to the shelf.
+-- What one change of the volumes, with its entry in the log, does to the shelf.
 use Rattle.std.proofs.Common.{◌≡◌, ◌≢◌, ℕ, zero, suc, inl, inr, if◌then◌else◌, List, [], ◌∷◌, ◌++◌, ◌<◌, ◌≤◌, min, length, take, drop, slice_set, get_or, Some, None, refl, ap, sym, ◌∙◌, subst, arith, append-nil, length-append}
 use Rattle.std.proofs.Math.Seq.{drop-length, take-length, take-nil}
 use Rattle.std.proofs.lemmas.List.{drop-append-le, take-append-le, take-append-drop, length-take, take_all}
@@ -6,16 +6,17 @@ use Rattle.std.proofs.lemmas.Option.{slice_get_read}
 use Rattle.std.specs.Str.{bytes_eq}
 use Rattle.sd_driver.specs.Shelf.{Held, stable_bytes, BeginsWith, OtherShelf, Passes, KeepsStable, KeepsStableTo, Creates, Changes}
 use Rattle.sd_driver.proofs.Lasting.{BeginsWith-same, BeginsWith-own_take}
-use Rattle.sd_memdrive.specs.declared.record.Change.{Change}
-use Rattle.sd_memdrive.specs.Volumes.{Volume, volume_of, IsPlaceOf, SameNames}
-use Rattle.sd_memdrive.specs.Record.{undo_change, undo, shelf_of}
-use Rattle.sd_memdrive.proofs.Places.{bytes_eq_refl, bytes_eq_other, name_cases, volume_of-place, volume_of-set, volume_of-set_other, volume_of-push, volume_of-push_other, IsPlaceOf-within, SameNames-set}
+use Rattle.sd_memdrive.specs.declared.change_log.Change.{Change}
+use Rattle.sd_memdrive.specs.Volumes.{Volume, volume_of, StandsFirstAt, SameNames}
+use Rattle.sd_memdrive.specs.ChangeLog.{undo_change, undo, shelf_of}
+use Rattle.sd_driver.proofs.Names.{name_cases}
+use Rattle.sd_memdrive.proofs.Places.{bytes_eq_refl, bytes_eq_other, volume_of-place, volume_of-set, volume_of-set_other, volume_of-push, volume_of-push_other, StandsFirstAt-within, SameNames-set}
 
 -- the volume that was read at the place of a name
-pub read_at : (vs : List Volume) (name : List ℕ) (place : ℕ) (v : Volume) → IsPlaceOf name vs place → v ≡ get_or vs place v → (v.name ≡ name) × (volume_of vs name ≡ Some v.held)
-read_at vs name place v at read = volume_of-place name vs place v at (slice_get_read vs _ place v refl (IsPlaceOf-within name vs place at) read)
+pub read_at : (vs : List Volume) (name : List ℕ) (place : ℕ) (v : Volume) → StandsFirstAt name vs place → v ≡ get_or vs place v → (v.name ≡ name) × (volume_of vs name ≡ Some v.held)
+read_at vs name place v at read = volume_of-place name vs place v at (slice_get_read vs _ place v refl (StandsFirstAt-within name vs place at) read)
 
--- the record with one entry more
+-- the log with one entry more
 pub undo-push : (cs : List Change) (c : Change) (name bytes : List ℕ) → undo (cs ++ c ∷ []) name bytes ≡ undo cs name (undo_change c name bytes)
 undo-push [] c name bytes = refl
 undo-push (d ∷ cs) c name bytes = ap (undo_change d name) (undo-push cs c name bytes)
@@ -42,7 +43,7 @@ undo_change-other c name bytes o = ap (λ b. if b then take c.stable (bytes ++ c
 
 -- another volume in a place, with such an entry
 pub passes_set : (vs : List Volume) (cs : List Change) (name : List ℕ) (place : ℕ) (v v' : Volume) (c : Change)
-    → IsPlaceOf name vs place → v ≡ get_or vs place v → v'.name ≡ v.name → c.name ≡ name
+    → StandsFirstAt name vs place → v ≡ get_or vs place v → v'.name ≡ v.name → c.name ≡ name
     → v'.held ≢ v.held → take c.stable (take v'.held.stable v'.held.bytes ++ c.lost) ≡ take v.held.stable v.held.bytes
     → Passes (shelf_of vs cs) (shelf_of (slice_set vs place v') (cs ++ c ∷ []))
 passes_set vs cs name place v v' c at read named entry differs before =
@@ -62,7 +63,7 @@ passes_set vs cs name place v v' c at read named entry differs before =
 
 -- what another volume in a place does to the shelf
 pub changes_set : (vs : List Volume) (cs cs' : List Change) (name : List ℕ) (place : ℕ) (v v' : Volume) (step : Held → Held → Type 0)
-    → IsPlaceOf name vs place → v ≡ get_or vs place v → v'.name ≡ v.name → step v.held v'.held
+    → StandsFirstAt name vs place → v ≡ get_or vs place v → v'.name ≡ v.name → step v.held v'.held
     → Changes step (Some name) (shelf_of vs cs) (shelf_of (slice_set vs place v') cs')
 changes_set vs cs cs' name place v v' step at read named made =
     let was = read_at vs name place v at read in
@@ -81,7 +82,7 @@ changes_set vs cs cs' name place v v' step at read named made =
 
 -- no stable byte is lost by another volume in a place that has them
 pub keeps_set : (vs : List Volume) (cs cs' : List Change) (name : List ℕ) (place : ℕ) (v v' : Volume)
-    → IsPlaceOf name vs place → v ≡ get_or vs place v → v'.name ≡ v.name
+    → StandsFirstAt name vs place → v ≡ get_or vs place v → v'.name ≡ v.name
     → BeginsWith (take v'.held.stable v'.held.bytes) (take v.held.stable v.held.bytes)
     → KeepsStable (shelf_of vs cs) (shelf_of (slice_set vs place v') cs')
 keeps_set vs cs cs' name place v v' at read named begins =
@@ -96,7 +97,7 @@ keeps_set vs cs cs' name place v v' at read named begins =
 
 -- none is lost below `to`
 pub keeps_to_set : (vs : List Volume) (cs cs' : List Change) (name : List ℕ) (place to : ℕ) (v v' : Volume)
-    → IsPlaceOf name vs place → v ≡ get_or vs place v → v'.name ≡ v.name
+    → StandsFirstAt name vs place → v ≡ get_or vs place v → v'.name ≡ v.name
     → BeginsWith (take v'.held.stable v'.held.bytes) (take to (take v.held.stable v.held.bytes))
     → KeepsStableTo to (Some name) (shelf_of vs cs) (shelf_of (slice_set vs place v') cs')
 keeps_to_set vs cs cs' name place to v v' at read named begins =
@@ -206,7 +207,7 @@ grown [] more some e = some e
 grown (b ∷ bytes) more some e = grown bytes more some (let r : ◌≡◌ {A = List ℕ} (bytes ++ more) bytes = cc in r)
 
 pub appended : (vs : List Volume) (cs cs' : List Change) (name : List ℕ) (place : ℕ) (v v' : Volume) (c : Change) (more : List ℕ)
-    → IsPlaceOf name vs place → v ≡ get_or vs place v → v.held.stable ≤ length v.held.bytes → more ≢ []
+    → StandsFirstAt name vs place → v ≡ get_or vs place v → v.held.stable ≤ length v.held.bytes → more ≢ []
     → v' ≡ record { name = v.name; held = record { bytes = v.held.bytes ++ more; stable = v.held.stable } }
     → c.name ≡ name → c.stable ≡ v.held.stable → c.lost ≡ [] → cs' ≡ cs ++ c ∷ []
     → Taken (λ held after. after ≡ record { bytes = held.bytes ++ more; stable = held.stable }) name vs (slice_set vs place v') cs cs'
@@ -223,7 +224,7 @@ appended vs cs cs' name place v v' c more at read within some made entry was not
     }
 
 pub synced : (vs : List Volume) (cs cs' : List Change) (name : List ℕ) (place : ℕ) (v v' : Volume) (c : Change)
-    → IsPlaceOf name vs place → v ≡ get_or vs place v → v.held.stable ≢ length v.held.bytes
+    → StandsFirstAt name vs place → v ≡ get_or vs place v → v.held.stable ≢ length v.held.bytes
     → v' ≡ record { name = v.name; held = record { bytes = v.held.bytes; stable = length v.held.bytes } }
     → c.name ≡ name → c.stable ≡ v.held.stable → c.lost ≡ [] → cs' ≡ cs ++ c ∷ []
     → Taken (λ held after. after ≡ record { bytes = held.bytes; stable = length held.bytes }) name vs (slice_set vs place v') cs cs'
@@ -247,7 +248,7 @@ pub record IsCut (to : ℕ) (name : List ℕ) (vs vs' : List Volume) (cs cs' : L
   pub names : SameNames vs vs'
 
 pub cut : (vs : List Volume) (cs cs' : List Change) (name : List ℕ) (place to : ℕ) (v v' : Volume) (c : Change)
-    → IsPlaceOf name vs place → v ≡ get_or vs place v → to < length v.held.bytes
+    → StandsFirstAt name vs place → v ≡ get_or vs place v → to < length v.held.bytes
     → v' ≡ record { name = v.name; held = record { bytes = take to v.held.bytes; stable = min to v.held.stable } }
     → c.name ≡ name → c.stable ≡ v.held.stable → c.lost ≡ drop to (take v.held.stable v.held.bytes) → cs' ≡ cs ++ c ∷ []
     → IsCut to name vs (slice_set vs place v') cs cs'
@@ -269,13 +270,13 @@ cut vs cs cs' name place to v v' c at read longer made entry was lost noted =
 -- nothing to sync, or to cut
 
 pub all_stable : (vs : List Volume) (cs cs' : List Change) (name : List ℕ) (place : ℕ) (v : Volume)
-    → IsPlaceOf name vs place → v ≡ get_or vs place v → v.held.stable ≡ length v.held.bytes
+    → StandsFirstAt name vs place → v ≡ get_or vs place v → v.held.stable ≡ length v.held.bytes
     → Changes (λ held after. after ≡ record { bytes = held.bytes; stable = length held.bytes }) (Some name) (shelf_of vs cs) (shelf_of (slice_set vs place v) cs')
 all_stable vs cs cs' name place v at read all =
     changes_set vs cs cs' name place v v _ at read refl (ap (λ (k : ℕ). record { bytes = v.held.bytes; stable = k }) all)
 
 pub short_enough : (vs : List Volume) (cs cs' : List Change) (name : List ℕ) (place to : ℕ) (v : Volume)
-    → IsPlaceOf name vs place → v ≡ get_or vs place v → length v.held.bytes ≤ to → v.held.stable ≤ length v.held.bytes
+    → StandsFirstAt name vs place → v ≡ get_or vs place v → length v.held.bytes ≤ to → v.held.stable ≤ length v.held.bytes
     → Changes (λ held after. after ≡ record { bytes = take to held.bytes; stable = min to held.stable }) (Some name) (shelf_of vs cs) (shelf_of (slice_set vs place v) cs')
 short_enough vs cs cs' name place to v at read short within =
     let least : v.held.stable ≡ min to v.held.stable = omega arith in
@@ -283,6 +284,6 @@ short_enough vs cs cs' name place to v at read short within =
     (ap (λ (k : ℕ). record { bytes = v.held.bytes; stable = k }) least ∙ ap (λ (x : List ℕ). record { bytes = x; stable = min to v.held.stable }) (sym (take_all to v.held.bytes short)))
 
 pub may_sync : (vs : List Volume) (cs cs' : List Change) (name : List ℕ) (place : ℕ) (v v' : Volume)
-    → IsPlaceOf name vs place → v ≡ get_or vs place v → v'.name ≡ v.name → v'.held.bytes ≡ v.held.bytes → v.held.stable ≤ v'.held.stable
+    → StandsFirstAt name vs place → v ≡ get_or vs place v → v'.name ≡ v.name → v'.held.bytes ≡ v.held.bytes → v.held.stable ≤ v'.held.stable
     → Changes (λ held after. (after.bytes ≡ held.bytes) × (held.stable ≤ after.stable)) (Some name) (shelf_of vs cs) (shelf_of (slice_set vs place v') cs')
 may_sync vs cs cs' name place v v' at read named bytes more = changes_set vs cs cs' name place v v' _ at read named (bytes, more)

@@ -1,9 +1,10 @@
 -- The first volume of a name, and what a volume put in its place or at the end does to the others.
-use Rattle.std.proofs.Common.{◌≡◌, ◌≢◌, ℕ, zero, suc, Bool, true, false, ◌&&◌, ◌⊎◌, inl, inr, if◌then◌else◌, is_none, IsSome, IsTrue, List, [], ◌∷◌, ◌++◌, ◌+◌, ◌<◌, length, slice_get, slice_set, get_or, drop, add-one, drop-cons, Option, Some, None, refl, ap, sym, ◌∙◌, subst, arith}
+use Rattle.std.proofs.Common.{◌≡◌, ◌≢◌, ℕ, zero, suc, Bool, true, false, ◌&&◌, inl, inr, if◌then◌else◌, is_none, IsSome, IsTrue, List, [], ◌∷◌, ◌++◌, ◌+◌, ◌<◌, length, slice_get, slice_set, get_or, drop, add-one, drop-cons, Option, Some, None, refl, ap, sym, ◌∙◌, subst, arith}
 use Rattle.std.specs.Str.{bytes_eq}
 use Rattle.std.proofs.lemmas.Slice.Eq.{bytes_eq-Decides}
 use Rattle.sd_driver.specs.Shelf.{Held}
-use Rattle.sd_memdrive.specs.Volumes.{Volume, volume_of, IsPlaceOf, names_differ, SameNames}
+use Rattle.sd_driver.proofs.Names.{name_cases}
+use Rattle.sd_memdrive.specs.Volumes.{Volume, volume_of, StandsFirstAt, names_differ, SameNames}
 
 -- a name is itself
 pub bytes_eq_refl : (name : List ℕ) → bytes_eq name name ≡ true
@@ -17,14 +18,6 @@ bytes_eq_other a b other = only_false (bytes_eq a b) (λ h. other ((bytes_eq-Dec
     only_false true h = absurd (h refl)
     only_false false h = refl
 
--- two names are one, or they are not
-pub name_cases : (a b : List ℕ) → (a ≡ b) ⊎ (a ≢ b)
-name_cases a b = from (bytes_eq a b) refl
-  where
-    from : (c : Bool) → bytes_eq a b ≡ c → (a ≡ b) ⊎ (a ≢ b)
-    from true h = inl ((bytes_eq-Decides a b).0 h)
-    from false h = inr (λ e. (let t = (bytes_eq-Decides a b).1 e in cc))
-
 -- a volume of that name is what stands under it
 pub volume_of-here : (v : Volume) (vs : List Volume) (name : List ℕ) → v.name ≡ name → volume_of (v ∷ vs) name ≡ Some v.held
 volume_of-here v vs name e = ap (λ b. if b then Some v.held else volume_of vs name) (ap (λ n. bytes_eq n name) e ∙ bytes_eq_refl name)
@@ -33,18 +26,18 @@ volume_of-here v vs name e = ap (λ b. if b then Some v.held else volume_of vs n
 pub volume_of-other : (v : Volume) (vs : List Volume) (name : List ℕ) → v.name ≢ name → volume_of (v ∷ vs) name ≡ volume_of vs name
 volume_of-other v vs name o = ap (λ b. if b then Some v.held else volume_of vs name) (bytes_eq_other v.name name o)
 
-pub IsPlaceOf-within : (name : List ℕ) (vs : List Volume) (place : ℕ) → IsPlaceOf name vs place → place < length vs
-IsPlaceOf-within name [] place at = absurd at
-IsPlaceOf-within name (v ∷ vs) zero at = omega arith
-IsPlaceOf-within name (v ∷ vs) (suc place) at = let r = IsPlaceOf-within name vs place at.1 in omega arith
+pub StandsFirstAt-within : (name : List ℕ) (vs : List Volume) (place : ℕ) → StandsFirstAt name vs place → place < length vs
+StandsFirstAt-within name [] place at = absurd at
+StandsFirstAt-within name (v ∷ vs) zero at = omega arith
+StandsFirstAt-within name (v ∷ vs) (suc place) at = let r = StandsFirstAt-within name vs place at.1 in omega arith
 
-pub IsPlaceOf-there : (name : List ℕ) (vs : List Volume) (place : ℕ) → IsPlaceOf name vs place → IsSome (volume_of vs name)
-IsPlaceOf-there name [] place at = absurd at
-IsPlaceOf-there name (v ∷ vs) zero at = subst IsSome (sym (volume_of-here v vs name at)) refl
-IsPlaceOf-there name (v ∷ vs) (suc place) at = subst IsSome (sym (volume_of-other v vs name at.0)) (IsPlaceOf-there name vs place at.1)
+pub StandsFirstAt-there : (name : List ℕ) (vs : List Volume) (place : ℕ) → StandsFirstAt name vs place → IsSome (volume_of vs name)
+StandsFirstAt-there name [] place at = absurd at
+StandsFirstAt-there name (v ∷ vs) zero at = subst IsSome (sym (volume_of-here v vs name at)) refl
+StandsFirstAt-there name (v ∷ vs) (suc place) at = subst IsSome (sym (volume_of-other v vs name at.0)) (StandsFirstAt-there name vs place at.1)
 
 -- the volume at the place of a name has that name, and is what stands under it
-pub volume_of-place : (name : List ℕ) (vs : List Volume) (place : ℕ) (v : Volume) → IsPlaceOf name vs place → slice_get vs place ≡ Some v → (v.name ≡ name) × (volume_of vs name ≡ Some v.held)
+pub volume_of-place : (name : List ℕ) (vs : List Volume) (place : ℕ) (v : Volume) → StandsFirstAt name vs place → slice_get vs place ≡ Some v → (v.name ≡ name) × (volume_of vs name ≡ Some v.held)
 volume_of-place name [] place v at read = absurd at
 volume_of-place name (w ∷ vs) zero v at read =
     let e : w ≡ v = cc in
@@ -55,13 +48,13 @@ volume_of-place name (w ∷ vs) (suc place) v at read =
     (r.0, volume_of-other w vs name at.0 ∙ r.1)
 
 -- another volume of that name in its place
-pub volume_of-set : (name : List ℕ) (vs : List Volume) (place : ℕ) (v : Volume) → IsPlaceOf name vs place → v.name ≡ name → volume_of (slice_set vs place v) name ≡ Some v.held
+pub volume_of-set : (name : List ℕ) (vs : List Volume) (place : ℕ) (v : Volume) → StandsFirstAt name vs place → v.name ≡ name → volume_of (slice_set vs place v) name ≡ Some v.held
 volume_of-set name [] place v at e = absurd at
 volume_of-set name (w ∷ vs) zero v at e = volume_of-here v vs name e
 volume_of-set name (w ∷ vs) (suc place) v at e = volume_of-other w (slice_set vs place v) name at.0 ∙ volume_of-set name vs place v at.1 e
 
 -- it leaves all other names
-pub volume_of-set_other : (name other : List ℕ) (vs : List Volume) (place : ℕ) (v : Volume) → IsPlaceOf name vs place → v.name ≡ name → other ≢ name → volume_of (slice_set vs place v) other ≡ volume_of vs other
+pub volume_of-set_other : (name other : List ℕ) (vs : List Volume) (place : ℕ) (v : Volume) → StandsFirstAt name vs place → v.name ≡ name → other ≢ name → volume_of (slice_set vs place v) other ≡ volume_of vs other
 volume_of-set_other name other [] place v at e o = absurd at
 volume_of-set_other name other (w ∷ vs) zero v at e o =
     volume_of-other v vs other (λ h. o (sym h ∙ e)) ∙ sym (volume_of-other w vs other (λ h. o (sym h ∙ at)))
@@ -121,19 +114,19 @@ names_differ-push (w ∷ vs) v p none =
     (names_differ-push vs v (names_differ-rest w vs p) (sym (volume_of-other w vs v.name (λ e. other (sym e))) ∙ none))
 
 -- none stands under a name after a change in a place where none stood before
-pub volume_of-set_none : (vs : List Volume) (name other : List ℕ) (place : ℕ) (v : Volume) → IsPlaceOf name vs place → v.name ≡ name → volume_of vs other ≡ None → volume_of (slice_set vs place v) other ≡ None
+pub volume_of-set_none : (vs : List Volume) (name other : List ℕ) (place : ℕ) (v : Volume) → StandsFirstAt name vs place → v.name ≡ name → volume_of vs other ≡ None → volume_of (slice_set vs place v) other ≡ None
 volume_of-set_none vs name other place v at e none = elim (name_cases other name) [
   | inl same ↦ absurd (there vs place at (subst (λ (n : List ℕ). volume_of vs n ≡ None) same none))
   | inr o ↦ volume_of-set_other name other vs place v at e o ∙ none
 ]
   where
-    there : (vs : List Volume) (place : ℕ) → IsPlaceOf name vs place → volume_of vs name ≡ None → ⊥
+    there : (vs : List Volume) (place : ℕ) → StandsFirstAt name vs place → volume_of vs name ≡ None → ⊥
     there [] place at none = at
     there (w ∷ vs) zero at none = (let h = volume_of-here w vs name at in cc)
     there (w ∷ vs) (suc place) at none = there vs place at.1 (sym (volume_of-other w vs name at.0) ∙ none)
 
 -- another volume of the same name in its place
-pub names_differ-set : (vs : List Volume) (name : List ℕ) (place : ℕ) (v : Volume) → IsPlaceOf name vs place → v.name ≡ name → IsTrue (names_differ vs) → IsTrue (names_differ (slice_set vs place v))
+pub names_differ-set : (vs : List Volume) (name : List ℕ) (place : ℕ) (v : Volume) → StandsFirstAt name vs place → v.name ≡ name → IsTrue (names_differ vs) → IsTrue (names_differ (slice_set vs place v))
 names_differ-set [] name place v at e p = absurd at
 names_differ-set (w ∷ vs) name zero v at e p =
     let none : volume_of vs v.name ≡ None = ap (volume_of vs) (e ∙ sym at) ∙ names_differ-first w vs p in
@@ -144,7 +137,7 @@ names_differ-set (w ∷ vs) name (suc place) v at e p =
     (names_differ-set vs name place v at.1 e (names_differ-rest w vs p))
 
 -- the names stay
-pub SameNames-set : (vs : List Volume) (name : List ℕ) (place : ℕ) (v : Volume) → IsPlaceOf name vs place → v.name ≡ name → SameNames vs (slice_set vs place v)
+pub SameNames-set : (vs : List Volume) (name : List ℕ) (place : ℕ) (v : Volume) → StandsFirstAt name vs place → v.name ≡ name → SameNames vs (slice_set vs place v)
 SameNames-set vs name place v at e = λ other there none. elim (name_cases other name) [
   | inl same ↦ (let h = ap (volume_of (slice_set vs place v)) same ∙ volume_of-set name vs place v at e in cc)
   | inr o ↦ there (sym (volume_of-set_other name other vs place v at e o) ∙ none)
@@ -154,14 +147,14 @@ SameNames-set vs name place v at e = λ other there none. elim (name_cases other
 from_here : (vs : List Volume) (i : ℕ) (v : Volume) → i < length vs → v ≡ get_or vs i v → drop i vs ≡ v ∷ drop (suc i) vs
 from_here vs i v within read = drop-cons vs i v within ∙ ap (λ x. x ∷ drop (suc i) vs) (sym read)
 
-pub IsPlaceOf-drop_here : (name : List ℕ) (vs : List Volume) (i : ℕ) (v : Volume) → i < length vs → v ≡ get_or vs i v → v.name ≡ name → IsPlaceOf name (drop i vs) zero
-IsPlaceOf-drop_here name vs i v within read e = let P : List Volume → Type 0 = λ l. IsPlaceOf name l zero in subst P (sym (from_here vs i v within read)) e
+pub StandsFirstAt-drop_here : (name : List ℕ) (vs : List Volume) (i : ℕ) (v : Volume) → i < length vs → v ≡ get_or vs i v → v.name ≡ name → StandsFirstAt name (drop i vs) zero
+StandsFirstAt-drop_here name vs i v within read e = let P : List Volume → Type 0 = λ l. StandsFirstAt name l zero in subst P (sym (from_here vs i v within read)) e
 
 pub volume_of-drop : (name : List ℕ) (vs : List Volume) (i : ℕ) (v : Volume) → i < length vs → v ≡ get_or vs i v → v.name ≢ name → volume_of (drop (i + 1) vs) name ≡ volume_of (drop i vs) name
 volume_of-drop name vs i v within read o = rw (from_here vs i v within read, add-one i) (sym (volume_of-other v (drop (suc i) vs) name o))
 
-pub IsPlaceOf-drop : (name : List ℕ) (vs : List Volume) (i j : ℕ) (v : Volume) → i < length vs → v ≡ get_or vs i v → v.name ≢ name → IsPlaceOf name (drop (i + 1) vs) j → IsPlaceOf name (drop i vs) (suc j)
-IsPlaceOf-drop name vs i j v within read o at =
-    let P : List Volume → Type 0 = λ l. IsPlaceOf name l (suc j) in
-    let g : IsPlaceOf name (drop (suc i) vs) j = rw add-one at at in
+pub StandsFirstAt-drop : (name : List ℕ) (vs : List Volume) (i j : ℕ) (v : Volume) → i < length vs → v ≡ get_or vs i v → v.name ≢ name → StandsFirstAt name (drop (i + 1) vs) j → StandsFirstAt name (drop i vs) (suc j)
+StandsFirstAt-drop name vs i j v within read o at =
+    let P : List Volume → Type 0 = λ l. StandsFirstAt name l (suc j) in
+    let g : StandsFirstAt name (drop (suc i) vs) j = rw add-one at at in
     subst P (sym (from_here vs i v within read)) (o, g)

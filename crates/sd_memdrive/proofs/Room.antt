@@ -1,14 +1,14 @@
--- The record's room: for the entry of each sync that may follow, and what a push on it gives.
+-- The log's room: for the entry of each sync that may follow, and what a push on it gives.
 use Rattle.std.proofs.Common.{◌≡◌, ℕ, if◌then◌else◌, List, [], ◌∷◌, ◌++◌, ◌+◌, ◌<◌, ◌≤◌, length, slice_set, get_or, nat_lt, cond, false, refl, ap, sym, ◌∙◌, arith, Result, Ok, Err, is_ok, IsOk}
 use Rattle.std.proofs.lemmas.List.Sums.{sum_by-set, sum_by-append, count_by-le-length}
 use Rattle.std.proofs.lemmas.Bool.{lt-ltb}
 use Rattle.std.proofs.lemmas.Bool.Decides.{nat_tests}
 use Rattle.std.proofs.Math.ListN.{length-set}
 use Rattle.sd_driver.specs.Shelf.{Held}
-use Rattle.sd_memdrive.specs.declared.record.Change.{Change}
+use Rattle.sd_memdrive.specs.declared.change_log.Change.{Change}
 use Rattle.sd_memdrive.specs.Volumes.{Volume, unsynced}
 
--- how many entries of syncs the record needs room for
+-- how many entries of syncs the log needs room for
 
 abbrev counted : Volume → ℕ
 counted v = cond {A = ℕ} (nat_lt v.held.stable (length v.held.bytes)) 1 0

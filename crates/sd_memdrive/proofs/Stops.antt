@@ -4,10 +4,11 @@ use Rattle.std.specs.List.{filter_map, cons_option}
 use Rattle.std.proofs.Math.Seq.{take-append_seam}
 use Rattle.std.proofs.lemmas.List.{take_rest}
 use Rattle.sd_driver.specs.Shelf.{Held, Shelf, stable_bytes, BeginsWith, AfterStop}
-use Rattle.sd_memdrive.specs.declared.record.Change.{Change}
-use Rattle.sd_memdrive.specs.Volumes.{Volume, volume_of, names_differ, IsPlaceOf}
-use Rattle.sd_memdrive.specs.Record.{undo_change, undo, shelf_of, left_of, left_volume, NoneWithout}
-use Rattle.sd_memdrive.proofs.Places.{name_cases, volume_of-here, volume_of-other, volume_of-set, volume_of-set_other, volume_of-push, volume_of-push_other, names_differ-first, names_differ-rest, and_true, is_none_by}
+use Rattle.sd_memdrive.specs.declared.change_log.Change.{Change}
+use Rattle.sd_memdrive.specs.Volumes.{Volume, volume_of, names_differ, StandsFirstAt}
+use Rattle.sd_memdrive.specs.ChangeLog.{undo_change, undo, shelf_of, left_of, left_volume, NoneWithout}
+use Rattle.sd_driver.proofs.Names.{name_cases}
+use Rattle.sd_memdrive.proofs.Places.{volume_of-here, volume_of-other, volume_of-set, volume_of-set_other, volume_of-push, volume_of-push_other, names_differ-first, names_differ-rest, and_true, is_none_by}
 use Rattle.sd_memdrive.proofs.Changes.{undo-push, undo_change-other, read_at}
 
 -- one more change from the end is undone
@@ -109,7 +110,7 @@ AfterStop-left calls shelf left tail within is = λ name bytes lasts.
 -- the entry of a step in a place, or of a volume at the end, accounts for the new bytes
 
 pub NoneWithout-set : (vs : List Volume) (cs cs' : List Change) (name : List ℕ) (place : ℕ) (v v' : Volume) (c : Change)
-    → NoneWithout vs cs → IsPlaceOf name vs place → v ≡ get_or vs place v → v'.name ≡ v.name → c.name ≡ name → cs' ≡ cs ++ c ∷ []
+    → NoneWithout vs cs → StandsFirstAt name vs place → v ≡ get_or vs place v → v'.name ≡ v.name → c.name ≡ name → cs' ≡ cs ++ c ∷ []
     → NoneWithout (slice_set vs place v') cs'
 NoneWithout-set vs cs cs' name place v v' c before at read named entry noted =
     let was = read_at vs name place v at read in

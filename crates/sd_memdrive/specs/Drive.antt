@@ -1,11 +1,15 @@
 -- What a drive in memory is, as a device.
-use Rattle.std.specs.Prelude.{◌≡◌, ◌≤◌, ◌<◌, ◌+◌, ℕ, true, List, length, None, Some}
+use Rattle.std.specs.Prelude.{◌≡◌, ◌↔◌, ◌≤◌, ◌<◌, ◌+◌, ◌-◌, ◌^◌, ◌⊎◌, ℕ, true, false, List, length, None, Some, IsSome, Result, IsErrOf}
 use Rattle.sd_driver.specs.Shelf.{Shelf, Held, stable_bytes}
 use Rattle.sd_driver.specs.Meaning.{Meaning, IsHonest}
-use Rattle.sd_memdrive.specs.Record.{shelf_of}
+use Rattle.sd_memdrive.specs.ChangeLog.{shelf_of}
 use Rattle.sd_memdrive.specs.declared.store.Store.{Store}
 use Rattle.sd_memdrive.specs.declared.drive.MemDrive.{MemDrive}
+use Rattle.sd_memdrive.specs.declared.plan.Call.{Call}
 use Rattle.sd_memdrive.specs.declared.plan.Fail.{Fail}
+use Rattle.sd_driver.specs.declared.driver.DriverFault.{DriverFault}
+use Rattle.sd_driver.specs.declared.driver.DriverFault.TheVariants.{Device, Memory}
+use Rattle.sd_memdrive.specs.Plan.{counted, due_of, works, Strikes}
 
 -- the shelf of a store
 abbrev pub store_shelf : Store → Shelf
@@ -13,7 +17,13 @@ store_shelf store = shelf_of store.volumes.items store.changes.items
 
 -- the meaning of a drive: it is honest
 abbrev pub meaning_of : MemDrive → Meaning
-meaning_of drive = record { honest = true; shelf = store_shelf drive.store; loaded = drive.loaded; failures = drive.failures; told = drive.told }
+meaning_of drive = record {
+  honest = true;
+  shelf = store_shelf drive.store;
+  loaded = drive.loaded;
+  failures = drive.failures;
+  told = drive.told;
+}
 
 -- no call was made of the device yet
 pub record IsUnused (meaning : Meaning) : Type 0 where
@@ -28,14 +38,46 @@ pub record IsUnused (meaning : Meaning) : Type 0 where
 abbrev pub plan_of : MemDrive → List Fail
 plan_of drive = drive.plan.fails.items
 
+-- no call of any kind was counted in its plan yet
+abbrev pub NoneCounted : MemDrive → Type 0
+NoneCounted drive = (call : Call) → counted call drive.plan ≡ 0
+
+-- its plan, and what it has counted, are as they were
+abbrev pub KeepsPlan : MemDrive → MemDrive → Type 0
+KeepsPlan old new = new.plan ≡ old.plan
+
 -- how many bytes each of its volumes has room for
 abbrev pub capacity_of : MemDrive → ℕ
 capacity_of drive = drive.capacity
 
 -- the loaded volume has room for these bytes
 abbrev pub HasRoom : List ℕ → MemDrive → Type 0
-HasRoom more drive = (name : List ℕ) (held : Held) → drive.loaded ≡ Some name → (store_shelf drive.store).volume name ≡ Some held → length held.bytes + length more ≤ drive.capacity
+HasRoom more drive =
+    (name : List ℕ) (held : Held)
+    → drive.loaded ≡ Some name
+    → (store_shelf drive.store).volume name ≡ Some held
+    → length held.bytes + length more ≤ drive.capacity
 
 -- it lacks that room
 abbrev pub LacksRoom : List ℕ → MemDrive → Type 0
-LacksRoom more drive = (name : List ℕ) (held : Held) → drive.loaded ≡ Some name → (store_shelf drive.store).volume name ≡ Some held → drive.capacity < length held.bytes + length more
+LacksRoom more drive =
+    (name : List ℕ) (held : Held)
+    → drive.loaded ≡ Some name
+    → (store_shelf drive.store).volume name ≡ Some held
+    → drive.capacity < length held.bytes + length more
+
+-- a call of that kind fails at once: the plan has it fail before its work, or no failure can be
+-- counted any more
+abbrev pub FailsAtOnce : Call → MemDrive → Type 0
+FailsAtOnce call drive =
+    (drive.failures ≡ 2 ^ 64 - 1) ⊎ (works call (due_of call drive.plan) ≡ false)
+
+-- a call counts once in the plan; it answers `Device` exactly where it fails at once, or where an entry
+-- is due for it and it is refused neither for its own cause nor for want of memory
+pub record FollowsPlan
+    {T : Type 0} (call : Call) (own_cause : Type 0) (result : Result T DriverFault) (old new : MemDrive)
+    : Type 0 where
+  pub strikes : Strikes call old.plan new.plan
+  pub device : IsErrOf result Device
+      ↔ FailsAtOnce call old
+      ⊎ (IsSome (due_of call old.plan) × ¬ own_cause × ¬ IsErrOf result Memory)

@@ -1,4 +1,4 @@
 pub mod Volumes
-pub mod Record
+pub mod ChangeLog
 pub mod Plan
 pub mod Drive

@@ -14,10 +14,10 @@ volume_of [] name = None
 volume_of (v ∷ vs) name = if bytes_eq v.name name then Some v.held else volume_of vs name
 
 -- the first volume of that name stands at this place
-abbrev pub IsPlaceOf : List ℕ → List Volume → ℕ → Type 0
-IsPlaceOf name [] place = ⊥
-IsPlaceOf name (v ∷ vs) zero = v.name ≡ name
-IsPlaceOf name (v ∷ vs) (suc place) = (v.name ≢ name) × IsPlaceOf name vs place
+abbrev pub StandsFirstAt : List ℕ → List Volume → ℕ → Type 0
+StandsFirstAt name [] place = ⊥
+StandsFirstAt name (v ∷ vs) zero = v.name ≡ name
+StandsFirstAt name (v ∷ vs) (suc place) = (v.name ≢ name) × StandsFirstAt name vs place
 
 -- the names that stand are those that stood
 abbrev pub SameNames : List Volume → List Volume → Type 0

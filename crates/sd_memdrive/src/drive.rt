@@ -1,9 +1,9 @@
 // A drive in memory, as a device.
-ghost use Rattle.std.specs.Prelude.{◌≡◌, ◌≢◌, ◌↔◌, ◌≤◌, ◌<◌, ◌-◌, ◌^◌, None, Some, IfOk, IfErr, OnOk, OnErr, IsOk, IsSome, IsTrue, IsErrOf, ◌+◌, length, [], vec_len};
+ghost use Rattle.std.specs.Prelude.{◌≡◌, ◌≢◌, ◌↔◌, ◌≤◌, ◌<◌, ◌-◌, ◌^◌, ◌⊎◌, false, None, Some, IfOk, IfErr, OnOk, OnErr, IsOk, IsSome, IsTrue, IsErrOf, ◌+◌, length, [], vec_len};
 ghost use Rattle.std.specs.Option.{ForSome};
 ghost use Rattle.sd_driver.specs.Meaning.{Rose};
 ghost use Rattle.sd_memdrive.specs.Plan.{part_of, works};
-ghost use Rattle.sd_memdrive.specs.Volumes.{volume_of, IsPlaceOf};
+ghost use Rattle.sd_memdrive.specs.Volumes.{volume_of, StandsFirstAt};
 
 use crate::plan::{Call, Fail, Plan, When};
 use crate::stop::left_all;
@@ -15,7 +15,7 @@ use std::alloc::{AllocError, Global};
 
 /// A drive in memory. Each volume has room for `capacity` bytes; calls fail as the plan says. It is honest.
 ///
-/// It keeps a record of the calls that changed its shelf, each with the volume's name and two numbers
+/// It keeps a log of the calls that changed its shelf, each with the volume's name and two numbers
 /// (about 200 bytes), and of the stable bytes that a cut took away a copy. Bytes that no cut takes away are
 /// stored once.
 #[derive(Drop)]
@@ -31,16 +31,18 @@ pub struct MemDrive {
 
 impl MemDrive {
     ghost use Rattle.sd_driver.specs.Shelf.{AfterStop};
-    ghost use Rattle.sd_memdrive.specs.Record.{left_of};
-    ghost use Rattle.sd_memdrive.specs.Drive.{meaning_of, IsUnused, plan_of, capacity_of};
+    ghost use Rattle.sd_memdrive.specs.ChangeLog.{left_of};
+    ghost use Rattle.sd_memdrive.specs.Drive.{meaning_of, IsUnused, plan_of, capacity_of, NoneCounted};
 
     /// A drive with no volume, with room for `capacity` bytes in each that will be made. Its calls fail as
     /// `plan` says.
     pub fn new(alloc: Global, capacity: u64, plan: &[Fail]) -> Result<MemDrive, AllocError>
         ensures unused { IfOk result (λ drive. IsUnused (meaning_of drive)) }
-        ensures empty { IfOk result (λ drive. (name : _) → (meaning_of drive).shelf.volume name ≡ None) }
+        ensures empty { IfOk result (λ drive.
+            (name : _) → (meaning_of drive).shelf.volume name ≡ None) }
         ensures capacity { IfOk result (λ drive. capacity_of drive ≡ capacity) }
         ensures plan { IfOk result (λ drive. plan_of drive ≡ plan.now) }
+        ensures counted { IfOk result NoneCounted }
     {
         Ok(MemDrive {
             store: Store::new(alloc),
@@ -62,7 +64,7 @@ impl MemDrive {
 
     /// The drive after a stop that came after the first `calls` of them: each volume has the bytes that were
     /// stable then, followed by `tail`, which is not stable; those with no stable byte are missing. Nothing
-    /// is loaded, and no plan is left. Costs what it copies, and a look at each later entry of the record
+    /// is loaded, and no plan is left. Costs what it copies, and a look at each later entry of the log
     /// for each volume.
     pub fn after_stop(&self, alloc: Global, calls: u64, tail: &[u8]) -> Result<MemDrive, AllocError>
         requires { calls ≤ (meaning_of self.now).shelf.moment }
@@ -71,7 +73,9 @@ impl MemDrive {
             ≡ left_of ((meaning_of self.now).shelf.kept calls name) tail.now) }
         ensures capacity { IfOk result (λ drive. capacity_of drive ≡ capacity_of self.now) }
         ensures plan { IfOk result (λ drive. plan_of drive ≡ []) }
-        ensures stop { IfOk result (λ drive. AfterStop calls (meaning_of self.now).shelf (meaning_of drive).shelf) }
+        ensures counted { IfOk result NoneCounted }
+        ensures stop { IfOk result (λ drive.
+            AfterStop calls (meaning_of self.now).shelf (meaning_of drive).shelf) }
     {
         let later = &self.store.changes[calls as usize..];
         let volumes = left_all(alloc, &self.store.volumes, later, tail)?;
@@ -89,7 +93,7 @@ impl MemDrive {
     fn loaded_place(&self) -> (VolName, usize)
         requires { IsSome self.now.loaded }
         ensures loaded { self.now.loaded ≡ Some result.0 }
-        ensures place { IsPlaceOf result.0 self.now.store.volumes.items result.1 }
+        ensures place { StandsFirstAt result.0 self.now.store.volumes.items result.1 }
         ensures within { result.1 < vec_len self.now.store.volumes }
     {
         let name = self.loaded.as_ref().unwrap().copy();
@@ -99,13 +103,38 @@ impl MemDrive {
 }
 
 impl Driver for MemDrive {
-    ghost use Rattle.sd_driver.specs.Shelf.{Passes, KeepsStable, Appends, MayAppend};
-    ghost use Rattle.sd_driver.specs.Meaning.{IsHonest, Counts, Unchanged};
-    ghost use Rattle.sd_memdrive.specs.Drive.{meaning_of, HasRoom, LacksRoom};
+    ghost use Rattle.sd_driver.specs.Shelf.{SameShelf, Passes, KeepsStable, KeepsStableTo, Creates, MayCreate, Appends, MayAppend, Syncs, MaySync, Truncates, MayTruncate};
+    ghost use Rattle.sd_driver.specs.Meaning.{IsHonest, Counts, SameCounts, Unchanged, TellsLength, TellsBytes};
+    ghost use Rattle.sd_memdrive.specs.Drive.{meaning_of, capacity_of, HasRoom, LacksRoom, FollowsPlan, KeepsPlan};
 
     ghost meaning = { meaning_of };
 
-    fn create(&mut self, name: &VolName) -> Result<(), DriverFault> {
+    fn create(&mut self, name: &VolName) -> Result<(), DriverFault>
+        requires { (meaning_of self.old).loaded ≡ None }
+        ensures counts { Counts result (meaning_of self.old) (meaning_of self.new) }
+        ensures faults { IfErr result
+            (λ fault. (fault ≢ DriverFault.NotThere) × (fault ≢ DriverFault.NoRoom)) }
+        ensures memory { IsErrOf result DriverFault.Memory
+            → Unchanged (meaning_of self.old) (meaning_of self.new) }
+        ensures passes { Passes (meaning_of self.old).shelf (meaning_of self.new).shelf }
+        ensures stable { KeepsStable (meaning_of self.old).shelf (meaning_of self.new).shelf }
+        ensures loaded { OnOk result ((meaning_of self.new).loaded ≡ Some name.now) }
+        ensures not_loaded { OnErr result ((meaning_of self.new).loaded ≡ None) }
+
+        ensures ok { IsHonest (meaning_of self.old)
+            → OnOk result
+            (Creates name.now (meaning_of self.old).shelf (meaning_of self.new).shelf) }
+        ensures err { IsHonest (meaning_of self.old)
+            → OnErr result
+            (MayCreate name.now (meaning_of self.old).shelf (meaning_of self.new).shelf) }
+        ensures exists { IsHonest (meaning_of self.old)
+            → IsErrOf result DriverFault.Exists
+            → IsSome ((meaning_of self.old).shelf.volume name.now) }
+
+        ensures plan { FollowsPlan Call.Create
+            (IsSome ((meaning_of self.old).shelf.volume name.now)) result self.old self.new }
+        ensures capacity { capacity_of self.new ≡ capacity_of self.old }
+    {
         let due = self.plan.strike(Call::Create);
         begin(&mut self.failures, Call::Create, due)?;
         let None = self.store.place_of(name) else {
@@ -119,7 +148,30 @@ impl Driver for MemDrive {
         Ok(())
     }
 
-    fn load(&mut self, name: &VolName) -> Result<(), DriverFault> {
+    fn load(&mut self, name: &VolName) -> Result<(), DriverFault>
+        requires { (meaning_of self.old).loaded ≡ None }
+        ensures counts { Counts result (meaning_of self.old) (meaning_of self.new) }
+        ensures faults { IfErr result
+            (λ fault. (fault ≢ DriverFault.Exists) × (fault ≢ DriverFault.NoRoom)) }
+        ensures memory { IsErrOf result DriverFault.Memory
+            → Unchanged (meaning_of self.old) (meaning_of self.new) }
+        ensures passes { Passes (meaning_of self.old).shelf (meaning_of self.new).shelf }
+        ensures stable { KeepsStable (meaning_of self.old).shelf (meaning_of self.new).shelf }
+        ensures loaded { OnOk result ((meaning_of self.new).loaded ≡ Some name.now) }
+        ensures not_loaded { OnErr result ((meaning_of self.new).loaded ≡ None) }
+
+        ensures ok { IsHonest (meaning_of self.old)
+            → OnOk result (IsSome ((meaning_of self.old).shelf.volume name.now)) }
+        ensures not_there { IsHonest (meaning_of self.old)
+            → IsErrOf result DriverFault.NotThere
+            → (meaning_of self.old).shelf.volume name.now ≡ None }
+        ensures same { IsHonest (meaning_of self.old)
+            → SameShelf (meaning_of self.old).shelf (meaning_of self.new).shelf }
+
+        ensures plan { FollowsPlan Call.Load ((meaning_of self.old).shelf.volume name.now ≡ None)
+            result self.old self.new }
+        ensures capacity { capacity_of self.new ≡ capacity_of self.old }
+    {
         let due = self.plan.strike(Call::Load);
         begin(&mut self.failures, Call::Load, due)?;
         let Some(_) = self.store.place_of(name) else {
@@ -130,11 +182,42 @@ impl Driver for MemDrive {
         Ok(())
     }
 
-    fn unload(&mut self) {
+    fn unload(&mut self)
+        ensures counts { SameCounts (meaning_of self.old) (meaning_of self.new) }
+        ensures passes { Passes (meaning_of self.old).shelf (meaning_of self.new).shelf }
+        ensures stable { KeepsStable (meaning_of self.old).shelf (meaning_of self.new).shelf }
+        ensures loaded { (meaning_of self.new).loaded ≡ None }
+        ensures same { IsHonest (meaning_of self.old)
+            → SameShelf (meaning_of self.old).shelf (meaning_of self.new).shelf }
+
+        ensures plan { KeepsPlan self.old self.new }
+        ensures capacity { capacity_of self.new ≡ capacity_of self.old }
+    {
         self.loaded = None;
     }
 
-    fn len(&mut self, name: &VolName) -> Result<u64, DriverFault> {
+    fn len(&mut self, name: &VolName) -> Result<u64, DriverFault>
+        ensures counts { Counts result (meaning_of self.old) (meaning_of self.new) }
+        ensures faults { IfErr result
+            (λ fault. (fault ≢ DriverFault.Exists) × (fault ≢ DriverFault.NoRoom)) }
+        ensures memory { IsErrOf result DriverFault.Memory
+            → Unchanged (meaning_of self.old) (meaning_of self.new) }
+        ensures passes { Passes (meaning_of self.old).shelf (meaning_of self.new).shelf }
+        ensures stable { KeepsStable (meaning_of self.old).shelf (meaning_of self.new).shelf }
+        ensures loaded { (meaning_of self.new).loaded ≡ (meaning_of self.old).loaded }
+
+        ensures ok { IsHonest (meaning_of self.old)
+            → IfOk result (λ count. TellsLength name.now count (meaning_of self.old).shelf) }
+        ensures not_there { IsHonest (meaning_of self.old)
+            → IsErrOf result DriverFault.NotThere
+            → (meaning_of self.old).shelf.volume name.now ≡ None }
+        ensures same { IsHonest (meaning_of self.old)
+            → SameShelf (meaning_of self.old).shelf (meaning_of self.new).shelf }
+
+        ensures plan { FollowsPlan Call.Len ((meaning_of self.old).shelf.volume name.now ≡ None)
+            result self.old self.new }
+        ensures capacity { capacity_of self.new ≡ capacity_of self.old }
+    {
         let due = self.plan.strike(Call::Len);
         begin(&mut self.failures, Call::Len, due)?;
         let Some(place) = self.store.place_of(name) else {
@@ -144,7 +227,30 @@ impl Driver for MemDrive {
         Ok(self.store.volumes[place].len() as u64)
     }
 
-    fn read_at(&mut self, name: &VolName, at: u64, into: &mut [u8]) -> Result<usize, DriverFault> {
+    fn read_at(&mut self, name: &VolName, at: u64, into: &mut [u8]) -> Result<usize, DriverFault>
+        ensures within { IfOk result (λ count. count ≤ length into.old) }
+        ensures counts { Counts result (meaning_of self.old) (meaning_of self.new) }
+        ensures faults { IfErr result
+            (λ fault. (fault ≢ DriverFault.Exists) × (fault ≢ DriverFault.NoRoom)) }
+        ensures memory { IsErrOf result DriverFault.Memory
+            → Unchanged (meaning_of self.old) (meaning_of self.new) }
+        ensures passes { Passes (meaning_of self.old).shelf (meaning_of self.new).shelf }
+        ensures stable { KeepsStable (meaning_of self.old).shelf (meaning_of self.new).shelf }
+        ensures loaded { (meaning_of self.new).loaded ≡ (meaning_of self.old).loaded }
+
+        ensures ok { IsHonest (meaning_of self.old)
+            → IfOk result (λ count.
+            TellsBytes name.now at (length into.old) count into.new (meaning_of self.old).shelf) }
+        ensures not_there { IsHonest (meaning_of self.old)
+            → IsErrOf result DriverFault.NotThere
+            → (meaning_of self.old).shelf.volume name.now ≡ None }
+        ensures same { IsHonest (meaning_of self.old)
+            → SameShelf (meaning_of self.old).shelf (meaning_of self.new).shelf }
+
+        ensures plan { FollowsPlan Call.Read ((meaning_of self.old).shelf.volume name.now ≡ None)
+            result self.old self.new }
+        ensures capacity { capacity_of self.new ≡ capacity_of self.old }
+    {
         let due = self.plan.strike(Call::Read);
         begin(&mut self.failures, Call::Read, due)?;
         let Some(place) = self.store.place_of(name) else {
@@ -159,20 +265,27 @@ impl Driver for MemDrive {
     fn append(&mut self, bytes: &[u8]) -> Result<(), DriverFault>
         requires { IsSome (meaning_of self.old).loaded }
         ensures counts { Counts result (meaning_of self.old) (meaning_of self.new) }
-        ensures faults { IfErr result (λ fault. (fault ≢ DriverFault.NotThere) × (fault ≢ DriverFault.Exists)) }
-        ensures memory { IsErrOf result DriverFault.Memory → Unchanged (meaning_of self.old) (meaning_of self.new) }
+        ensures faults { IfErr result
+            (λ fault. (fault ≢ DriverFault.NotThere) × (fault ≢ DriverFault.Exists)) }
+        ensures memory { IsErrOf result DriverFault.Memory
+            → Unchanged (meaning_of self.old) (meaning_of self.new) }
         ensures passes { Passes (meaning_of self.old).shelf (meaning_of self.new).shelf }
         ensures stable { KeepsStable (meaning_of self.old).shelf (meaning_of self.new).shelf }
         ensures loaded { (meaning_of self.new).loaded ≡ (meaning_of self.old).loaded }
 
         ensures ok { IsHonest (meaning_of self.old) → OnOk result
-            (Appends bytes.now (meaning_of self.old).loaded (meaning_of self.old).shelf (meaning_of self.new).shelf) }
+            (Appends bytes.now (meaning_of self.old).loaded
+            (meaning_of self.old).shelf (meaning_of self.new).shelf) }
         ensures err { IsHonest (meaning_of self.old) → OnErr result
-            (MayAppend (meaning_of self.old).loaded (meaning_of self.old).shelf (meaning_of self.new).shelf) }
+            (MayAppend (meaning_of self.old).loaded
+            (meaning_of self.old).shelf (meaning_of self.new).shelf) }
 
         // This drive is full exactly where the volume would pass the capacity.
         ensures room { OnOk result (HasRoom bytes.now self.old) }
         ensures no_room { IsErrOf result DriverFault.NoRoom → LacksRoom bytes.now self.old }
+        ensures plan { FollowsPlan Call.Append (LacksRoom bytes.now self.old)
+            result self.old self.new }
+        ensures capacity { capacity_of self.new ≡ capacity_of self.old }
     {
         let due = self.plan.strike(Call::Append);
         begin(&mut self.failures, Call::Append, due)?;
@@ -187,7 +300,24 @@ impl Driver for MemDrive {
         finish(&mut self.failures, due)
     }
 
-    fn sync(&mut self) -> Result<(), DriverFault> {
+    fn sync(&mut self) -> Result<(), DriverFault>
+        requires { IsSome (meaning_of self.old).loaded }
+        ensures counts { Counts result (meaning_of self.old) (meaning_of self.new) }
+        ensures faults { IfErr result (λ fault. fault ≡ DriverFault.Device) }
+        ensures passes { Passes (meaning_of self.old).shelf (meaning_of self.new).shelf }
+        ensures stable { KeepsStable (meaning_of self.old).shelf (meaning_of self.new).shelf }
+        ensures loaded { (meaning_of self.new).loaded ≡ (meaning_of self.old).loaded }
+
+        ensures ok { IsHonest (meaning_of self.old) → OnOk result
+            (Syncs (meaning_of self.old).loaded
+            (meaning_of self.old).shelf (meaning_of self.new).shelf) }
+        ensures err { IsHonest (meaning_of self.old) → OnErr result
+            (MaySync (meaning_of self.old).loaded
+            (meaning_of self.old).shelf (meaning_of self.new).shelf) }
+
+        ensures plan { FollowsPlan Call.Sync ⊥ result self.old self.new }
+        ensures capacity { capacity_of self.new ≡ capacity_of self.old }
+    {
         let due = self.plan.strike(Call::Sync);
         begin(&mut self.failures, Call::Sync, due)?;
         let (name, place) = self.loaded_place();
@@ -196,7 +326,28 @@ impl Driver for MemDrive {
     }
 
     #[tactic(auto, using(crate::proofs::Exits::may_cut_same, crate::proofs::Exits::may_cut_done, crate::proofs::Exits::keeps_to_same))]
-    fn cut(&mut self, to: u64) -> Result<(), DriverFault> {
+    fn cut(&mut self, to: u64) -> Result<(), DriverFault>
+        requires { IsSome (meaning_of self.old).loaded }
+        ensures counts { Counts result (meaning_of self.old) (meaning_of self.new) }
+        ensures faults { IfErr result
+            (λ fault. (fault ≡ DriverFault.Device) ⊎ (fault ≡ DriverFault.Memory)) }
+        ensures memory { IsErrOf result DriverFault.Memory
+            → Unchanged (meaning_of self.old) (meaning_of self.new) }
+        ensures passes { Passes (meaning_of self.old).shelf (meaning_of self.new).shelf }
+        ensures stable { KeepsStableTo to (meaning_of self.old).loaded
+            (meaning_of self.old).shelf (meaning_of self.new).shelf }
+        ensures loaded { (meaning_of self.new).loaded ≡ (meaning_of self.old).loaded }
+
+        ensures ok { IsHonest (meaning_of self.old) → OnOk result
+            (Truncates to (meaning_of self.old).loaded
+            (meaning_of self.old).shelf (meaning_of self.new).shelf) }
+        ensures err { IsHonest (meaning_of self.old) → OnErr result
+            (MayTruncate to (meaning_of self.old).loaded
+            (meaning_of self.old).shelf (meaning_of self.new).shelf) }
+
+        ensures plan { FollowsPlan Call.Cut ⊥ result self.old self.new }
+        ensures capacity { capacity_of self.new ≡ capacity_of self.old }
+    {
         let due = self.plan.strike(Call::Cut);
         begin(&mut self.failures, Call::Cut, due)?;
         let (name, place) = self.loaded_place();
@@ -215,6 +366,7 @@ impl Driver for MemDrive {
 // failure can be counted any more.
 fn begin(failures: &mut u64, call: Call, due: Option<When>) -> Result<(), DriverFault>
     ensures done { IsOk result ↔ ((failures.old ≢ 2 ^ 64 - 1) × IsTrue (works call due)) }
+    ensures at_once { OnErr result ((failures.old ≡ 2 ^ 64 - 1) ⊎ (works call due ≡ false)) }
     ensures ok { OnOk result ((failures.new ≡ failures.old) × (failures.new < 2 ^ 64 - 1)) }
     ensures err { IfErr result (λ fault. fault ≡ DriverFault.Device) }
     ensures counted { OnErr result (Rose failures.old failures.new) }

@@ -1,9 +1,9 @@
-//! A device in memory, with a plan of calls that fail and a record from which a stop is made.
+//! A device in memory, with a plan of calls that fail and a log of changes from which a stop is made.
 #![tactic(auto)]
 
+mod change_log;
 mod drive;
 mod plan;
-mod record;
 mod stop;
 mod store;
 mod stored;

@@ -1,6 +1,6 @@
 // Which calls of a drive fail, and how.
-ghost use Rattle.std.specs.Prelude.{◌≡◌, ◌+◌, ◌^◌, ◌<◌, ◌≤◌, ◌==◌, ◌&&◌, None, min, IfOk, slice_index, slice_set, option_map, find, replicate};
-ghost use Rattle.sd_memdrive.specs.Plan.{place_of};
+ghost use Rattle.std.specs.Prelude.{◌≡◌, ◌<◌, IfOk, replicate};
+ghost use Rattle.sd_memdrive.specs.Plan.{place_of, is_for, planned};
 
 use std::alloc::{AllocError, Global};
 
@@ -58,10 +58,22 @@ impl Call {
     }
 }
 
+impl Fail {
+    // Whether this entry is for the call of that kind and number.
+    fn is_for(&self, call: Call, nth: u64) -> bool
+        ensures { result ≡ is_for call nth self.now }
+    {
+        self.call == call && self.nth == nth
+    }
+}
+
 impl Plan {
+    ghost use Rattle.sd_memdrive.specs.Plan.{Strikes, due_of};
+
     /// A plan of these entries, with no call made yet.
     pub fn new(alloc: Global, fails: &[Fail]) -> Result<Plan, AllocError>
-        ensures { IfOk result (λ plan. (plan.fails.items ≡ fails.now) × (plan.calls ≡ replicate 7 0)) }
+        ensures { IfOk result (λ plan.
+            (plan.fails.items ≡ fails.now) × (plan.calls ≡ replicate 7 0)) }
     {
         Ok(Plan {
             fails: fails.to_vec(alloc)?,
@@ -72,29 +84,20 @@ impl Plan {
     /// Counts a call, and says how it is to fail: by the first entry for it. Past `u64::MAX` calls of a kind
     /// none fails.
     pub fn strike(&mut self, call: Call) -> Option<When>
-        ensures fails { self.new.fails ≡ self.old.fails }
-        ensures counted { let nth = slice_index self.old.calls (place_of call) + 1 in nth < 2 ^ 64
-            → self.new.calls ≡ slice_set self.old.calls (place_of call) nth }
-        ensures due { let nth = slice_index self.old.calls (place_of call) + 1 in nth < 2 ^ 64
-            → result ≡ option_map (λ fail. fail.when)
-            (find (λ fail. ⟦<Call as PartialEq>⟧.eq fail.call call && (fail.nth == nth)) self.old.fails.items) }
-        ensures over { 2 ^ 64 ≤ slice_index self.old.calls (place_of call) + 1
-            → (result ≡ None) × (self.new.calls ≡ self.old.calls) }
+        ensures strikes { Strikes call self.old self.new }
+        ensures due { result ≡ due_of call self.old }
     {
         let place = call.place();
-        let nth = self.calls[place].checked_add(1)?;
-        self.calls[place] = nth;
-        due(&self.fails, call, nth)
+        let before = self.calls[place];
+        self.calls[place] = before.saturating_add(1);
+        planned(&self.fails, call, before.checked_add(1)?)
     }
 }
 
-// How the call of that kind and number fails: by the first entry for it.
-fn due(fails: &[Fail], call: Call, nth: u64) -> Option<When>
-    ensures { result ≡ option_map (λ fail. fail.when)
-        (find (λ fail. ⟦<Call as PartialEq>⟧.eq fail.call call && (fail.nth == nth)) fails.now) }
+// How the call of that kind and number fails.
+fn planned(fails: &[Fail], call: Call, nth: u64) -> Option<When>
+    ensures { result ≡ planned call nth fails.now }
 {
-    let fail = fails
-        .iter()
-        .find(|fail| fail.call == call && fail.nth == nth)?;
+    let fail = fails.iter().find(|fail| fail.is_for(call, nth))?;
     Some(fail.when)
 }

@@ -2,9 +2,9 @@
 ghost use Rattle.std.specs.Prelude.{◌≡◌, Some, IfOk};
 ghost use Rattle.std.specs.List.{filter_map};
 ghost use Rattle.sd_driver.specs.Shelf.{stable_bytes};
-ghost use Rattle.sd_memdrive.specs.Record.{undo, left_volume};
+ghost use Rattle.sd_memdrive.specs.ChangeLog.{undo, left_volume};
 
-use crate::record::Change;
+use crate::change_log::Change;
 use crate::stored::Stored;
 use std::alloc::{AllocError, Global};
 
@@ -16,7 +16,8 @@ pub fn left_all(
     later: &[Change],
     tail: &[u8],
 ) -> Result<Vec<Stored>, AllocError>
-    ensures { IfOk result (λ left. left.items ≡ filter_map (left_volume later.now tail.now) volumes.now) }
+    ensures { IfOk result (λ left.
+        left.items ≡ filter_map (left_volume later.now tail.now) volumes.now) }
 {
     let mut left = Vec::new(alloc);
     for stored in volumes {
@@ -44,7 +45,8 @@ fn left_by(
 
 // The stable bytes of a volume before these changes, undone from the last on.
 fn stable_before(alloc: Global, stored: &Stored, later: &[Change]) -> Result<Vec<u8>, AllocError>
-    ensures { IfOk result (λ bytes. bytes.items ≡ undo later.now stored.now.name (stable_bytes (Some stored.now.held))) }
+    ensures { IfOk result (λ bytes.
+        bytes.items ≡ undo later.now stored.now.name (stable_bytes (Some stored.now.held))) }
 {
     let mut bytes = stored.stable_from(0).to_vec(alloc)?;
     for undone in 0..later.len() {

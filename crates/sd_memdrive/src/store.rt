@@ -1,15 +1,15 @@
-// The volumes of a drive, and the record of what changed them.
+// The volumes of a drive, and the log of what changed them.
 ghost use Rattle.std.specs.Prelude.{◌≡◌, ◌≢◌, ◌+◌, ◌≤◌, ◌<◌, length, [], IfOk, None, Some, OnOk, OnErr, OnSome, IsSome, IfSome, IsTrue, MatchOption, vec_len, vec_capacity};
 ghost use Rattle.sd_driver.specs.Shelf.{SameShelf, Passes, KeepsStable, KeepsStableTo, Creates, Appends, Syncs, MaySync, Truncates};
-ghost use Rattle.sd_memdrive.specs.Record.{NoneWithout};
-ghost use Rattle.sd_memdrive.specs.Volumes.{volume_of, IsPlaceOf, names_differ, unsynced, SameNames};
+ghost use Rattle.sd_memdrive.specs.ChangeLog.{NoneWithout};
+ghost use Rattle.sd_memdrive.specs.Volumes.{volume_of, StandsFirstAt, names_differ, unsynced, SameNames};
 
-use crate::record::Change;
+use crate::change_log::Change;
 use crate::stored::Stored;
 use sd_base::{Bytes, VolName};
 use std::alloc::{AllocError, Global};
 
-/// The volumes in the order in which they were made, and the changes in theirs. The record has room for a
+/// The volumes in the order in which they were made, and the changes in theirs. The log has room for a
 /// sync of each volume that has bytes to be made stable.
 #[derive(Drop)]
 pub struct Store {
@@ -52,7 +52,8 @@ impl Store {
 
     /// Where the volume of a name stands.
     pub fn place_of(&self, name: &VolName) -> Option<usize>
-        ensures place { MatchOption result (volume_of self.now.volumes.items name.now ≡ None) (λ place. IsPlaceOf name.now self.now.volumes.items place) }
+        ensures place { MatchOption result (volume_of self.now.volumes.items name.now ≡ None)
+            (λ place. StandsFirstAt name.now self.now.volumes.items place) }
         ensures within { IfSome result (λ place. place < vec_len self.now.volumes) }
         ensures there { OnSome result (IsSome (volume_of self.now.volumes.items name.now)) }
     {
@@ -82,10 +83,11 @@ impl Store {
 
     /// Bytes at the end of a volume, which are not stable. Makes room for the sync that will make them so.
     pub fn append(&mut self, name: &VolName, place: usize, bytes: &[u8]) -> Result<(), AllocError>
-        requires { IsPlaceOf name.now self.old.volumes.items place }
+        requires { StandsFirstAt name.now self.old.volumes.items place }
         ensures passes { Passes (store_shelf self.old) (store_shelf self.new) }
         ensures stable { KeepsStable (store_shelf self.old) (store_shelf self.new) }
-        ensures ok { OnOk result (Appends bytes.now (Some name.now) (store_shelf self.old) (store_shelf self.new)) }
+        ensures ok { OnOk result
+            (Appends bytes.now (Some name.now) (store_shelf self.old) (store_shelf self.new)) }
         ensures err { OnErr result (SameShelf (store_shelf self.old) (store_shelf self.new)) }
         ensures names { SameNames self.old.volumes.items self.new.volumes.items }
     {
@@ -109,7 +111,7 @@ impl Store {
 
     /// Makes all bytes of a volume stable; takes no memory.
     pub fn sync(&mut self, name: &VolName, place: usize)
-        requires { IsPlaceOf name.now self.old.volumes.items place }
+        requires { StandsFirstAt name.now self.old.volumes.items place }
         ensures passes { Passes (store_shelf self.old) (store_shelf self.new) }
         ensures stable { KeepsStable (store_shelf self.old) (store_shelf self.new) }
         ensures ok { Syncs (Some name.now) (store_shelf self.old) (store_shelf self.new) }
@@ -132,12 +134,14 @@ impl Store {
             .unwrap();
     }
 
-    /// Takes away what stands past `to` of a volume. The record keeps what of it was stable.
+    /// Takes away what stands past `to` of a volume. The log keeps what of it was stable.
     pub fn cut(&mut self, name: &VolName, place: usize, to: usize) -> Result<(), AllocError>
-        requires { IsPlaceOf name.now self.old.volumes.items place }
+        requires { StandsFirstAt name.now self.old.volumes.items place }
         ensures passes { Passes (store_shelf self.old) (store_shelf self.new) }
-        ensures stable { KeepsStableTo to (Some name.now) (store_shelf self.old) (store_shelf self.new) }
-        ensures ok { OnOk result (Truncates to (Some name.now) (store_shelf self.old) (store_shelf self.new)) }
+        ensures stable { KeepsStableTo to (Some name.now)
+            (store_shelf self.old) (store_shelf self.new) }
+        ensures ok { OnOk result
+            (Truncates to (Some name.now) (store_shelf self.old) (store_shelf self.new)) }
         ensures err { OnErr result (SameShelf (store_shelf self.old) (store_shelf self.new)) }
         ensures names { SameNames self.old.volumes.items self.new.volumes.items }
     {
@@ -162,7 +166,8 @@ impl Store {
 
 // Where the first volume of a name stands.
 fn first_named(volumes: &[Stored], name: &VolName) -> Option<usize>
-    ensures place { MatchOption result (volume_of volumes.now name.now ≡ None) (λ place. IsPlaceOf name.now volumes.now place) }
+    ensures place { MatchOption result (volume_of volumes.now name.now ≡ None)
+        (λ place. StandsFirstAt name.now volumes.now place) }
     ensures within { IfSome result (λ place. place < length volumes.now) }
     ensures there { OnSome result (IsSome (volume_of volumes.now name.now)) }
 {

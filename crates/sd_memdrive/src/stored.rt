@@ -39,7 +39,13 @@ impl Stored {
     /// A volume of stable bytes and a tail that is not stable.
     pub fn left(name: VolName, mut bytes: Vec<u8>, tail: &[u8]) -> Result<Self, AllocError>
         ensures { IfOk result (λ s. s
-            ≡ record { name = name; held = record { bytes = bytes.items ++ tail.now; stable = length bytes.items } }) }
+            ≡ record {
+              name = name;
+              held = record {
+                bytes = bytes.items ++ tail.now;
+                stable = length bytes.items;
+              };
+            }) }
     {
         let stable = bytes.len();
         bytes.extend_from_slice(tail)?;

@@ -9,9 +9,8 @@ use crate::{Call, Fail, MemDrive, When};
 use sd_base::VolName;
 use sd_driver::{Driver, DriverFault};
 use std::alloc::{AllocError, Global};
-use std::process::Abort;
 use std::test::Fail as TestFail;
-use table::{APPEND, CREATE, CUT, LEN, LOAD, NO_FAILURE, READ, STOPS, SYNC};
+use table::{STOPS, TOLD};
 
 // A driver of any kind on a bench, which keeps in mind whether a volume is loaded.
 #[derive(Drop)]
@@ -229,56 +228,70 @@ fn history(alloc: Global, plan: &[Fail]) -> Result<String, TestFail> {
     Ok(text)
 }
 
-fn check(
-    rt: &impl Abort,
+// The kinds of call, and how many of each the history makes.
+const KINDS: [(Call, u64); 7] = [
+    (Call::Create, 3),
+    (Call::Load, 2),
+    (Call::Len, 3),
+    (Call::Read, 3),
+    (Call::Append, 6),
+    (Call::Sync, 3),
+    (Call::Cut, 3),
+];
+
+// The history where each call of a kind in turn fails so, a line for each.
+fn tell_failing(
     alloc: Global,
+    text: &mut String,
     call: Call,
-    rows: &[(u64, When, &str)],
+    count: u64,
+    when: When,
 ) -> Result<(), TestFail> {
-    for (nth, when, expected) in rows {
-        let plan = [Fail {
-            call,
-            nth: *nth,
-            when: *when,
-        }];
-        let told = history(alloc, &plan)?;
-        assert_eq!(rt; told.as_str(), *expected);
+    for nth in 1..=count {
+        let told = history(alloc, &[Fail { call, nth, when }])?;
+        writeln!(text, "{call:?} {nth} {when:?}: {told}")?;
     }
     Ok(())
 }
 
-#[test]
-fn no_call_fails(rt: HostRuntime) -> Result<(), TestFail> {
-    assert_eq!(rt; history(rt.alloc(), &[])?.as_str(), NO_FAILURE);
-    Ok(())
-}
-
-#[test]
-fn every_call_fails(rt: HostRuntime) -> Result<(), TestFail> {
-    let alloc = rt.alloc();
-    check(&rt, alloc, Call::Create, &CREATE)?;
-    check(&rt, alloc, Call::Load, &LOAD)?;
-    check(&rt, alloc, Call::Len, &LEN)?;
-    check(&rt, alloc, Call::Read, &READ)?;
-    check(&rt, alloc, Call::Append, &APPEND)?;
-    check(&rt, alloc, Call::Sync, &SYNC)?;
-    check(&rt, alloc, Call::Cut, &CUT)
-}
-
-#[test]
-fn stop_after_every_call(rt: HostRuntime) -> Result<(), TestFail> {
-    let alloc = rt.alloc();
+// The history without a failure, and where each call of it in turn fails in each way.
+fn tell_all(alloc: Global) -> Result<String, TestFail> {
     let mut text = String::new(alloc);
+    let told = history(alloc, &[])?;
+    writeln!(text, "no failure: {told}")?;
+    for (call, count) in KINDS {
+        tell_failing(alloc, &mut text, call, count, When::Before)?;
+        tell_failing(alloc, &mut text, call, count, When::Half)?;
+        tell_failing(alloc, &mut text, call, count, When::After)?;
+    }
+    Ok(text)
+}
+
+// What a stop after each counted call of the history leaves, a line for each.
+fn tell_stops(alloc: Global) -> Result<String, TestFail> {
+    let mut text = String::new(alloc);
+    let mut left = String::new(alloc);
     let mut bench = make_bench(alloc, &[])?;
     for step in HISTORY {
         bench.step(&mut text, step)?;
     }
-    assert_eq!(rt; bench.driver.calls() as usize + 1, STOPS.len());
-    for (calls, expected) in STOPS.iter().enumerate() {
-        let mut left = String::new(alloc);
-        stopped(alloc, &mut left, &bench.driver, calls as u64, &[0, 0])?;
-        assert_eq!(rt; left.as_str(), *expected);
+    for calls in 0..=bench.driver.calls() {
+        write!(left, "{calls}: ")?;
+        stopped(alloc, &mut left, &bench.driver, calls, &[0, 0])?;
+        left.push('\n')?;
     }
+    Ok(left)
+}
+
+#[test]
+fn every_call_fails(rt: HostRuntime) -> Result<(), TestFail> {
+    assert_eq!(rt; tell_all(rt.alloc())?.as_str(), TOLD);
+    Ok(())
+}
+
+#[test]
+fn stop_after_every_call(rt: HostRuntime) -> Result<(), TestFail> {
+    assert_eq!(rt; tell_stops(rt.alloc())?.as_str(), STOPS);
     Ok(())
 }
 

@@ -3,9 +3,10 @@ use Rattle.std.proofs.Common.{◌≡◌, ◌≢◌, ℕ, zero, suc, ◌<◌, ref
 use Rattle.std.proofs.lemmas.List.{append-nil}
 use Rattle.std.proofs.lemmas.Grind.{flat_map-append}
 use Rattle.sd_record.specs.Fragment.{Fragment, fragment_bytes, fragments_bytes}
-use Rattle.sd_pack.specs.Body.{PackedBody, file_index, first_nonzero, first_file_index, last_file_index, body_of, with_fragment, empty_body}
+use Rattle.sd_pack.specs.Body.{PackedBody, file_index, first_file_index, last_file_index, body_of, with_fragment, empty_body}
+use Rattle.sd_base.specs.FileIndex.{first_nonzero}
 use Rattle.sd_pack.specs.Packing.{bytes_of, all_bytes, unless_empty}
-use Rattle.sd_pack.specs.Putting.{bodies_alone}
+use Rattle.sd_pack.specs.RecordParts.{bodies_alone}
 
 pub some_length : {X : Type 0} (xs : List X) → xs ≢ [] → 0 < length xs
 some_length [] some = absurd (some refl)
@@ -52,9 +53,9 @@ pub body_of-one : (f : Fragment) → body_of (f ∷ []) ≡ with_fragment empty_
 body_of-one f = body_of-push [] f
 
 -- the bytes of each body of fragments
-pub bytes_of-placed : (placed : List (List Fragment)) → bytes_of (map body_of placed) ≡ map fragments_bytes placed
-bytes_of-placed [] = refl
-bytes_of-placed (fs ∷ placed) = ap (λ l. fragments_bytes fs ∷ l) (bytes_of-placed placed)
+pub bytes_of-bodies : (fragments : List (List Fragment)) → bytes_of (map body_of fragments) ≡ map fragments_bytes fragments
+bytes_of-bodies [] = refl
+bytes_of-bodies (fs ∷ fragments) = ap (λ l. fragments_bytes fs ∷ l) (bytes_of-bodies fragments)
 
 pub all_bytes-alone : (fs : List Fragment) → all_bytes (bodies_alone fs) ≡ fragments_bytes fs
 all_bytes-alone [] = refl

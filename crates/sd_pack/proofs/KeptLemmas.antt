@@ -8,7 +8,8 @@ use Rattle.sd_record.specs.Fragment.{Fragment, fragment_bytes, fragments_bytes}
 use Rattle.sd_record.proofs.FragmentLemmas.{length-fragment_bytes}
 use Rattle.sd_pack.specs.Body.{PackedBody, IsWithin, IsBody, with_fragment, empty_body}
 use Rattle.sd_pack.specs.Packing.{Packs, unless_empty, all_bytes}
-use Rattle.sd_pack.specs.Putting.{bodies_alone, AreWithin, IsPacker}
+use Rattle.sd_pack.specs.RecordParts.{bodies_alone}
+use Rattle.sd_pack.specs.KeptPacker.{AreWithin, IsPacker}
 use Rattle.sd_pack.proofs.BodyLemmas.{same_body, length_some, all_bytes-alone, all_bytes_and_open, bodies_and_open}
 
 pub AreWithin-append : (room : ℕ) (xs ys : List PackedBody) → AreWithin room xs → AreWithin room ys → AreWithin room (xs ++ ys)

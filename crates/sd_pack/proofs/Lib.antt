@@ -2,4 +2,4 @@ pub mod BodyLemmas
 pub mod KeptLemmas
 pub mod PackedLabelLemmas
 pub mod PackingLemmas
-pub mod PlacedLemmas
+pub mod TightLemmas

@@ -10,15 +10,15 @@ use Rattle.sd_label.proofs.LabelLemmas.{IsFragment-session_label}
 use Rattle.sd_pack.specs.Body.{PackedBody, with_fragment, empty_body}
 use Rattle.sd_pack.specs.Packing.{Packs}
 use Rattle.sd_pack.proofs.BodyLemmas.{body_of-one}
-use Rattle.sd_pack.proofs.PlacedLemmas.{last_whole, placed_last, placed_behind, joined-last, joined-behind}
-use Rattle.sd_pack.proofs.PackingLemmas.{packs_between, packs_placed, bodies-last, bodies-behind, bodies_and_last, length-one}
+use Rattle.sd_pack.proofs.TightLemmas.{last_whole, stand_last, stand_behind, joined-last, joined-behind}
+use Rattle.sd_pack.proofs.PackingLemmas.{packs_between, packs_tightly, bodies-last, bodies-behind, bodies_and_last, length-one}
 
 -- a start label alone in a body
 pub packs_start : (room : ℕ) (label : SessionLabel) → IsStart label → length (session_label_bytes label) ≤ room
     → Packs room (with_fragment empty_body (session_label_fragment label) ∷ []) [] Between
 packs_start room label start fits =
     let f = session_label_fragment label in
-    packs_placed room (with_fragment empty_body f ∷ []) [] Between ((f ∷ []) ∷ []) (ap (λ b. b ∷ []) (sym (body_of-one f)))
+    packs_tightly room (with_fragment empty_body f ∷ []) [] Between ((f ∷ []) ∷ []) (ap (λ b. b ∷ []) (sym (body_of-one f)))
     (record { bodies_are = ((λ none. cc none), (IsFragment-session_label label start.label_is, (λ more. refl), tt), tt); tight = omega (arith, length-one f) })
     (record { start = label; parts = []; behind = []; order = refl; start_is = start; records_are = tt; parts_are = refl; behind_is = refl })
 
@@ -45,9 +45,9 @@ end_last room front body records label is fits packs =
     let p = packs_between room front body records packs in
     let f = session_label_fragment label in
     let old : length body.bytes ≡ length (fragments_bytes p.last) = ap (λ b. length b.bytes) p.body_is in
-    packs_placed room (front ++ with_fragment body f ∷ []) records AtEnd (p.lists ++ (p.last ++ f ∷ []) ∷ [])
+    packs_tightly room (front ++ with_fragment body f ∷ []) records AtEnd (p.lists ++ (p.last ++ f ∷ []) ∷ [])
     (bodies-last p.lists p.last front body f p.front_is p.body_is)
-    (placed_last room p.lists p.last f p.placed (last_whole p.lists p.last records p.session) (IsFragment-session_label label is.label_is) (omega arith))
+    (stand_last room p.lists p.last f p.tightly (last_whole p.lists p.last records p.session) (IsFragment-session_label label is.label_is) (omega arith))
     (ended (joined (p.lists ++ p.last ∷ [])) (joined (p.lists ++ (p.last ++ f ∷ []) ∷ [])) records label p.session is (joined-last p.lists p.last f))
 
 end_behind : (room : ℕ) (front : List PackedBody) (body : PackedBody) (records : List Record) (label : SessionLabel) → IsEnd label records
@@ -58,9 +58,9 @@ end_behind room front body records label is narrow fits packs =
     let f = session_label_fragment label in
     let old : length body.bytes ≡ length (fragments_bytes p.last) = ap (λ b. length b.bytes) p.body_is in
     let whole = last_whole p.lists p.last records p.session in
-    packs_placed room ((front ++ body ∷ []) ++ with_fragment empty_body f ∷ []) records AtEnd ((p.lists ++ p.last ∷ []) ++ (f ∷ []) ∷ [])
+    packs_tightly room ((front ++ body ∷ []) ++ with_fragment empty_body f ∷ []) records AtEnd ((p.lists ++ p.last ∷ []) ++ (f ∷ []) ∷ [])
     (ap (λ b. (front ++ body ∷ []) ++ b ∷ []) (sym (body_of-one f)) ∙ bodies-behind (p.lists ++ p.last ∷ []) (front ++ body ∷ []) f (bodies_and_last p.lists p.last front body p.front_is p.body_is))
-    (placed_behind room p.lists p.last f p.placed (record { going_on = (λ more. absurd (whole more)); else_closed = (λ none. inr (label, refl, omega arith)) }) (IsFragment-session_label label is.label_is) fits)
+    (stand_behind room p.lists p.last f p.tightly (record { going_on = (λ more. absurd (whole more)); else_closed = (λ none. inr (label, refl, omega arith)) }) (IsFragment-session_label label is.label_is) fits)
     (ended (joined (p.lists ++ p.last ∷ [])) (joined ((p.lists ++ p.last ∷ []) ++ (f ∷ []) ∷ [])) records label p.session is (joined-behind (p.lists ++ p.last ∷ []) f))
 
 -- an end label in the open body, or behind it

@@ -12,23 +12,23 @@ use Rattle.sd_label.specs.Cutting.{Standing, Between, IsStart, IsSession, AreRec
 use Rattle.sd_label.proofs.CuttingLemmas.{AreRecords-more}
 use Rattle.sd_pack.specs.Body.{PackedBody, body_of, with_fragment, empty_body}
 use Rattle.sd_pack.specs.Packing.{Packs, bytes_of}
-use Rattle.sd_pack.specs.Putting.{first_fragment, later_fragment, FitsAlone, FitAlone, bodies_alone, LaterBodies}
-use Rattle.sd_pack.proofs.BodyLemmas.{some_length, fragments_bytes-push, body_of-push, body_of-one, bytes_of-placed}
-use Rattle.sd_pack.proofs.PlacedLemmas.{LastGoesOn-back, LastGoesOn-push, last_whole, ArePlaced, placed_last, placed_behind, joined-last, joined-behind}
+use Rattle.sd_pack.specs.RecordParts.{first_fragment, later_fragment, FitsAlone, FitAlone, bodies_alone, LaterBodies}
+use Rattle.sd_pack.proofs.BodyLemmas.{some_length, fragments_bytes-push, body_of-push, body_of-one, bytes_of-bodies}
+use Rattle.sd_pack.proofs.TightLemmas.{LastGoesOn-back, LastGoesOn-push, last_whole, StandTightly, stand_last, stand_behind, joined-last, joined-behind}
 
 -- the fragments of the last body, apart from those before it
-split_last : (front : List PackedBody) (body : PackedBody) (placed : List (List Fragment)) → front ++ body ∷ [] ≡ map body_of placed
-    → (lists : List (List Fragment)) × (last : List Fragment) × (placed ≡ lists ++ last ∷ []) × (front ≡ map body_of lists) × (body ≡ body_of last)
+split_last : (front : List PackedBody) (body : PackedBody) (fragments : List (List Fragment)) → front ++ body ∷ [] ≡ map body_of fragments
+    → (lists : List (List Fragment)) × (last : List Fragment) × (fragments ≡ lists ++ last ∷ []) × (front ≡ map body_of lists) × (body ≡ body_of last)
 split_last [] body [] e = absurd (cc e)
 split_last [] body (fs ∷ []) e = ([], fs, refl, refl, first_same body (body_of fs) [] [] e)
-split_last [] body (fs ∷ gs ∷ placed) e = absurd (cc (rest_same body (body_of fs) [] (body_of gs ∷ map body_of placed) e))
+split_last [] body (fs ∷ gs ∷ fragments) e = absurd (cc (rest_same body (body_of fs) [] (body_of gs ∷ map body_of fragments) e))
 split_last (b ∷ front) body [] e = absurd (cc e)
-split_last (b ∷ front) body (fs ∷ placed) e =
-    let more = split_last front body placed (rest_same b (body_of fs) (front ++ body ∷ []) (map body_of placed) e) in (
+split_last (b ∷ front) body (fs ∷ fragments) e =
+    let more = split_last front body fragments (rest_same b (body_of fs) (front ++ body ∷ []) (map body_of fragments) e) in (
       fs ∷ more.0,
       more.1,
       ap (λ l. fs ∷ l) more.2,
-      ap (λ x. x ∷ front) (first_same b (body_of fs) (front ++ body ∷ []) (map body_of placed) e) ∙ ap (λ l. body_of fs ∷ l) more.3,
+      ap (λ x. x ∷ front) (first_same b (body_of fs) (front ++ body ∷ []) (map body_of fragments) e) ∙ ap (λ l. body_of fs ∷ l) more.3,
       more.4,
     )
 
@@ -38,27 +38,27 @@ pub record PacksBetween (room : ℕ) (front : List PackedBody) (body : PackedBod
   pub last : List Fragment
   pub front_is : front ≡ map body_of lists
   pub body_is : body ≡ body_of last
-  pub placed : ArePlaced room (lists ++ last ∷ [])
+  pub tightly : StandTightly room (lists ++ last ∷ [])
   pub session : IsSession (joined (lists ++ last ∷ [])) records Between
 
 pub packs_between : (room : ℕ) (front : List PackedBody) (body : PackedBody) (records : List Record) → Packs room (front ++ body ∷ []) records Between
     → PacksBetween room front body records
 packs_between room front body records p =
-    let s = split_last front body p.placed p.bodies_are in
+    let s = split_last front body p.fragments p.bodies_are in
     record {
       lists = s.0;
       last = s.1;
       front_is = s.3;
       body_is = s.4;
-      placed = record { bodies_are = subst (λ l. AreBodies l) s.2 p.places.bodies_are; tight = subst (λ l. AreTight room l) s.2 p.tight };
-      session = subst (λ l. IsSession (joined l) records Between) s.2 p.places.session_is;
+      tightly = record { bodies_are = subst (λ l. AreBodies l) s.2 p.holds_by.bodies_are; tight = subst (λ l. AreTight room l) s.2 p.tight };
+      session = subst (λ l. IsSession (joined l) records Between) s.2 p.holds_by.session_is;
     }
 
-pub packs_placed : (room : ℕ) (bodies : List PackedBody) (records : List Record) (standing : Standing) (placed : List (List Fragment))
-    → bodies ≡ map body_of placed → ArePlaced room placed → IsSession (joined placed) records standing → Packs room bodies records standing
-packs_placed room bodies records standing placed are is session = record {
-  placed = placed;
-  places = record { bytes_are = ap bytes_of are ∙ bytes_of-placed placed; bodies_are = is.bodies_are; session_is = session };
+pub packs_tightly : (room : ℕ) (bodies : List PackedBody) (records : List Record) (standing : Standing) (fragments : List (List Fragment))
+    → bodies ≡ map body_of fragments → StandTightly room fragments → IsSession (joined fragments) records standing → Packs room bodies records standing
+packs_tightly room bodies records standing fragments are is session = record {
+  fragments = fragments;
+  holds_by = record { bytes_are = ap bytes_of are ∙ bytes_of-bodies fragments; bodies_are = is.bodies_are; session_is = session };
   tight = is.tight;
   bodies_are = are;
 }
@@ -69,9 +69,9 @@ bodies-last lists last front body f are is =
     ap (λ l. l ++ with_fragment body f ∷ []) are ∙ ap (λ b. map body_of lists ++ with_fragment b f ∷ []) is
     ∙ ap (λ b. map body_of lists ++ b ∷ []) (sym (body_of-push last f)) ∙ sym (map-append body_of lists ((last ++ f ∷ []) ∷ []))
 
-pub bodies-behind : (placed : List (List Fragment)) (bodies : List PackedBody) (f : Fragment) → bodies ≡ map body_of placed
-    → bodies ++ body_of (f ∷ []) ∷ [] ≡ map body_of (placed ++ (f ∷ []) ∷ [])
-bodies-behind placed bodies f are = ap (λ l. l ++ body_of (f ∷ []) ∷ []) are ∙ sym (map-append body_of placed ((f ∷ []) ∷ []))
+pub bodies-behind : (fragments : List (List Fragment)) (bodies : List PackedBody) (f : Fragment) → bodies ≡ map body_of fragments
+    → bodies ++ body_of (f ∷ []) ∷ [] ≡ map body_of (fragments ++ (f ∷ []) ∷ [])
+bodies-behind fragments bodies f are = ap (λ l. l ++ body_of (f ∷ []) ∷ []) are ∙ sym (map-append body_of fragments ((f ∷ []) ∷ []))
 
 pub bodies_and_last : (lists : List (List Fragment)) (last : List Fragment) (front : List PackedBody) (body : PackedBody) → front ≡ map body_of lists
     → body ≡ body_of last → front ++ body ∷ [] ≡ map body_of (lists ++ last ∷ [])
@@ -86,7 +86,7 @@ pub record PacksPart (room : ℕ) (bodies : List PackedBody) (records : List Rec
   pub parts : List Fragment
   pub begun : List Fragment
   pub bodies_are : bodies ≡ map body_of (lists ++ last ∷ [])
-  pub placed : ArePlaced room (lists ++ last ∷ [])
+  pub tightly : StandTightly room (lists ++ last ∷ [])
   pub order : joined (lists ++ last ∷ []) ≡ session_label_fragment start ∷ (parts ++ begun)
   pub start_is : IsStart start
   pub records_are : AreRecords records
@@ -99,7 +99,7 @@ pub record PacksPart (room : ℕ) (bodies : List PackedBody) (records : List Rec
 -- once nothing remains the record is packed
 part_done : (room : ℕ) (bodies : List PackedBody) (records : List Record) (r : Record) → PacksPart room bodies records r [] → Packs room bodies (records ++ r ∷ []) Between
 part_done room bodies records r p =
-    packs_placed room bodies (records ++ r ∷ []) Between (p.lists ++ p.last ∷ []) p.bodies_are p.placed (record {
+    packs_tightly room bodies (records ++ r ∷ []) Between (p.lists ++ p.last ∷ []) p.bodies_are p.tightly (record {
       start = p.start;
       parts = p.parts ++ p.begun;
       behind = [];
@@ -195,7 +195,7 @@ begins_last room front body records r count is within fits fills packs =
       parts = s.parts;
       begun = f ∷ [];
       bodies_are = bodies-last p.lists p.last front body f p.front_is p.body_is;
-      placed = placed_last room p.lists p.last f p.placed (last_whole p.lists p.last records s) (first_is_fragment r count is within) (omega arith);
+      tightly = stand_last room p.lists p.last f p.tightly (last_whole p.lists p.last records s) (first_is_fragment r count is within) (omega arith);
       order = joined-last p.lists p.last f ∙ ap (λ l. l ++ f ∷ []) (s.order ∙ ap (λ l. session_label_fragment s.start ∷ (s.parts ++ l)) s.behind_is ∙ ap (λ l. session_label_fragment s.start ∷ l) (append-nil s.parts));
       start_is = s.start_is;
       records_are = s.records_are;
@@ -225,7 +225,7 @@ begins_behind room front body records r count is within narrow fits fills packs 
       parts = s.parts;
       begun = f ∷ [];
       bodies_are = ap (λ b. (front ++ body ∷ []) ++ b ∷ []) (sym (body_of-one f)) ∙ bodies-behind (p.lists ++ p.last ∷ []) (front ++ body ∷ []) f (bodies_and_last p.lists p.last front body p.front_is p.body_is);
-      placed = placed_behind room p.lists p.last f p.placed (record { going_on = (λ more. absurd (whole more)); else_closed = (λ none. inl (omega arith)) }) (first_is_fragment r count is within) (omega arith);
+      tightly = stand_behind room p.lists p.last f p.tightly (record { going_on = (λ more. absurd (whole more)); else_closed = (λ none. inl (omega arith)) }) (first_is_fragment r count is within) (omega arith);
       order = joined-behind (p.lists ++ p.last ∷ []) f ∙ ap (λ l. l ++ f ∷ []) (s.order ∙ ap (λ l. session_label_fragment s.start ∷ (s.parts ++ l)) s.behind_is ∙ ap (λ l. session_label_fragment s.start ∷ l) (append-nil s.parts));
       start_is = s.start_is;
       records_are = s.records_are;
@@ -256,7 +256,7 @@ continues room bodies records r left f fs p c alone =
       parts = p.parts;
       begun = p.begun ++ f ∷ [];
       bodies_are = bodies-behind (p.lists ++ p.last ∷ []) bodies f p.bodies_are;
-      placed = placed_behind room p.lists p.last f p.placed (record { going_on = p.full; else_closed = (λ whole. absurd (whole on)) }) is.0 alone.fits;
+      tightly = stand_behind room p.lists p.last f p.tightly (record { going_on = p.full; else_closed = (λ whole. absurd (whole on)) }) is.0 alone.fits;
       order = joined-behind (p.lists ++ p.last ∷ []) f ∙ ap (λ l. l ++ f ∷ []) p.order ∙ ap (λ l. session_label_fragment p.start ∷ l) (append_assoc p.parts p.begun (f ∷ []));
       start_is = p.start_is;
       records_are = p.records_are;

@@ -1,9 +1,11 @@
 -- The body of a block, as data: its bytes, and which of a session's records they are of.
 use Rattle.std.specs.Prelude.{ℕ, zero, suc, ◌≤◌, ℤ, pos, negsuc, List, [], ◌∷◌, ◌++◌, length}
+use Rattle.sd_base.specs.Limits.{least_body, most_body}
 use Rattle.sd_record.specs.Fragment.{Fragment, fragment_bytes, fragments_bytes}
-use Rattle.sd_pack.specs.declared.body.TheConstants.{LEAST_BODY, MOST_BODY}
+use Rattle.sd_base.specs.FileIndex.{first_nonzero}
 
--- the bytes of a body, and the first and the last FileIndex of the records or parts in it, 0 and 0 if none
+-- the bytes of a body, and the first and the last FileIndex of the records or parts in it, 0 and 0
+-- if none
 pub record PackedBody : Type 0 where
   pub bytes : List ℕ
   pub first : ℕ
@@ -11,22 +13,17 @@ pub record PackedBody : Type 0 where
 
 -- no shorter than a header, and no longer than the room
 pub record IsWithin (room : ℕ) (body : PackedBody) : Type 0 where
-  pub least : LEAST_BODY ≤ length body.bytes
+  pub least : least_body ≤ length body.bytes
   pub most : length body.bytes ≤ room
 
 -- a block can hold it
 abbrev pub IsBody : PackedBody → Type 0
-IsBody body = IsWithin MOST_BODY body
+IsBody body = IsWithin most_body body
 
 -- the FileIndex of a record's fragment, and 0 of a label, whose index is negative
 abbrev pub file_index : ℤ → ℕ
 file_index (pos n) = n
 file_index (negsuc n) = 0
-
--- the first of two numbers that is not 0, if one is
-abbrev pub first_nonzero : ℕ → ℕ → ℕ
-first_nonzero zero y = y
-first_nonzero (suc x) y = suc x
 
 -- the first FileIndex among fragments, 0 if none
 abbrev pub first_file_index : List Fragment → ℕ
@@ -40,7 +37,11 @@ last_file_index (f ∷ fs) = first_nonzero (last_file_index fs) (file_index f.in
 
 -- the body of these fragments
 abbrev pub body_of : List Fragment → PackedBody
-body_of fs = record { bytes = fragments_bytes fs; first = first_file_index fs; last = last_file_index fs }
+body_of fs = record {
+  bytes = fragments_bytes fs;
+  first = first_file_index fs;
+  last = last_file_index fs;
+}
 
 -- a body with one fragment more
 abbrev pub with_fragment : PackedBody → Fragment → PackedBody

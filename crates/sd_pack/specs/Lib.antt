@@ -1,3 +1,4 @@
 pub mod Body
+pub mod RecordParts
 pub mod Packing
-pub mod Putting
+pub mod KeptPacker

@@ -5,10 +5,11 @@ use Rattle.sd_base.specs.Record.{Record}
 use Rattle.sd_record.specs.Fragment.{Fragment, fragments_bytes, Fragments}
 use Rattle.sd_label.specs.declared.label.SessionLabel.{SessionLabel}
 use Rattle.sd_label.specs.Label.{session_label_bytes}
-use Rattle.sd_label.specs.Cutting.{Standing, Between, AtEnd, IsEnd, Places, AreTight, Holds, HoldsTightly}
+use Rattle.sd_label.specs.Cutting.{Standing, Between, AtEnd, IsEnd, HoldsBy, AreTight, Holds, HoldsTightly}
 use Rattle.sd_pack.specs.Body.{PackedBody, body_of}
 
--- the most bytes of a body, the closed bodies that wait, and the open body, which has no bytes where none is open
+-- the most bytes of a body, the closed bodies that wait, and the open body, which has no bytes where
+-- none is open
 pub record PackerView : Type 0 where
   pub room : ℕ
   pub waiting : List PackedBody
@@ -35,25 +36,30 @@ bytes_of bodies = map (λ body. body.bytes) bodies
 abbrev pub all_bytes : List PackedBody → List ℕ
 all_bytes bodies = flat_map (λ body. body.bytes) bodies
 
--- the bodies hold a session so far, tightly in bodies of at most `room` bytes, and each says the first and
--- last FileIndex of its own fragments
-pub record Packs (room : ℕ) (bodies : List PackedBody) (records : List Record) (standing : Standing) : Type 0 where
-  pub placed : List (List Fragment)
-  pub places : Places placed (bytes_of bodies) records standing
-  pub tight : AreTight room placed
-  pub bodies_are : bodies ≡ map body_of placed
+-- the bodies hold a session so far, tightly in bodies of at most `room` bytes, and each says the first
+-- and last FileIndex of its own fragments
+pub record Packs (room : ℕ) (bodies : List PackedBody) (records : List Record) (standing : Standing)
+    : Type 0 where
+  -- the fragments of each body
+  pub fragments : List (List Fragment)
+  pub holds_by : HoldsBy fragments (bytes_of bodies) records standing
+  pub tight : AreTight room fragments
+  pub bodies_are : bodies ≡ map body_of fragments
 
 -- a label without totals, put where nothing was, starts the bodies of a session
 abbrev pub PacksStart : PackerView → PackerView → SessionLabel → Type 0
-PacksStart old new label = bodies_of old ≡ [] → label.totals ≡ None → Packs new.room (bodies_of new) [] Between
+PacksStart old new label =
+    bodies_of old ≡ [] → label.totals ≡ None → Packs new.room (bodies_of new) [] Between
 
--- behind the bodies that were taken before, the new bodies pack one record more than the old
+-- behind the bodies that were taken before, the new bodies pack one record more than the old; said where
+-- a body is open, so that there is one to go on in
 abbrev pub PacksRecord : PackerView → PackerView → Record → Type 0
 PacksRecord old new r = (taken : List PackedBody) (records : List Record)
     → Packs old.room (taken ++ bodies_of old) records Between
     → Packs new.room (taken ++ bodies_of new) (records ++ r ∷ []) Between
 
--- behind the bodies that were taken before, the new bodies end with a label that has the totals of all records
+-- behind the bodies that were taken before, the new bodies end with a label that has the totals of all
+-- records; said where a body is open
 abbrev pub PacksEnd : PackerView → PackerView → SessionLabel → Type 0
 PacksEnd old new label = (taken : List PackedBody) (records : List Record) → IsEnd label records
     → Packs old.room (taken ++ bodies_of old) records Between
@@ -67,12 +73,15 @@ pub record AddsRecord (old new : PackerView) (r : Record) : Type 0 where
 
 -- all bytes stay, and the label's come behind them
 abbrev pub AddsLabel : PackerView → PackerView → SessionLabel → Type 0
-AddsLabel old new label = all_bytes (bodies_of new) ≡ all_bytes (bodies_of old) ++ session_label_bytes label
+AddsLabel old new label =
+    all_bytes (bodies_of new) ≡ all_bytes (bodies_of old) ++ session_label_bytes label
 
 -- Laws.
 
 -- packed bodies hold their session tightly, so they are a cutting of its records
 abbrev pub PackedBodiesHold : Type 0
-PackedBodiesHold = (room : ℕ) (bodies : List PackedBody) (records : List Record) (standing : Standing)
+PackedBodiesHold = (room : ℕ) (bodies : List PackedBody) (records : List Record)
+    (standing : Standing)
     → Packs room bodies records standing
-    → HoldsTightly room (bytes_of bodies) records standing × Holds (bytes_of bodies) records standing
+    → HoldsTightly room (bytes_of bodies) records standing
+    × Holds (bytes_of bodies) records standing

@@ -4,14 +4,8 @@ ghost use Rattle.std.specs.Prelude.{◌≡◌};
 use sd_base::Bytes;
 use std::marker::Model;
 
-/// The fewest bytes of a body: one record header.
-pub const LEAST_BODY: usize = 12;
-
-/// The most bytes of a body: what a block header leaves of the largest block.
-pub const MOST_BODY: usize = 1_048_552;
-
-/// The body of one block (as: Bacula Developer's Guide, storage media output format), of `LEAST_BODY` to
-/// `MOST_BODY` bytes; `first` and `last` are the first and the last FileIndex of the records or parts in
+/// The body of one block (as: Bacula Developer's Guide, storage media output format), of `sd_base::LEAST_BODY` to
+/// `sd_base::MOST_BODY` bytes; `first` and `last` are the first and the last FileIndex of the records or parts in
 /// it, 0 and 0 if none. In a contract it is the `PackedBody` of its parts.
 #[derive(Debug, Drop)]
 pub struct Body {

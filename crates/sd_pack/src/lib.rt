@@ -3,14 +3,14 @@
 #![tactic(auto)]
 
 mod body;
-mod later;
 mod laws;
 mod open_body;
 mod packer;
+mod record_parts;
 
-pub use body::{Body, LEAST_BODY, MOST_BODY};
+pub use body::Body;
 pub use laws::packed_bodies_hold;
-pub use packer::{BLOCK_HEADER, Packer};
+pub use packer::Packer;
 
 #[cfg(test)]
 mod tests;

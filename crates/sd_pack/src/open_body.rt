@@ -65,7 +65,8 @@ impl OpenBody {
     /// A label alone, with memory for `room` bytes.
     pub fn of_label(alloc: Global, room: usize, label: &SessionLabel) -> Result<Self, AllocError>
         ensures label { IfOk result (λ body. IsSessionLabel label.now) }
-        ensures body { IfOk result (λ body. body ≡ with_fragment empty_body (session_label_fragment label.now)) }
+        ensures body { IfOk result
+            (λ body. body ≡ with_fragment empty_body (session_label_fragment label.now)) }
     {
         let mut body = OpenBody::with_room(alloc, room)?;
         body.add_label(label)?;
@@ -97,7 +98,8 @@ impl OpenBody {
     /// Adds a label, which has no FileIndex.
     pub fn add_label(&mut self, label: &SessionLabel) -> Result<(), AllocError>
         ensures label { IsSessionLabel label.now }
-        ensures ok { OnOk result (self.new ≡ with_fragment self.old (session_label_fragment label.now)) }
+        ensures ok { OnOk result
+            (self.new ≡ with_fragment self.old (session_label_fragment label.now)) }
         ensures err { OnErr result (self.new ≡ self.old) }
     {
         put_session_label(&mut self.bytes, label)

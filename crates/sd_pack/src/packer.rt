@@ -1,22 +1,20 @@
 // The packer: things go in one by one, bodies come out.
 ghost use Rattle.std.specs.Prelude.{◌≡◌, ◌≢◌, ◌+◌, ◌-◌, ◌<◌, ◌≤◌, ◌↔◌, [], ◌∷◌, ◌++◌, length, slice_get, IfOk, IfSome, IsSome, OnOk, OnErr};
 ghost use Rattle.std.specs.Option.{option_copied, option_to_list};
+ghost use Rattle.sd_base.specs.Limits.{block_header, least_block_limit, most_block};
 ghost use Rattle.sd_pack.specs.Body.{IsWithin, empty_body};
 ghost use Rattle.sd_pack.specs.Packing.{HasOpen, bodies_of, PacksStart, PacksRecord, PacksEnd, AddsRecord, AddsLabel};
 
 use crate::body::Body;
-use crate::later::{close_all, first_part, later_bodies};
 use crate::open_body::OpenBody;
-use sd_base::Rec;
+use crate::record_parts::{close_all, first_part, later_bodies};
+use sd_base::{BLOCK_HEADER, Rec};
 use sd_label::{SessionLabel, session_label_length};
 use sd_record::HEADER_LENGTH;
 use std::alloc::{AllocError, Global};
 use std::collections::VecDeque;
 use std::marker::Model;
 use std::mem::replace;
-
-/// The bytes of a block before its body.
-pub const BLOCK_HEADER: usize = 24;
 
 /// Packs a session's labels and records into bodies. A body is closed only when the next thing does not
 /// go in, or by `finish`. A record's data go on in the next body where they do not fit; a label is never
@@ -33,22 +31,27 @@ impl Model for Packer {
     ghost use Rattle.std.specs.Prelude.{◌-◌};
     ghost use Rattle.std.specs.VecDeque.{deque_len, deque_capacity};
     ghost use Rattle.sd_pack.specs.Packing.{PackerView};
-    ghost use Rattle.sd_pack.specs.Putting.{IsPacker};
+    ghost use Rattle.sd_pack.specs.KeptPacker.{IsPacker};
 
     ghost Value = { PackerView };
 
-    ghost view = { λ p. record { room = p.room; waiting = p.waiting.items; open_body = p.open_body } };
+    ghost view = { λ p. record {
+      room = p.room;
+      waiting = p.waiting.items;
+      open_body = p.open_body;
+    } };
 
     ghost invariant = { λ p.
-        IsPacker p.room p.waiting.items p.open_body (deque_capacity p.waiting - deque_len p.waiting) };
+        IsPacker p.room p.waiting.items p.open_body
+        (deque_capacity p.waiting - deque_len p.waiting) };
 }
 
 impl Packer {
     /// Nothing packed, for blocks of at most `max` bytes, 1,024 to 1,048,576.
     pub fn new(alloc: Global, max: usize) -> Result<Self, AllocError>
-        requires least { 1024 ≤ max }
-        requires most { max ≤ 1048576 }
-        ensures room { IfOk result (λ packer. packer.room ≡ max - BLOCK_HEADER) }
+        requires least { least_block_limit ≤ max }
+        requires most { max ≤ most_block }
+        ensures room { IfOk result (λ packer. packer.room ≡ max - block_header) }
         ensures nothing { IfOk result (λ packer. bodies_of packer ≡ []) }
     {
         let room = max - BLOCK_HEADER;
@@ -61,7 +64,9 @@ impl Packer {
     }
 
     /// Adds a record. With no room for its header the open body is closed; data that do not fit go on in
-    /// the next bodies.
+    /// the next bodies, and none of these is empty. `packs` speaks of a packer with an open body: before
+    /// the session's first label, and between `finish` and the next label, there is none, and a record's
+    /// bytes are added all the same.
     pub fn put(&mut self, rec: &Rec) -> Result<(), AllocError>
         ensures packs { OnOk result (HasOpen self.old → PacksRecord self.old self.new rec.now) }
         ensures adds { OnOk result (AddsRecord self.old self.new rec.now) }
@@ -100,7 +105,8 @@ impl Packer {
     }
 
     /// Adds a label, in the next body where the open one has no room for all of it. A session begins
-    /// with a label without totals, and ends with one that has those of its records.
+    /// with a label without totals, and ends with one that has those of its records. `ends` speaks of a
+    /// packer with an open body, which one has from its first label until `finish`.
     pub fn put_label(&mut self, label: &SessionLabel) -> Result<(), AllocError>
         ensures starts { OnOk result (PacksStart self.old self.new label.now) }
         ensures ends { OnOk result (HasOpen self.old → PacksEnd self.old self.new label.now) }

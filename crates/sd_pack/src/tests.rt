@@ -1,187 +1,220 @@
-ghost use Rattle.std.specs.Prelude.{◌≤◌};
-
+// Sessions packed into blocks, and the same with want of memory once at each allocation.
 use super::*;
-use sd_base::{Bytes, JobId, MediaName, PoolName, Rec};
+use sd_base::{
+    BLOCK_HEADER, Bytes, JobId, LEAST_BLOCK_LIMIT, MOST_BLOCK, MediaName, PoolName, Rec,
+};
 use sd_label::{SessionLabel, Totals};
 use sd_record::next_fragment;
 use std::alloc::{AllocError, Global};
 use std::process::Abort;
-use std::test::Fail;
 
-const BLOCK: usize = 1024;
+const LARGE: [(usize, u32, u32); 16] = [
+    (64_512, 1, 1),
+    (64_512, 1, 1),
+    (64_512, 1, 1),
+    (64_512, 1, 1),
+    (64_512, 1, 1),
+    (64_512, 1, 1),
+    (64_512, 1, 1),
+    (64_512, 1, 1),
+    (64_512, 1, 1),
+    (64_512, 1, 1),
+    (64_512, 1, 1),
+    (64_512, 1, 1),
+    (64_512, 1, 1),
+    (64_512, 1, 1),
+    (64_512, 1, 1),
+    (33_022, 1, 1),
+];
 
-fn label(totals: Option<Totals>) -> Result<SessionLabel, Fail> {
-    Ok(SessionLabel {
-        job: JobId::new(7).ok_or("no job")?,
-        pool: PoolName::parse("Default")?,
-        media: MediaName::parse("File")?,
+const MIXED: [(usize, u32, u32); 5] = [
+    (1024, 1, 2),
+    (1024, 2, 2),
+    (1024, 2, 2),
+    (1012, 2, 3),
+    (97, 0, 0),
+];
+
+// A session: its block limit, the data sizes of its records, and the length, the first and the last index
+// of each block that it makes, with its labels.
+const SESSIONS: [(&str, usize, &[usize], &[(usize, u32, u32)]); 12] = [
+    ("small_sessions, none", 1024, &[], &[(150, 0, 0)]),
+    ("small_sessions, no data", 1024, &[0], &[(162, 1, 1)]),
+    (
+        "small_sessions, end label behind",
+        1024,
+        &[863],
+        &[(952, 1, 1), (97, 0, 0)],
+    ),
+    ("small_sessions, full", 1024, &[862], &[(1024, 1, 1)]),
+    (
+        "three_blocks",
+        1024,
+        &[2000],
+        &[(1024, 1, 1), (1024, 1, 1), (186, 1, 1)],
+    ),
+    (
+        "three_blocks among others",
+        1024,
+        &[0, 0, 2000, 5],
+        &[(1024, 1, 3), (1024, 3, 3), (227, 3, 4)],
+    ),
+    (
+        "header_alone",
+        1024,
+        &[923, 3],
+        &[(1024, 1, 2), (112, 2, 2)],
+    ),
+    (
+        "no_room_for_header",
+        1024,
+        &[924, 3],
+        &[(1013, 1, 1), (112, 2, 2)],
+    ),
+    (
+        "data end with the body",
+        1024,
+        &[935],
+        &[(1024, 1, 1), (97, 0, 0)],
+    ),
+    (
+        "data end with a later body",
+        1024,
+        &[1923],
+        &[(1024, 1, 1), (1024, 1, 1), (97, 0, 0)],
+    ),
+    ("mixed", 1024, &[863, 3000, 0], &MIXED),
+    ("large_record", 64_512, &[1_000_000], &LARGE),
+];
+
+fn label(totals: Option<Totals>) -> Option<SessionLabel> {
+    let job = JobId::new(7)?;
+    let pool = PoolName::parse("Default").ok()?;
+    let media = MediaName::parse("File").ok()?;
+    Some(SessionLabel {
+        job,
+        pool,
+        media,
         moment: 0,
         totals,
     })
 }
 
 // In each helper below, where memory is wanted once, the same is tried again.
-fn data(alloc: Global, size: usize) -> Result<Vec<u8>, AllocError> {
+fn data(alloc: Global, size: usize) -> Option<Vec<u8>> {
     match vec![in alloc; b'x'; size] {
-        Ok(data) => Ok(data),
-        Err(AllocError) => vec![in alloc; b'x'; size],
+        Ok(data) => Some(data),
+        Err(AllocError) => vec![in alloc; b'x'; size].ok(),
     }
 }
 
-fn record(alloc: Global, index: u32, size: usize) -> Result<Rec, Fail> {
-    let rec = Rec::new(index, 2, Bytes::from_vec(data(alloc, size)?)).ok_or("no record")?;
-    Ok(rec)
-}
-
-fn put(rt: &impl Abort, packer: &mut Packer, rec: &Rec) -> Result<(), AllocError> {
+fn put(rt: &impl Abort, alloc: Global, packer: &mut Packer, index: u32, size: usize) -> Option<()> {
+    let rec = Rec::new(index, 2, Bytes::from_vec(data(alloc, size)?))?;
     let waiting = packer.waiting();
-    match packer.put(rec) {
-        Ok(()) => Ok(()),
-        Err(AllocError) => {
-            assert_eq!(rt; packer.waiting(), waiting);
-            packer.put(rec)
-        }
+    if packer.put(&rec).is_ok() {
+        return Some(());
     }
+    assert_eq!(rt; packer.waiting(), waiting);
+    packer.put(&rec).ok()
 }
 
-fn put_label(rt: &impl Abort, packer: &mut Packer, label: &SessionLabel) -> Result<(), AllocError> {
+fn put_label(rt: &impl Abort, packer: &mut Packer, totals: Option<Totals>) -> Option<()> {
+    let label = label(totals)?;
     let waiting = packer.waiting();
-    match packer.put_label(label) {
-        Ok(()) => Ok(()),
-        Err(AllocError) => {
-            assert_eq!(rt; packer.waiting(), waiting);
-            packer.put_label(label)
-        }
+    if packer.put_label(&label).is_ok() {
+        return Some(());
     }
+    assert_eq!(rt; packer.waiting(), waiting);
+    packer.put_label(&label).ok()
 }
 
-fn new_packer(alloc: Global, max: usize) -> Result<Packer, AllocError>
-    requires least { 1024 ≤ max }
-    requires most { max ≤ 1048576 }
-{
+fn new_packer(alloc: Global, max: usize) -> Option<Packer> {
+    if max < LEAST_BLOCK_LIMIT || max > MOST_BLOCK {
+        return None;
+    }
     match Packer::new(alloc, max) {
-        Ok(packer) => Ok(packer),
-        Err(AllocError) => Packer::new(alloc, max),
+        Ok(packer) => Some(packer),
+        Err(AllocError) => Packer::new(alloc, max).ok(),
     }
 }
 
-// The start label, records of these sizes, and the end label.
-fn pack(rt: &impl Abort, alloc: Global, packer: &mut Packer, sizes: &[usize]) -> Result<(), Fail> {
-    put_label(rt, packer, &label(None)?)?;
+// The records of these sizes, and their totals.
+fn put_all(rt: &impl Abort, alloc: Global, packer: &mut Packer, sizes: &[usize]) -> Option<Totals> {
     let mut index = 0u32;
     let mut bytes = 0u64;
     for size in sizes {
         index = index.wrapping_add(1);
         bytes = bytes.wrapping_add(*size as u64);
-        put(rt, packer, &record(alloc, index, *size)?)?;
+        put(rt, alloc, packer, index, *size)?;
     }
     let records = u64::from(index);
-    let totals = Totals { records, bytes };
-    put_label(rt, packer, &label(Some(totals))?)?;
-    Ok(())
+    Some(Totals { records, bytes })
 }
 
-// Takes all bodies: each makes a block of the length given, and says the first and the last index given.
-fn assert_blocks(rt: &impl Abort, packer: &mut Packer, blocks: &[(usize, u32, u32)]) {
+// The bodies of a session with its labels.
+fn packed(rt: &impl Abort, alloc: Global, max: usize, sizes: &[usize]) -> Option<Packer> {
+    let mut packer = new_packer(alloc, max)?;
+    put_label(rt, &mut packer, None)?;
+    let totals = put_all(rt, alloc, &mut packer, sizes)?;
+    put_label(rt, &mut packer, Some(totals))?;
     packer.finish();
-    assert_eq!(rt; packer.waiting(), blocks.len());
-    for (length, first, last) in blocks {
-        let front = packer.front_body().map(|body| body.bytes.len());
-        let body = packer.take_body().expect(rt, "a body waits");
-        assert_eq!(rt; body.bytes.len() + BLOCK_HEADER, *length);
-        assert_eq!(rt; front, Some(body.bytes.len()));
-        assert_eq!(rt; (body.first, body.last), (*first, *last));
+    Some(packer)
+}
+
+// The length, the first and the last index of the next body's block, by a look at it and by the body.
+fn next_block(packer: &mut Packer) -> Option<(usize, usize, u32, u32)> {
+    let seen = packer.front_body()?.bytes.len();
+    let body = packer.take_body()?;
+    Some((seen, body.bytes.len(), body.first, body.last))
+}
+
+#[test]
+fn sessions(rt: HostRuntime) {
+    for (name, max, sizes, blocks) in SESSIONS {
+        let mut packer = packed(&rt, rt.alloc(), max, sizes).expect(&rt, "a session");
+        assert_eq!(rt; packer.waiting(), blocks.len(), "{name}");
+        for (length, first, last) in blocks {
+            let body = length.saturating_sub(BLOCK_HEADER);
+            let found = next_block(&mut packer);
+            assert_eq!(rt; found, Some((body, body, *first, *last)), "{name}");
+        }
+        assert_eq!(rt; packer.waiting(), 0, "{name}");
+        assert_eq!(rt; next_block(&mut packer), None, "{name}");
     }
-    assert_eq!(rt; packer.waiting(), 0);
-    assert!(rt; packer.take_body().is_none());
+    packed_bodies_hold();
 }
 
-fn assert_session(
-    rt: &impl Abort,
-    alloc: Global,
-    sizes: &[usize],
-    blocks: &[(usize, u32, u32)],
-) -> Result<(), Fail> {
-    let mut packer = new_packer(alloc, BLOCK)?;
-    pack(rt, alloc, &mut packer, sizes)?;
-    assert_blocks(rt, &mut packer, blocks);
-    Ok(())
+// The first fragment of the next body, and whether it ends with the body.
+fn next_first(packer: &mut Packer) -> Option<(i32, i32, u32, usize, bool)> {
+    let body = packer.take_body()?;
+    let bytes = body.bytes.as_slice();
+    let (found, end) = next_fragment(bytes, 0).ok()??;
+    let ends = end == bytes.len();
+    Some((
+        found.index,
+        found.stream,
+        found.size,
+        found.part.len(),
+        ends,
+    ))
 }
 
-#[test]
-fn small_sessions(rt: HostRuntime) -> Result<(), Fail> {
-    assert_session(&rt, rt.alloc(), &[], &[(150, 0, 0)])?;
-    assert_session(&rt, rt.alloc(), &[0], &[(162, 1, 1)])?;
-    assert_session(&rt, rt.alloc(), &[863], &[(952, 1, 1), (97, 0, 0)])?;
-    assert_session(&rt, rt.alloc(), &[862], &[(1024, 1, 1)])
-}
-
-#[test]
-fn three_blocks(rt: HostRuntime) -> Result<(), Fail> {
-    let blocks = [(1024, 1, 1), (1024, 1, 1), (186, 1, 1)];
-    assert_session(&rt, rt.alloc(), &[2000], &blocks)?;
-    assert_session(
-        &rt,
-        rt.alloc(),
-        &[0, 0, 2000, 5],
-        &[(1024, 1, 3), (1024, 3, 3), (227, 3, 4)],
-    )
-}
-
-// Index, stream, size and part length of the first fragment of each body.
-#[test]
-fn continued_fragments(rt: HostRuntime) -> Result<(), Fail> {
-    let mut packer = new_packer(rt.alloc(), BLOCK)?;
-    put(&rt, &mut packer, &record(rt.alloc(), 1, 2000)?)?;
+// A record of this size alone at the least block limit, and how many closed bodies wait behind it.
+fn alone(rt: &impl Abort, alloc: Global, size: usize, waiting: usize) -> Option<Packer> {
+    let mut packer = new_packer(alloc, LEAST_BLOCK_LIMIT)?;
+    put(rt, alloc, &mut packer, 1, size)?;
+    assert_eq!(rt; packer.waiting(), waiting);
     packer.finish();
+    Some(packer)
+}
+
+#[test]
+fn continued_fragments(rt: HostRuntime) {
+    let mut packer = alone(&rt, rt.alloc(), 2000, 2).expect(&rt, "a record");
     for (stream, size, part) in [(2, 2000, 988), (-2, 1012, 988), (-2, 24, 24)] {
-        let body = packer.take_body().expect(&rt, "a body waits");
-        let found = next_fragment(body.bytes.as_slice(), 0);
-        let (fragment, end) = found.ok().flatten().expect(&rt, "a fragment");
-        assert_eq!(rt;
-            (fragment.index, fragment.stream, fragment.size),
-            (1, stream, size)
-        );
-        assert_eq!(rt; (fragment.part.len(), end), (part, body.bytes.len()));
+        let found = next_first(&mut packer);
+        assert_eq!(rt; found, Some((1, stream, size, part, true)));
     }
-    Ok(())
-}
-
-#[test]
-fn header_alone(rt: HostRuntime) -> Result<(), Fail> {
-    assert_session(&rt, rt.alloc(), &[923, 3], &[(1024, 1, 2), (112, 2, 2)])
-}
-
-#[test]
-fn no_room_for_header(rt: HostRuntime) -> Result<(), Fail> {
-    assert_session(&rt, rt.alloc(), &[924, 3], &[(1013, 1, 1), (112, 2, 2)])
-}
-
-#[test]
-fn large_record(rt: HostRuntime) -> Result<(), Fail> {
-    let mut packer = new_packer(rt.alloc(), 64_512)?;
-    pack(&rt, rt.alloc(), &mut packer, &[1_000_000])?;
-    let mut blocks = [(64_512, 1, 1); 16];
-    blocks[15] = (33_022, 1, 1);
-    assert_blocks(&rt, &mut packer, &blocks);
-    let mut narrow = new_packer(rt.alloc(), BLOCK)?;
-    put(&rt, &mut narrow, &record(rt.alloc(), 1, 1_000_000)?)?;
-    assert_eq!(rt; narrow.waiting(), 1012);
-    Ok(())
-}
-
-// Each allocation may fail once, and the bodies are the same.
-#[test]
-fn bodies_stay_without_memory(rt: HostRuntime) -> Result<(), Fail> {
-    let mut packer = new_packer(rt.alloc(), BLOCK)?;
-    pack(&rt, rt.alloc(), &mut packer, &[863, 3000, 0])?;
-    let blocks = [
-        (1024, 1, 2),
-        (1024, 2, 2),
-        (1024, 2, 2),
-        (1012, 2, 3),
-        (97, 0, 0),
-    ];
-    assert_blocks(&rt, &mut packer, &blocks);
-    Ok(())
+    assert_eq!(rt; next_first(&mut packer), None);
+    assert!(rt; alone(&rt, rt.alloc(), 1_000_000, 1012).is_some());
 }

@@ -1,7 +1,7 @@
 -- A body is one list of fragments: each says where it ends.
 use Rattle.std.proofs.Common.{◌≡◌, ℕ, ◌+◌, ◌-◌, refl, sym, ap, ◌∙◌, arith, List, [], ◌∷◌, ◌++◌, drop, length, min}
 use Rattle.std.specs.Prelude.{ℤ}
-use Rattle.std.proofs.lemmas.List.{append_assoc, length-append, length-drop, drop_all}
+use Rattle.std.proofs.lemmas.List.{append_assoc, append-nil, length-append, length-drop, drop_all, drop_at}
 use Rattle.sd_base.proofs.FieldLemmas.{length-u32_bytes, u32_apart, i32_apart, append_apart}
 use Rattle.sd_record.specs.Fragment.{Fragment, fragment_bytes, fragments_bytes, IsFragment, GoesOn, FitTogether, StandsAt}
 
@@ -53,6 +53,19 @@ fragments_apart (f ∷ fs) [] fits fits' e = absurd (never_empty f fs e)
 fragments_apart (f ∷ fs) (g ∷ gs) fits fits' e =
     let first = fragment_apart f g (fragments_bytes fs) (fragments_bytes gs) fits.0 fits'.0 (λ more. ap fragments_bytes (fits.1 more)) (λ more. ap fragments_bytes (fits'.1 more)) e in
     ap (λ l. l ∷ fs) first.0 ∙ ap (λ l. g ∷ l) (fragments_apart fs gs fits.2 fits'.2 first.1)
+
+-- a fragment that is written at the end of a body stands there, where it is one
+pub stands_last : (body old : List ℕ) (f : Fragment) → body ≡ old ++ fragment_bytes f → IsFragment f → StandsAt body (length old) f (length body)
+stands_last body old f e fits =
+    let long : length body ≡ length old + (12 + length f.part) =
+    ap length e ∙ length-append old (fragment_bytes f) ∙ ap (λ n. length old + n) (length-fragment_bytes f) in
+    let none : drop (length body) body ≡ [] = drop_all (length body) body (omega arith) in
+    record {
+      bytes_there = ap (drop (length old)) e ∙ drop_at old (fragment_bytes f) (length old) refl ∙ sym (ap (λ l. fragment_bytes f ++ l) none ∙ append-nil (fragment_bytes f));
+      part_length = let within = fits.part_within in omega arith;
+      next_is = omega arith;
+      fragment = fits;
+    }
 
 -- what the reader says stands at a place is what stands there
 pub stands_apart : (body rest : List ℕ) (at next : ℕ) (f g : Fragment) → StandsAt body at f next → IsFragment g

@@ -4,8 +4,7 @@ use Rattle.std.specs.Prelude.{ℤ, pos, negsuc, neg_ℤ, FitsSigned}
 use Rattle.std.specs.Int.{w32}
 use Rattle.std.proofs.lemmas.List.{append_assoc, append-nil, length-append, nil_from_length, length-drop}
 use Rattle.sd_base.specs.Record.{Record, IsRecord}
-use Rattle.sd_base.specs.declared.number.TheConstants.{MOST_NUMBER}
-use Rattle.sd_base.specs.declared.record.TheConstants.{MOST_DATA}
+use Rattle.sd_base.specs.Limits.{most_number, most_data}
 use Rattle.sd_record.specs.Fragment.{Fragment, IsFragment, IsZeroStream, BeginsData, Continue, Fragments, FragmentsOfAll}
 
 -- two equal lists have the same first element and the same rest
@@ -93,26 +92,26 @@ abbrev pub AreFragments : List Fragment → Type 0
 AreFragments [] = Unit {0}
 AreFragments (f ∷ fs) = IsFragment f × AreFragments fs
 
-pos_fits : (n : ℕ) → n ≤ MOST_NUMBER → FitsSigned w32 (pos n)
+pos_fits : (n : ℕ) → n ≤ most_number → FitsSigned w32 (pos n)
 pos_fits n most = record { sfits = omega arith }
 
-neg_fits : (n : ℕ) → n ≤ MOST_NUMBER → FitsSigned w32 (neg_ℤ (pos n))
+neg_fits : (n : ℕ) → n ≤ most_number → FitsSigned w32 (neg_ℤ (pos n))
 neg_fits zero most = record { sfits = omega arith }
 neg_fits (suc n) most = record { sfits = omega arith }
 
 negsuc_same : (m n : ℕ) → negsuc m ≡ negsuc n → m ≡ n
 negsuc_same m n e = cc
 
-pos_named : (n : ℕ) → 1 ≤ n → n ≤ MOST_NUMBER → IsZeroStream (pos n) → ⊥
+pos_named : (n : ℕ) → 1 ≤ n → n ≤ most_number → IsZeroStream (pos n) → ⊥
 pos_named n least most unnamed = elim unnamed [ inl e ↦ (let none = pos_same n 0 e in omega arith) | inr e ↦ cc e ]
 
-neg_named : (n : ℕ) → 1 ≤ n → n ≤ MOST_NUMBER → IsZeroStream (neg_ℤ (pos n)) → ⊥
+neg_named : (n : ℕ) → 1 ≤ n → n ≤ most_number → IsZeroStream (neg_ℤ (pos n)) → ⊥
 neg_named zero least most unnamed = absurd (omega arith)
 neg_named (suc n) least most unnamed = elim unnamed [ inl e ↦ cc e | inr e ↦ (let least = negsuc_same n _ e in omega arith) ]
 
 -- a header's numbers fit their fields, and a part is no longer than its header says
 begins_fragment : (f : Fragment) (index stream : ℤ) (left : List ℕ) → BeginsData f index stream left → FitsSigned w32 index
-    → FitsSigned w32 stream → (IsZeroStream stream → ⊥) → length left ≤ MOST_DATA → IsFragment f
+    → FitsSigned w32 stream → (IsZeroStream stream → ⊥) → length left ≤ most_data → IsFragment f
 begins_fragment f index stream left begins fits_i fits_s named most = record {
   index_fits = subst (FitsSigned w32) (sym begins.index_is) fits_i;
   stream_fits = subst (FitsSigned w32) (sym begins.stream_is) fits_s;
@@ -122,7 +121,7 @@ begins_fragment f index stream left begins fits_i fits_s named most = record {
 }
 
 continue_fragments : (index stream : ℤ) (left : List ℕ) (fs : List Fragment) → FitsSigned w32 index → FitsSigned w32 (neg_ℤ stream)
-    → (IsZeroStream (neg_ℤ stream) → ⊥) → length left ≤ MOST_DATA → Continue index stream left fs → AreFragments fs
+    → (IsZeroStream (neg_ℤ stream) → ⊥) → length left ≤ most_data → Continue index stream left fs → AreFragments fs
 continue_fragments index stream left [] fits_i fits_s named most c = tt
 continue_fragments index stream left (f ∷ fs) fits_i fits_s named most c = (
   begins_fragment f index (neg_ℤ stream) left c.0 fits_i fits_s named most,

@@ -52,7 +52,8 @@ pub record BeginsData (f : Fragment) (index stream : ℤ) (left : List ℕ) : Ty
 abbrev pub Continue : ℤ → ℤ → List ℕ → List Fragment → Type 0
 Continue index stream left [] = left ≡ []
 Continue index stream left (f ∷ fs) =
-    BeginsData f index (neg_ℤ stream) left × (f.part ≢ []) × Continue index stream (drop (length f.part) left) fs
+    BeginsData f index (neg_ℤ stream) left × (f.part ≢ [])
+    × Continue index stream (drop (length f.part) left) fs
 
 -- the fragments of a record: its data in one or more parts, of which the first alone may be empty
 abbrev pub Fragments : Record → List Fragment → Type 0
@@ -65,7 +66,8 @@ Fragments r (f ∷ fs) =
 abbrev pub FragmentsOfAll : List Record → List Fragment → Type 0
 FragmentsOfAll [] fs = fs ≡ []
 FragmentsOfAll (r ∷ rs) fs =
-    (first : List Fragment) × (rest : List Fragment) × (fs ≡ first ++ rest) × Fragments r first × FragmentsOfAll rs rest
+    (first : List Fragment) × (rest : List Fragment)
+    × (fs ≡ first ++ rest) × Fragments r first × FragmentsOfAll rs rest
 
 -- the fragment stands at `at`, and the next thing of the body at `next`; its part ends where its size
 -- or the body does
@@ -83,13 +85,15 @@ IsHeaderAt body at index stream size =
 -- a whole header stands at `at`, and its stream is none that a fragment has
 abbrev pub HasZeroStream : List ℕ → ℕ → Type 0
 HasZeroStream body at =
-    (at + 12 ≤ length body) × (stream : ℤ) × IsZeroStream stream × (take 4 (drop (at + 4) body) ≡ i32_bytes stream)
+    (at + 12 ≤ length body)
+    × (stream : ℤ) × IsZeroStream stream × (take 4 (drop (at + 4) body) ≡ i32_bytes stream)
 
 -- Laws.
 
 -- a body is the bytes of one list of fragments at most
 abbrev pub BodyIsOneList : Type 0
-BodyIsOneList = (fs gs : List Fragment) → FitTogether fs → FitTogether gs → fragments_bytes fs ≡ fragments_bytes gs → fs ≡ gs
+BodyIsOneList = (fs gs : List Fragment)
+    → FitTogether fs → FitTogether gs → fragments_bytes fs ≡ fragments_bytes gs → fs ≡ gs
 
 -- fragments that begin one list are of one record, and are the same
 abbrev pub FragmentsAreOfOneRecord : Type 0

@@ -43,6 +43,10 @@ pub enum FragmentFault {
 pub fn put_fragment(body: &mut Vec<u8>, fragment: &Fragment<'_>) -> Result<(), AllocError>
     ensures ok { OnOk result (body.new.items ≡ body.old.items ++ fragment_bytes fragment.now) }
     ensures err { OnErr result (body.new.items ≡ body.old.items) }
+
+    // Of a fragment within its limits, and of no other, `next_fragment` reads it back.
+    ensures read_back { OnOk result (IsFragment fragment.now
+        ↔ StandsAt body.new.items (length body.old.items) fragment.now (length body.new.items)) }
 {
     body.reserve(HEADER_LENGTH + fragment.part.len())?;
     let header = header_bytes(fragment.index, fragment.stream, fragment.size);
@@ -65,13 +69,16 @@ fn header_bytes(index: i32, stream: i32, size: u32) -> [u8; HEADER_LENGTH]
 /// long as its size says, or shorter where the body ends before that.
 pub fn next_fragment(body: &[u8], at: usize) -> Result<Option<(Fragment<'_>, usize)>, FragmentFault>
     ensures end { (result ≡ Ok None) ↔ (length body.now ≤ at) }
-    ensures cut { (result ≡ Err FragmentFault.Cut) ↔ ((at < length body.now) × (length body.now < at + 12)) }
+    ensures cut { (result ≡ Err FragmentFault.Cut)
+        ↔ ((at < length body.now) × (length body.now < at + 12)) }
     ensures zero_stream { (result ≡ Err FragmentFault.ZeroStream) ↔ HasZeroStream body.now at }
-    ensures found { IfOk result (λ next. IfSome next (λ found. StandsAt body.now at found.0 found.1)) }
+    ensures found { IfOk result
+        (λ next. IfSome next (λ found. StandsAt body.now at found.0 found.1)) }
 
     // A fragment that stands there is found, and no other: one that goes on ends the body.
     ensures read_back { (f : SpecFragment) (rest : List ℕ) → IsFragment f → (GoesOn f → rest ≡ [])
-        → drop at body.now ≡ fragment_bytes f ++ rest → result ≡ Ok (Some (f, at + 12 + length f.part)) }
+        → drop at body.now ≡ fragment_bytes f ++ rest
+        → result ≡ Ok (Some (f, at + 12 + length f.part)) }
 {
     if body.len() <= at {
         return Ok(None);

@@ -1,7 +1,9 @@
 // A session packed, sealed, opened and unpacked again.
 use anyhow::Result;
-use sd_base::{Bytes, JobId, MediaName, PoolName, Rec, SessionKey};
-use sd_block::{LEAST_BODY, MOST_BLOCK, MOST_BODY, open_block, seal};
+use sd_base::{
+    Bytes, JobId, LEAST_BODY, MOST_BLOCK, MOST_BODY, MediaName, PoolName, Rec, SessionKey,
+};
+use sd_block::{open_block, seal};
 use sd_label::{SessionLabel, Totals};
 use sd_pack::{Body, Packer};
 use sd_unpack::{AddFault, Unpacker};

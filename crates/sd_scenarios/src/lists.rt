@@ -1,11 +1,11 @@
 // Generated lists, played by the world and by the plain machine.
 use crate::act::Act;
-use crate::daemon::{Daemon, TIME};
 use crate::event::event_of;
 use crate::generator::Generator;
 use crate::line::Line;
 use crate::machine::Machine;
 use crate::plain::Plain;
+use crate::played_world::{PlayedWorld, TIME};
 use crate::player::{compare, compare_volume};
 use crate::reply_line::put_reply;
 use crate::tally::Tally;
@@ -23,7 +23,7 @@ const LENGTH: usize = 400;
 #[derive(Drop)]
 struct Pair {
     alloc: Global,
-    daemon: Daemon,
+    played: PlayedWorld,
     plain: Plain,
     got: Line,
     wanted: Line,
@@ -58,7 +58,7 @@ impl Pair {
     fn new(alloc: Global) -> Option<Self> {
         Some(Pair {
             alloc,
-            daemon: Daemon::new(alloc, false)?,
+            played: PlayedWorld::new(alloc, false)?,
             plain: Plain::new(alloc, false, TIME),
             got: Line::new(alloc),
             wanted: Line::new(alloc),
@@ -80,7 +80,7 @@ impl Pair {
         compare_volume(
             report,
             "acts",
-            &self.daemon.world,
+            &self.played.world,
             self.plain.volume_bytes(),
         );
         self.run_again(report);
@@ -90,7 +90,7 @@ impl Pair {
     fn step(&mut self, act: Act, tally: &mut Tally, report: &mut Line) {
         self.got.clear();
         self.wanted.clear();
-        self.daemon.play(act, &mut self.got);
+        self.played.play(act, &mut self.got);
         self.plain.play(act, &mut self.wanted);
         tally.answers.words(self.got.as_str());
         tally.answers.words("\n");

@@ -1,9 +1,9 @@
 // Playing scenarios act by act.
 use crate::act::Act;
-use crate::daemon::{Daemon, TIME};
 use crate::line::Line;
 use crate::machine::Machine;
 use crate::plain::Plain;
+use crate::played_world::{PlayedWorld, TIME};
 use crate::reply_line::{put_fault, put_read};
 use crate::scenarios::{At, Reading, Scenario, VOLUME, Wanted};
 use sd_base::VolName;
@@ -16,21 +16,21 @@ const MOST_ROUNDS: u32 = 100;
 /// Plays the scenario on a new world and on a new plain machine, reads the sessions then, and looks at the
 /// volume. Adds to the report what comes to anything else than is wanted.
 pub fn play(alloc: Global, scenario: &Scenario, report: &mut Line) {
-    match Daemon::new(alloc, scenario.wide) {
-        Some(mut daemon) => play_on(alloc, &mut daemon, scenario, report),
+    match PlayedWorld::new(alloc, scenario.wide) {
+        Some(mut played) => play_on(alloc, &mut played, scenario, report),
         None => report.words("no world\n"),
     }
 }
 
-fn play_on(alloc: Global, daemon: &mut Daemon, scenario: &Scenario, report: &mut Line) {
-    play_moves(alloc, daemon, scenario, report);
-    play_readings(alloc, daemon, scenario, report);
+fn play_on(alloc: Global, played: &mut PlayedWorld, scenario: &Scenario, report: &mut Line) {
+    play_moves(alloc, played, scenario, report);
+    play_readings(alloc, played, scenario, report);
     if let Some(wanted) = scenario.volume {
-        compare_volume(report, scenario.name, &daemon.world, wanted);
+        compare_volume(report, scenario.name, &played.world, wanted);
     }
     let mut plain = Plain::new(alloc, scenario.wide, TIME);
     play_moves(alloc, &mut plain, scenario, report);
-    compare_volume(report, scenario.name, &daemon.world, plain.volume_bytes());
+    compare_volume(report, scenario.name, &played.world, plain.volume_bytes());
 }
 
 fn play_moves<M: Machine>(alloc: Global, machine: &mut M, scenario: &Scenario, report: &mut Line) {
@@ -45,13 +45,13 @@ fn play_moves<M: Machine>(alloc: Global, machine: &mut M, scenario: &Scenario, r
     }
 }
 
-fn play_readings(alloc: Global, daemon: &Daemon, scenario: &Scenario, report: &mut Line) {
+fn play_readings(alloc: Global, played: &PlayedWorld, scenario: &Scenario, report: &mut Line) {
     let mut got = Line::new(alloc);
     let mut wanted = Line::new(alloc);
     for (number, reading) in scenario.readings.iter().enumerate() {
         got.clear();
         wanted.clear();
-        read(alloc, daemon, reading, &mut got);
+        read(alloc, played, reading, &mut got);
         put_wanted(&mut wanted, reading.2);
         compare(report, scenario.name, number, wanted.as_str(), got.as_str());
     }
@@ -115,14 +115,14 @@ fn says<M: Machine>(machine: &mut M, act: Act, words: &str, line: &mut Line) -> 
     line.as_str().starts_with(words)
 }
 
-fn read(alloc: Global, daemon: &Daemon, reading: &Reading, line: &mut Line) {
+fn read(alloc: Global, played: &PlayedWorld, reading: &Reading, line: &mut Line) {
     let mut spans = Vec::new(alloc);
     for at in reading.1 {
         if let Some(span) = span_of(*at) {
             let _ = spans.push(span);
         }
     }
-    daemon.read_spans(reading.0, &spans, line);
+    played.read_spans(reading.0, &spans, line);
 }
 
 /// The span, with the FileIndexes 3 and 4, which no reading looks at.

@@ -10,17 +10,15 @@ use Rattle.std.proofs.lemmas.List.Elements.{All-from_get_or, All-from_recursion}
 use Rattle.std.proofs.lemmas.Int.{ints}
 use Rattle.std.proofs.lemmas.Fmt.{digits_decimal}
 use Rattle.std.proofs.lemmas.Str.Parse.{digit_at}
-use Rattle.sd_base.specs.declared.number.TheConstants.{MOST_NUMBER}
-use Rattle.sd_base.specs.declared.record.TheConstants.{MOST_DATA}
+use Rattle.sd_base.specs.Limits.{least_block_limit, most_block, most_data, most_number}
 use Rattle.sd_script.specs.declared.command.Command.{Command}
 use Rattle.sd_script.specs.declared.command.Command.TheVariants.{Block, Time, At, Label, Mount, Seek, Open, Rec, Fill, End, Cancel, Spool, Despool, Take, Place, Sync, Close, Read, Drain}
-use Rattle.sd_script.specs.declared.line.TheConstants.{LEAST_BLOCK_LIMIT, MOST_BLOCK_LIMIT, MOST_MOMENT}
 use Rattle.sd_script.specs.declared.line.Setting.TheVariants as setting
 use Rattle.sd_script.specs.declared.line.Line.{Line}
 use Rattle.sd_script.specs.declared.line.Line.TheVariants as line
 use Rattle.sd_script.specs.Command.{command_text}
 use Rattle.sd_script.specs.Grammar.{HasNoBlank, IsWord, IsSpelled, IsWithin, AreWords, IsNumber, IsDrive, joined}
-use Rattle.sd_script.specs.Reading.{Fields, fields_of, text_of, shape, word_at, one_number, label_shape, mount_shape, open_shape, rec_shape, fill_shape}
+use Rattle.sd_script.specs.Reading.{most_moment, Fields, fields_of, text_of, shape, word_at, one_number, label_shape, mount_shape, open_shape, rec_shape, fill_shape}
 use Rattle.sd_script.proofs.NumberLemmas.{own}
 use Rattle.sd_script.proofs.FieldLemmas.{fields_of-joined, fields_of-behind, text_of-fields_of}
 use Rattle.sd_script.proofs.ReadingLemmas.{number_at_again, word_at_again, word_at_takes, only_number_again, one_number_again}
@@ -129,8 +127,8 @@ drive_parts : (bytes : List ℕ) (k : Command) (n : ℕ) (made : ℕ → Line) �
 drive_parts bytes k n made within same e = one_parts bytes k 1 8 n made (lit< tt) within same e
 
 session_parts : (bytes : List ℕ) (k : Command) (n : ℕ) (made : ℕ → Line) → IsNumber n
-    → shape k (decimal n ∷ []) ≡ one_number 1 MOST_NUMBER made (decimal n ∷ []) → bytes ≡ joined (command_text k ∷ decimal n ∷ []) → Parts bytes (made n)
-session_parts bytes k n made within same e = one_parts bytes k 1 MOST_NUMBER n made (lit< tt) within same e
+    → shape k (decimal n ∷ []) ≡ one_number 1 most_number made (decimal n ∷ []) → bytes ≡ joined (command_text k ∷ decimal n ∷ []) → Parts bytes (made n)
+session_parts bytes k n made within same e = one_parts bytes k 1 most_number n made (lit< tt) within same e
 
 label_again : (d : ℕ) (v p m : List ℕ) → IsDrive d → IsWord v → IsWord p → IsWord m → label_shape (decimal d ∷ v ∷ p ∷ m ∷ []) ≡ Some (line.Label d v p m)
 unfolding label_shape
@@ -144,7 +142,7 @@ mount_again d v within v_word = rw (number_at_again 1 8 d (v ∷ []) (lit< tt) w
 open_again : (j : ℕ) (p m : List ℕ) → IsNumber j → IsWord p → IsWord m → open_shape (decimal j ∷ p ∷ m ∷ []) ≡ Some (line.Open j p m)
 unfolding open_shape
 open_again j p m within p_word m_word =
-    rw (number_at_again 1 MOST_NUMBER j (p ∷ m ∷ []) (lit< tt) within.0 within.1, word_at_again p (m ∷ []) p_word.0, word_at_again m [] m_word.0) refl
+    rw (number_at_again 1 most_number j (p ∷ m ∷ []) (lit< tt) within.0 within.1, word_at_again p (m ∷ []) p_word.0, word_at_again m [] m_word.0) refl
 
 rec_again : (t i s : ℕ) (rest : Fields) (text : List ℕ) → text_of rest ≡ text → IsWithin (line.Rec t i s text)
     → rec_shape (decimal t ∷ decimal i ∷ decimal s ∷ rest) ≡ Some (line.Rec t i s text)
@@ -152,21 +150,21 @@ unfolding rec_shape
 rec_again t i s rest text same within =
     let fits = within.3 in
     rw (
-      number_at_again 1 MOST_NUMBER t (decimal i ∷ decimal s ∷ rest) (lit< tt) within.0.0 within.0.1,
-      number_at_again 1 MOST_NUMBER i (decimal s ∷ rest) (lit< tt) within.1.0 within.1.1,
-      number_at_again 1 MOST_NUMBER s rest (lit< tt) within.2.0 within.2.1,
+      number_at_again 1 most_number t (decimal i ∷ decimal s ∷ rest) (lit< tt) within.0.0 within.0.1,
+      number_at_again 1 most_number i (decimal s ∷ rest) (lit< tt) within.1.0 within.1.1,
+      number_at_again 1 most_number s rest (lit< tt) within.2.0 within.2.1,
     )
-    (cond-true (nat_le (length (text_of rest)) MOST_DATA) (Some (line.Rec t i s (text_of rest))) None (le-leb (length (text_of rest)) MOST_DATA (omega (arith, ap length same)))
+    (cond-true (nat_le (length (text_of rest)) most_data) (Some (line.Rec t i s (text_of rest))) None (le-leb (length (text_of rest)) most_data (omega (arith, ap length same)))
     ∙ ap (λ (x : List ℕ). Some (line.Rec t i s x)) same)
 
 fill_again : (t i s n : ℕ) → IsWithin (line.Fill t i s n) → fill_shape (decimal t ∷ decimal i ∷ decimal s ∷ decimal n ∷ []) ≡ Some (line.Fill t i s n)
 unfolding fill_shape
 fill_again t i s n within =
     rw (
-      number_at_again 1 MOST_NUMBER t (decimal i ∷ decimal s ∷ decimal n ∷ []) (lit< tt) within.0.0 within.0.1,
-      number_at_again 1 MOST_NUMBER i (decimal s ∷ decimal n ∷ []) (lit< tt) within.1.0 within.1.1,
-      number_at_again 1 MOST_NUMBER s (decimal n ∷ []) (lit< tt) within.2.0 within.2.1,
-      only_number_again 0 MOST_DATA n (lit< tt) (omega arith) within.3,
+      number_at_again 1 most_number t (decimal i ∷ decimal s ∷ decimal n ∷ []) (lit< tt) within.0.0 within.0.1,
+      number_at_again 1 most_number i (decimal s ∷ decimal n ∷ []) (lit< tt) within.1.0 within.1.1,
+      number_at_again 1 most_number s (decimal n ∷ []) (lit< tt) within.2.0 within.2.1,
+      only_number_again 0 most_data n (lit< tt) (omega arith) within.3,
     ) refl
 
 number-plain : (n : ℕ) → IsNumber n → HasNoBlank (decimal n)
@@ -200,17 +198,17 @@ short_parts bytes t i s within e =
     (number-plain t within.0, (number-plain i within.1, (number-plain s within.2, tt))) e (rec_again t i s [] [] refl within)
 
 -- a moment that is not negative
-moment_most : (n : ℕ) → FitsSigned w64 (pos n) → n ≤ MOST_MOMENT
+moment_most : (n : ℕ) → FitsSigned w64 (pos n) → n ≤ most_moment
 moment_most n fits = omega (arith, fits.sfits)
 
 pub parts_of : (bytes : List ℕ) (l : Line) → bytes ≢ [] → IsSpelled bytes l → IsWithin l → AreWords l → Parts bytes l
 parts_of bytes line.Empty some_there spelled within words = elim spelled [ inl e ↦ absurd (some_there e) | inr short ↦ absurd short ]
 parts_of bytes (line.Set (setting.Block n)) some_there spelled within words =
-    elim spelled [ inl e ↦ one_parts bytes Block LEAST_BLOCK_LIMIT MOST_BLOCK_LIMIT n (λ m. line.Set (setting.Block m)) (lit< tt) within refl e | inr short ↦ absurd short ]
+    elim spelled [ inl e ↦ one_parts bytes Block least_block_limit most_block n (λ m. line.Set (setting.Block m)) (lit< tt) within refl e | inr short ↦ absurd short ]
 parts_of bytes (line.Set (setting.Time n)) some_there spelled within words =
     elim spelled [ inl e ↦ session_parts bytes Time n (λ m. line.Set (setting.Time m)) within refl e | inr short ↦ absurd short ]
 parts_of bytes (line.At (pos n)) some_there spelled within words =
-    elim spelled [ inl e ↦ one_parts bytes At 0 MOST_MOMENT n (λ m. line.At (pos m)) (lit< tt) (omega arith, moment_most n within.1) refl e | inr short ↦ absurd short ]
+    elim spelled [ inl e ↦ one_parts bytes At 0 most_moment n (λ m. line.At (pos m)) (lit< tt) (omega arith, moment_most n within.1) refl e | inr short ↦ absurd short ]
 parts_of bytes (line.At (negsuc n)) some_there spelled within words = absurd (omega (arith, ints, within.0))
 parts_of bytes (line.Label d v p m) some_there spelled within words =
     elim spelled [

@@ -7,17 +7,15 @@ use Rattle.std.specs.Fmt.{decimal}
 use Rattle.std.proofs.lemmas.Bool.{leb-true}
 use Rattle.std.proofs.lemmas.Int.{ints}
 use Rattle.std.proofs.lemmas.Option.{cond_some}
-use Rattle.sd_base.specs.declared.number.TheConstants.{MOST_NUMBER}
-use Rattle.sd_base.specs.declared.record.TheConstants.{MOST_DATA}
+use Rattle.sd_base.specs.Limits.{least_block_limit, most_block, most_data, most_number}
 use Rattle.sd_script.specs.declared.command.Command.{Command}
 use Rattle.sd_script.specs.declared.command.Command.TheVariants.{Block, Time, At, Label, Mount, Seek, Open, Rec, Fill, End, Cancel, Spool, Despool, Take, Place, Sync, Close, Read, Drain}
-use Rattle.sd_script.specs.declared.line.TheConstants.{LEAST_BLOCK_LIMIT, MOST_BLOCK_LIMIT, MOST_MOMENT}
 use Rattle.sd_script.specs.declared.line.Setting.TheVariants as setting
 use Rattle.sd_script.specs.declared.line.Line.{Line}
 use Rattle.sd_script.specs.declared.line.Line.TheVariants as line
 use Rattle.sd_script.specs.Command.{command_text}
 use Rattle.sd_script.specs.Grammar.{HasNoBlank, IsSpelled, IsWithin, AreWords, joined}
-use Rattle.sd_script.specs.Reading.{◌>>=◌, Fields, fields_of, text_of, shape, number_at, word_at, all_read, only_number, one_number, label_shape, mount_shape, open_shape, rec_shape, fill_shape}
+use Rattle.sd_script.specs.Reading.{most_moment, ◌>>=◌, Fields, fields_of, text_of, shape, number_at, word_at, all_read, only_number, one_number, label_shape, mount_shape, open_shape, rec_shape, fill_shape}
 use Rattle.sd_script.proofs.FieldLemmas.{text_of-fields_of, fields_of-plain}
 use Rattle.sd_script.proofs.ReadingLemmas.{bind_some, some_is, TakesNumber, number_at_takes, word_at_takes, all_read_takes, only_number_takes, one_number_takes}
 
@@ -81,11 +79,11 @@ mount_takes bytes fs l has e =
 open_takes : (bytes : List ℕ) (fs : Fields) (l : Line) → HasFields bytes (command_text Open) fs → open_shape fs ≡ Some l → Spells bytes l
 unfolding open_shape
 open_takes bytes fs l has e =
-    let a = bind_some (number_at 1 MOST_NUMBER fs) (λ job. word_at job.1 >>= λ pool. word_at pool.1 >>= λ media. all_read (line.Open job.0 pool.0 media.0) media.1) l e in
+    let a = bind_some (number_at 1 most_number fs) (λ job. word_at job.1 >>= λ pool. word_at pool.1 >>= λ media. all_read (line.Open job.0 pool.0 media.0) media.1) l e in
     let p = bind_some (word_at a.0.1) (λ pool. word_at pool.1 >>= λ media. all_read (line.Open a.0.0 pool.0 media.0) media.1) l a.2 in
     let m = bind_some (word_at p.0.1) (λ media. all_read (line.Open a.0.0 p.0.0 media.0) media.1) l p.2 in
     let all = all_read_takes (line.Open a.0.0 p.0.0 m.0.0) l m.0.1 m.2 in
-    let job = number_at_takes 1 MOST_NUMBER fs a.0 a.1 in
+    let job = number_at_takes 1 most_number fs a.0 a.1 in
     let pool = word_at_takes a.0.1 p.0 p.1 in
     let media = word_at_takes p.0.1 m.0 m.1 in
     let fields : fs ≡ decimal a.0.0 ∷ p.0.0 ∷ m.0.0 ∷ [] =
@@ -106,16 +104,16 @@ rec_spelled bytes t i s (f ∷ rest) e = inl e
 rec_takes : (bytes : List ℕ) (fs : Fields) (l : Line) → HasFields bytes (command_text Rec) fs → rec_shape fs ≡ Some l → Spells bytes l
 unfolding rec_shape
 rec_takes bytes fs l has e =
-    let a = bind_some (number_at 1 MOST_NUMBER fs) (λ ticket. number_at 1 MOST_NUMBER ticket.1 >>= λ index. number_at 1 MOST_NUMBER index.1 >>= λ stream.
-    cond (nat_le (length (text_of stream.1)) MOST_DATA) (Some (line.Rec ticket.0 index.0 stream.0 (text_of stream.1))) None) l e in
-    let b = bind_some (number_at 1 MOST_NUMBER a.0.1) (λ index. number_at 1 MOST_NUMBER index.1 >>= λ stream.
-    cond (nat_le (length (text_of stream.1)) MOST_DATA) (Some (line.Rec a.0.0 index.0 stream.0 (text_of stream.1))) None) l a.2 in
-    let d = bind_some (number_at 1 MOST_NUMBER b.0.1) (λ stream.
-    cond (nat_le (length (text_of stream.1)) MOST_DATA) (Some (line.Rec a.0.0 b.0.0 stream.0 (text_of stream.1))) None) l b.2 in
-    let all = cond_some (nat_le (length (text_of d.0.1)) MOST_DATA) (line.Rec a.0.0 b.0.0 d.0.0 (text_of d.0.1)) l d.2 in
-    let ticket = number_at_takes 1 MOST_NUMBER fs a.0 a.1 in
-    let index = number_at_takes 1 MOST_NUMBER a.0.1 b.0 b.1 in
-    let stream = number_at_takes 1 MOST_NUMBER b.0.1 d.0 d.1 in
+    let a = bind_some (number_at 1 most_number fs) (λ ticket. number_at 1 most_number ticket.1 >>= λ index. number_at 1 most_number index.1 >>= λ stream.
+    cond (nat_le (length (text_of stream.1)) most_data) (Some (line.Rec ticket.0 index.0 stream.0 (text_of stream.1))) None) l e in
+    let b = bind_some (number_at 1 most_number a.0.1) (λ index. number_at 1 most_number index.1 >>= λ stream.
+    cond (nat_le (length (text_of stream.1)) most_data) (Some (line.Rec a.0.0 index.0 stream.0 (text_of stream.1))) None) l a.2 in
+    let d = bind_some (number_at 1 most_number b.0.1) (λ stream.
+    cond (nat_le (length (text_of stream.1)) most_data) (Some (line.Rec a.0.0 b.0.0 stream.0 (text_of stream.1))) None) l b.2 in
+    let all = cond_some (nat_le (length (text_of d.0.1)) most_data) (line.Rec a.0.0 b.0.0 d.0.0 (text_of d.0.1)) l d.2 in
+    let ticket = number_at_takes 1 most_number fs a.0 a.1 in
+    let index = number_at_takes 1 most_number a.0.1 b.0 b.1 in
+    let stream = number_at_takes 1 most_number b.0.1 d.0 d.1 in
     let fields : fs ≡ decimal a.0.0 ∷ decimal b.0.0 ∷ decimal d.0.0 ∷ d.0.1 =
     ticket.fields_are ∙ ap (λ (gs : Fields). decimal a.0.0 ∷ gs) (index.fields_are ∙ ap (λ (gs : Fields). decimal b.0.0 ∷ gs) stream.fields_are) in
     subst (λ (x : Line). Spells bytes x) all.1 (record {
@@ -127,16 +125,16 @@ rec_takes bytes fs l has e =
 fill_takes : (bytes : List ℕ) (fs : Fields) (l : Line) → HasFields bytes (command_text Fill) fs → fill_shape fs ≡ Some l → Spells bytes l
 unfolding fill_shape
 fill_takes bytes fs l has e =
-    let a = bind_some (number_at 1 MOST_NUMBER fs) (λ ticket. number_at 1 MOST_NUMBER ticket.1 >>= λ index. number_at 1 MOST_NUMBER index.1 >>= λ stream.
-    only_number 0 MOST_DATA stream.1 >>= λ count. Some (line.Fill ticket.0 index.0 stream.0 count)) l e in
-    let b = bind_some (number_at 1 MOST_NUMBER a.0.1) (λ index. number_at 1 MOST_NUMBER index.1 >>= λ stream.
-    only_number 0 MOST_DATA stream.1 >>= λ count. Some (line.Fill a.0.0 index.0 stream.0 count)) l a.2 in
-    let d = bind_some (number_at 1 MOST_NUMBER b.0.1) (λ stream. only_number 0 MOST_DATA stream.1 >>= λ count. Some (line.Fill a.0.0 b.0.0 stream.0 count)) l b.2 in
-    let n = bind_some (only_number 0 MOST_DATA d.0.1) (λ count. Some (line.Fill a.0.0 b.0.0 d.0.0 count)) l d.2 in
-    let ticket = number_at_takes 1 MOST_NUMBER fs a.0 a.1 in
-    let index = number_at_takes 1 MOST_NUMBER a.0.1 b.0 b.1 in
-    let stream = number_at_takes 1 MOST_NUMBER b.0.1 d.0 d.1 in
-    let count = only_number_takes 0 MOST_DATA d.0.1 n.0 n.1 in
+    let a = bind_some (number_at 1 most_number fs) (λ ticket. number_at 1 most_number ticket.1 >>= λ index. number_at 1 most_number index.1 >>= λ stream.
+    only_number 0 most_data stream.1 >>= λ count. Some (line.Fill ticket.0 index.0 stream.0 count)) l e in
+    let b = bind_some (number_at 1 most_number a.0.1) (λ index. number_at 1 most_number index.1 >>= λ stream.
+    only_number 0 most_data stream.1 >>= λ count. Some (line.Fill a.0.0 index.0 stream.0 count)) l a.2 in
+    let d = bind_some (number_at 1 most_number b.0.1) (λ stream. only_number 0 most_data stream.1 >>= λ count. Some (line.Fill a.0.0 b.0.0 stream.0 count)) l b.2 in
+    let n = bind_some (only_number 0 most_data d.0.1) (λ count. Some (line.Fill a.0.0 b.0.0 d.0.0 count)) l d.2 in
+    let ticket = number_at_takes 1 most_number fs a.0 a.1 in
+    let index = number_at_takes 1 most_number a.0.1 b.0 b.1 in
+    let stream = number_at_takes 1 most_number b.0.1 d.0 d.1 in
+    let count = only_number_takes 0 most_data d.0.1 n.0 n.1 in
     let fields : fs ≡ decimal a.0.0 ∷ decimal b.0.0 ∷ decimal d.0.0 ∷ decimal n.0 ∷ [] =
     ticket.fields_are ∙ ap (λ (gs : Fields). decimal a.0.0 ∷ gs) (index.fields_are ∙ ap (λ (gs : Fields). decimal b.0.0 ∷ gs)
     (stream.fields_are ∙ ap (λ (gs : Fields). decimal d.0.0 ∷ gs) count.fields_are)) in
@@ -158,17 +156,17 @@ one_takes bytes k fs least most made l spells has e =
 abbrev spelled_so : (bytes : List ℕ) (l : Line) → IsSpelled bytes l → IsWithin l → AreWords l → Spells bytes l
 spelled_so bytes l spelled within words = record { spelled = spelled; within = within; words = words }
 
-moment_fits : (n : ℕ) → n ≤ MOST_MOMENT → FitsSigned w64 (pos n)
+moment_fits : (n : ℕ) → n ≤ most_moment → FitsSigned w64 (pos n)
 moment_fits n most = record { sfits = omega arith }
 
 -- what is read of a command and the fields behind it
 fields_take : (k : Command) (bytes : List ℕ) (fs : Fields) (l : Line) → HasFields bytes (command_text k) fs → shape k fs ≡ Some l → Spells bytes l
 fields_take Block bytes fs l has e =
-    one_takes bytes Block fs LEAST_BLOCK_LIMIT MOST_BLOCK_LIMIT (λ n. line.Set (setting.Block n)) l (λ n low high text. spelled_so bytes (line.Set (setting.Block n)) (inl text) (low, high) tt) has e
+    one_takes bytes Block fs least_block_limit most_block (λ n. line.Set (setting.Block n)) l (λ n low high text. spelled_so bytes (line.Set (setting.Block n)) (inl text) (low, high) tt) has e
 fields_take Time bytes fs l has e =
-    one_takes bytes Time fs 1 MOST_NUMBER (λ n. line.Set (setting.Time n)) l (λ n low high text. spelled_so bytes (line.Set (setting.Time n)) (inl text) (low, high) tt) has e
+    one_takes bytes Time fs 1 most_number (λ n. line.Set (setting.Time n)) l (λ n low high text. spelled_so bytes (line.Set (setting.Time n)) (inl text) (low, high) tt) has e
 fields_take At bytes fs l has e =
-    one_takes bytes At fs 0 MOST_MOMENT (λ n. line.At (pos n)) l (λ n low high text. spelled_so bytes (line.At (pos n)) (inl text) (omega (arith, ints), moment_fits n high) tt) has e
+    one_takes bytes At fs 0 most_moment (λ n. line.At (pos n)) l (λ n low high text. spelled_so bytes (line.At (pos n)) (inl text) (omega (arith, ints), moment_fits n high) tt) has e
 fields_take Label bytes fs l has e = label_takes bytes fs l has e
 fields_take Mount bytes fs l has e = mount_takes bytes fs l has e
 fields_take Open bytes fs l has e = open_takes bytes fs l has e
@@ -183,17 +181,17 @@ fields_take Place bytes fs l has e =
 fields_take Sync bytes fs l has e =
     one_takes bytes Sync fs 1 8 line.Sync l (λ n low high text. spelled_so bytes (line.Sync n) (inl text) (low, high) tt) has e
 fields_take End bytes fs l has e =
-    one_takes bytes End fs 1 MOST_NUMBER line.End l (λ n low high text. spelled_so bytes (line.End n) (inl text) (low, high) tt) has e
+    one_takes bytes End fs 1 most_number line.End l (λ n low high text. spelled_so bytes (line.End n) (inl text) (low, high) tt) has e
 fields_take Cancel bytes fs l has e =
-    one_takes bytes Cancel fs 1 MOST_NUMBER line.Cancel l (λ n low high text. spelled_so bytes (line.Cancel n) (inl text) (low, high) tt) has e
+    one_takes bytes Cancel fs 1 most_number line.Cancel l (λ n low high text. spelled_so bytes (line.Cancel n) (inl text) (low, high) tt) has e
 fields_take Spool bytes fs l has e =
-    one_takes bytes Spool fs 1 MOST_NUMBER line.Spool l (λ n low high text. spelled_so bytes (line.Spool n) (inl text) (low, high) tt) has e
+    one_takes bytes Spool fs 1 most_number line.Spool l (λ n low high text. spelled_so bytes (line.Spool n) (inl text) (low, high) tt) has e
 fields_take Despool bytes fs l has e =
-    one_takes bytes Despool fs 1 MOST_NUMBER line.Despool l (λ n low high text. spelled_so bytes (line.Despool n) (inl text) (low, high) tt) has e
+    one_takes bytes Despool fs 1 most_number line.Despool l (λ n low high text. spelled_so bytes (line.Despool n) (inl text) (low, high) tt) has e
 fields_take Close bytes fs l has e =
-    one_takes bytes Close fs 1 MOST_NUMBER line.Close l (λ n low high text. spelled_so bytes (line.Close n) (inl text) (low, high) tt) has e
+    one_takes bytes Close fs 1 most_number line.Close l (λ n low high text. spelled_so bytes (line.Close n) (inl text) (low, high) tt) has e
 fields_take Read bytes fs l has e =
-    one_takes bytes Read fs 1 MOST_NUMBER line.Read l (λ n low high text. spelled_so bytes (line.Read n) (inl text) (low, high) tt) has e
+    one_takes bytes Read fs 1 most_number line.Read l (λ n low high text. spelled_so bytes (line.Read n) (inl text) (low, high) tt) has e
 fields_take Drain bytes fs l has e =
     let all = all_read_takes line.Drain l fs e in
     subst (λ (x : Line). Spells bytes x) all.1 (spelled_so bytes line.Drain (inl (has.text ∙ ap (λ (gs : Fields). joined (command_text Drain ∷ gs)) all.0)) tt tt)

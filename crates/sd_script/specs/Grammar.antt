@@ -4,11 +4,9 @@ use Rattle.std.specs.Int.{w64}
 use Rattle.std.specs.List.{join_with_byte, AllByRecursion}
 use Rattle.std.specs.Fmt.{decimal, signed_decimal}
 use Rattle.sd_base.specs.Name.{IsName}
-use Rattle.sd_base.specs.declared.number.TheConstants.{MOST_NUMBER}
-use Rattle.sd_base.specs.declared.record.TheConstants.{MOST_DATA}
+use Rattle.sd_base.specs.Limits.{least_block_limit, most_block, most_data, most_number}
 use Rattle.sd_base.specs.declared.refusal.Refusal as base
 use Rattle.sd_base.specs.declared.refusal.Refusal.TheVariants as refusals
-use Rattle.sd_script.specs.declared.line.TheConstants.{LEAST_BLOCK_LIMIT, MOST_BLOCK_LIMIT}
 use Rattle.sd_script.specs.declared.line.Setting.TheVariants.{Block, Time}
 use Rattle.sd_script.specs.declared.line.Line.{Line}
 use Rattle.sd_script.specs.declared.line.Line.TheVariants.{Empty, Set, At, Label, Mount, Seek, Open, Rec, Fill, End, Cancel, Spool, Despool, Take, Place, Sync, Close, Read, Drain}
@@ -21,12 +19,15 @@ fields Empty = []
 fields (Set (Block size)) = codes "block" ∷ decimal size ∷ []
 fields (Set (Time time)) = codes "time" ∷ decimal time ∷ []
 fields (At moment) = codes "at" ∷ signed_decimal moment ∷ []
-fields (Label drive volume pool media) = codes "label" ∷ decimal drive ∷ volume ∷ pool ∷ media ∷ []
+fields (Label drive volume pool media) =
+    codes "label" ∷ decimal drive ∷ volume ∷ pool ∷ media ∷ []
 fields (Mount drive volume) = codes "mount" ∷ decimal drive ∷ volume ∷ []
 fields (Seek drive) = codes "seek" ∷ decimal drive ∷ []
 fields (Open job pool media) = codes "open" ∷ decimal job ∷ pool ∷ media ∷ []
-fields (Rec ticket index stream text) = codes "rec" ∷ decimal ticket ∷ decimal index ∷ decimal stream ∷ text ∷ []
-fields (Fill ticket index stream count) = codes "fill" ∷ decimal ticket ∷ decimal index ∷ decimal stream ∷ decimal count ∷ []
+fields (Rec ticket index stream text) =
+    codes "rec" ∷ decimal ticket ∷ decimal index ∷ decimal stream ∷ text ∷ []
+fields (Fill ticket index stream count) =
+    codes "fill" ∷ decimal ticket ∷ decimal index ∷ decimal stream ∷ decimal count ∷ []
 fields (End ticket) = codes "end" ∷ decimal ticket ∷ []
 fields (Cancel ticket) = codes "cancel" ∷ decimal ticket ∷ []
 fields (Spool ticket) = codes "spool" ∷ decimal ticket ∷ []
@@ -42,36 +43,42 @@ fields Drain = codes "drain" ∷ []
 abbrev pub joined : List (List ℕ) → List ℕ
 joined fs = join_with_byte 32 fs
 
+-- how a line is written, without the newline behind it
 abbrev pub spelling : Line → List ℕ
 spelling line = joined (fields line)
 
 -- a record without data may leave out the blank before them too
 abbrev pub IsShorter : List ℕ → Line → Type 0
-IsShorter bytes (Rec ticket index stream []) = bytes ≡ joined (codes "rec" ∷ decimal ticket ∷ decimal index ∷ decimal stream ∷ [])
+IsShorter bytes (Rec ticket index stream []) =
+    bytes ≡ joined (codes "rec" ∷ decimal ticket ∷ decimal index ∷ decimal stream ∷ [])
 IsShorter bytes line = ⊥
 
+-- the bytes are the line as it is written, or that shorter form of it
 abbrev pub IsSpelled : List ℕ → Line → Type 0
 IsSpelled bytes line = (bytes ≡ spelling line) ⊎ IsShorter bytes line
 
 -- from 1 to the greatest FileIndex, Stream, job, ticket and time
 abbrev pub IsNumber : ℕ → Type 0
-IsNumber n = (1 ≤ n) × (n ≤ MOST_NUMBER)
+IsNumber n = (1 ≤ n) × (n ≤ most_number)
 
+-- the number of a drive: from 1 to 8
 abbrev pub IsDrive : ℕ → Type 0
 IsDrive n = (1 ≤ n) × (n ≤ 8)
 
 -- the numbers are within their limits, and so is the length of a text
 abbrev pub IsWithin : Line → Type 0
 IsWithin Empty = Unit {0}
-IsWithin (Set (Block size)) = (LEAST_BLOCK_LIMIT ≤ size) × (size ≤ MOST_BLOCK_LIMIT)
+IsWithin (Set (Block size)) = (least_block_limit ≤ size) × (size ≤ most_block)
 IsWithin (Set (Time time)) = IsNumber time
 IsWithin (At moment) = (pos 0 ≤ℤ moment) × FitsSigned w64 moment
 IsWithin (Label drive volume pool media) = IsDrive drive
 IsWithin (Mount drive volume) = IsDrive drive
 IsWithin (Seek drive) = IsDrive drive
 IsWithin (Open job pool media) = IsNumber job
-IsWithin (Rec ticket index stream text) = IsNumber ticket × IsNumber index × IsNumber stream × (length text ≤ MOST_DATA)
-IsWithin (Fill ticket index stream count) = IsNumber ticket × IsNumber index × IsNumber stream × (count ≤ MOST_DATA)
+IsWithin (Rec ticket index stream text) =
+    IsNumber ticket × IsNumber index × IsNumber stream × (length text ≤ most_data)
+IsWithin (Fill ticket index stream count) =
+    IsNumber ticket × IsNumber index × IsNumber stream × (count ≤ most_data)
 IsWithin (End ticket) = IsNumber ticket
 IsWithin (Cancel ticket) = IsNumber ticket
 IsWithin (Spool ticket) = IsNumber ticket
@@ -90,6 +97,7 @@ names (Mount drive volume) = volume ∷ []
 names (Open job pool media) = pool ∷ media ∷ []
 names line = []
 
+-- none of its characters is a blank
 abbrev pub HasNoBlank : List ℕ → Type 0
 HasNoBlank text = All (λ c. c ≢ 32) text
 
@@ -97,9 +105,11 @@ HasNoBlank text = All (λ c. c ≢ 32) text
 abbrev pub IsWord : List ℕ → Type 0
 IsWord text = (0 < length text) × HasNoBlank text
 
+-- what stands in the place of a line's names are words
 abbrev pub AreWords : Line → Type 0
 AreWords line = AllByRecursion IsWord (names line)
 
+-- what stands in the place of a line's names are names
 abbrev pub AreNames : Line → Type 0
 AreNames line = AllByRecursion IsName (names line)
 
@@ -119,13 +129,15 @@ pub record HasForm (bytes : List ℕ) (line : Line) : Type 0 where
 
 -- bytes that have a shape have one
 abbrev pub HaveOneShape : Type 0
-HaveOneShape = (bytes : List ℕ) (line other : Line) → HasShape bytes line → HasShape bytes other → line ≡ other
+HaveOneShape = (bytes : List ℕ) (line other : Line)
+    → HasShape bytes line → HasShape bytes other → line ≡ other
 
 -- bytes that have a form have one
 abbrev pub HaveOneForm : Type 0
-HaveOneForm = (bytes : List ℕ) (line other : Line) → HasForm bytes line → HasForm bytes other → line ≡ other
+HaveOneForm = (bytes : List ℕ) (line other : Line)
+    → HasForm bytes line → HasForm bytes other → line ≡ other
 
--- what a line prints that is none
-abbrev pub refusal_of : LineFault → base.Refusal
-refusal_of BadCommand = refusals.BadCommand
-refusal_of BadName = refusals.BadName
+-- the refusal that a line prints that is none
+abbrev pub line_refusal : LineFault → base.Refusal
+line_refusal BadCommand = refusals.BadCommand
+line_refusal BadName = refusals.BadName

@@ -3,11 +3,9 @@ ghost use Rattle.std.specs.Prelude.{◌≡◌};
 ghost use Rattle.sd_script.specs.Reading.{Gives, shape};
 ghost use Rattle.sd_script.specs.declared.command.Command.TheVariants as commands;
 
-use crate::line::{
-    LEAST_BLOCK_LIMIT, Line, LineFault, MOST_BLOCK_LIMIT, MOST_MOMENT, Setting, Text,
-};
+use crate::line::{Line, LineFault, MOST_MOMENT, Setting, Text};
 use crate::words::Words;
-use sd_base::{MOST_DATA, MOST_NUMBER, Name};
+use sd_base::{LEAST_BLOCK_LIMIT, MOST_BLOCK, MOST_DATA, MOST_NUMBER, Name};
 
 /// The greatest FileIndex, Stream and time, as a number of the width that fields are read in.
 const MOST: u64 = MOST_NUMBER as u64;
@@ -15,7 +13,7 @@ const MOST: u64 = MOST_NUMBER as u64;
 pub fn block(words: Words<'_>) -> Result<Line<'_>, LineFault>
     ensures { Gives result (shape commands.Block words.entry) }
 {
-    let size = words.only_number(LEAST_BLOCK_LIMIT, MOST_BLOCK_LIMIT)?;
+    let size = words.only_number(LEAST_BLOCK_LIMIT as u64, MOST_BLOCK as u64)?;
     Ok(Line::Set(Setting::Block(size as usize)))
 }
 

@@ -7,10 +7,8 @@ mod forms;
 mod laws;
 mod line;
 mod read;
-#[cfg(test)]
-mod tests;
 mod words;
 
 pub use laws::{lines_have_one_form, lines_have_one_shape};
-pub use line::{LEAST_BLOCK_LIMIT, Line, LineFault, MOST_BLOCK_LIMIT, Setting, Text};
+pub use line::{Line, LineFault, Setting, Text};
 pub use read::read_line;

@@ -1,18 +1,12 @@
 // A line of a script as a value, and why a line is none.
 ghost use Rattle.std.specs.Prelude.{◌≡◌};
-ghost use Rattle.sd_script.specs.Grammar.{refusal_of};
+ghost use Rattle.sd_script.specs.Grammar.{line_refusal};
 ghost use Rattle.sd_script.specs.declared.line.LineFault.TheVariants.{BadName};
 
 use sd_base::{BadName, DriveNo, JobId, MediaName, PoolName, Refusal, Ticket, VolName};
 use std::marker::Model;
 
-/// The least limit of a block, in bytes.
-pub const LEAST_BLOCK_LIMIT: u64 = 1024;
-
-/// The greatest limit of a block, in bytes.
-pub const MOST_BLOCK_LIMIT: u64 = 1_048_576;
-
-/// The last moment.
+/// The last moment, in microseconds.
 pub const MOST_MOMENT: u64 = 0x7fff_ffff_ffff_ffff;
 
 /// A line of the script of `sdtool run`.
@@ -112,7 +106,7 @@ pub enum LineFault {
 impl LineFault {
     /// The refusal that the line prints.
     pub fn refusal(self) -> Refusal
-        ensures { result ≡ refusal_of self }
+        ensures { result ≡ line_refusal self }
     {
         match self {
             LineFault::BadCommand => Refusal::BadCommand,

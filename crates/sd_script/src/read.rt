@@ -40,7 +40,8 @@ pub fn read_line(bytes: &[u8]) -> Result<Line<'_>, LineFault>
 
 /// The bytes as a text, where they are ASCII.
 fn ascii_text(bytes: &[u8]) -> Option<&str>
-    ensures found { IfSome result (λ text. (text.now ≡ bytes.now) × All (λ byte. byte < 128) bytes.now) }
+    ensures found { IfSome result (λ text.
+        (text.now ≡ bytes.now) × All (λ byte. byte < 128) bytes.now) }
     ensures none { IfNone result (All (λ byte. byte < 128) bytes.now → ⊥) }
 {
     if !bytes.is_ascii() {
@@ -55,7 +56,8 @@ fn ascii_text(bytes: &[u8]) -> Option<&str>
 /// The command that the next field spells.
 fn first_command(words: &mut Words<'_>) -> Option<Command>
     ensures found { IfSome result (λ command. words.old ≡ command_text command ∷ words.new) }
-    ensures none { IfNone result ((command : SpecCommand) (rest : List (List ℕ)) → words.old ≡ command_text command ∷ rest → ⊥) }
+    ensures none { IfNone result ((command : SpecCommand) (rest : List (List ℕ))
+        → words.old ≡ command_text command ∷ rest → ⊥) }
 {
     let Ok(word) = words.word() else {
         return None;

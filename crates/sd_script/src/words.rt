@@ -113,7 +113,8 @@ impl<'a> Words<'a> {
 
     /// Refuses where a field is left.
     pub fn end(&self) -> Result<(), LineFault>
-        ensures { MatchResult result (λ _. self.now ≡ []) (λ e. (e ≡ BadCommand) × (self.now ≢ [])) }
+        ensures { MatchResult result (λ _. self.now ≡ [])
+            (λ e. (e ≡ BadCommand) × (self.now ≢ [])) }
     {
         match self.rest {
             Some(_) => Err(LineFault::BadCommand),

@@ -7,8 +7,8 @@ use Rattle.sd_base.specs.Record.{Record}
 use Rattle.sd_record.specs.Fragment.{Fragment, fragment_bytes, fragments_bytes, IsFragment, GoesOn, FitTogether}
 use Rattle.sd_record.proofs.FragmentLemmas.{fragment_apart, never_empty}
 use Rattle.sd_record.proofs.RecordLemmas.{first_same, rest_same}
-use Rattle.sd_label.specs.Cutting.{Standing, Between, Within, AtEnd, AreBodies, joined, IsSession, Places, Holds}
-use Rattle.sd_label.proofs.CuttingLemmas.{AreBodies-append, AreBodies-front, cut_placed, placed_apart, front_nil, holds_one}
+use Rattle.sd_label.specs.Cutting.{Standing, Between, Within, AtEnd, AreBodies, joined, IsSession, HoldsBy, Holds}
+use Rattle.sd_label.proofs.CuttingLemmas.{AreBodies-append, AreBodies-front, cut_bodies, bodies_apart, front_nil, holds_one}
 use Rattle.sd_unpack.specs.declared.damage.Damage.{Damage}
 use Rattle.sd_unpack.specs.declared.stage.Stage.{Stage}
 use Rattle.sd_unpack.specs.declared.stage.Stage.TheVariants.{Fresh, Whole, Partway, Closed}
@@ -75,12 +75,12 @@ stops_no_session fs gs body damage records standing s fit e t =
 
 -- Bodies.
 
-pub joined-more : (placed : List (List Fragment)) (fs : List Fragment) → joined (placed ++ fs ∷ []) ≡ joined placed ++ fs
-joined-more placed fs = flat_map-append (λ l. l) placed (fs ∷ []) ∙ ap (λ l. joined placed ++ l) (append-nil fs)
+pub joined-more : (fragments : List (List Fragment)) (fs : List Fragment) → joined (fragments ++ fs ∷ []) ≡ joined fragments ++ fs
+joined-more fragments fs = flat_map-append (λ l. l) fragments (fs ∷ []) ∙ ap (λ l. joined fragments ++ l) (append-nil fs)
 
 -- the fragments of the last body go on with those of the bodies before it
-last_of_placed : (placed front back : List (List Fragment)) (fs : List Fragment) → placed ≡ front ++ back → back ≡ fs ∷ [] → joined placed ≡ joined front ++ fs
-last_of_placed placed front back fs split one = ap joined (split ∙ ap (λ l. front ++ l) one) ∙ joined-more front fs
+last_of_fragments : (fragments front back : List (List Fragment)) (fs : List Fragment) → fragments ≡ front ++ back → back ≡ fs ∷ [] → joined fragments ≡ joined front ++ fs
+last_of_fragments fragments front back fs split one = ap joined (split ∙ ap (λ l. front ++ l) one) ∙ joined-more front fs
 
 AreBodies-back : (xs ys : List (List Fragment)) → AreBodies (xs ++ ys) → AreBodies ys
 AreBodies-back [] ys are = are
@@ -92,40 +92,40 @@ last_is_one [] body e = absurd (cc e)
 last_is_one (fs ∷ []) body e = (fs, refl, first_same (fragments_bytes fs) body [] [] e)
 last_is_one (fs ∷ gs ∷ back) body e = absurd (cc (rest_same (fragments_bytes fs) body (fragments_bytes gs ∷ map fragments_bytes back) [] e))
 
-last_body : (bodies : List (List ℕ)) (body : List ℕ) (damage : Damage) (records : List Record) (standing : Standing) (placed front back : List (List Fragment))
-    → IsDamaged bodies body damage → placed ≡ front ++ back → bodies ≡ map fragments_bytes front → map fragments_bytes back ≡ body ∷ []
-    → Places placed (bodies ++ body ∷ []) records standing → ⊥
-last_body bodies body damage records standing placed front back d split bytes last p =
+last_body : (bodies : List (List ℕ)) (body : List ℕ) (damage : Damage) (records : List Record) (standing : Standing) (fragments front back : List (List Fragment))
+    → IsDamaged bodies body damage → fragments ≡ front ++ back → bodies ≡ map fragments_bytes front → map fragments_bytes back ≡ body ∷ []
+    → HoldsBy fragments (bodies ++ body ∷ []) records standing → ⊥
+last_body bodies body damage records standing fragments front back d split bytes last p =
     let one = last_is_one back body last in
     let are = subst AreBodies split p.bodies_are in
     let fit = subst AreBodies one.1 (AreBodies-back front back are) in
-    let same : front ≡ d.placed = placed_apart front d.placed (AreBodies-front front back are) d.bodies_are (sym bytes ∙ d.bytes_are) in
-    let order : joined placed ≡ joined d.placed ++ one.0 = last_of_placed placed front back one.0 split one.1 ∙ ap (λ l. joined l ++ one.0) same in
+    let same : front ≡ d.fragments = bodies_apart front d.fragments (AreBodies-front front back are) d.bodies_are (sym bytes ∙ d.bytes_are) in
+    let order : joined fragments ≡ joined d.fragments ++ one.0 = last_of_fragments fragments front back one.0 split one.1 ∙ ap (λ l. joined l ++ one.0) same in
     elim d.stops [
       | inl none ↦ bytes_of_some one.0 fit.0 (one.2 ∙ none.0)
-      | inr stops ↦ stops_no_session (joined d.placed) one.0 body damage records standing stops fit.1 one.2 (subst (λ l. IsSession l records standing) order p.session_is)
+      | inr stops ↦ stops_no_session (joined d.fragments) one.0 body damage records standing stops fit.1 one.2 (subst (λ l. IsSession l records standing) order p.session_is)
     ]
 
 -- no cutting begins with the bodies and one that is damaged
 pub damaged_no_cutting : (bodies : List (List ℕ)) (body : List ℕ) (damage : Damage) (records : List Record) (standing : Standing) → IsDamaged bodies body damage
     → Holds (bodies ++ body ∷ []) records standing → ⊥
 damaged_no_cutting bodies body damage records standing d h =
-    let cut = cut_placed bodies (body ∷ []) h.placed h.places.bytes_are in
+    let cut = cut_bodies bodies (body ∷ []) h.fragments h.holds_by.bytes_are in
     let all : map fragments_bytes cut.0 ++ map fragments_bytes cut.1 ≡ map fragments_bytes cut.0 ++ body ∷ [] =
-    sym (map-append fragments_bytes cut.0 cut.1) ∙ ap (map fragments_bytes) (sym cut.2) ∙ sym h.places.bytes_are ∙ ap (λ l. l ++ body ∷ []) cut.3 in
-    last_body bodies body damage records standing h.placed cut.0 cut.1 d cut.2 cut.3 (append_cancel_left (map fragments_bytes cut.0) (map fragments_bytes cut.1) (body ∷ []) all) h.places
+    sym (map-append fragments_bytes cut.0 cut.1) ∙ ap (map fragments_bytes) (sym cut.2) ∙ sym h.holds_by.bytes_are ∙ ap (λ l. l ++ body ∷ []) cut.3 in
+    last_body bodies body damage records standing h.fragments cut.0 cut.1 d cut.2 cut.3 (append_cancel_left (map fragments_bytes cut.0) (map fragments_bytes cut.1) (body ∷ []) all) h.holds_by
 
 -- One body more.
 
 pub unpacks_more : (bodies : List (List ℕ)) (taken : List Record) (view : Unpacking) (body : List ℕ) (old : Unpacking) (fs : List Fragment)
     → (u : Unpacks bodies taken old) → FitTogether fs → body ≢ [] → body ≡ fragments_bytes fs
-    → Reaches view.stage (joined u.placed ++ fs) (taken ++ view.ready) view.so_far → AreTotalsOf view.totals (taken ++ view.ready)
+    → Reaches view.stage (joined u.fragments ++ fs) (taken ++ view.ready) view.so_far → AreTotalsOf view.totals (taken ++ view.ready)
     → Unpacks (bodies ++ body ∷ []) taken view
 unpacks_more bodies taken view body old fs u fit some bytes reaches totals = record {
-  placed = u.placed ++ fs ∷ [];
-  bytes_are = ap (λ l. l ++ body ∷ []) u.bytes_are ∙ ap (λ b. map fragments_bytes u.placed ++ b ∷ []) bytes ∙ sym (map-append fragments_bytes u.placed (fs ∷ []));
-  bodies_are = AreBodies-append u.placed (fs ∷ []) u.bodies_are ((λ none. some (bytes ∙ ap fragments_bytes none)), fit, tt);
-  reaches = subst (λ l. Reaches view.stage l (taken ++ view.ready) view.so_far) (sym (joined-more u.placed fs)) reaches;
+  fragments = u.fragments ++ fs ∷ [];
+  bytes_are = ap (λ l. l ++ body ∷ []) u.bytes_are ∙ ap (λ b. map fragments_bytes u.fragments ++ b ∷ []) bytes ∙ sym (map-append fragments_bytes u.fragments (fs ∷ []));
+  bodies_are = AreBodies-append u.fragments (fs ∷ []) u.bodies_are ((λ none. some (bytes ∙ ap fragments_bytes none)), fit, tt);
+  reaches = subst (λ l. Reaches view.stage l (taken ++ view.ready) view.so_far) (sym (joined-more u.fragments fs)) reaches;
   totals_are = totals;
 }
 
@@ -151,11 +151,11 @@ reached_session Closed fs records so_far standing r e =
 
 pub unpacked_whole : UnpackedAreWhole
 unpacked_whole bodies taken view standing u e = record {
-  placed = u.placed;
-  places = record {
+  fragments = u.fragments;
+  holds_by = record {
     bytes_are = u.bytes_are;
     bodies_are = u.bodies_are;
-    session_is = reached_session view.stage (joined u.placed) (taken ++ view.ready) view.so_far standing u.reaches e;
+    session_is = reached_session view.stage (joined u.fragments) (taken ++ view.ready) view.so_far standing u.reaches e;
   };
 }
 
@@ -163,9 +163,9 @@ unpacked_whole bodies taken view standing u e = record {
 stage_of : (stage : Stage) (bodies : List (List ℕ)) (records taken : List Record) (view : Unpacking) (standing : Standing) → view.stage ≡ stage → Unpacks bodies taken view
     → Holds bodies records standing → (records ≡ taken ++ view.ready) × (standing_at stage ≡ Some standing)
 stage_of Fresh bodies records taken view standing is u h =
-    let r = subst (λ s. Reaches s (joined u.placed) (taken ++ view.ready) view.so_far) is u.reaches in
-    let same = placed_apart h.placed u.placed h.places.bodies_are u.bodies_are (sym h.places.bytes_are ∙ u.bytes_are) in
-    absurd (cc (sym r.0 ∙ ap joined (sym same) ∙ h.places.session_is.order))
+    let r = subst (λ s. Reaches s (joined u.fragments) (taken ++ view.ready) view.so_far) is u.reaches in
+    let same = bodies_apart h.fragments u.fragments h.holds_by.bodies_are u.bodies_are (sym h.holds_by.bytes_are ∙ u.bytes_are) in
+    absurd (cc (sym r.0 ∙ ap joined (sym same) ∙ h.holds_by.session_is.order))
 stage_of Whole bodies records taken view standing is u h =
     let one = holds_one bodies records (taken ++ view.ready) standing Between h (unpacked_whole bodies taken view Between u (ap standing_at is)) in
     (one.0, ap (λ s. Some s) (sym one.1))

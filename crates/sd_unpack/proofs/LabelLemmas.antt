@@ -7,7 +7,7 @@ use Rattle.sd_record.specs.Fragment.{Fragment, fragment_bytes, IsFragment}
 use Rattle.sd_record.proofs.FragmentLemmas.{fragment_apart}
 use Rattle.sd_record.proofs.RecordLemmas.{first_same}
 use Rattle.sd_label.specs.declared.label.SessionLabel.{SessionLabel}
-use Rattle.sd_label.specs.declared.label.TheConstants.{START_LABEL, END_LABEL}
+use Rattle.sd_label.specs.Label.{start_label_index, end_label_index}
 use Rattle.sd_label.specs.Label.{IsSessionLabel, AreTotals, session_label_fragment, session_label_bytes, session_label_index}
 use Rattle.sd_label.specs.declared.label.Totals.{Totals}
 use Rattle.sd_label.specs.Cutting.{Standing, IsStart, IsEnd, IsSession, total_bytes}
@@ -29,15 +29,15 @@ label_stands f label fits is e =
 pub one_label : (f : Fragment) (l m : SessionLabel) → IsSessionLabel l → IsSessionLabel m → f ≡ session_label_fragment l → f ≡ session_label_fragment m → l ≡ m
 one_label f l m l_is m_is el em = session_labels_apart l m l_is m_is (ap fragment_bytes (sym el ∙ em))
 
-start_index : (f : Fragment) (label : SessionLabel) → IsStart label → f ≡ session_label_fragment label → f.index ≡ START_LABEL
+start_index : (f : Fragment) (label : SessionLabel) → IsStart label → f ≡ session_label_fragment label → f.index ≡ start_label_index
 start_index f label is e = ap (λ g. g.index) e ∙ ap session_label_index is.no_totals
 
-end_index : (f : Fragment) (label : SessionLabel) (records : List Record) → IsEnd label records → f ≡ session_label_fragment label → f.index ≡ END_LABEL
+end_index : (f : Fragment) (label : SessionLabel) (records : List Record) → IsEnd label records → f ≡ session_label_fragment label → f.index ≡ end_label_index
 end_index f label records is e = ap (λ g. g.index) e ∙ ap session_label_index is.totals_are
 
 -- the bytes of a fragment that are a label's
 pub start_found : (f : Fragment) (bytes : List ℕ) (label : SessionLabel) → IsFragment f → IsSessionLabel label → bytes ≡ session_label_bytes label
-    → bytes ≡ fragment_bytes f → f.index ≡ START_LABEL → (found : SessionLabel) × IsStart found × (f ≡ session_label_fragment found)
+    → bytes ≡ fragment_bytes f → f.index ≡ start_label_index → (found : SessionLabel) × IsStart found × (f ≡ session_label_fragment found)
 start_found f bytes label fits is read there index =
     let e = label_stands f label fits is (sym there ∙ read) in
     (label, record { label_is = is; no_totals = starts_with_none label.totals (sym (ap (λ g. g.index) e) ∙ index) }, e)
@@ -70,26 +70,26 @@ totals_past f bytes label records fits is read there past =
 
 -- what stands behind whole records has the index of a record or of an end label
 next_index : {P : Type 0} (records : List Record) (f : Fragment) → BeginsRecord f ⊎ EndsSession records f → ((n : ℕ) → 1 ≤ n → f.index ≡ pos n → P)
-    → (f.index ≡ END_LABEL → P) → P
+    → (f.index ≡ end_label_index → P) → P
 next_index records f next record_case end_case = elim next [
   | inl b ↦ record_case b.begun.index b.record_is.index_least b.data_begin.index_is
   | inr h ↦ end_case (end_index f h.0 records h.1 h.2)
 ]
 
-start_is_no_pos : (z : ℤ) (n : ℕ) → z ≡ START_LABEL → z ≡ pos n → ⊥
+start_is_no_pos : (z : ℤ) (n : ℕ) → z ≡ start_label_index → z ≡ pos n → ⊥
 start_is_no_pos z n e e' = cc (sym e ∙ e')
 
-end_is_no_pos : (z : ℤ) (n : ℕ) → z ≡ END_LABEL → z ≡ pos n → ⊥
+end_is_no_pos : (z : ℤ) (n : ℕ) → z ≡ end_label_index → z ≡ pos n → ⊥
 end_is_no_pos z n e e' = cc (sym e ∙ e')
 
-start_is_no_end : (z : ℤ) → z ≡ START_LABEL → z ≡ END_LABEL → ⊥
+start_is_no_end : (z : ℤ) → z ≡ start_label_index → z ≡ end_label_index → ⊥
 start_is_no_end z e e' = cc (sym e ∙ e')
 
 below_one : (z : ℤ) (n : ℕ) → z <ℤ pos 1 → z ≡ pos n → 1 ≤ n → ⊥
 below_one z n low e least = let low' : pos n <ℤ pos 1 = subst (λ x. x <ℤ pos 1) e low in omega (arith, ints)
 
-end_below_one : (z : ℤ) → pos 1 ≤ℤ z → z ≡ END_LABEL → ⊥
-end_below_one z high e = let high' : pos 1 ≤ℤ END_LABEL = subst (λ x. pos 1 ≤ℤ x) e high in omega arith
+end_below_one : (z : ℤ) → pos 1 ≤ℤ z → z ≡ end_label_index → ⊥
+end_below_one z high e = let high' : pos 1 ≤ℤ end_label_index = subst (λ x. pos 1 ≤ℤ x) e high in omega arith
 
 below_zero : (z : ℤ) (n : ℕ) → z <ℤ pos 0 → z ≡ pos n → ⊥
 below_zero z n low e = let low' : pos n <ℤ pos 0 = subst (λ x. x <ℤ pos 0) e low in omega (arith, ints)

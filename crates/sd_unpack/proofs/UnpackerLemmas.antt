@@ -22,7 +22,7 @@ use Rattle.sd_unpack.proofs.BatchLemmas.{AddsRecord, goes_on_last}
 
 pub empty_damaged : (bodies : List (List ℕ)) (taken : List Record) (old : Unpacking) (body : List ℕ) → Unpacks bodies taken old → body ≡ [] → IsDamaged bodies body BadFragment
 empty_damaged bodies taken old body u none = record {
-  placed = u.placed;
+  fragments = u.fragments;
   bytes_are = u.bytes_are;
   bodies_are = u.bodies_are;
   stops = inl (none, refl);
@@ -32,7 +32,7 @@ empty_damaged bodies taken old body u none = record {
 pub first_damaged : (bodies : List (List ℕ)) (taken : List Record) (old : Unpacking) (body : List ℕ) (damage : Damage) → Unpacks bodies taken old → body ≢ []
     → CantStand damage old.stage (taken ++ old.ready) body → IsDamaged bodies body damage
 first_damaged bodies taken old body damage u some stops = record {
-  placed = u.placed;
+  fragments = u.fragments;
   bytes_are = u.bytes_are;
   bodies_are = u.bodies_are;
   stops = inr (record {
@@ -43,7 +43,7 @@ first_damaged bodies taken old body damage u some stops = record {
     so_far = old.so_far;
     bytes_are = refl;
     front_is = tt;
-    reaches = subst (λ l. Reaches old.stage l (taken ++ old.ready) old.so_far) (sym (append-nil (joined u.placed))) u.reaches;
+    reaches = subst (λ l. Reaches old.stage l (taken ++ old.ready) old.so_far) (sym (append-nil (joined u.fragments))) u.reaches;
     rest_left = some;
     stops = stops;
   });
@@ -57,16 +57,16 @@ at_rest_any (Partway due) fs records so_far other rest r = absurd rest
 at_rest_any Closed fs records so_far other rest r = r
 
 pub rest_reached : (bodies : List (List ℕ)) (taken : List Record) (old : Unpacking) → (u : Unpacks bodies taken old) → IsAtRest old.stage
-    → Reaches old.stage (joined u.placed) (taken ++ old.ready) []
-rest_reached bodies taken old u rest = at_rest_any old.stage (joined u.placed) (taken ++ old.ready) old.so_far [] rest u.reaches
+    → Reaches old.stage (joined u.fragments) (taken ++ old.ready) []
+rest_reached bodies taken old u rest = at_rest_any old.stage (joined u.fragments) (taken ++ old.ready) old.so_far [] rest u.reaches
 
 pub read_damaged : (bodies : List (List ℕ)) (taken : List Record) (old : Unpacking) (body : List ℕ) (damage : Damage) → Unpacks bodies taken old → IsAtRest old.stage
     → ((fs : List Fragment) (records : List Record) → Reaches old.stage fs records [] → AreTotalsOf old.totals records → StopsAt fs body damage) → IsDamaged bodies body damage
 read_damaged bodies taken old body damage u rest why = record {
-  placed = u.placed;
+  fragments = u.fragments;
   bytes_are = u.bytes_are;
   bodies_are = u.bodies_are;
-  stops = inr (why (joined u.placed) (taken ++ old.ready) (rest_reached bodies taken old u rest) u.totals_are);
+  stops = inr (why (joined u.fragments) (taken ++ old.ready) (rest_reached bodies taken old u rest) u.totals_are);
 }
 
 -- the unpacker with what a batch brings
@@ -78,16 +78,16 @@ pub keeps : (bodies : List (List ℕ)) (taken : List Record) (old : Unpacking) (
     → ((fs : List Fragment) (records : List Record) → Reaches old.stage fs records [] → AreTotalsOf old.totals records → Brings fs records body [] batch)
     → Unpacks (bodies ++ body ∷ []) taken (kept old old.ready batch)
 keeps bodies taken old body batch u rest some brings =
-    let b = brings (joined u.placed) (taken ++ old.ready) (rest_reached bodies taken old u rest) u.totals_are in
+    let b = brings (joined u.fragments) (taken ++ old.ready) (rest_reached bodies taken old u rest) u.totals_are in
     unpacks_more bodies taken (kept old old.ready batch) body old b.front u b.front_is some (b.bytes_are ∙ append-nil (fragments_bytes b.front))
-    (subst (λ l. Reaches batch.stage (joined u.placed ++ b.front) l batch.so_far.items) (append_assoc taken old.ready batch.records.items) b.stands.reaches)
+    (subst (λ l. Reaches batch.stage (joined u.fragments ++ b.front) l batch.so_far.items) (append_assoc taken old.ready batch.records.items) b.stands.reaches)
     (subst (AreTotalsOf batch.totals) (append_assoc taken old.ready batch.records.items) b.stands.totals_are)
 
 -- A body that begins within a record.
 
 partway_of : (bodies : List (List ℕ)) (taken : List Record) (old : Unpacking) (due : Due) → (u : Unpacks bodies taken old) → old.stage ≡ Partway due
-    → IsPartway (joined u.placed) (taken ++ old.ready) due old.so_far
-partway_of bodies taken old due u is = subst (λ stage. Reaches stage (joined u.placed) (taken ++ old.ready) old.so_far) is u.reaches
+    → IsPartway (joined u.fragments) (taken ++ old.ready) due old.so_far
+partway_of bodies taken old due u is = subst (λ stage. Reaches stage (joined u.fragments) (taken ++ old.ready) old.so_far) is u.reaches
 
 -- the unpacker with one part more
 abbrev pub kept_part : Unpacking → Due → List ℕ → Unpacking
@@ -99,7 +99,7 @@ keeps_part bodies taken old body due next f u is some s goes short =
     let goes_on : GoesOn f = (let size = goes.size_is in omega arith) in
     unpacks_more bodies taken (kept_part old due f.part) body old (f ∷ []) u (s.fragment, (λ more. refl), tt) some
     (s.bytes_there ∙ ap (λ l. fragment_bytes f ++ l) (drop_all next body (goes_on_last body 0 next f s goes_on)))
-    (partway_more (joined u.placed) (taken ++ old.ready) due old.so_far f (partway_of bodies taken old due u is) goes short)
+    (partway_more (joined u.fragments) (taken ++ old.ready) due old.so_far f (partway_of bodies taken old due u is) goes short)
     u.totals_are
 
 whole_part : (due : Due) (f : Fragment) → Continues due f → length f.part ≡ due.left → GoesOn f → ⊥
@@ -108,9 +108,9 @@ whole_part due f goes long more = let size = goes.size_is in omega arith
 -- the record that the part makes whole stands behind those before it
 finished : (bodies : List (List ℕ)) (taken : List Record) (old : Unpacking) (due : Due) (f : Fragment) → (u : Unpacks bodies taken old) → old.stage ≡ Partway due
     → Continues due f → length f.part ≡ due.left
-    → IsSession (joined u.placed ++ f ∷ []) ((taken ++ old.ready) ++ due_record due (old.so_far ++ f.part) ∷ []) Between
+    → IsSession (joined u.fragments ++ f ∷ []) ((taken ++ old.ready) ++ due_record due (old.so_far ++ f.part) ∷ []) Between
 finished bodies taken old due f u is goes long =
-    partway_whole (joined u.placed) (taken ++ old.ready) due old.so_far f (partway_of bodies taken old due u is) goes long
+    partway_whole (joined u.fragments) (taken ++ old.ready) due old.so_far f (partway_of bodies taken old due u is) goes long
 
 finished_totals : (bodies : List (List ℕ)) (taken : List Record) (old : Unpacking) (due : Due) (f : Fragment) (totals : Option Totals) (size : ℕ) → (u : Unpacks bodies taken old)
     → AddsRecord old.totals totals size → size ≡ length old.so_far + length f.part
@@ -124,10 +124,10 @@ pub finish_damaged : (bodies : List (List ℕ)) (taken : List Record) (old : Unp
     → ((fs : List Fragment) (records : List Record) → Reaches Whole fs records [] → AreTotalsOf totals records → StopsAt fs (drop next body) damage)
     → IsDamaged bodies body damage
 finish_damaged bodies taken old body due next f totals size damage u is s goes long adds size_is why =
-    let stop = why (joined u.placed ++ f ∷ []) ((taken ++ old.ready) ++ due_record due (old.so_far ++ f.part) ∷ []) (finished bodies taken old due f u is goes long)
+    let stop = why (joined u.fragments ++ f ∷ []) ((taken ++ old.ready) ++ due_record due (old.so_far ++ f.part) ∷ []) (finished bodies taken old due f u is goes long)
     (finished_totals bodies taken old due f totals size u adds size_is) in
     record {
-      placed = u.placed;
+      fragments = u.fragments;
       bytes_are = u.bytes_are;
       bodies_are = u.bodies_are;
       stops = inr (record {
@@ -138,7 +138,7 @@ finish_damaged bodies taken old body due next f totals size damage u is s goes l
         so_far = stop.so_far;
         bytes_are = s.bytes_there ∙ ap (λ l. fragment_bytes f ++ l) stop.bytes_are ∙ sym (append_assoc (fragment_bytes f) (fragments_bytes stop.front) stop.rest);
         front_is = (s.fragment, whole_part due f goes long, stop.front_is);
-        reaches = subst (λ l. Reaches stop.stage l stop.records stop.so_far) (append_assoc (joined u.placed) (f ∷ []) stop.front) stop.reaches;
+        reaches = subst (λ l. Reaches stop.stage l stop.records stop.so_far) (append_assoc (joined u.fragments) (f ∷ []) stop.front) stop.reaches;
         rest_left = stop.rest_left;
         stops = stop.stops;
       });
@@ -151,13 +151,13 @@ pub finishes : (bodies : List (List ℕ)) (taken : List Record) (old : Unpacking
     → Unpacks (bodies ++ body ∷ []) taken (kept old (old.ready ++ due_record due (old.so_far ++ f.part) ∷ []) batch)
 finishes bodies taken old body due next f totals size batch u is some s goes long adds size_is brings =
     let one = due_record due (old.so_far ++ f.part) ∷ [] in
-    let b = brings (joined u.placed ++ f ∷ []) ((taken ++ old.ready) ++ one) (finished bodies taken old due f u is goes long)
+    let b = brings (joined u.fragments ++ f ∷ []) ((taken ++ old.ready) ++ one) (finished bodies taken old due f u is goes long)
     (finished_totals bodies taken old due f totals size u adds size_is) in
     let order : ((taken ++ old.ready) ++ one) ++ batch.records.items ≡ taken ++ ((old.ready ++ one) ++ batch.records.items) =
     ap (λ l. l ++ batch.records.items) (append_assoc taken old.ready one) ∙ append_assoc taken (old.ready ++ one) batch.records.items in
     unpacks_more bodies taken (kept old (old.ready ++ one) batch) body old (f ∷ b.front) u
     (s.fragment, (λ goes_on. absurd (whole_part due f goes long goes_on)), b.front_is) some
     (s.bytes_there ∙ ap (λ l. fragment_bytes f ++ l) (b.bytes_are ∙ append-nil (fragments_bytes b.front)))
-    (subst (λ l. Reaches batch.stage l (taken ++ ((old.ready ++ one) ++ batch.records.items)) batch.so_far.items) (append_assoc (joined u.placed) (f ∷ []) b.front)
-    (subst (λ l. Reaches batch.stage ((joined u.placed ++ f ∷ []) ++ b.front) l batch.so_far.items) order b.stands.reaches))
+    (subst (λ l. Reaches batch.stage l (taken ++ ((old.ready ++ one) ++ batch.records.items)) batch.so_far.items) (append_assoc (joined u.fragments) (f ∷ []) b.front)
+    (subst (λ l. Reaches batch.stage ((joined u.fragments ++ f ∷ []) ++ b.front) l batch.so_far.items) order b.stands.reaches))
     (subst (AreTotalsOf batch.totals) order b.stands.totals_are)

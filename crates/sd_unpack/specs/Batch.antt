@@ -13,7 +13,9 @@ pub record Stands (fs : List Fragment) (records : List Record) (batch : Batch) :
 
 -- the bytes are fragments that go on with the session, which then stands as the batch says, and what is
 -- after them
-pub record Brings (fs : List Fragment) (records : List Record) (bytes after : List ℕ) (batch : Batch) : Type 0 where
+pub record Brings (fs : List Fragment) (records : List Record) (bytes after : List ℕ) (batch : Batch)
+    : Type 0 where
+  -- the fragments in the bytes
   pub front : List Fragment
   pub bytes_are : bytes ≡ fragments_bytes front ++ after
   pub front_is : FitTogether front

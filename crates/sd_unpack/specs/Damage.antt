@@ -1,11 +1,10 @@
 -- Why a body is refused.
 use Rattle.std.specs.Prelude.{◌≡◌, ◌≢◌, ◌⊎◌, ℕ, pos, neg_ℤ, ◌<ℤ◌, ◌≤ℤ◌, ◌<◌, Some, Result, Ok, Err, List, [], ◌∷◌, ◌++◌, length, map}
 use Rattle.sd_base.specs.Record.{Record}
-use Rattle.sd_base.specs.declared.record.TheConstants.{MOST_DATA}
+use Rattle.sd_base.specs.Limits.{most_data}
 use Rattle.sd_record.specs.Fragment.{Fragment, fragment_bytes, fragments_bytes, IsFragment, GoesOn}
-use Rattle.sd_label.specs.declared.label.TheConstants.{START_LABEL, END_LABEL}
 use Rattle.sd_label.specs.declared.label.SessionLabel.{SessionLabel}
-use Rattle.sd_label.specs.Label.{IsSessionLabel, session_label_fragment}
+use Rattle.sd_label.specs.Label.{start_label_index, end_label_index, IsSessionLabel, session_label_fragment}
 use Rattle.sd_label.specs.Cutting.{AreBodies, joined, total_bytes}
 use Rattle.sd_unpack.specs.declared.damage.Damage.{Damage}
 use Rattle.sd_unpack.specs.declared.damage.Damage.TheVariants.{NoStart, LabelAgain, BadIndex, BadFragment, BadContinuation, BadTotals, AfterEnd}
@@ -36,14 +35,16 @@ pub record Continues (due : Due) (f : Fragment) : Type 0 where
 -- which damage it is where this fragment stands next, at this stage and behind these records: none where
 -- it may stand there
 abbrev pub CantFollow : Damage → Stage → List Record → Fragment → Type 0
-CantFollow NoStart Fresh records f = f.index ≢ START_LABEL
-CantFollow BadFragment Fresh records f = (f.index ≡ START_LABEL) × IsNoLabel f
-CantFollow LabelAgain Whole records f = f.index ≡ START_LABEL
-CantFollow BadTotals Whole records f = (f.index ≡ END_LABEL) × HasOtherTotals records f
-CantFollow BadIndex Whole records f = (f.index ≢ START_LABEL) × (f.index ≢ END_LABEL) × (f.index <ℤ pos 1)
+CantFollow NoStart Fresh records f = f.index ≢ start_label_index
+CantFollow BadFragment Fresh records f = (f.index ≡ start_label_index) × IsNoLabel f
+CantFollow LabelAgain Whole records f = f.index ≡ start_label_index
+CantFollow BadTotals Whole records f = (f.index ≡ end_label_index) × HasOtherTotals records f
+CantFollow BadIndex Whole records f =
+    (f.index ≢ start_label_index) × (f.index ≢ end_label_index) × (f.index <ℤ pos 1)
 CantFollow BadContinuation Whole records f = (pos 1 ≤ℤ f.index) × (f.stream <ℤ pos 0)
 CantFollow BadFragment Whole records f =
-    ((f.index ≡ END_LABEL) × IsNoLabel f) ⊎ ((pos 1 ≤ℤ f.index) × (pos 0 <ℤ f.stream) × (MOST_DATA < f.size))
+    ((f.index ≡ end_label_index) × IsNoLabel f)
+    ⊎ ((pos 1 ≤ℤ f.index) × (pos 0 <ℤ f.stream) × (most_data < f.size))
 CantFollow BadContinuation (Partway due) records f = Continues due f → ⊥
 CantFollow AfterEnd Closed records f = Unit {0}
 CantFollow damage stage records f = ⊥
@@ -62,7 +63,8 @@ BeginsWithNone bytes = (f : Fragment) (after : List ℕ) → BeginsBytes f bytes
 abbrev pub CantStand : Damage → Stage → List Record → List ℕ → Type 0
 CantStand damage stage records bytes =
     ((damage ≡ BadFragment) × BeginsWithNone bytes)
-    ⊎ ((f : Fragment) × (after : List ℕ) × BeginsBytes f bytes after × CantFollow damage stage records f)
+    ⊎ ((f : Fragment) × (after : List ℕ) × BeginsBytes f bytes after
+    × CantFollow damage stage records f)
 
 -- each of them is a fragment with all its data
 abbrev pub AreWhole : List Fragment → Type 0
@@ -84,10 +86,10 @@ pub record StopsAt (fs : List Fragment) (bytes : List ℕ) (damage : Damage) : T
 
 -- behind these bodies, the body is damaged so: there is nothing in it, or its fragments stop
 pub record IsDamaged (bodies : List (List ℕ)) (body : List ℕ) (damage : Damage) : Type 0 where
-  pub placed : List (List Fragment)
-  pub bytes_are : bodies ≡ map fragments_bytes placed
-  pub bodies_are : AreBodies placed
-  pub stops : ((body ≡ []) × (damage ≡ BadFragment)) ⊎ StopsAt (joined placed) body damage
+  pub fragments : List (List Fragment)
+  pub bytes_are : bodies ≡ map fragments_bytes fragments
+  pub bodies_are : AreBodies fragments
+  pub stops : ((body ≡ []) × (damage ≡ BadFragment)) ⊎ StopsAt (joined fragments) body damage
 
 -- the damage, where that is the answer
 abbrev pub IfDamaged : {X : Type 0} → Result X AddFault → (Damage → Type 0) → Type 0

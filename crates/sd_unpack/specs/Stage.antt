@@ -1,8 +1,7 @@
 -- How far the fragments of a session have come.
 use Rattle.std.specs.Prelude.{◌≡◌, ◌≢◌, ◌⊎◌, ℕ, pos, ◌+◌, ◌^◌, ◌≤◌, Option, Some, None, List, [], ◌∷◌, ◌++◌, length}
 use Rattle.sd_base.specs.Record.{Record}
-use Rattle.sd_base.specs.declared.number.TheConstants.{MOST_NUMBER}
-use Rattle.sd_base.specs.declared.record.TheConstants.{MOST_DATA}
+use Rattle.sd_base.specs.Limits.{most_number, most_data}
 use Rattle.sd_record.specs.Fragment.{Fragment, Continue, Fragments, FragmentsOfAll}
 use Rattle.sd_label.specs.declared.label.SessionLabel.{SessionLabel}
 use Rattle.sd_label.specs.declared.label.Totals.{Totals}
@@ -12,30 +11,32 @@ use Rattle.sd_unpack.specs.declared.stage.Due.{Due}
 use Rattle.sd_unpack.specs.declared.stage.Stage.{Stage}
 use Rattle.sd_unpack.specs.declared.stage.Stage.TheVariants.{Fresh, Whole, Partway, Closed}
 
--- a record that could begin so: its index and its stream are in range, and so is what has come of its
--- data with what is due, which is a byte or more
+-- a record that could begin so: its index and its stream are in range, and so is what has come of
+-- its data with what is due, which is a byte or more
 pub record IsDue (due : Due) (so_far : List ℕ) : Type 0 where
   pub index_least : 1 ≤ due.index
-  pub index_most : due.index ≤ MOST_NUMBER
+  pub index_most : due.index ≤ most_number
   pub stream_least : 1 ≤ due.stream
-  pub stream_most : due.stream ≤ MOST_NUMBER
+  pub stream_most : due.stream ≤ most_number
   pub left_least : 1 ≤ due.left
-  pub data_most : length so_far + due.left ≤ MOST_DATA
+  pub data_most : length so_far + due.left ≤ most_data
 
 -- the record that is due, once these are its last bytes
 abbrev pub due_record : Due → List ℕ → Record
 due_record due bytes = record { index = due.index; stream = due.stream; bytes = bytes }
 
--- The first fragments of the record that is due, with the data in them. Whatever the bytes are that are
--- still to come, and however they are cut: with them these are that record's fragments.
+-- The first fragments of the record that is due, with the data in them. Whatever the bytes are that
+-- are still to come, and however they are cut: with them these are that record's fragments.
 pub record Opens (behind : List Fragment) (due : Due) (so_far : List ℕ) : Type 0 where
   pub some_there : behind ≢ []
   pub due_is : IsDue due so_far
   pub whatever_comes : (rest : List ℕ) (more : List Fragment) → length rest ≡ due.left
-      → Continue (pos due.index) (pos due.stream) rest more → Fragments (due_record due (so_far ++ rest)) (behind ++ more)
+      → Continue (pos due.index) (pos due.stream) rest more
+      → Fragments (due_record due (so_far ++ rest)) (behind ++ more)
 
 -- the fragments of a session whose last record isn't whole
-pub record IsPartway (fs : List Fragment) (records : List Record) (due : Due) (so_far : List ℕ) : Type 0 where
+pub record IsPartway (fs : List Fragment) (records : List Record) (due : Due) (so_far : List ℕ)
+    : Type 0 where
   pub start : SessionLabel
   pub parts : List Fragment
   pub behind : List Fragment
@@ -76,4 +77,5 @@ IsStage Closed so_far = Unit {0}
 -- the totals of the records; none where they are more than an end label can hold
 abbrev pub AreTotalsOf : Option Totals → List Record → Type 0
 AreTotalsOf None records = (2 ^ 64 ≤ length records) ⊎ (2 ^ 64 ≤ total_bytes records)
-AreTotalsOf (Some totals) records = totals ≡ record { records = length records; bytes = total_bytes records }
+AreTotalsOf (Some totals) records =
+    totals ≡ record { records = length records; bytes = total_bytes records }

@@ -9,8 +9,8 @@ use Rattle.sd_unpack.specs.declared.stage.Stage.{Stage}
 use Rattle.sd_unpack.specs.declared.stage.Stage.TheVariants.{Closed}
 use Rattle.sd_unpack.specs.Stage.{Reaches, AreTotalsOf, standing_at}
 
--- An unpacker: the records that wait to be taken, the totals of all records so far, how far the session
--- has come, the data of an unfinished record, and the damage if one was found.
+-- An unpacker: the records that wait to be taken, the totals of all records so far, how far the
+-- session has come, the data of an unfinished record, and the damage if one was found.
 pub record Unpacking : Type 0 where
   pub ready : List Record
   pub totals : Option Totals
@@ -20,18 +20,22 @@ pub record Unpacking : Type 0 where
 
 -- the unpacker took these bodies, and handed out these records of them
 pub record Unpacks (bodies : List (List ℕ)) (taken : List Record) (view : Unpacking) : Type 0 where
-  pub placed : List (List Fragment)
-  pub bytes_are : bodies ≡ map fragments_bytes placed
-  pub bodies_are : AreBodies placed
-  pub reaches : Reaches view.stage (joined placed) (taken ++ view.ready) view.so_far
+  -- the fragments of each body
+  pub fragments : List (List Fragment)
+  pub bytes_are : bodies ≡ map fragments_bytes fragments
+  pub bodies_are : AreBodies fragments
+  pub reaches : Reaches view.stage (joined fragments) (taken ++ view.ready) view.so_far
   pub totals_are : AreTotalsOf view.totals (taken ++ view.ready)
 
 -- Laws.
 
--- the records taken and those that wait are the whole records of the bodies, which stand as the stage says
+-- the records taken and those that wait are the whole records of the bodies, which stand as the
+-- stage says
 abbrev pub UnpackedAreWhole : Type 0
-UnpackedAreWhole = (bodies : List (List ℕ)) (taken : List Record) (view : Unpacking) (standing : Standing)
-    → Unpacks bodies taken view → standing_at view.stage ≡ Some standing → Holds bodies (taken ++ view.ready) standing
+UnpackedAreWhole = (bodies : List (List ℕ)) (taken : List Record) (view : Unpacking)
+    (standing : Standing)
+    → Unpacks bodies taken view → standing_at view.stage ≡ Some standing
+    → Holds bodies (taken ++ view.ready) standing
 
 -- who unpacked the bodies of a cutting has its list, and knows its end
 abbrev pub CuttingIsUnpacked : Type 0

@@ -68,8 +68,8 @@ impl Batch {
         ensures at_rest { OnOk result ((GoesOn fragment.now → ⊥) → IsAtRest self.new.stage) }
         ensures stands { OnOk result ((fs : List SpecFragment) (records : List Record)
             → Stands fs records self.old → Stands (fs ++ fragment.now ∷ []) records self.new) }
-        ensures damaged { IfDamaged result (λ damage. (fs : List SpecFragment) (records : List Record)
-            → Stands fs records self.old
+        ensures damaged { IfDamaged result (λ damage. (fs : List SpecFragment)
+            (records : List Record) → Stands fs records self.old
             → CantFollow damage self.old.stage (records ++ self.old.records.items) fragment.now) }
     {
         match self.stage {
@@ -97,8 +97,8 @@ impl Batch {
         ensures at_rest { OnOk result ((GoesOn fragment.now → ⊥) → IsAtRest self.new.stage) }
         ensures stands { OnOk result ((fs : List SpecFragment) (records : List Record)
             → Stands fs records self.old → Stands (fs ++ fragment.now ∷ []) records self.new) }
-        ensures damaged { IfDamaged result (λ damage. (fs : List SpecFragment) (records : List Record)
-            → Stands fs records self.old
+        ensures damaged { IfDamaged result (λ damage. (fs : List SpecFragment)
+            (records : List Record) → Stands fs records self.old
             → CantFollow damage Whole (records ++ self.old.records.items) fragment.now) }
     {
         if fragment.index == START_LABEL {

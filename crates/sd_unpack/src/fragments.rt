@@ -1,12 +1,10 @@
 // What each fragment may be, by itself.
 ghost use Rattle.std.specs.Prelude.{◌≡◌, ◌↔◌, ℕ, pos, ◌+◌, ◌<◌, ◌≤◌, ◌≤ℤ◌, [], ◌++◌, List, length, drop, Ok, Err, Some, None, IsTrue, OnOk, IfOk, IfErr, IfSome};
 ghost use Rattle.sd_base.specs.Record.{Record};
-ghost use Rattle.sd_base.specs.declared.number.TheConstants.{MOST_NUMBER};
-ghost use Rattle.sd_base.specs.declared.record.TheConstants.{MOST_DATA};
+ghost use Rattle.sd_base.specs.Limits.{most_number, most_data};
 ghost use Rattle.sd_record.specs.Fragment.{fragment_bytes, IsFragment, StandsAt};
-ghost use Rattle.sd_label.specs.declared.label.TheConstants.{END_LABEL};
 ghost use Rattle.sd_label.specs.declared.label.SessionLabel.{SessionLabel};
-ghost use Rattle.sd_label.specs.Label.{session_label_fragment};
+ghost use Rattle.sd_label.specs.Label.{end_label_index, session_label_fragment};
 ghost use Rattle.sd_label.specs.Cutting.{IsStart, IsEnd};
 ghost use Rattle.sd_unpack.specs.declared.damage.Damage.TheVariants.{BadFragment};
 ghost use Rattle.sd_unpack.specs.declared.stage.Stage.TheVariants.{Fresh, Whole};
@@ -22,8 +20,10 @@ use sd_record::{Fragment, next_fragment};
 /// The fragment at `at` and the place behind it, or `None` at the body's end.
 pub(crate) fn fragment_at(body: &[u8], at: usize) -> Result<Option<(Fragment<'_>, usize)>, Damage>
     ensures end { (result ≡ Ok None) ↔ (length body.now ≤ at) }
-    ensures found { IfOk result (λ next. IfSome next (λ found. StandsAt body.now at found.0 found.1)) }
-    ensures err { IfErr result (λ damage. (damage ≡ BadFragment) × BeginsWithNone (drop at body.now)) }
+    ensures found { IfOk result
+        (λ next. IfSome next (λ found. StandsAt body.now at found.0 found.1)) }
+    ensures err { IfErr result
+        (λ damage. (damage ≡ BadFragment) × BeginsWithNone (drop at body.now)) }
 {
     match next_fragment(body, at) {
         Ok(next) => Ok(next),
@@ -35,8 +35,10 @@ pub(crate) fn fragment_at(body: &[u8], at: usize) -> Result<Option<(Fragment<'_>
 pub(crate) fn start_label(fragment: &Fragment<'_>, bytes: &[u8]) -> Result<(), Damage>
     requires fragment { IsFragment fragment.now }
     requires bytes { bytes.now ≡ fragment_bytes fragment.now }
-    ensures ok { OnOk result ((label : SessionLabel) × IsStart label × (fragment.now ≡ session_label_fragment label)) }
-    ensures err { IfErr result (λ damage. (records : List Record) → CantFollow damage Fresh records fragment.now) }
+    ensures ok { OnOk result ((label : SessionLabel) × IsStart label
+        × (fragment.now ≡ session_label_fragment label)) }
+    ensures err { IfErr result
+        (λ damage. (records : List Record) → CantFollow damage Fresh records fragment.now) }
 {
     if fragment.index != START_LABEL {
         return Err(Damage::NoStart);
@@ -54,10 +56,11 @@ pub(crate) fn end_label(
     totals: Option<Totals>,
 ) -> Result<(), Damage>
     requires fragment { IsFragment fragment.now }
-    requires index { fragment.now.index ≡ END_LABEL }
+    requires index { fragment.now.index ≡ end_label_index }
     requires bytes { bytes.now ≡ fragment_bytes fragment.now }
     ensures ok { OnOk result ((records : List Record) → AreTotalsOf totals records
-        → (label : SessionLabel) × IsEnd label records × (fragment.now ≡ session_label_fragment label)) }
+        → (label : SessionLabel) × IsEnd label records
+        × (fragment.now ≡ session_label_fragment label)) }
     ensures err { IfErr result (λ damage. (records : List Record) → AreTotalsOf totals records
         → CantFollow damage Whole records fragment.now) }
 {
@@ -78,10 +81,13 @@ pub(crate) fn end_label(
 pub(crate) fn first_due(fragment: &Fragment<'_>) -> Result<Due, Damage>
     requires fragment { IsFragment fragment.now }
     requires index { pos 1 ≤ℤ fragment.now.index }
-    ensures index { IfOk result (λ due. (fragment.now.index ≡ pos due.index) × (1 ≤ due.index) × (due.index ≤ MOST_NUMBER)) }
-    ensures stream { IfOk result (λ due. (fragment.now.stream ≡ pos due.stream) × (1 ≤ due.stream) × (due.stream ≤ MOST_NUMBER)) }
-    ensures left { IfOk result (λ due. (fragment.now.size ≡ due.left) × (due.left ≤ MOST_DATA)) }
-    ensures err { IfErr result (λ damage. (records : List Record) → CantFollow damage Whole records fragment.now) }
+    ensures index { IfOk result (λ due. (fragment.now.index ≡ pos due.index)
+        × (1 ≤ due.index) × (due.index ≤ most_number)) }
+    ensures stream { IfOk result (λ due. (fragment.now.stream ≡ pos due.stream)
+        × (1 ≤ due.stream) × (due.stream ≤ most_number)) }
+    ensures left { IfOk result (λ due. (fragment.now.size ≡ due.left) × (due.left ≤ most_data)) }
+    ensures err { IfErr result
+        (λ damage. (records : List Record) → CantFollow damage Whole records fragment.now) }
 {
     if fragment.stream < 0 {
         return Err(Damage::BadContinuation);

@@ -42,8 +42,8 @@ pub(crate) enum Stage {
 
 /// The totals with one record more of `size` data bytes, or none where a label can't hold them.
 pub(crate) fn totals_with(totals: Option<Totals>, size: usize) -> Option<Totals>
-    ensures { (records : List Record) (one : Record) → AreTotalsOf totals records → size ≡ length one.bytes
-        → AreTotalsOf result (records ++ one ∷ []) }
+    ensures { (records : List Record) (one : Record) → AreTotalsOf totals records
+        → size ≡ length one.bytes → AreTotalsOf result (records ++ one ∷ []) }
 {
     let totals = totals?;
     let records = totals.records.checked_add(1)?;

@@ -1,10 +1,8 @@
 // Bodies with their fields as Python's struct.pack writes those of the storage media output format.
 use super::*;
-use sd_label::{Totals, put_session_label, read_session_label};
 use sd_record::{Fragment, put_fragment};
 use std::alloc::{AllocError, Global};
 use std::process::Abort;
-use std::test::Fail;
 
 const START: &[u8] =
     b"\xff\xff\xff\xfc\x00\x00\x00\x07\x00\x00\x00\x29sd-profile\n\x00\x00\x00\x00\x01\x00\x00\x00\x07\x00\x00\x00\x00\x00\x00\x00\x00Default\x00File\x00";
@@ -21,155 +19,6 @@ const EMPTY: &[u8] = b"\x00\x00\x00\x02\x00\x00\x00\x02\x00\x00\x00\x00";
 const HEL: &[u8] = b"\x00\x00\x00\x01\x00\x00\x00\x02\x00\x00\x00\x05hel";
 
 const LO: &[u8] = b"\x00\x00\x00\x01\xff\xff\xff\xfe\x00\x00\x00\x02lo";
-
-// Where memory is wanted once, the same body is added again.
-fn add(unpacker: &mut Unpacker, body: &[u8]) -> Result<(), AddFault> {
-    match unpacker.add(body) {
-        Err(AddFault::Memory) => unpacker.add(body),
-        answer => answer,
-    }
-}
-
-fn joined(alloc: Global, parts: &[&[u8]]) -> Result<Vec<u8>, AllocError> {
-    let mut body = Vec::new(alloc);
-    for part in parts {
-        body.extend_from_slice(part)?;
-    }
-    Ok(body)
-}
-
-fn add_all(alloc: Global, unpacker: &mut Unpacker, parts: &[&[u8]]) -> Result<(), AddFault> {
-    let body = match joined(alloc, parts) {
-        Ok(body) => body,
-        Err(AllocError) => joined(alloc, parts)?,
-    };
-    add(unpacker, &body)
-}
-
-fn filled(alloc: Global, length: usize) -> Result<Vec<u8>, AllocError> {
-    match vec![in alloc; b'x'; length] {
-        Ok(bytes) => Ok(bytes),
-        Err(AllocError) => vec![in alloc; b'x'; length],
-    }
-}
-
-fn assert_takes(rt: &impl Abort, unpacker: &mut Unpacker, index: u32, bytes: &[u8]) {
-    match unpacker.take_record() {
-        Some(rec) => {
-            assert_eq!(rt; (rec.index, rec.stream), (index, 2));
-            assert_eq!(rt; rec.bytes.as_slice(), bytes);
-        }
-        None => panic!(rt; "no record waits"),
-    }
-}
-
-fn assert_takes_none(rt: &impl Abort, unpacker: &mut Unpacker) {
-    assert!(rt; unpacker.take_record().is_none());
-}
-
-#[test]
-fn hello(rt: HostRuntime) -> Result<(), Fail> {
-    let mut unpacker = Unpacker::new(rt.alloc());
-    assert!(rt; !unpacker.pending() && !unpacker.ended());
-    add_all(rt.alloc(), &mut unpacker, &[START, HELLO, END])?;
-    assert!(rt; unpacker.ended() && !unpacker.pending());
-    assert_takes(&rt, &mut unpacker, 1, b"hello");
-    assert_takes_none(&rt, &mut unpacker);
-    unpacked_are_whole();
-    cutting_is_unpacked();
-    Ok(())
-}
-
-#[test]
-fn takes_between_bodies(rt: HostRuntime) -> Result<(), Fail> {
-    let mut unpacker = Unpacker::new(rt.alloc());
-    add_all(rt.alloc(), &mut unpacker, &[START, EMPTY, HEL])?;
-    assert!(rt; unpacker.pending() && !unpacker.ended());
-    assert_takes(&rt, &mut unpacker, 2, b"");
-    assert_takes_none(&rt, &mut unpacker);
-    add_all(rt.alloc(), &mut unpacker, &[LO, HELLO, EMPTY])?;
-    assert!(rt; !unpacker.pending() && !unpacker.ended());
-    assert_takes(&rt, &mut unpacker, 1, b"hello");
-    add_all(rt.alloc(), &mut unpacker, &[HELLO])?;
-    assert_takes(&rt, &mut unpacker, 1, b"hello");
-    assert_takes(&rt, &mut unpacker, 2, b"");
-    assert_takes(&rt, &mut unpacker, 1, b"hello");
-    assert_takes_none(&rt, &mut unpacker);
-    Ok(())
-}
-
-// The parts of one record of `data` with these lengths, each in a body of its own.
-fn add_parts(
-    alloc: Global,
-    unpacker: &mut Unpacker,
-    data: &[u8],
-    lengths: &[usize],
-) -> Result<(), AddFault> {
-    let mut rest = data;
-    let mut stream = 2;
-    for length in lengths {
-        let (part, after) = rest.split_at(rest.len().min(*length));
-        let fragment = Fragment {
-            index: 1,
-            stream,
-            size: u32::try_from(rest.len()).unwrap_or(0),
-            part,
-        };
-        let mut body = Vec::new(alloc);
-        if put_fragment(&mut body, &fragment).is_err() {
-            put_fragment(&mut body, &fragment)?;
-        }
-        add(unpacker, &body)?;
-        rest = after;
-        stream = -2;
-    }
-    Ok(())
-}
-
-#[test]
-fn three_blocks(rt: HostRuntime) -> Result<(), Fail> {
-    let data = filled(rt.alloc(), 2000)?;
-    let mut unpacker = Unpacker::new(rt.alloc());
-    add(&mut unpacker, START)?;
-    add_parts(rt.alloc(), &mut unpacker, &data, &[935, 988])?;
-    assert!(rt; unpacker.pending());
-    assert_takes_none(&rt, &mut unpacker);
-    let mut unpacker = Unpacker::new(rt.alloc());
-    add(&mut unpacker, START)?;
-    add_parts(rt.alloc(), &mut unpacker, &data, &[935, 988, 77])?;
-    assert!(rt; !unpacker.pending());
-    assert_takes(&rt, &mut unpacker, 1, &data);
-    assert_takes_none(&rt, &mut unpacker);
-    Ok(())
-}
-
-#[test]
-fn large_record(rt: HostRuntime) -> Result<(), Fail> {
-    let mut data = filled(rt.alloc(), 1_000_000)?;
-    if let Some(last) = data.last_mut() {
-        *last = b'y';
-    }
-    let mut lengths = [64_476; 16];
-    lengths[0] = 64_423;
-    lengths[15] = 32_913;
-    let mut unpacker = Unpacker::new(rt.alloc());
-    add(&mut unpacker, START)?;
-    add_parts(rt.alloc(), &mut unpacker, &data, &lengths)?;
-    assert_takes(&rt, &mut unpacker, 1, &data);
-
-    let mut label = read_session_label(START)?;
-    label.totals = Some(Totals {
-        records: 1,
-        bytes: 1_000_000,
-    });
-    let mut end = Vec::new(rt.alloc());
-    if put_session_label(&mut end, &label).is_err() {
-        put_session_label(&mut end, &label)?;
-    }
-    add(&mut unpacker, &end)?;
-    assert!(rt; unpacker.ended());
-    Ok(())
-}
 
 // A body with a whole header and no other data than these.
 const ZERO_INDEX: &[u8] = b"\x00\x00\x00\x00\x00\x00\x00\x02\x00\xff\xff\xff";
@@ -197,75 +46,300 @@ const OTHER_SIZE: &[u8] = b"\x00\x00\x00\x01\xff\xff\xff\xfe\x00\x00\x00\x03loo"
 
 const NO_BYTE: &[u8] = b"\x00\x00\x00\x01\xff\xff\xff\xfe\x00\x00\x00\x02";
 
-// What was taken before, the body that is refused, and why. The first of two reasons is the answer.
-const DAMAGES: [(&[&[u8]], &[&[u8]], Damage); 27] = [
-    (&[], &[], Damage::BadFragment),
-    (&[], &[b"\xff\xff\xff"], Damage::BadFragment),
-    (&[], &[ZERO_STREAM], Damage::BadFragment),
-    (&[], &[HELLO], Damage::NoStart),
-    (&[], &[END], Damage::NoStart),
-    (&[], &[END_INDEX], Damage::NoStart),
-    (&[], &[START_INDEX], Damage::BadFragment),
-    (&[START], &[START], Damage::LabelAgain),
-    (&[START, HELLO], &[START_INDEX], Damage::LabelAgain),
-    (&[START], &[HELLO, ZERO_INDEX], Damage::BadIndex),
-    (&[START], &[VOLUME_INDEX], Damage::BadIndex),
-    (&[START], &[HELLO, ZERO_STREAM], Damage::BadFragment),
-    (&[START], &[HELLO, b"\x00"], Damage::BadFragment),
-    (&[START], &[LONG], Damage::BadFragment),
-    (&[START], &[LONG_CONTINUATION], Damage::BadContinuation),
-    (&[START], &[END_INDEX], Damage::BadFragment),
-    (&[START, HELLO], &[LO], Damage::BadContinuation),
-    (&[START, HEL], &[OTHER_INDEX], Damage::BadContinuation),
-    (&[START, HEL], &[OTHER_STREAM], Damage::BadContinuation),
-    (&[START, HEL], &[SAME_SIGN], Damage::BadContinuation),
-    (&[START, HEL], &[OTHER_SIZE], Damage::BadContinuation),
-    (&[START, HEL], &[NO_BYTE], Damage::BadContinuation),
-    (&[START, HEL], &[START], Damage::BadContinuation),
-    (&[START, HEL], &[LO, LO], Damage::BadContinuation),
-    (&[START], &[END], Damage::BadTotals),
-    (&[START, HELLO, END], &[HELLO], Damage::AfterEnd),
-    (&[START, HELLO, END], &[ZERO_STREAM], Damage::BadFragment),
+// The indexes and the data of records.
+type Records = &'static [(u32, &'static [u8])];
+
+// What was taken before, the body that is refused, why, and the records that wait then: those of the body that is
+// refused never come. The first of two reasons is the answer.
+const DAMAGES: [(&[&[u8]], &[&[u8]], Damage, Records); 29] = [
+    (&[], &[], Damage::BadFragment, &[]),
+    (&[], &[b"\xff\xff\xff"], Damage::BadFragment, &[]),
+    (&[], &[ZERO_STREAM], Damage::BadFragment, &[]),
+    (&[], &[HELLO], Damage::NoStart, &[]),
+    (&[], &[END], Damage::NoStart, &[]),
+    (&[], &[END_INDEX], Damage::NoStart, &[]),
+    (&[], &[START_INDEX], Damage::BadFragment, &[]),
+    (&[START], &[START], Damage::LabelAgain, &[]),
+    (
+        &[START, HELLO],
+        &[START_INDEX],
+        Damage::LabelAgain,
+        &[(1, b"hello")],
+    ),
+    (&[START], &[HELLO, ZERO_INDEX], Damage::BadIndex, &[]),
+    (&[START], &[VOLUME_INDEX], Damage::BadIndex, &[]),
+    (&[START], &[HELLO, ZERO_STREAM], Damage::BadFragment, &[]),
+    (&[START], &[HELLO, b"\x00"], Damage::BadFragment, &[]),
+    (&[START], &[LONG], Damage::BadFragment, &[]),
+    (&[START], &[LONG_CONTINUATION], Damage::BadContinuation, &[]),
+    (&[START], &[END_INDEX], Damage::BadFragment, &[]),
+    (
+        &[START, HELLO],
+        &[LO],
+        Damage::BadContinuation,
+        &[(1, b"hello")],
+    ),
+    (&[START, HEL], &[OTHER_INDEX], Damage::BadContinuation, &[]),
+    (&[START, HEL], &[OTHER_STREAM], Damage::BadContinuation, &[]),
+    (&[START, HEL], &[SAME_SIGN], Damage::BadContinuation, &[]),
+    (&[START, HEL], &[OTHER_SIZE], Damage::BadContinuation, &[]),
+    (&[START, HEL], &[NO_BYTE], Damage::BadContinuation, &[]),
+    (&[START, HEL], &[START], Damage::BadContinuation, &[]),
+    (&[START, HEL], &[LO, LO], Damage::BadContinuation, &[]),
+    (
+        &[START, HELLO, HEL],
+        &[LO, HELLO, ZERO_INDEX],
+        Damage::BadIndex,
+        &[(1, b"hello")],
+    ),
+    (&[START], &[END], Damage::BadTotals, &[]),
+    (
+        &[START, HELLO, EMPTY],
+        &[END],
+        Damage::BadTotals,
+        &[(1, b"hello"), (2, b"")],
+    ),
+    (
+        &[START, HELLO, END],
+        &[HELLO],
+        Damage::AfterEnd,
+        &[(1, b"hello")],
+    ),
+    (
+        &[START, HELLO, END],
+        &[ZERO_STREAM],
+        Damage::BadFragment,
+        &[(1, b"hello")],
+    ),
 ];
 
+// What stands of a session: whether a record is unfinished, and whether the end label has come.
+const BETWEEN: (bool, bool) = (false, false);
+
+const WITHIN: (bool, bool) = (true, false);
+
+const AT_END: (bool, bool) = (false, true);
+
+// A body, what stands of the session then, the records that are taken then, and whether they are all that wait.
+type Step = (&'static [&'static [u8]], (bool, bool), Records, bool);
+
+const SESSIONS: [&[Step]; 3] = [
+    &[(&[START, HELLO, END], AT_END, &[(1, b"hello")], true)],
+    &[
+        (&[START, EMPTY, HEL], WITHIN, &[(2, b"")], true),
+        (&[LO, HELLO, EMPTY], BETWEEN, &[(1, b"hello")], false),
+        (
+            &[HELLO],
+            BETWEEN,
+            &[(1, b"hello"), (2, b""), (1, b"hello")],
+            true,
+        ),
+    ],
+    // The end label's totals are those of all records, also of those that came in parts.
+    &[
+        (&[START, HEL], WITHIN, &[], true),
+        (&[LO, END], AT_END, &[(1, b"hello")], true),
+    ],
+];
+
+// A record of so many bytes, cut into parts of these lengths, each in a body of its own, and the total of data
+// bytes in the end label behind them, if they are the whole record.
+const CUT_RECORDS: [(&str, usize, &[usize], &[u8]); 3] = [
+    ("three_blocks, two of them", 2000, &[935, 988], &[]),
+    (
+        "three_blocks",
+        2000,
+        &[935, 988, 77],
+        b"\x00\x00\x00\x00\x00\x00\x07\xd0",
+    ),
+    (
+        "large_record",
+        1_000_000,
+        &LARGE_PARTS,
+        b"\x00\x00\x00\x00\x00\x0f\x42\x40",
+    ),
+];
+
+const LARGE_PARTS: [usize; 16] = [
+    64_423, 64_476, 64_476, 64_476, 64_476, 64_476, 64_476, 64_476, 64_476, 64_476, 64_476, 64_476,
+    64_476, 64_476, 64_476, 32_913,
+];
+
+fn joined_once(alloc: Global, parts: &[&[u8]]) -> Result<Vec<u8>, AllocError> {
+    let mut body = Vec::new(alloc);
+    for part in parts {
+        body.extend_from_slice(part)?;
+    }
+    Ok(body)
+}
+
+// In each helper below, where memory is wanted once, the same is tried again.
+fn joined(alloc: Global, parts: &[&[u8]]) -> Option<Vec<u8>> {
+    match joined_once(alloc, parts) {
+        Ok(body) => Some(body),
+        Err(AllocError) => joined_once(alloc, parts).ok(),
+    }
+}
+
+// Why the body is refused, if it is.
+fn add(unpacker: &mut Unpacker, body: &[u8]) -> Option<AddFault> {
+    match unpacker.add(body) {
+        Err(AddFault::Memory) => unpacker.add(body).err(),
+        answer => answer.err(),
+    }
+}
+
+fn add_joined(alloc: Global, unpacker: &mut Unpacker, parts: &[&[u8]]) -> Option<AddFault> {
+    match joined(alloc, parts) {
+        Some(body) => add(unpacker, &body),
+        None => Some(AddFault::Memory),
+    }
+}
+
+fn assert_answer(rt: &impl Abort, answer: Option<AddFault>, wanted: Option<AddFault>) {
+    assert_eq!(rt; answer, wanted);
+}
+
+fn assert_stands(rt: &impl Abort, unpacker: &Unpacker, wanted: (bool, bool)) {
+    assert_eq!(rt; (unpacker.pending(), unpacker.ended()), wanted);
+}
+
+// The next record is this one.
+fn assert_next(rt: &impl Abort, unpacker: &mut Unpacker, index: u32, bytes: &[u8]) {
+    let found = match unpacker.take_record() {
+        Some(rec) => (rec.index, rec.stream, rec.bytes.as_slice() == bytes),
+        None => (0, 0, false),
+    };
+    assert_eq!(rt; found, (index, 2, true));
+}
+
+fn assert_records(rt: &impl Abort, unpacker: &mut Unpacker, records: Records) {
+    for (index, bytes) in records {
+        assert_next(rt, unpacker, *index, bytes);
+    }
+}
+
+fn assert_none(rt: &impl Abort, unpacker: &mut Unpacker) {
+    assert!(rt; unpacker.take_record().is_none());
+}
+
+fn assert_step(rt: &impl Abort, alloc: Global, unpacker: &mut Unpacker, step: Step) {
+    let (body, wanted, records, all) = step;
+    assert_answer(rt, add_joined(alloc, unpacker, body), None);
+    assert_stands(rt, unpacker, wanted);
+    assert_records(rt, unpacker, records);
+    if all {
+        assert_none(rt, unpacker);
+    }
+}
+
+fn assert_session(rt: &impl Abort, alloc: Global, steps: &[Step]) {
+    let mut unpacker = Unpacker::new(alloc);
+    assert_stands(rt, &unpacker, BETWEEN);
+    for step in steps {
+        assert_step(rt, alloc, &mut unpacker, *step);
+    }
+}
+
 #[test]
-fn damages(rt: HostRuntime) -> Result<(), Fail> {
-    for (before, last, damage) in DAMAGES {
+fn sessions(rt: HostRuntime) {
+    for steps in SESSIONS {
+        assert_session(&rt, rt.alloc(), steps);
+    }
+    unpacked_are_whole();
+    cutting_is_unpacked();
+}
+
+fn filled_once(alloc: Global, size: usize) -> Result<Vec<u8>, AllocError> {
+    let mut data = vec![in alloc; b'x'; size]?;
+    if let Some(last) = data.last_mut() {
+        *last = b'y';
+    }
+    Ok(data)
+}
+
+fn filled(alloc: Global, size: usize) -> Option<Vec<u8>> {
+    match filled_once(alloc, size) {
+        Ok(data) => Some(data),
+        Err(AllocError) => filled_once(alloc, size).ok(),
+    }
+}
+
+// The body of one fragment of record 1.
+fn fragment_body(alloc: Global, stream: i32, size: usize, part: &[u8]) -> Option<Vec<u8>> {
+    let size = u32::try_from(size).ok()?;
+    let fragment = Fragment {
+        index: 1,
+        stream,
+        size,
+        part,
+    };
+    let mut body = Vec::new(alloc);
+    if put_fragment(&mut body, &fragment).is_err() {
+        put_fragment(&mut body, &fragment).ok()?;
+    }
+    Some(body)
+}
+
+// Adds the parts of a record with these data.
+fn add_parts(
+    rt: &impl Abort,
+    alloc: Global,
+    unpacker: &mut Unpacker,
+    data: &[u8],
+    lengths: &[usize],
+) {
+    let mut rest = data;
+    let mut stream = 2;
+    for length in lengths {
+        let (part, after) = rest.split_at(rest.len().min(*length));
+        let body = fragment_body(alloc, stream, rest.len(), part).expect(rt, "a body");
+        assert_answer(rt, add(unpacker, &body), None);
+        rest = after;
+        stream = -2;
+    }
+}
+
+// The record is whole, and the end label with this total of data bytes follows it.
+fn assert_ends(rt: &impl Abort, alloc: Global, unpacker: &mut Unpacker, data: &[u8], total: &[u8]) {
+    let (end, _) = END.split_at(61);
+    assert_stands(rt, unpacker, BETWEEN);
+    assert_next(rt, unpacker, 1, data);
+    let label: [&[u8]; 3] = [end, total, b"\x00\x00\x00\x54"];
+    assert_answer(rt, add_joined(alloc, unpacker, &label), None);
+    assert_stands(rt, unpacker, AT_END);
+}
+
+#[test]
+fn cut_records(rt: HostRuntime) {
+    for (name, size, lengths, total) in CUT_RECORDS {
+        let data = filled(rt.alloc(), size).expect(&rt, name);
+        let mut unpacker = Unpacker::new(rt.alloc());
+        assert_answer(&rt, add(&mut unpacker, START), None);
+        add_parts(&rt, rt.alloc(), &mut unpacker, &data, lengths);
+        if total.is_empty() {
+            assert_stands(&rt, &unpacker, WITHIN);
+        } else {
+            assert_ends(&rt, rt.alloc(), &mut unpacker, &data, total);
+        }
+        assert_none(&rt, &mut unpacker);
+    }
+}
+
+#[test]
+fn damages(rt: HostRuntime) {
+    for (before, last, damage, records) in DAMAGES {
         let mut unpacker = Unpacker::new(rt.alloc());
         if !before.is_empty() {
-            add_all(rt.alloc(), &mut unpacker, before)?;
+            assert_answer(&rt, add_joined(rt.alloc(), &mut unpacker, before), None);
         }
-        let answer = add_all(rt.alloc(), &mut unpacker, last);
-        assert_eq!(rt; answer, Err(AddFault::Damaged(damage)));
-        assert_eq!(rt; add(&mut unpacker, START), Err(AddFault::Damaged(damage)));
-        assert_eq!(rt; add(&mut unpacker, LO), Err(AddFault::Damaged(damage)));
+        let stood = (unpacker.pending(), unpacker.ended());
+        for body in [last, &[START], &[LO]] {
+            let answer = add_joined(rt.alloc(), &mut unpacker, body);
+            assert_answer(&rt, answer, Some(AddFault::Damaged(damage)));
+        }
+        assert_stands(&rt, &unpacker, stood);
+        assert_records(&rt, &mut unpacker, records);
+        assert_none(&rt, &mut unpacker);
     }
-    Ok(())
-}
-
-// The records of a body that is refused never come, those before it do.
-#[test]
-fn refused_body_gives_none(rt: HostRuntime) -> Result<(), Fail> {
-    let mut unpacker = Unpacker::new(rt.alloc());
-    add_all(rt.alloc(), &mut unpacker, &[START, HELLO, HEL])?;
-    let answer = add_all(rt.alloc(), &mut unpacker, &[LO, HELLO, ZERO_INDEX]);
-    assert_eq!(rt; answer, Err(AddFault::Damaged(Damage::BadIndex)));
-    assert_takes(&rt, &mut unpacker, 1, b"hello");
-    assert_takes_none(&rt, &mut unpacker);
-    assert!(rt; unpacker.pending() && !unpacker.ended());
-    Ok(())
-}
-
-// The end label's totals are those of all records, also of those that came in parts.
-#[test]
-fn totals_of_parts(rt: HostRuntime) -> Result<(), Fail> {
-    let mut unpacker = Unpacker::new(rt.alloc());
-    add_all(rt.alloc(), &mut unpacker, &[START, HEL])?;
-    add_all(rt.alloc(), &mut unpacker, &[LO, END])?;
-    assert!(rt; unpacker.ended());
-    let mut unpacker = Unpacker::new(rt.alloc());
-    add_all(rt.alloc(), &mut unpacker, &[START, HELLO, EMPTY])?;
-    let answer = add(&mut unpacker, END);
-    assert_eq!(rt; answer, Err(AddFault::Damaged(Damage::BadTotals)));
-    Ok(())
 }

@@ -38,7 +38,13 @@ impl Model for Unpacker {
 
     ghost Value = { Unpacking };
 
-    ghost view = { λ u. record { ready = u.ready.items; totals = u.totals; stage = u.stage; so_far = u.so_far.items; damage = u.damage } };
+    ghost view = { λ u. record {
+      ready = u.ready.items;
+      totals = u.totals;
+      stage = u.stage;
+      so_far = u.so_far.items;
+      damage = u.damage;
+    } };
 
     ghost invariant = { λ u. IsStage u.stage u.so_far.items };
 }
@@ -69,12 +75,17 @@ impl Unpacker {
         ensures undamaged { OnOk result ((self.old.damage ≡ None) × (self.new.damage ≡ None)) }
 
         // No cutting begins with a body that is refused, and the damage says why.
-        ensures damaged { IfDamaged result (λ damage. self.new ≡ record self.old { damage = Some damage }) }
-        ensures again { (damage : SpecDamage) → self.old.damage ≡ Some damage → result ≡ Err (Damaged damage) }
+        ensures damaged { IfDamaged result
+            (λ damage. self.new ≡ record self.old { damage = Some damage }) }
+        ensures again { (damage : SpecDamage) → self.old.damage ≡ Some damage
+            → result ≡ Err (Damaged damage) }
         ensures why { IfDamaged result (λ damage. (bodies : List (List ℕ)) (taken : List Record)
-            → self.old.damage ≡ None → Unpacks bodies taken self.old → IsDamaged bodies body.now damage) }
-        ensures no_cutting { IfDamaged result (λ damage. (bodies : List (List ℕ)) (taken records : List Record) (standing : Standing)
-            → self.old.damage ≡ None → Unpacks bodies taken self.old → Holds (bodies ++ body.now ∷ []) records standing → ⊥) }
+            → self.old.damage ≡ None → Unpacks bodies taken self.old
+            → IsDamaged bodies body.now damage) }
+        ensures no_cutting { IfDamaged result (λ damage. (bodies : List (List ℕ))
+            (taken records : List Record) (standing : Standing)
+            → self.old.damage ≡ None → Unpacks bodies taken self.old
+            → Holds (bodies ++ body.now ∷ []) records standing → ⊥) }
         ensures memory { result ≡ Err Memory → self.new ≡ self.old }
     {
         if let Some(damage) = self.damage {
@@ -157,7 +168,8 @@ impl Unpacker {
         requires part { length part.now ≡ due.left }
         requires batch { IsStage batch.stage batch.so_far.items }
         ensures ok { OnOk result (self.new ≡ record self.old {
-          ready = (self.old.ready ++ due_record due (self.old.so_far ++ part.now) ∷ []) ++ batch.records.items;
+          ready = (self.old.ready ++ due_record due (self.old.so_far ++ part.now) ∷ [])
+              ++ batch.records.items;
           totals = batch.totals;
           stage = batch.stage;
           so_far = batch.so_far.items;
@@ -182,7 +194,8 @@ impl Unpacker {
     /// The first record that waits, if one does.
     pub fn take_record(&mut self) -> Option<Rec>
         ensures none { IsNone result ↔ (self.old.ready ≡ []) }
-        ensures first { IfSome result (λ it. self.old ≡ record self.new { ready = it ∷ self.new.ready }) }
+        ensures first { IfSome result
+            (λ it. self.old ≡ record self.new { ready = it ∷ self.new.ready }) }
         ensures unpacks { IfSome result (λ it. (bodies : List (List ℕ)) (taken : List Record)
             → Unpacks bodies taken self.old → Unpacks bodies (taken ++ it ∷ []) self.new) }
         ensures unchanged { IfNone result (self.new ≡ self.old) }

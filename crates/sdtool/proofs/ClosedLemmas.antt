@@ -7,7 +7,7 @@ use Rattle.std.proofs.lemmas.Cmp.{ranked}
 use Rattle.std.proofs.lemmas.List.Sorted.{IsNonDecreasingBy-insert}
 use Rattle.std.proofs.lemmas.Bool.Decides.{nat_tests}
 use Rattle.sdtool.specs.declared.closed.Closed.{Closed}
-use Rattle.sdtool.specs.ClosedSessions.{IsGapFor, IsPlaceOf}
+use Rattle.sdtool.specs.ClosedSessions.{IsGapFor, HasTicketAt}
 
 abbrev pub Rise : List Closed → Type 0
 Rise l = IsNonDecreasingBy (λ (closed : Closed). closed.ticket) l
@@ -20,7 +20,7 @@ comparisons_rise l ticket rise i j d le within =
 
 -- it ends at the ticket, or at the gap for it
 pub searched : (l : List Closed) (ticket : ℕ) (r : Result ℕ ℕ) → Rise l → IsSearchInRange r (length l) → IsBinarySearchResult (λ (closed : Closed). nat_cmp closed.ticket ticket) l r
-    → IfOk r (IsPlaceOf l ticket) × IfErr r (IsGapFor l ticket)
+    → IfOk r (HasTicketAt l ticket) × IfErr r (IsGapFor l ticket)
 searched l ticket (Ok at) rise within equal = (record { within = within; has_ticket = λ d. ranked _ ticket _ (sym (equal d)) }, tt)
 searched l ticket (Err at) rise within parted = (
   tt,
@@ -32,7 +32,7 @@ searched l ticket (Err at) rise within parted = (
 )
 
 -- one more goes there, before the one that has its ticket
-pub rise_at_place : (l : List Closed) (new : Closed) (at : ℕ) → Rise l → IsPlaceOf l new.ticket at → Rise (insert l at new)
+pub rise_at_place : (l : List Closed) (new : Closed) (at : ℕ) → Rise l → HasTicketAt l new.ticket at → Rise (insert l at new)
 rise_at_place l new at rise place =
     IsNonDecreasingBy-insert (λ (closed : Closed). closed.ticket) l at new rise (omega (arith, place.within))
     (λ k d low. omega (arith, rise k at d (omega (arith, low)) place.within, place.has_ticket d))

@@ -2,7 +2,7 @@
 use Rattle.std.proofs.Common.{◌≡◌, ◌≢◌, inl, inr, ℕ, ◌+◌, ◌≤◌, ◌==◌, cond, Bool, true, false, Some, List, [], ◌∷◌, ◌++◌, refl, sym, ap, subst, ◌∙◌, arith, below_more}
 use Rattle.std.specs.Prelude.{IsSome, option_map}
 use Rattle.sd_base.specs.declared.number.SessionKey.{SessionKey}
-use Rattle.sd_base.specs.declared.number.TheConstants.{MOST_NUMBER}
+use Rattle.sd_base.specs.Limits.{most_number}
 use Rattle.sd_core.specs.declared.entry.Entry.{Entry}
 use Rattle.sd_core.specs.declared.event.Event.{Event}
 use Rattle.sd_core.specs.declared.event.Event.TheVariants.{Open, Append, End, Close, Cancel, Spool, Despool, Take, Place, Sync, Label, Mount, Seek}
@@ -134,7 +134,7 @@ pub at_end_none : (w : WorldView) → AtEndBelow w 1
 at_end_none w = record { least = omega arith; most = omega arith; at_end = (λ ticket low high. absurd (omega (arith, low, high))) }
 
 -- one more
-pub at_end_more : (w : WorldView) (first : ℕ) (status : Status) → first ≤ MOST_NUMBER → status_of w first ≡ Some status → is_running (Some status) ≡ false
+pub at_end_more : (w : WorldView) (first : ℕ) (status : Status) → first ≤ most_number → status_of w first ≡ Some status → is_running (Some status) ≡ false
     → AtEndBelow w first → AtEndBelow w (first + 1)
 at_end_more w first status most here rests below =
     let P : ℕ → Type 0 = λ t. 1 ≤ t → IsAtEnd (status_of w t) in

@@ -7,8 +7,8 @@ pub record ClosedView : Type 0 where
   pub sessions : List Closed
   pub room : ℕ
 
--- the session at the place has the ticket
-pub record IsPlaceOf (sessions : List Closed) (ticket at : ℕ) : Type 0 where
+-- a session stands at the place, and it has the ticket
+pub record HasTicketAt (sessions : List Closed) (ticket at : ℕ) : Type 0 where
   pub within : at < length sessions
   pub has_ticket : (d : Closed) → (slice_index_or sessions at d).ticket ≡ ticket
 
@@ -16,4 +16,5 @@ pub record IsPlaceOf (sessions : List Closed) (ticket at : ℕ) : Type 0 where
 pub record IsGapFor (sessions : List Closed) (ticket at : ℕ) : Type 0 where
   pub within : at ≤ length sessions
   pub lower : (k : ℕ) (d : Closed) → k < at → (slice_index_or sessions k d).ticket < ticket
-  pub greater : (k : ℕ) (d : Closed) → at ≤ k → k < length sessions → ticket < (slice_index_or sessions k d).ticket
+  pub greater : (k : ℕ) (d : Closed) → at ≤ k → k < length sessions
+      → ticket < (slice_index_or sessions k d).ticket

@@ -4,7 +4,7 @@ use Rattle.sd_base.specs.declared.refusal.Refusal.{Refusal}
 use Rattle.sd_base.specs.declared.refusal.Refusal.TheVariants.{SessionNotOpen, SessionFailed, NotYet, Memory}
 use Rattle.sd_core.specs.declared.status.Status.{Status}
 use Rattle.sd_core.specs.declared.status.Status.TheVariants.{Active, Ended, Closed, Cancelled, Failed}
-use Rattle.sd_core.specs.Session.{refusal_of}
+use Rattle.sd_core.specs.Session.{status_refusal}
 
 -- why a session that has no spans can't be read
 abbrev pub unread_refusal : Option Status → Refusal
@@ -19,4 +19,4 @@ unread_refusal (Some Failed) = SessionFailed
 abbrev pub unheld_refusal : Option Status → Refusal
 unheld_refusal None = SessionNotOpen
 unheld_refusal (Some Active) = Memory
-unheld_refusal (Some status) = refusal_of status
+unheld_refusal (Some status) = status_refusal status

@@ -1,7 +1,7 @@
 -- What a drain plays: rounds of steps, and what comes of them.
 use Rattle.std.specs.Prelude.{◌≡◌, ◌⊎◌, ℕ, ◌+◌, ◌-◌, ◌^◌, ◌≤◌, ◌<◌, min, Bool, true, false, IsTrue, Option, Some, None, IsSome, option_map, List, [], ◌∷◌, ◌++◌, length, All, filter}
 use Rattle.std.specs.List.{list_any, count_by, sum_by, range_with_len}
-use Rattle.sd_base.specs.declared.number.TheConstants.{MOST_NUMBER}
+use Rattle.sd_base.specs.Limits.{most_number}
 use Rattle.sd_core.specs.declared.event.Event.{Event}
 use Rattle.sd_core.specs.declared.event.Event.TheVariants.{Spool, Despool, Take, Place, Sync, Seek}
 use Rattle.sd_core.specs.declared.reply.Reply.{Reply}
@@ -13,7 +13,7 @@ use Rattle.sd_core.specs.Step.{Run}
 use Rattle.sd_core.specs.World.{WorldView, entry_of}
 use Rattle.sd_core.specs.Matches.{Matches}
 use Rattle.sd_core.specs.Moves.{Moves}
-use Rattle.sdtool.specs.declared.drain.Round.{Round}
+use Rattle.sdtool.specs.declared.drain.Progress.{Progress}
 
 -- the events happen to the world one after another, with these replies
 abbrev pub Plays : WorldView → List Event → List Reply → WorldView → Type 0
@@ -39,9 +39,11 @@ abbrev pub has_placed : Reply → Bool
 has_placed (Placed volume start end) = true
 has_placed reply = false
 
+-- how many blocks were placed in the steps with these replies
 abbrev pub placed_in : List Reply → ℕ
 placed_in replies = count_by has_placed replies
 
+-- whether something moved in one of them
 abbrev pub moved_in : List Reply → Bool
 moved_in replies = list_any has_moved replies
 
@@ -50,23 +52,25 @@ abbrev pub counted : ℕ → ℕ
 counted n = min n (2 ^ 64 - 1)
 
 -- what came of the steps with these replies
-pub record Tells (round : Round) (replies : List Reply) : Type 0 where
-  pub moved : round.moved ≡ moved_in replies
-  pub placed : round.placed ≡ counted (placed_in replies)
+pub record Tells (progress : Progress) (replies : List Reply) : Type 0 where
+  pub moved : progress.moved ≡ moved_in replies
+  pub placed : progress.placed ≡ counted (placed_in replies)
 
 -- Steps of this kind are played, and what came of them is told.
-pub record PlaysOn (kind : List Event → List Reply → Type 0) (old : WorldView) (round : Round) (new : WorldView) : Type 0 where
+pub record PlaysOn (kind : List Event → List Reply → Type 0) (old : WorldView) (progress : Progress)
+    (new : WorldView) : Type 0 where
   pub events : List Event
   pub replies : List Reply
   pub is_kind : kind events replies
   pub plays : Plays old events replies new
-  pub tells : Tells round replies
+  pub tells : Tells progress replies
 
 -- one step to the spool and one to the queue for each of the sessions
 abbrev pub sends : List ℕ → List Event
 sends [] = []
 sends (ticket ∷ tickets) = Spool ticket ∷ Despool ticket ∷ sends tickets
 
+-- the events are these steps, whatever the replies
 abbrev pub AreSends : List ℕ → List Event → List Reply → Type 0
 AreSends tickets events replies = events ≡ sends tickets
 
@@ -87,7 +91,7 @@ IsAtEnd status = IsSome status × (is_running status ≡ false)
 -- The sessions of all tickets below this one are at their end.
 pub record AtEndBelow (w : WorldView) (first : ℕ) : Type 0 where
   pub least : 1 ≤ first
-  pub most : first ≤ MOST_NUMBER + 1
+  pub most : first ≤ most_number + 1
   pub at_end : (ticket : ℕ) → 1 ≤ ticket → ticket < first → IsAtEnd (status_of w ticket)
 
 -- which of the first so many tickets have a session that is on its way, by rising ticket
@@ -99,16 +103,18 @@ running w count = filter (λ ticket. is_running (status_of w ticket)) (range_wit
 pub record SendAll (w : WorldView) (events : List Event) (replies : List Reply) : Type 0 where
   pub count : ℕ
   pub given : (ticket : ℕ) → 1 ≤ ticket → ticket ≤ count → IsSome (status_of w ticket)
-  pub end : (status_of w (count + 1) ≡ None) ⊎ (count ≡ MOST_NUMBER)
+  pub end : (status_of w (count + 1) ≡ None) ⊎ (count ≡ most_number)
   pub events_are : events ≡ sends (running w count)
 
 -- The body in the hand is placed; where a volume is needed one is sought; and where that mounted one, the
 -- body is placed again.
 abbrev pub placing : ℕ → List Reply → List Event
-placing drive (NeedVolume ∷ Mounted name ∷ replies) = Place drive ∷ Seek drive ∷ Place drive ∷ []
+placing drive (NeedVolume ∷ Mounted name ∷ replies) =
+    Place drive ∷ Seek drive ∷ Place drive ∷ []
 placing drive (NeedVolume ∷ replies) = Place drive ∷ Seek drive ∷ []
 placing drive replies = Place drive ∷ []
 
+-- the events are the placing that these replies make
 abbrev pub IsPlacing : ℕ → List Event → List Reply → Type 0
 IsPlacing drive events replies = events ≡ placing drive replies
 

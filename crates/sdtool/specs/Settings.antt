@@ -10,6 +10,10 @@ pub record ValuesView : Type 0 where
   pub block : ℕ
   pub time : ℕ
 
+-- what a script sets that has no settings
+abbrev pub usual_values : ValuesView
+usual_values = record { block = 64512; time = 1000 }
+
 -- each value is one that a line of a script may set
 pub record AreSettable (v : ValuesView) : Type 0 where
   pub block : IsWithin (Set (Block v.block))

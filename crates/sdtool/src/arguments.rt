@@ -22,8 +22,10 @@ const USAGE: u8 = 2;
 
 /// The status of a run that only prints this: 0 for help and the version, 2 where the command line was wrong.
 pub fn status_of(told: &Error) -> u8
-    ensures shown { (kind_of told.now ≡ ErrorKind.DisplayHelp) ⊎ (kind_of told.now ≡ ErrorKind.DisplayVersion) → result ≡ 0 }
-    ensures wrong { kind_of told.now ≢ ErrorKind.DisplayHelp → kind_of told.now ≢ ErrorKind.DisplayVersion → result ≡ USAGE }
+    ensures shown { (kind_of told.now ≡ ErrorKind.DisplayHelp)
+        ⊎ (kind_of told.now ≡ ErrorKind.DisplayVersion) → result ≡ 0 }
+    ensures wrong { kind_of told.now ≢ ErrorKind.DisplayHelp
+        → kind_of told.now ≢ ErrorKind.DisplayVersion → result ≡ 2 }
 {
     if told.use_stderr() { USAGE } else { 0 }
 }

@@ -1,7 +1,7 @@
 // The sessions that a script closed.
 ghost use Rattle.std.specs.Prelude.{◌≡◌, ◌≢◌, ◌<◌, [], ◌∷◌, All, Contains, IfErr, IfNone, IfOk, IfSome, OnOk};
 ghost use Rattle.std.specs.List.Sorted.{IsNonDecreasingBy, IsPermutation};
-ghost use Rattle.sdtool.specs.ClosedSessions.{IsGapFor, IsPlaceOf};
+ghost use Rattle.sdtool.specs.ClosedSessions.{IsGapFor, HasTicketAt};
 
 use sd_base::{Items, SessionKey, Ticket};
 use sd_core::Span;
@@ -30,7 +30,10 @@ impl Model for ClosedSessions {
 
     ghost Value = { ClosedView };
 
-    ghost view = { λ c. record { sessions = c.sessions.items; room = vec_capacity c.sessions - vec_len c.sessions } };
+    ghost view = { λ c. record {
+      sessions = c.sessions.items;
+      room = vec_capacity c.sessions - vec_len c.sessions;
+    } };
 
     ghost invariant = { λ c. IsNonDecreasingBy (λ closed. closed.ticket) c.sessions.items };
 }
@@ -63,7 +66,8 @@ impl ClosedSessions {
 
     /// The closed session of a ticket.
     pub fn find(&self, ticket: Ticket) -> Option<&Closed>
-        ensures found { IfSome result (λ closed. (closed.now.ticket ≡ ticket) × Contains self.now.sessions closed.now) }
+        ensures found { IfSome result (λ closed.
+            (closed.now.ticket ≡ ticket) × Contains self.now.sessions closed.now) }
         ensures none { IfNone result (All (λ closed. closed.ticket ≢ ticket) self.now.sessions) }
     {
         match place_of(&self.sessions, ticket) {
@@ -76,7 +80,7 @@ impl ClosedSessions {
 /// Where a session of this ticket stands among closed ones by rising ticket, or in the `Err` where it would.
 fn place_of(sessions: &[Closed], ticket: Ticket) -> Result<usize, usize>
     requires { IsNonDecreasingBy (λ closed. closed.ticket) sessions.now }
-    ensures at { IfOk result (IsPlaceOf sessions.now ticket) }
+    ensures at { IfOk result (HasTicketAt sessions.now ticket) }
     ensures gap { IfErr result (IsGapFor sessions.now ticket) }
 {
     sessions.binary_search_by_key(&ticket.get(), |closed| closed.ticket.get())

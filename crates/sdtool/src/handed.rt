@@ -18,7 +18,9 @@ impl Model for Handed {
 
     ghost Value = { List Record };
 
-    ghost view = { λ h. (elim h.before as (λ _. List Record) [ None ↦ [] | Some s ↦ s.value ]) ++ h.last.value ∷ [] };
+    ghost view = { λ h.
+        (elim h.before as (λ _. List Record) [ None ↦ [] | Some s ↦ s.value ])
+        ++ h.last.value ∷ [] };
 
     ghost size = { λ l. length l };
 }

@@ -1,5 +1,6 @@
 // Running the lines of a script over a world.
 ghost use Rattle.std.specs.Prelude.{◌≡◌, ◌≢◌, ◌⊎◌, ◌-◌, replicate, true, false, IfOk, IfSome, IfNone};
+ghost use Rattle.sd_base.specs.Limits.{block_header};
 ghost use Rattle.sd_core.specs.World.{fresh_world};
 ghost use Rattle.sdtool.specs.Refused.{unheld_refusal, unread_refusal};
 
@@ -47,7 +48,7 @@ pub fn run_lines<R: BufRead, W: Write + Drop>(
     reader: &mut R,
     writer: W,
 ) -> u8
-    ensures { (result ≡ DONE) ⊎ (result ≡ FAILED) }
+    ensures { (result ≡ 0) ⊎ (result ≡ 1) }
 {
     let Settings {
         values,
@@ -79,9 +80,10 @@ pub fn run_lines<R: BufRead, W: Write + Drop>(
 impl<W: Write + Drop> Script<W> {
     /// Runs the line that came, which stands in `bytes`. Answers the status where the run is over.
     fn come(&mut self, next: Next, bytes: &[u8]) -> Option<u8>
-        ensures over { IfSome result (λ status. ((status ≡ DONE) × (next ≡ Next.End))
-            ⊎ ((status ≡ FAILED) × ((next ≡ Next.Fault) ⊎ (self.new.out.failed ≡ true)))) }
-        ensures goes_on { IfNone result ((next ≢ Next.End) × (next ≢ Next.Fault) × (self.new.out.failed ≡ false)) }
+        ensures over { IfSome result (λ status. ((status ≡ 0) × (next ≡ Next.End))
+            ⊎ ((status ≡ 1) × ((next ≡ Next.Fault) ⊎ (self.new.out.failed ≡ true)))) }
+        ensures goes_on { IfNone result ((next ≢ Next.End) × (next ≢ Next.Fault)
+            × (self.new.out.failed ≡ false)) }
     {
         match next {
             Next::Line => self.run(bytes),
@@ -234,7 +236,8 @@ impl<W: Write + Drop> Script<W> {
 
 /// A world with nothing in it yet, of these settings.
 fn new_world(alloc: Global, values: &Values) -> Result<World, AllocError>
-    ensures { IfOk result (λ world. world ≡ fresh_world (values.now.block - 24) values.now.time) }
+    ensures { IfOk result (λ world.
+        world ≡ fresh_world (values.now.block - block_header) values.now.time) }
 {
     let conf = WorldConf {
         block: values.block,
@@ -242,15 +245,15 @@ fn new_world(alloc: Global, values: &Values) -> Result<World, AllocError>
     World::new(alloc, conf, values.time)
 }
 
-/// The bytes of a `fill` line's record.
+/// The bytes of a `fill` line's record: letters x.
 fn filled(alloc: Global, count: usize) -> Result<Bytes, AllocError>
-    ensures { IfOk result (λ bytes. bytes ≡ replicate count FILLING) }
+    ensures { IfOk result (λ bytes. bytes ≡ replicate count 120) }
 {
     Ok(Items::from_vec(vec![in alloc; FILLING; count]?))
 }
 
 /// Prints the JobMedia text of a closed session.
-fn print_jobmedia<W: Write + Drop>(out: &mut Output<W>, key: SessionKey, spans: &[Span]) {
+pub fn print_jobmedia<W: Write + Drop>(out: &mut Output<W>, key: SessionKey, spans: &[Span]) {
     out.line(format_args!("session {} {}", key.time, key.id));
     for span in spans {
         out.line(span);

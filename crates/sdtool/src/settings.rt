@@ -3,7 +3,7 @@ ghost use Rattle.std.specs.Prelude.{◌≡◌, IfSome, IfNone};
 ghost use Rattle.sd_script.specs.Grammar.{HasForm, IsWithin};
 ghost use Rattle.sd_script.specs.declared.line.Line.TheVariants.{Set};
 ghost use Rattle.sd_script.specs.declared.line.Setting.{Setting as SpecSetting};
-ghost use Rattle.sdtool.specs.Settings.{values_with};
+ghost use Rattle.sdtool.specs.Settings.{usual_values, values_with};
 
 use crate::lines::{Lines, Next};
 use sd_script::{Line, Setting, read_line};
@@ -48,12 +48,10 @@ pub struct Settings {
 /// Reads the settings, and keeps the first other line: any line that is no setting ends them, an
 /// empty one and a refused one too.
 pub fn read_settings<R: BufRead>(alloc: Global, reader: &mut R) -> Settings
-    ensures { result.first ≡ Next.Line → (setting : SpecSetting) → HasForm result.lines (Set setting) → ⊥ }
+    ensures { result.first ≡ Next.Line → (setting : SpecSetting)
+        → HasForm result.lines (Set setting) → ⊥ }
 {
-    let mut values = Values {
-        block: USUAL_BLOCK,
-        time: USUAL_TIME,
-    };
+    let mut values = Values::usual();
     let mut lines = Lines::new(alloc);
     for _ in 0..u64::MAX {
         let first = lines.read_next(reader);
@@ -76,8 +74,10 @@ pub fn read_settings<R: BufRead>(alloc: Global, reader: &mut R) -> Settings
 
 /// The setting that was read, where what was read is one.
 fn setting_of(lines: &Lines, read: Next) -> Option<Setting>
-    ensures found { IfSome result (λ setting. (read ≡ Next.Line) × HasForm lines.now (Set setting)) }
-    ensures none { IfNone result (read ≡ Next.Line → (setting : SpecSetting) → HasForm lines.now (Set setting) → ⊥) }
+    ensures found { IfSome result (λ setting.
+        (read ≡ Next.Line) × HasForm lines.now (Set setting)) }
+    ensures none { IfNone result (read ≡ Next.Line → (setting : SpecSetting)
+        → HasForm lines.now (Set setting) → ⊥) }
 {
     let Next::Line = read else {
         return None;
@@ -89,6 +89,16 @@ fn setting_of(lines: &Lines, read: Next) -> Option<Setting>
 }
 
 impl Values {
+    /// The values of a script that has no settings.
+    fn usual() -> Self
+        ensures { result ≡ usual_values }
+    {
+        Values {
+            block: USUAL_BLOCK,
+            time: USUAL_TIME,
+        }
+    }
+
     fn with(self, setting: Setting) -> Self
         requires { IsWithin (Set setting) }
         ensures { result ≡ values_with self setting }

@@ -1,7 +1,7 @@
 // Why a session can't be read back.
 ghost use Rattle.std.specs.Prelude.{◌≡◌};
 ghost use Rattle.sd_core.specs.declared.readback.fault.ReadFault.TheVariants.{DamagedBlock, Memory};
-ghost use Rattle.sd_core.specs.ReadFaults.{refusal_of, fault_of};
+ghost use Rattle.sd_core.specs.ReadFaults.{fault_refusal, fault_of};
 
 use sd_base::Refusal;
 use sd_block::BlockFault;
@@ -27,7 +27,7 @@ pub enum ReadFault {
 impl ReadFault {
     /// What the daemon answers for it.
     pub fn refusal(self) -> Refusal
-        ensures { result ≡ refusal_of self }
+        ensures { result ≡ fault_refusal self }
     {
         match self {
             ReadFault::BadSpan => Refusal::BadSpan,

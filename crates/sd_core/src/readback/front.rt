@@ -3,7 +3,8 @@ ghost use Rattle.std.specs.Prelude.{◌≡◌, ◌↔◌, IsTrue, IfOk, IfErr};
 ghost use Rattle.sd_core.specs.ReadFaults.{ComesNext, BeginsWithBlock, BeginsWithNoBlock};
 
 use crate::readback::fault::ReadFault;
-use sd_block::{LEAST_BLOCK, MOST_BLOCK, Opened, open_block, read_head};
+use sd_base::{LEAST_BLOCK, MOST_BLOCK};
+use sd_block::{Opened, open_block, read_head};
 
 /// A block at the front of bytes, and the bytes behind it.
 #[derive(Clone, Copy)]
@@ -17,7 +18,8 @@ pub(crate) struct Front<'a> {
 /// checksum, its number.
 pub(crate) fn front_of(bytes: &[u8], last: Option<u32>) -> Result<Front<'_>, ReadFault>
     ensures ok { IfOk result (λ front. BeginsWithBlock last bytes.now
-        (record { key = front.block.key; body = front.block.body.now }) front.block.number front.behind.now) }
+        (record { key = front.block.key; body = front.block.body.now })
+        front.block.number front.behind.now) }
     ensures err { IfErr result (λ fault. BeginsWithNoBlock fault last bytes.now) }
 {
     if bytes.len() < LEAST_BLOCK {

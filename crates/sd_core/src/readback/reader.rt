@@ -43,12 +43,14 @@ impl Reader {
 
     /// Reads a part of a volume, which is to be whole blocks with numbers that rise by one.
     pub(crate) fn read_part<S: Sink>(&mut self, part: &[u8], sink: &mut S) -> Result<(), ReadFault>
-        ensures ok { OnOk result ((blocks : List Block) × (number : ℕ) × (part.now ≡ images number blocks)
-            × AreImages number blocks × ReadsOn self.old self.new (S.got sink.old) (S.got sink.new) blocks) }
+        ensures ok { OnOk result ((blocks : List Block) × (number : ℕ)
+            × (part.now ≡ images number blocks) × AreImages number blocks
+            × ReadsOn self.old self.new (S.got sink.old) (S.got sink.new) blocks) }
         ensures stops { IfErr result (λ fault. fault ≢ ReadFault.Memory
             → (key : SpecKey) (before : List Block) (taken : List Record)
             → HasRead key before taken self.old → StopsWithin key before part.now fault) }
-        ensures handed_over { OnErr result (HandsOverInPart self.old (S.got sink.old) (S.got sink.new) part.now) }
+        ensures handed_over { OnErr result
+            (HandsOverInPart self.old (S.got sink.old) (S.got sink.new) part.now) }
     {
         let mut left = part;
         let mut last = None;
@@ -71,7 +73,8 @@ impl Reader {
             → (fault ≡ ReadFault.DamagedBlock)
             × (AreReadable (blocks_of key (before
             ++ record { key = block.now.key; body = block.now.body.now } ∷ [])) → ⊥)) }
-        ensures handed_over { OnErr result (HandsOverInBlock self.old (S.got sink.old) (S.got sink.new)
+        ensures handed_over { OnErr result (HandsOverInBlock self.old
+            (S.got sink.old) (S.got sink.new)
             (record { key = block.now.key; body = block.now.body.now })) }
     {
         if self.key != block.key {
@@ -92,10 +95,12 @@ impl Reader {
         }) }
         ensures counted { OnOk result (self.old.records < 2 ^ 64 → self.old.bytes < 2 ^ 64
             → (self.new.records < 2 ^ 64) × (self.new.bytes < 2 ^ 64)) }
-        ensures uncountable { IfErr result (λ fault. fault ≢ ReadFault.Memory → (fault ≡ ReadFault.DamagedBlock)
+        ensures uncountable { IfErr result (λ fault. fault ≢ ReadFault.Memory
+            → (fault ≡ ReadFault.DamagedBlock)
             × ((2 ^ 64 ≤ self.old.records + length self.old.unpacker.ready)
             ⊎ (2 ^ 64 ≤ self.old.bytes + total_bytes self.old.unpacker.ready))) }
-        ensures handed_over { OnErr result (GotFirstOf self.old.unpacker.ready (S.got sink.old) (S.got sink.new)) }
+        ensures handed_over { OnErr result
+            (GotFirstOf self.old.unpacker.ready (S.got sink.old) (S.got sink.new)) }
     {
         while let Some(rec) = self.unpacker.take_record() {
             self.count(&rec)?;
@@ -112,7 +117,8 @@ impl Reader {
         }) }
         ensures counted { OnOk result ((self.new.records < 2 ^ 64) × (self.new.bytes < 2 ^ 64)) }
         ensures uncountable { IfErr result (λ fault. (fault ≡ ReadFault.DamagedBlock)
-            × ((2 ^ 64 ≤ self.old.records + 1) ⊎ (2 ^ 64 ≤ self.old.bytes + length rec.now.bytes))) }
+            × ((2 ^ 64 ≤ self.old.records + 1)
+            ⊎ (2 ^ 64 ≤ self.old.bytes + length rec.now.bytes))) }
     {
         let Some(records) = self.records.checked_add(1) else {
             return Err(ReadFault::DamagedBlock);

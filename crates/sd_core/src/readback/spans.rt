@@ -12,7 +12,7 @@ pub(crate) fn are_spans(spans: &[Span]) -> bool
     ensures { IsTrue result ↔ AreSpans spans.now }
 {
     for (i, span) in spans.iter().enumerate() {
-        if span.vol_index as usize != i + 1 || span.start >= span.end {
+        if span.vol_index != i as u64 + 1 || span.start >= span.end {
             return false;
         }
     }
@@ -26,7 +26,8 @@ pub(crate) fn part_of<'a>(
     span: &Span,
 ) -> Result<&'a [u8], ReadFault>
     requires { span.now.start < span.now.end }
-    ensures there { IfOk result (λ part. shelf_with name.now bytes.now span.now.volume ≡ Some bytes.now) }
+    ensures there { IfOk result
+        (λ part. shelf_with name.now bytes.now span.now.volume ≡ Some bytes.now) }
     ensures part { IfOk result (λ part. IsPartOf bytes.now span.now part.now) }
     ensures err { IfErr result (λ fault. PartFault fault (shelf_with name.now bytes.now) span.now) }
 {

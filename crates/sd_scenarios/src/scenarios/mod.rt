@@ -17,9 +17,9 @@ pub use worked::{
 #[derive(Clone, Copy)]
 pub enum At {
     /// On the volume of the scenarios.
-    Here(u32, u64, u64),
+    Here(u64, u64, u64),
     /// On another one.
-    Elsewhere(u32, u64, u64),
+    Elsewhere(u64, u64, u64),
 }
 
 /// What a reading comes to.

@@ -1,18 +1,18 @@
 // What the command line asks for, and what is told of it.
 use crate::arguments::{Task, status_of, task_of};
 use std::alloc::{AllocError, Global};
-use std::test::Fail;
 
 /// A command line, and where it does not run a script the status and the first line of what is told. What
 /// is told with status 2 goes to standard error, and the rest to standard output.
-struct CommandLine {
-    words: &'static str,
+#[derive(Clone, Copy)]
+pub struct CommandLine {
+    pub words: &'static str,
     told: Option<(u8, &'static str)>,
 }
 
 const ABOUT: &str = "Runs scripts over the core of the storage daemon";
 
-static COMMAND_LINES: [CommandLine; 8] = [
+pub static COMMAND_LINES: [CommandLine; 8] = [
     CommandLine {
         words: "",
         told: Some((2, ABOUT)),
@@ -58,19 +58,17 @@ fn asked(alloc: Global, line: &str) -> Result<Task, AllocError> {
     Ok(task_of(alloc, &words))
 }
 
-#[test]
-fn command_lines(rt: HostRuntime) -> Result<(), Fail> {
-    for line in &COMMAND_LINES {
-        match asked(rt.alloc(), line.words)? {
-            Task::Run => assert!(rt; line.told.is_none(), "{}", line.words),
-            Task::Print(told) => {
-                let text = told.to_string(rt.alloc())?;
-                let answer = text.lines().next().map(|first| (status_of(&told), first));
-                assert_eq!(rt; answer, line.told, "{}", line.words);
-                assert_eq!(rt; told.use_stderr(), status_of(&told) == 2, "{}", line.words);
-            }
-            Task::NoMemory => assert!(rt; false, "{}", line.words),
+/// Whether the command line is answered as it should be.
+pub fn is_answered_so(alloc: Global, line: &CommandLine) -> Result<bool, AllocError> {
+    match asked(alloc, line.words)? {
+        Task::Run => Ok(line.told.is_none()),
+        Task::Print(told) => {
+            let status = status_of(&told);
+            let text = told.to_string(alloc)?;
+            let first = text.lines().next().unwrap_or("");
+            let same = line.told == Some((status, first));
+            Ok(same && told.use_stderr() == (status == 2))
         }
+        Task::NoMemory => Err(AllocError),
     }
-    Ok(())
 }

@@ -1,4 +1,12 @@
-// Lines that are refused, between those that bring it about.
+// Line by line, each refusal that a script can bring about, between the lines that bring it about.
+//
+// 'Want of memory' comes where memory is refused, 'No session number left' behind 2,147,483,647
+// sessions, and 'Volume not appendable' behind a volume of 68,719,476,736 bytes. The others can't come yet:
+// - 'Packet too long', since nothing here reads packets;
+// - 'Session failed', 'Spool fault', 'Device fault', 'No room on the device': nothing fails;
+// - 'Drive offline', 'Volume already labelled', 'Not a volume of this profile', 'Volume has blocks of
+//   this run', 'Volume purged', 'Volume not full': there is one drive with one volume;
+// - 'Bad span', 'Damaged block', 'Span ends early': a session is read by the spans that its close gave.
 
 /// Each line of a script, with the line that it prints.
 pub static REFUSALS: [(&str, &str); 31] = [

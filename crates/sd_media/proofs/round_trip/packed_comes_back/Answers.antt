@@ -5,6 +5,6 @@ use Rattle.sd_media.proofs.round_trip.packed_comes_back.Goals as goal
 pub returns : goal.returns
 returns c room bodies records taken view unpacks =
     let back = cutting_unpacked (bytes_of bodies) records taken view unpacks in (
-      (λ packs. back.0 (record { placed = packs.placed; places = packs.places })),
-      (λ packs. back.1 (record { placed = packs.placed; places = packs.places })),
+      (λ packs. back.0 (record { fragments = packs.fragments; holds_by = packs.holds_by })),
+      (λ packs. back.1 (record { fragments = packs.fragments; holds_by = packs.holds_by })),
     )

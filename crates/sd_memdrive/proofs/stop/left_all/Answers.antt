@@ -1,7 +1,7 @@
 use Rattle.std.proofs.Common.{Vec, Global, take, ◌++◌, ◌∷◌, [], ap, sym, ◌∙◌, append-nil}
 use Rattle.std.specs.List.{cons_option, filter_map}
 use Rattle.sd_memdrive.specs.declared.stored.Stored.{Stored}
-use Rattle.sd_memdrive.specs.Record.{left_volume}
+use Rattle.sd_memdrive.specs.ChangeLog.{left_volume}
 use Rattle.sd_memdrive.proofs.Stops.{filter_map-more}
 use Rattle.sd_memdrive.proofs.stop.left_all.Goals as goal
 use Rattle.sd_memdrive.proofs.stop.left_all.Goals.{in-Some+in_ok-push, in_default}

@@ -1,6 +1,6 @@
 use Rattle.std.proofs.Common.{◌≡◌, take}
 use Rattle.std.specs.List.{filter_map}
-use Rattle.sd_memdrive.specs.Record.{left_volume}
+use Rattle.sd_memdrive.specs.ChangeLog.{left_volume}
 use Rattle.sd_memdrive.proofs.stop.left_all.Given as goal
 
 -- what is left of the volumes so far

@@ -1,7 +1,7 @@
 use Rattle.std.proofs.Common.{◌≢◌, ℕ, ◌++◌, Vec, Global, take, ap, sym, ◌∙◌}
 use Rattle.sd_memdrive.proofs.Changes.{undo_change-here, undo_change-other}
 use Rattle.sd_memdrive.proofs.Stops.{undo-step}
-use Rattle.sd_memdrive.specs.Record.{undo_change}
+use Rattle.sd_memdrive.specs.ChangeLog.{undo_change}
 use Rattle.sd_memdrive.proofs.stop.stable_before.Goals as goal
 use Rattle.sd_memdrive.proofs.stop.stable_before.Goals.{then-is_named+in_ok-extend_from_slice, else-is_named}
 

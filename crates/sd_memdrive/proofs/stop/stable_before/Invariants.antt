@@ -1,6 +1,6 @@
 use Rattle.std.proofs.Common.{◌≡◌, ◌-◌, length, drop, Some}
 use Rattle.sd_driver.specs.Shelf.{stable_bytes}
-use Rattle.sd_memdrive.specs.Record.{undo}
+use Rattle.sd_memdrive.specs.ChangeLog.{undo}
 use Rattle.sd_memdrive.proofs.stop.stable_before.Given as goal
 
 -- the last changes are undone

@@ -1,20 +1,20 @@
 use Rattle.std.proofs.Common.{◌≢◌, ℕ, zero, suc, arith, ◌∙◌, subst}
-use Rattle.sd_memdrive.specs.Volumes.{IsPlaceOf}
-use Rattle.sd_memdrive.proofs.Places.{volume_of-drop, IsPlaceOf-drop, IsPlaceOf-drop_here, IsPlaceOf-within, IsPlaceOf-there}
+use Rattle.sd_memdrive.specs.Volumes.{StandsFirstAt}
+use Rattle.sd_memdrive.proofs.Places.{volume_of-drop, StandsFirstAt-drop, StandsFirstAt-drop_here, StandsFirstAt-within, StandsFirstAt-there}
 use Rattle.sd_memdrive.proofs.store.first_named.Goals as goal
 
 pub returns-then-is_named : goal.returns-then-is_named
 returns-then-is_named c =
-    let here = IsPlaceOf-drop_here _ _ _ _ c.loop-place-test.true c.index-volumes-place.is (c.is_named.ensures.0 c.if-is_named.true) in
-    let P : ℕ → Type 0 = λ k. IsPlaceOf c.args.name.now c.args.volumes.now k in
-    let at : IsPlaceOf c.args.name.now c.args.volumes.now c.loop-place.place = subst P (omega arith) (c.loop-place.invariant.first zero here) in
-    record { place = at; within = IsPlaceOf-within _ _ _ at; there = IsPlaceOf-there _ _ _ at }
+    let here = StandsFirstAt-drop_here _ _ _ _ c.loop-place-test.true c.index-volumes-place.is (c.is_named.ensures.0 c.if-is_named.true) in
+    let P : ℕ → Type 0 = λ k. StandsFirstAt c.args.name.now c.args.volumes.now k in
+    let at : StandsFirstAt c.args.name.now c.args.volumes.now c.loop-place.place = subst P (omega arith) (c.loop-place.invariant.first zero here) in
+    record { place = at; within = StandsFirstAt-within _ _ _ at; there = StandsFirstAt-there _ _ _ at }
 
 pub loop-place-preserved : goal.loop-place-preserved
 loop-place-preserved c =
     let other : c.index-volumes-place.result.name ≢ c.args.name.now = λ h. (let t = c.is_named.ensures.1 h in let f = c.if-is_named.false in cc) in
-    let P : ℕ → Type 0 = λ k. IsPlaceOf c.args.name.now c.args.volumes.now k in
+    let P : ℕ → Type 0 = λ k. StandsFirstAt c.args.name.now c.args.volumes.now k in
     record {
       none = volume_of-drop _ _ _ _ c.loop-place-test.true c.index-volumes-place.is other ∙ c.loop-place.invariant.none;
-      first = λ j at. subst P (omega arith) (c.loop-place.invariant.first (suc j) (IsPlaceOf-drop _ _ _ _ _ c.loop-place-test.true c.index-volumes-place.is other at));
+      first = λ j at. subst P (omega arith) (c.loop-place.invariant.first (suc j) (StandsFirstAt-drop _ _ _ _ _ c.loop-place-test.true c.index-volumes-place.is other at));
     }

@@ -4,6 +4,7 @@ use Rattle.std.specs.Int.{w32}
 use Rattle.std.proofs.lemmas.Int.{to_z-of_z}
 use Rattle.std.proofs.lemmas.List.{append_assoc}
 use Rattle.sd_record.specs.Fragment.{fragment_bytes}
+use Rattle.sd_record.proofs.FragmentLemmas.{stands_last}
 use Rattle.sd_record.proofs.fragment.put_fragment.Goals as goal
 
 pub returns-clause-ok : goal.returns-clause-ok
@@ -16,3 +17,7 @@ returns-clause-ok c =
     ∙ ap (λ l. l ++ c.fragment.inside.part.now) (c.in_ok-extend_from_slice.ensures.items ∙ ap (λ l. l ++ c.header_bytes-header.result) old ∙ ap (λ l. c.args.body.now.items ++ l) header)
     ∙ append_assoc c.args.body.now.items _ c.fragment.inside.part.now
     ∙ ap (λ f. c.args.body.now.items ++ fragment_bytes f) c.fragment.view_is
+
+pub returns-clause-read_back : goal.returns-clause-read_back
+returns-clause-read_back c =
+    (λ fits. stands_last _ _ _ (returns-clause-ok c) fits, λ stands. stands.fragment)

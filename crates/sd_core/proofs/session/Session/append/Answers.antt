@@ -18,4 +18,5 @@ returns-clause-ok c =
     (c.in-Some.ensures.2 ∙ ap (λ (v : SessionView). v.bytes + length r.bytes) (sym is))
     (ap (λ (v : Record). v.index) c.rec.view_is)
     (c.in_default-put.ensures.packs (c.self.invariant.active_open (ap (λ (v : SessionView). v.status) is ∙ c.in_ok-active.ensures.ok)))
+    c.in_default-put.ensures.adds c.in_default-put.ensures.opens
     c.put.ensures.room

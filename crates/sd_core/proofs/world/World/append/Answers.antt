@@ -4,7 +4,7 @@ use Rattle.sd_core.specs.declared.event.Event.TheVariants.{Append}
 use Rattle.sd_core.specs.declared.reply.Reply.TheVariants.{Taken, Refused}
 use Rattle.sd_core.specs.Session.{SessionView}
 use Rattle.sd_core.specs.World.{WorldView}
-use Rattle.sd_core.specs.Sound.{IsFoundAt}
+use Rattle.sd_core.specs.World.{IsFoundAt}
 use Rattle.sd_core.specs.Moves.{Moves}
 use Rattle.sd_core.specs.contracts.world.World.{the_view}
 use Rattle.sd_core.proofs.WorldLemmas.{read_entry, session_kept, session_same, same_kept, more_counts}

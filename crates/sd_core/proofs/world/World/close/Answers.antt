@@ -5,11 +5,11 @@ use Rattle.sd_core.specs.declared.reply.Reply.TheVariants.{Closed, Refused}
 use Rattle.sd_base.specs.declared.refusal.Refusal.TheVariants.{Memory}
 use Rattle.sd_core.specs.Session.{SessionView}
 use Rattle.sd_core.specs.World.{WorldView, with_entry}
-use Rattle.sd_core.specs.Sound.{IsFoundAt}
+use Rattle.sd_core.specs.World.{IsFoundAt}
 use Rattle.sd_core.specs.Moves.{Moves}
 use Rattle.sd_core.specs.contracts.world.World.{the_view}
 use Rattle.sd_core.proofs.WorldLemmas.{read_entry, session_kept, session_same, same_counts}
-use Rattle.sd_core.proofs.SoundLemmas.{none_outstanding, some_outstanding, no_run}
+use Rattle.sd_core.proofs.InvariantLemmas.{none_outstanding, some_outstanding, no_run}
 use Rattle.sd_core.proofs.world.World.close.Goals as goal
 
 pub invariant_of-self : goal.invariant_of-self
@@ -32,8 +32,8 @@ returns-in-Err c =
       inr (
         e,
         f.found,
-        some_outstanding w c.args.ticket c.in-Some.at e c.placed.result c.synced.result c.is_synced-synced.result c.in-Err.why c.self.invariant f
-            c.placed.ensures c.synced.ensures c.is_synced-synced.ensures.1 c.in-Err.ensures.why,
+        some_outstanding w c.args.ticket c.in-Some.at e c.blocks-2.result c.synced.result c.is_synced-synced.result c.in-Err.why c.self.invariant f
+            c.blocks-2.ensures c.synced.ensures c.is_synced-synced.ensures.1 c.in-Err.ensures.why,
       ),
       session_same w c.args.ticket c.in-Some.at e e.session f refl,
     )
@@ -61,8 +61,8 @@ returns-in_default-spans c =
         f.found,
         inr (inr (
           may.ended,
-          none_outstanding w c.args.ticket c.in-Some.at e c.placed.result c.synced.result c.is_synced-synced.result c.self.invariant f
-              c.placed.ensures c.synced.ensures c.is_synced-synced.ensures.0 may,
+          none_outstanding w c.args.ticket c.in-Some.at e c.blocks-2.result c.synced.result c.is_synced-synced.result c.self.invariant f
+              c.blocks-2.ensures c.synced.ensures c.is_synced-synced.ensures.0 may,
           refl,
         )),
       ),
@@ -95,8 +95,8 @@ returns c =
       entry = e;
       there = f.found;
       ended = may.ended;
-      none_outstanding = none_outstanding w c.args.ticket c.in-Some.at e c.placed.result c.synced.result c.is_synced-synced.result c.self.invariant f
-          c.placed.ensures c.synced.ensures c.is_synced-synced.ensures.0 may;
+      none_outstanding = none_outstanding w c.args.ticket c.in-Some.at e c.blocks-2.result c.synced.result c.is_synced-synced.result c.self.invariant f
+          c.blocks-2.ensures c.synced.ensures c.is_synced-synced.ensures.0 may;
       key_is = c.key.ensures ∙ key;
       spans_are = c.in-Ok.ensures;
       new_is = ap (λ es. record w { entries = es }) (f.changes e' (ap (λ (x : SessionView). x.key.id) c.set_closed.ensures ∙ f.id_is))

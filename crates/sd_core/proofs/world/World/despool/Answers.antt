@@ -6,11 +6,12 @@ use Rattle.sd_core.specs.declared.reply.Reply.TheVariants.{Sent, LaneFull, Nothi
 use Rattle.sd_core.specs.declared.despool.Despooled.{Despooled}
 use Rattle.sd_core.specs.Session.{SessionView, Despools}
 use Rattle.sd_core.specs.World.{WorldView}
-use Rattle.sd_core.specs.Sound.{IsFoundAt, IsWorldView}
+use Rattle.sd_core.specs.Invariants.{IsWorldView}
+use Rattle.sd_core.specs.World.{IsFoundAt}
 use Rattle.sd_core.specs.Moves.{Moves}
 use Rattle.sd_core.specs.contracts.world.World.{the_view}
 use Rattle.sd_core.proofs.WorldLemmas.{read_entry, session_kept, same_kept, session_same, same_counts}
-use Rattle.sd_core.proofs.SoundLemmas.{sent_fits, sent_kept}
+use Rattle.sd_core.proofs.InvariantLemmas.{sent_fits, sent_kept}
 use Rattle.sd_core.proofs.world.World.despool.Goals as goal
 use Rattle.sd_core.proofs.world.World.despool.Goals.{in-Ok-Sent, in-Ok-LaneFull, in-Ok-Nothing, in-Err}
 

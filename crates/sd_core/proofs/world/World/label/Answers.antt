@@ -4,9 +4,9 @@ use Rattle.sd_core.specs.declared.reply.Reply.TheVariants.{Labelled, Refused}
 use Rattle.sd_core.specs.Drive.{DriveView}
 use Rattle.sd_core.specs.World.{WorldView}
 use Rattle.sd_core.specs.Volume.{VolumeView}
-use Rattle.sd_core.specs.Sound.{IsWorldView, blocks_on}
+use Rattle.sd_core.specs.Invariants.{IsWorldView, blocks_on}
 use Rattle.sd_core.specs.Moves.{Moves}
-use Rattle.sd_core.proofs.SoundLemmas.{volume_kept}
+use Rattle.sd_core.proofs.InvariantLemmas.{volume_kept}
 use Rattle.sd_core.specs.contracts.world.World.{the_view}
 use Rattle.sd_core.proofs.world.World.label.Goals as goal
 use Rattle.sd_core.proofs.world.World.label.Goals.{in-Ok, in-Err}

@@ -1,6 +1,6 @@
 use Rattle.std.proofs.Common.{◌≡◌, ◌+◌, ◌≤◌, inr, inl, refl, sym, ap, ◌∙◌, subst, arith, ℕ, Some, List, [], ◌∷◌, ◌++◌, length, IfSome}
 use Rattle.std.proofs.lemmas.Int.{to_z-of_z}
-use Rattle.sd_base.specs.declared.number.TheConstants.{MOST_NUMBER}
+use Rattle.sd_base.specs.Limits.{most_number}
 use Rattle.sd_base.specs.declared.refusal.Refusal.TheVariants.{NoFreeLane, Memory}
 use Rattle.sd_core.specs.declared.entry.Entry.{Entry}
 use Rattle.sd_core.specs.declared.event.Event.TheVariants.{Open}
@@ -9,18 +9,18 @@ use Rattle.sd_core.specs.Drive.{DriveView}
 use Rattle.sd_core.specs.Session.{SessionView, StartsSession}
 use Rattle.sd_core.specs.Journal.{empty_journal}
 use Rattle.sd_core.specs.World.{WorldView, last_entry}
-use Rattle.sd_core.specs.Sound.{IsGone, CountsFit, IsWorldView}
+use Rattle.sd_core.specs.Invariants.{CountsFit, IsWorldView}
 use Rattle.sd_core.specs.Moves.{Moves}
 use Rattle.sd_core.specs.contracts.world.World.{the_view}
-use Rattle.sd_core.proofs.SoundLemmas.{lane_free, lane_kept, opened_kept}
+use Rattle.sd_core.proofs.InvariantLemmas.{IsFreeByCounts, lane_free, lane_kept, opened_kept}
 use Rattle.sd_core.proofs.world.World.open.Goals as goal
 
 pub returns-then-not-lane_is_free : goal.returns-then-not-lane_is_free
 returns-then-not-lane_is_free c =
     let w = the_view c.self.inside in
-    let L : List Entry → Type 0 = λ es. IfSome (last_entry es) IsGone in
+    let L : List Entry → Type 0 = λ es. IfSome (last_entry es) IsFreeByCounts in
     let M : WorldView → Type 0 = λ old. Moves old (Open c.args.job c.args.pool c.args.media c.args.moment) (Refused NoFreeLane) old in
-    let room : length w.entries + 1 ≤ MOST_NUMBER = omega (arith, c.if-len.false, c.len.ensures, c.self.inside.entries.ok.0) in
+    let room : length w.entries + 1 ≤ most_number = omega (arith, c.if-len.false, c.len.ensures, c.self.inside.entries.ok.0) in
     subst M c.self.view_is (
       inr (inr (inl (
         room,
@@ -34,9 +34,9 @@ returns-then-not-lane_is_free c =
 pub returns-in_default-open : goal.returns-in_default-open
 returns-in_default-open c =
     let w = the_view c.self.inside in
-    let L : List Entry → Type 0 = λ es. IfSome (last_entry es) IsGone in
+    let L : List Entry → Type 0 = λ es. IfSome (last_entry es) IsFreeByCounts in
     let M : WorldView → Type 0 = λ old. Moves old (Open c.args.job c.args.pool c.args.media c.args.moment) (Refused Memory) old in
-    let room : length w.entries + 1 ≤ MOST_NUMBER = omega (arith, c.if-len.false, c.len.ensures, c.self.inside.entries.ok.0) in
+    let room : length w.entries + 1 ≤ most_number = omega (arith, c.if-len.false, c.len.ensures, c.self.inside.entries.ok.0) in
     subst M c.self.view_is (
       inr (inr (inr (
         room,
@@ -54,7 +54,7 @@ invariant_of-self-2 c =
     let e : Entry = record { session = s; journal = c.new-3.result } in
     let starts = c.in-Ok.ensures in
     let number = c.len-2.ensures in
-    let room : length w.entries + 1 ≤ MOST_NUMBER = omega (arith, c.if-len.false, c.len.ensures, c.self.inside.entries.ok.0) in
+    let room : length w.entries + 1 ≤ most_number = omega (arith, c.if-len.false, c.len.ensures, c.self.inside.entries.ok.0) in
     let items : c.push.new.self.items ≡ w.entries ++ record { session = s; journal = empty_journal } ∷ [] =
     c.in-Ok-push.ensures.items ∙ ap (λ j. w.entries ++ record { session = s; journal = j } ∷ []) c.new-3.ensures in
     let key : s.key ≡ record { time = w.time; id = length w.entries + 1 } =
@@ -72,11 +72,11 @@ returns c =
     let w = the_view c.self.inside in
     let s = c.in-Ok.session in
     let starts = c.in-Ok.ensures in
-    let L : List Entry → Type 0 = λ es. IfSome (last_entry es) IsGone in
+    let L : List Entry → Type 0 = λ es. IfSome (last_entry es) IsFreeByCounts in
     let new : WorldView = record w { entries = c.push.new.self.items; drive = c.serve.new.self } in
     let M : WorldView → Type 0 = λ old. Moves old (Open c.args.job c.args.pool c.args.media c.args.moment) (Opened c.in-Some-Some.ticket c.in-Some-Some.drive) new in
     let number = c.len-2.ensures in
-    let room : length w.entries + 1 ≤ MOST_NUMBER = omega (arith, c.if-len.false, c.len.ensures, c.self.inside.entries.ok.0) in
+    let room : length w.entries + 1 ≤ most_number = omega (arith, c.if-len.false, c.len.ensures, c.self.inside.entries.ok.0) in
     let items : c.push.new.self.items ≡ w.entries ++ record { session = s; journal = empty_journal } ∷ [] =
     c.in-Ok-push.ensures.items ∙ ap (λ j. w.entries ++ record { session = s; journal = j } ∷ []) c.new-3.ensures in
     let media : c.args.media ≡ w.drive.media = c.is_same.ensures.0 c.if-not-is_same.false ∙ c.media.ensures in
@@ -99,10 +99,10 @@ returns c =
 pub returns-in_default-push : goal.returns-in_default-push
 returns-in_default-push c =
     let w = the_view c.self.inside in
-    let L : List Entry → Type 0 = λ es. IfSome (last_entry es) IsGone in
+    let L : List Entry → Type 0 = λ es. IfSome (last_entry es) IsFreeByCounts in
     let new : WorldView = record w { entries = c.push.new.self.items } in
     let M : WorldView → Type 0 = λ old. Moves old (Open c.args.job c.args.pool c.args.media c.args.moment) (Refused Memory) new in
-    let room : length w.entries + 1 ≤ MOST_NUMBER = omega (arith, c.if-len.false, c.len.ensures, c.self.inside.entries.ok.0) in
+    let room : length w.entries + 1 ≤ most_number = omega (arith, c.if-len.false, c.len.ensures, c.self.inside.entries.ok.0) in
     subst M c.self.view_is (
       inr (inr (inr (
         room,

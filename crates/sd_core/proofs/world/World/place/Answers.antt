@@ -4,17 +4,17 @@ use Rattle.sd_core.specs.declared.event.Event.TheVariants.{Place}
 use Rattle.sd_core.specs.declared.reply.Reply.TheVariants.{Placed, VolumeFull}
 use Rattle.sd_core.specs.declared.journal.SessionJournal.{SessionJournal}
 use Rattle.sd_core.specs.World.{WorldView, with_entry}
-use Rattle.sd_core.specs.Sound.{IsWorldView}
+use Rattle.sd_core.specs.Invariants.{IsWorldView}
 use Rattle.sd_core.specs.Moves.{Moves}
 use Rattle.sd_core.specs.contracts.world.World.{the_view}
-use Rattle.sd_core.proofs.SoundLemmas.{hand_at, placed_kept}
+use Rattle.sd_core.proofs.InvariantLemmas.{hand_at, placed_kept}
 use Rattle.sd_core.proofs.world.World.place.Goals as goal
 
 pub note-requires-clause-count : goal.note-requires-clause-count
 note-requires-clause-count c =
     let w = the_view c.self.inside in
     let at = hand_at w c.in-Placed.placement c.place.new.self c.index_mut.result.now c.self.invariant c.in-Placed.ensures c.index_mut.ensures.value in
-    omega (arith, at.kept.placed_most, c.self.invariant.blocks_most)
+    omega (arith, at.kept.blocks_most, c.self.invariant.blocks_most)
 
 pub invariant_of-self : goal.invariant_of-self
 invariant_of-self c =

@@ -6,7 +6,7 @@ use Rattle.std.specs.Option.{option_copied}
 use Rattle.sd_core.specs.declared.span.Span.{Span}
 use Rattle.sd_core.specs.declared.readback.fault.ReadFault.TheVariants.{BadSpan, VolumeNotOnShelf}
 use Rattle.sd_core.specs.World.{WorldView, shelf_of}
-use Rattle.sd_core.specs.Sound.{IsWorldView}
+use Rattle.sd_core.specs.Invariants.{IsWorldView}
 use Rattle.sd_core.specs.Reading.{Shelf, shelf_with, Reads}
 use Rattle.sd_core.specs.ReadFaults.{MeetsFault}
 use Rattle.sd_core.specs.WorldReading.{AreOnVolume}

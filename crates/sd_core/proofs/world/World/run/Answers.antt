@@ -5,6 +5,7 @@ use Rattle.sd_core.specs.declared.event.Event.{Event}
 use Rattle.sd_core.specs.declared.reply.Reply.{Reply}
 use Rattle.sd_core.specs.Step.{Run}
 use Rattle.sd_core.specs.Kept.{ClosedStand}
+use Rattle.sd_core.proofs.KeptLemmas.{both_stay, statuses_stay, spans_stay}
 use Rattle.sd_core.proofs.WorldAnswers.{stand_on}
 use Rattle.sd_core.proofs.world.World.run.Goals as goal
 
@@ -16,6 +17,12 @@ returns-clause-follows c = λ m h.
     let done = nil_from_length (into_iter_items it) (omega (arith, it.rest.ok.0, c.in-None.ensures.steps.0)) in
     let whole = x.2 [] x.0 (rw done refl) in
     (x.0, rw append-nil at whole, x.1)
+
+pub returns-clause-status_stays : goal.returns-clause-status_stays
+returns-clause-status_stays c m h = statuses_stay _ _ (c.loop-event.invariant.kept m h)
+
+pub returns-clause-spans_stay : goal.returns-clause-spans_stay
+returns-clause-spans_stay c m h = spans_stay _ _ (c.loop-event.invariant.kept m h)
 
 -- one event more
 pub loop-event-preserved : goal.loop-event-preserved
@@ -44,8 +51,8 @@ loop-event-preserved c =
       closed = λ m h.
           let x = i.follows m h in
           let C : List Reply → Type 0 = λ l. ClosedStand c.step-reply.new.self l in
-          subst C (sym items) (stand_on c.loop-event.self c.step-reply.new.self replies reply (c.step-reply.ensures.kept x.0 x.1) (c.step-reply.ensures.closed x.0 x.1) (i.closed m h));
+          subst C (sym items) (stand_on c.loop-event.self c.step-reply.new.self replies reply (both_stay _ _ (c.step-reply.ensures.status_stays x.0 x.1) (c.step-reply.ensures.spans_stay x.0 x.1)) (c.step-reply.ensures.closed x.0 x.1) (i.closed m h));
       kept = λ m h key spans closed.
           let x = i.follows m h in
-          c.step-reply.ensures.kept x.0 x.1 key spans (i.kept m h key spans closed);
+          both_stay _ _ (c.step-reply.ensures.status_stays x.0 x.1) (c.step-reply.ensures.spans_stay x.0 x.1) key spans (i.kept m h key spans closed);
     }

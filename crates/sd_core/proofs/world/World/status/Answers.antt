@@ -2,7 +2,7 @@ use Rattle.std.proofs.Common.{◌≡◌, sym, ap, ◌∙◌, subst, arith, List,
 use Rattle.std.proofs.lemmas.Option.{slice_get_within}
 use Rattle.sd_core.specs.declared.entry.Entry.{Entry}
 use Rattle.sd_core.specs.World.{WorldView, entry_of}
-use Rattle.sd_core.specs.Sound.{IsFoundAt}
+use Rattle.sd_core.specs.World.{IsFoundAt}
 use Rattle.sd_core.specs.contracts.world.World.{the_view}
 use Rattle.sd_core.proofs.WorldLemmas.{read_entry}
 use Rattle.sd_core.proofs.WorldAnswers.{one_status}

@@ -1,13 +1,13 @@
 use Rattle.std.proofs.Common.{◌≡◌, ◌≢◌, length, [], ◌∙◌, ap, arith, rules}
 use Rattle.sd_memdrive.specs.Volumes.{Volume}
-use Rattle.sd_memdrive.proofs.Places.{IsPlaceOf-within, names_differ-set}
+use Rattle.sd_memdrive.proofs.Places.{StandsFirstAt-within, names_differ-set}
 use Rattle.sd_memdrive.proofs.Changes.{appended, read_at}
 use Rattle.sd_memdrive.proofs.Room.{pushed, pushed_len, room-reserved}
 use Rattle.sd_memdrive.proofs.Stops.{NoneWithout-set}
 use Rattle.sd_memdrive.proofs.store.Store.append.Goals as goal
 
 pub index_mut-volume-requires : goal.index_mut-volume-requires
-index_mut-volume-requires c = omega (arith, IsPlaceOf-within _ _ _ c.requires, c.args.self.now.volumes.ok.0)
+index_mut-volume-requires c = omega (arith, StandsFirstAt-within _ _ _ c.requires, c.args.self.now.volumes.ok.0)
 
 pub invariant_of-self-2-clause-names : goal.invariant_of-self-2-clause-names
 invariant_of-self-2-clause-names c =

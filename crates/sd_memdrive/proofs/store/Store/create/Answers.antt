@@ -4,7 +4,7 @@ use Rattle.sd_memdrive.proofs.Places.{names_differ-push}
 use Rattle.sd_memdrive.proofs.Changes.{creates_push, keeps_push, passes_push}
 use Rattle.sd_memdrive.proofs.Room.{pushed, pushed_len, room-created}
 use Rattle.sd_memdrive.proofs.Stops.{NoneWithout-created}
-use Rattle.sd_memdrive.specs.Record.{NoneWithout}
+use Rattle.sd_memdrive.specs.ChangeLog.{NoneWithout}
 use Rattle.sd_memdrive.proofs.store.Store.create.Goals as goal
 
 pub invariant_of-self-2-clause-names : goal.invariant_of-self-2-clause-names

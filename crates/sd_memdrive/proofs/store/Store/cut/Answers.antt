@@ -1,13 +1,13 @@
 use Rattle.std.proofs.Common.{◌≡◌, ◌<◌, ◌≤◌, length, ◌∙◌, ap, arith}
 use Rattle.sd_memdrive.specs.Volumes.{Volume}
-use Rattle.sd_memdrive.proofs.Places.{IsPlaceOf-within, names_differ-set}
+use Rattle.sd_memdrive.proofs.Places.{StandsFirstAt-within, names_differ-set}
 use Rattle.sd_memdrive.proofs.Changes.{cut, short_enough, read_at}
 use Rattle.sd_memdrive.proofs.Room.{pushed, pushed_len, room-reserved}
 use Rattle.sd_memdrive.proofs.Stops.{NoneWithout-set}
 use Rattle.sd_memdrive.proofs.store.Store.cut.Goals as goal
 
 pub index_mut-volume-requires : goal.index_mut-volume-requires
-index_mut-volume-requires c = omega (arith, IsPlaceOf-within _ _ _ c.requires, c.args.self.now.volumes.ok.0)
+index_mut-volume-requires c = omega (arith, StandsFirstAt-within _ _ _ c.requires, c.args.self.now.volumes.ok.0)
 
 pub returns-then-to-len-clause-ok : goal.returns-then-to-len-clause-ok
 returns-then-to-len-clause-ok c =

@@ -2,10 +2,11 @@ use Rattle.std.proofs.Common.{◌≡◌, ◌≢◌, ap, ◌∙◌, sym, subst, r
 use Rattle.sd_base.specs.Record.{IsRecord}
 use Rattle.sd_record.specs.Fragment.{fragments_bytes}
 use Rattle.sd_label.specs.Cutting.{Between}
-use Rattle.sd_pack.specs.declared.body.TheConstants.{MOST_BODY}
+use Rattle.sd_base.specs.Limits.{most_body}
 use Rattle.sd_pack.specs.Body.{IsWithin, with_fragment}
 use Rattle.sd_pack.specs.Packing.{HasOpen, bodies_of, all_bytes, Packs}
-use Rattle.sd_pack.specs.Putting.{first_fragment, AreWithin}
+use Rattle.sd_pack.specs.RecordParts.{first_fragment}
+use Rattle.sd_pack.specs.KeptPacker.{AreWithin}
 use Rattle.sd_pack.proofs.KeptLemmas.{AreWithin-wider, with_fragment_within, last_within, within_some, stays_packer, framed, adds_in}
 use Rattle.sd_pack.proofs.PackingLemmas.{first_length, packs_in, parts_of_record}
 use Rattle.sd_pack.proofs.packer.Packer.put.Goals as goal
@@ -19,7 +20,7 @@ close_all-requires-clause-bodies c =
     let seen : length c.rec.inside.bytes ≡ length r.bytes = ap (λ v. length v.bytes) c.rec.view_is in
     let long = first_length r count (omega arith) in
     let added = c.in_ok-add.ensures.ok ∙ ap (with_fragment p.open_body) c.first_part.ensures in
-    AreWithin-wider p.room MOST_BODY (c.add.new.self ∷ c.in_ok-later.later.items) c.self.invariant.room_most
+    AreWithin-wider p.room most_body (c.add.new.self ∷ c.in_ok-later.later.items) c.self.invariant.room_most
     (subst (IsWithin p.room) (sym added) (with_fragment_within p.room p.open_body f (omega arith)), c.in_ok-later.ensures.sizes)
 
 -- the bodies in order: those that waited, the open one with the record's first fragment, the later ones

@@ -2,10 +2,11 @@ use Rattle.std.proofs.Common.{◌≡◌, ◌≢◌, ◌+◌, ◌<◌, ap, ◌∙
 use Rattle.sd_base.specs.Record.{IsRecord}
 use Rattle.sd_record.specs.Fragment.{fragments_bytes}
 use Rattle.sd_label.specs.Cutting.{Between}
-use Rattle.sd_pack.specs.declared.body.TheConstants.{MOST_BODY}
+use Rattle.sd_base.specs.Limits.{most_body}
 use Rattle.sd_pack.specs.Body.{with_fragment, empty_body}
 use Rattle.sd_pack.specs.Packing.{HasOpen, bodies_of, all_bytes, Packs}
-use Rattle.sd_pack.specs.Putting.{first_fragment, AreWithin}
+use Rattle.sd_pack.specs.RecordParts.{first_fragment}
+use Rattle.sd_pack.specs.KeptPacker.{AreWithin}
 use Rattle.sd_pack.proofs.KeptLemmas.{AreWithin-wider, open_within, with_fragment_within, last_within, within_some, stays_packer, framed, adds_behind}
 use Rattle.sd_pack.proofs.PackingLemmas.{first_length, packs_behind, parts_of_record}
 use Rattle.sd_pack.proofs.packer.Packer.put_behind.Goals as goal
@@ -22,7 +23,7 @@ close_all-requires-clause-bodies c =
     let long = first_length r count (omega arith) in
     let first = c.in_ok-first.ensures ∙ ap (with_fragment empty_body) c.first_part.ensures in
     let items = c.in_ok-push_front.ensures.items ∙ ap (λ b. b ∷ c.in_ok-later.later.items) first in
-    AreWithin-wider p.room MOST_BODY (p.open_body ∷ c.push_front.new.self.items) c.self.invariant.room_most (
+    AreWithin-wider p.room most_body (p.open_body ∷ c.push_front.new.self.items) c.self.invariant.room_most (
       open_within p.room p.waiting.items p.open_body _ c.self.invariant (omega arith),
       subst (AreWithin p.room) (sym items) (with_fragment_within p.room empty_body f (omega arith), c.in_ok-later.ensures.sizes),
     )

@@ -1,7 +1,7 @@
 use Rattle.std.proofs.Common.{◌≡◌, true, false, subst}
 use Rattle.std.proofs.lemmas.Result.{err_from_is_err_and, IfErr-weaker, on_err_weaker}
 use Rattle.sd_base.specs.declared.number.SessionKey.{SessionKey}
-use Rattle.sd_core.specs.Volume.{is_key}
+use Rattle.sd_base.specs.Key.{is_key}
 use Rattle.sd_core.proofs.ReaderLemmas.{other_key, own_key, reads_other, reads_own, refused_added, refused_uncountable, if_err, on_ok_three}
 use Rattle.sd_core.proofs.HandsOverLemmas.{block_front}
 use Rattle.sd_core.proofs.readback.reader.Reader.read_block.Goals as goal

@@ -1,0 +1,6 @@
+pub mod Fault
+pub mod Place
+pub mod Count
+pub mod Loaded
+pub mod Volumes
+pub mod Drive

@@ -1,0 +1,160 @@
+// A folder of files, as a device.
+ghost use Rattle.std.specs.Prelude.{◌≡◌, ◌≢◌, ◌⊎◌, ◌≤◌, None, Some, IfOk, IfErr, OnOk, OnErr, IsSome, length};
+ghost use Rattle.sd_driver.specs.Meaning.{Counts, SameCounts};
+ghost use Rattle.sd_filedrive.specs.Count.{failures_after, IsSpent};
+ghost use Rattle.sd_filedrive.specs.Drive.{meaning_of, unused};
+
+use crate::tally::Tally;
+use crate::volumes::Volumes;
+use sd_base::VolName;
+use sd_driver::{Driver, DriverFault};
+use std::alloc::{AllocError, Global};
+use std::fs::Files;
+use std::os::unix::fs::FileExt;
+
+/// A folder in which each volume is a file of its name.
+#[derive(Drop)]
+pub struct FileDrive<R: Files + Drop> {
+    pub(crate) volumes: Volumes<R>,
+    pub(crate) tally: Tally,
+}
+
+impl<R: Files + Drop> FileDrive<R>
+where
+    R::File: FileExt,
+{
+    /// The drive of the folder at `path`, the current folder where that is empty. The folder is not looked
+    /// at before a volume is.
+    pub fn new(system: R, alloc: Global, path: &str) -> Result<FileDrive<R>, AllocError>
+        ensures { IfOk result (λ drive. meaning_of drive ≡ unused) }
+    {
+        Ok(FileDrive {
+            volumes: Volumes::new(system, alloc, path)?,
+            tally: Tally::new(),
+        })
+    }
+}
+
+impl<R: Files + Send + Drop> Driver for FileDrive<R>
+where
+    R::File: FileExt + Send,
+{
+    ghost meaning = { meaning_of };
+
+    fn create(&mut self, name: &VolName) -> Result<(), DriverFault>
+        requires { (meaning_of self.old).loaded ≡ None }
+        ensures counts { Counts result (meaning_of self.old) (meaning_of self.new) }
+        ensures once { (meaning_of self.new).failures ≡ failures_after result (meaning_of self.old).failures }
+        ensures spent { IsSpent (meaning_of self.old).failures → self.new ≡ self.old }
+        ensures faults { IfErr result (λ fault. (fault ≢ DriverFault.NotThere) × (fault ≢ DriverFault.NoRoom)) }
+        ensures loaded { OnOk result ((meaning_of self.new).loaded ≡ Some name.now) }
+        ensures not_loaded { OnErr result ((meaning_of self.new).loaded ≡ None) }
+    {
+        if self.tally.is_spent() {
+            return Err(DriverFault::Device);
+        }
+        let created = self.volumes.create(name);
+        self.tally.answer(created)
+    }
+
+    fn load(&mut self, name: &VolName) -> Result<(), DriverFault>
+        requires { (meaning_of self.old).loaded ≡ None }
+        ensures counts { Counts result (meaning_of self.old) (meaning_of self.new) }
+        ensures once { (meaning_of self.new).failures ≡ failures_after result (meaning_of self.old).failures }
+        ensures spent { IsSpent (meaning_of self.old).failures → self.new ≡ self.old }
+        ensures faults { IfErr result (λ fault. (fault ≢ DriverFault.Exists) × (fault ≢ DriverFault.NoRoom)) }
+        ensures loaded { OnOk result ((meaning_of self.new).loaded ≡ Some name.now) }
+        ensures not_loaded { OnErr result ((meaning_of self.new).loaded ≡ None) }
+    {
+        if self.tally.is_spent() {
+            return Err(DriverFault::Device);
+        }
+        let loaded = self.volumes.load(name);
+        self.tally.answer(loaded)
+    }
+
+    fn unload(&mut self)
+        ensures counts { SameCounts (meaning_of self.old) (meaning_of self.new) }
+        ensures loaded { (meaning_of self.new).loaded ≡ None }
+    {
+        self.volumes.unload();
+    }
+
+    fn len(&mut self, name: &VolName) -> Result<u64, DriverFault>
+        ensures counts { Counts result (meaning_of self.old) (meaning_of self.new) }
+        ensures once { (meaning_of self.new).failures ≡ failures_after result (meaning_of self.old).failures }
+        ensures spent { IsSpent (meaning_of self.old).failures → self.new ≡ self.old }
+        ensures faults { IfErr result (λ fault. (fault ≢ DriverFault.Exists) × (fault ≢ DriverFault.NoRoom)) }
+        ensures loaded { (meaning_of self.new).loaded ≡ (meaning_of self.old).loaded }
+    {
+        if self.tally.is_spent() {
+            return Err(DriverFault::Device);
+        }
+        let length = self.volumes.len(name);
+        self.tally.answer(length)
+    }
+
+    fn read_at(&mut self, name: &VolName, at: u64, into: &mut [u8]) -> Result<usize, DriverFault>
+        ensures counts { Counts result (meaning_of self.old) (meaning_of self.new) }
+        ensures once { (meaning_of self.new).failures ≡ failures_after result (meaning_of self.old).failures }
+        ensures spent { IsSpent (meaning_of self.old).failures → self.new ≡ self.old }
+        ensures within { IfOk result (λ count. count ≤ length into.old) }
+        ensures faults { IfErr result (λ fault. (fault ≢ DriverFault.Exists) × (fault ≢ DriverFault.NoRoom)) }
+        ensures loaded { (meaning_of self.new).loaded ≡ (meaning_of self.old).loaded }
+    {
+        if self.tally.is_spent() {
+            return Err(DriverFault::Device);
+        }
+        let read = self.volumes.read_at(name, at, into);
+        self.tally.answer(read)
+    }
+
+    fn append(&mut self, bytes: &[u8]) -> Result<(), DriverFault>
+        requires { IsSome (meaning_of self.old).loaded }
+        ensures counts { Counts result (meaning_of self.old) (meaning_of self.new) }
+        ensures once { (meaning_of self.new).failures ≡ failures_after result (meaning_of self.old).failures }
+        ensures spent { IsSpent (meaning_of self.old).failures → self.new ≡ self.old }
+        ensures faults { IfErr result (λ fault. (fault ≡ DriverFault.NoRoom) ⊎ (fault ≡ DriverFault.Device)) }
+        ensures loaded { (meaning_of self.new).loaded ≡ (meaning_of self.old).loaded }
+    {
+        if self.tally.is_spent() {
+            return Err(DriverFault::Device);
+        }
+        let appended = self.volumes.append(bytes);
+        self.tally.answer(appended)
+    }
+
+    fn sync(&mut self) -> Result<(), DriverFault>
+        requires { IsSome (meaning_of self.old).loaded }
+        ensures counts { Counts result (meaning_of self.old) (meaning_of self.new) }
+        ensures once { (meaning_of self.new).failures ≡ failures_after result (meaning_of self.old).failures }
+        ensures spent { IsSpent (meaning_of self.old).failures → self.new ≡ self.old }
+        ensures faults { IfErr result (λ fault. fault ≡ DriverFault.Device) }
+        ensures loaded { (meaning_of self.new).loaded ≡ (meaning_of self.old).loaded }
+    {
+        if self.tally.is_spent() {
+            return Err(DriverFault::Device);
+        }
+        let synced = self.volumes.sync();
+        self.tally.answer(synced)
+    }
+
+    fn cut(&mut self, to: u64) -> Result<(), DriverFault>
+        requires { IsSome (meaning_of self.old).loaded }
+        ensures counts { Counts result (meaning_of self.old) (meaning_of self.new) }
+        ensures once { (meaning_of self.new).failures ≡ failures_after result (meaning_of self.old).failures }
+        ensures spent { IsSpent (meaning_of self.old).failures → self.new ≡ self.old }
+        ensures faults { IfErr result (λ fault. fault ≡ DriverFault.Device) }
+        ensures loaded { (meaning_of self.new).loaded ≡ (meaning_of self.old).loaded }
+    {
+        if self.tally.is_spent() {
+            return Err(DriverFault::Device);
+        }
+        let cut = self.volumes.cut(to);
+        self.tally.answer(cut)
+    }
+
+    fn failures(&self) -> u64 {
+        self.tally.failures
+    }
+}

@@ -1,0 +1,117 @@
+// The folder, and the files in it.
+ghost use Rattle.std.specs.Prelude.{◌≡◌, ◌≢◌, ◌↔◌, ◌⊎◌, ◌++◌, ◌∷◌, IfOk, IfErr, string_bytes};
+ghost use Rattle.std.specs.IoError.{error_kind};
+ghost use Rattle.sd_filedrive.specs.Place.{IsFileIn};
+
+use sd_base::VolName;
+use sd_driver::DriverFault;
+use std::alloc::{AllocError, Global};
+use std::fs::{self, File, Files, OpenFile, OpenOptions};
+use std::io::{self, ErrorKind};
+use std::os::unix::fs::{MetadataExt, OpenOptionsExt};
+
+/// The permissions of a volume that is made: its owner reads and writes it.
+const OWNER_ONLY: u32 = 0o600;
+
+/// A folder in which each volume is a file.
+#[derive(Drop)]
+pub(crate) struct Folder<R: Files + Drop> {
+    system: R,
+    alloc: Global,
+    // Its path, as the system takes it.
+    path: String,
+}
+
+impl<R: Files + Drop> Folder<R> {
+    /// The folder at `path`; the current one where that is empty.
+    pub(crate) fn new(system: R, alloc: Global, path: &str) -> Result<Folder<R>, AllocError> {
+        let path = if path.is_empty() { "." } else { path };
+        Ok(Folder {
+            system,
+            alloc,
+            path: String::from_str(alloc, path)?,
+        })
+    }
+
+    // The path of a volume's file, which stands in this folder. No other path of a volume is made.
+    fn path_of(&self, name: &VolName) -> Result<String, AllocError>
+        ensures { IfOk result (λ path. IsFileIn (string_bytes self.now.path) name.now (string_bytes path)) }
+    {
+        let (folder, file) = (self.path.as_str(), name.as_str());
+        format!(in self.alloc; "{folder}/{file}")
+    }
+
+    /// Makes the file of a new volume, and opens it. The system makes it only where nothing has its name, and
+    /// follows no link there.
+    pub(crate) fn create(&self, name: &VolName) -> Result<R::File, DriverFault>
+        ensures faults { IfErr result (λ fault. (fault ≢ DriverFault.NotThere) × (fault ≢ DriverFault.NoRoom)) }
+    {
+        let Ok(path) = self.path_of(name) else {
+            return Err(DriverFault::Memory);
+        };
+        let made = OpenOptions::new()
+            .read(true)
+            .write(true)
+            .create_new(true)
+            .mode(OWNER_ONLY)
+            .open(&self.system, path.as_str());
+        match made {
+            Ok(file) => Ok(file),
+            Err(error) if error.kind() == ErrorKind::AlreadyExists => {
+                Err(self.standing(path.as_str()))
+            }
+            Err(_) => Err(DriverFault::Device),
+        }
+    }
+
+    // Why no file could be made where something has its name.
+    fn standing(&self, path: &str) -> DriverFault
+        ensures { (result ≡ DriverFault.Exists) ⊎ (result ≡ DriverFault.Device) }
+    {
+        match fs::symlink_metadata(&self.system, path) {
+            Ok(found) if found.is_file() => DriverFault::Exists,
+            _ => DriverFault::Device,
+        }
+    }
+
+    /// Opens the file of a volume, if that is what has the volume's name. What was opened is compared with
+    /// what stood there before, since a link could take its place in between.
+    pub(crate) fn open(&self, name: &VolName, how: &OpenOptions) -> Result<R::File, DriverFault>
+        ensures faults { IfErr result (λ fault. (fault ≢ DriverFault.Exists) × (fault ≢ DriverFault.NoRoom)) }
+    {
+        let Ok(path) = self.path_of(name) else {
+            return Err(DriverFault::Memory);
+        };
+        let found = match fs::symlink_metadata(&self.system, path.as_str()) {
+            Ok(found) => found,
+            Err(error) => return Err(missing(&error)),
+        };
+        if !found.is_file() {
+            return Err(DriverFault::Device);
+        }
+        let file = match how.open(&self.system, path.as_str()) {
+            Ok(file) => file,
+            Err(error) => return Err(missing(&error)),
+        };
+        match file.metadata() {
+            Ok(opened) if opened.dev() == found.dev() && opened.ino() == found.ino() => Ok(file),
+            _ => Err(DriverFault::Device),
+        }
+    }
+
+    /// Asks the system to write the folder, so that the names in it last.
+    pub(crate) fn sync(&self) -> io::Result<()> {
+        File::open(&self.system, self.path.as_str())?.sync_all()
+    }
+}
+
+// What an error says of a file that was to be there.
+fn missing(error: &io::Error) -> DriverFault
+    ensures missing { (result ≡ DriverFault.NotThere) ↔ (error_kind error.now ≡ ErrorKind.NotFound) }
+    ensures faults { (result ≡ DriverFault.NotThere) ⊎ (result ≡ DriverFault.Device) }
+{
+    match error.kind() {
+        ErrorKind::NotFound => DriverFault::NotThere,
+        _ => DriverFault::Device,
+    }
+}

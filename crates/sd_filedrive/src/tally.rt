@@ -1,0 +1,51 @@
+// How a device counts what it answers.
+ghost use Rattle.std.specs.Prelude.{◌≡◌, ◌≢◌, ◌↔◌, ◌≤◌, ◌^◌, ◌-◌, IsErrOf, IsTrue};
+ghost use Rattle.sd_driver.specs.Meaning.{Rose, told_after};
+ghost use Rattle.sd_filedrive.specs.Count.{failures_after};
+
+use sd_driver::DriverFault;
+
+/// What a device has answered.
+#[derive(Drop)]
+pub(crate) struct Tally {
+    // How often `Device`.
+    pub failures: u64,
+    // How often `NoRoom`.
+    pub told: u64,
+}
+
+impl Tally {
+    /// Nothing yet.
+    pub(crate) fn new() -> Tally
+        ensures { result ≡ record { failures = 0; told = 0 } }
+    {
+        Tally {
+            failures: 0,
+            told: 0,
+        }
+    }
+
+    /// Whether no further failure can be counted. Then the device answers `Device` and does nothing.
+    pub(crate) fn is_spent(&self) -> bool
+        ensures { IsTrue result ↔ (self.now.failures ≡ 2 ^ 64 - 1) }
+    {
+        self.failures == u64::MAX
+    }
+
+    /// Counts an answer, and hands it on.
+    pub(crate) fn answer<T>(&mut self, answer: Result<T, DriverFault>) -> Result<T, DriverFault>
+        requires { self.old.failures ≢ 2 ^ 64 - 1 }
+        ensures same { result ≡ answer }
+        ensures failures { self.new.failures ≡ failures_after result self.old.failures }
+        ensures later { self.old.failures ≤ self.new.failures }
+        ensures device { IsErrOf result DriverFault.Device ↔ Rose self.old.failures self.new.failures }
+        ensures told { self.new.told ≡ told_after result self.old.told }
+    {
+        match &answer {
+            Err(DriverFault::Device) => self.failures = self.failures.saturating_add(1),
+            Err(DriverFault::NoRoom) => self.told = self.told.saturating_add(1),
+            _ => {}
+        }
+        answer
+    }
+}

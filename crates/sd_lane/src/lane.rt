@@ -1,0 +1,70 @@
+// What sessions and a drive use of the queue between them, whoever owns it.
+ghost use Rattle.std.specs.Prelude.{◌≡◌, ℕ, ◌<◌, ◌≤◌, ◌++◌, ◌∷◌, [], true, length, OnOk, OnErr, IfErr, IfSome, IfNone};
+ghost use Rattle.sd_lane.specs.Queue.{queued, pieces_of, Sends, SendsNone};
+
+use crate::piece::{Piece, Queued};
+use sd_base::LaneNo;
+
+/// Something by which lanes push their pieces to a drive.
+///
+/// Its owner may be alone with the queue; then it is known what the queue holds, and a push is refused
+/// exactly where the queue is full. Where others push and take at the same time, a push may be refused
+/// because the queue was full at some moment of the call.
+pub trait Lane {
+    ghost use Rattle.std.specs.Prelude.{ℕ, Bool, List};
+    ghost use Rattle.sd_lane.specs.declared.piece.Piece.{Piece};
+    ghost use Rattle.sd_lane.specs.declared.piece.Queued.{Queued};
+
+    // How many lanes the queue has, numbered from 1.
+    ghost lanes: { Self → ℕ };
+
+    // The lanes that may push by it.
+    ghost opens: { Self → ℕ → Type 0 };
+
+    // What each lane sent, so far as this end knows.
+    ghost sent: { Self → ℕ → List Piece };
+
+    // Whether its owner is alone with the queue.
+    ghost alone: { Self → Bool };
+
+    // What the queue holds, the piece that came first in front, where its owner is alone.
+    ghost held: { Self → List Queued };
+
+    // How many pieces the queue has room for.
+    ghost capacity: { Self → ℕ };
+
+    /// Pushes a piece behind the others, or gives it back where there is no room. Takes no memory.
+    fn try_push(&mut self, lane: LaneNo, piece: Piece) -> Result<(), Piece>
+        requires { opens self.old lane }
+        ensures opens { (other : ℕ) → opens self.old other → opens self.new other }
+        ensures alone { alone self.new ≡ alone self.old }
+        ensures lanes { lanes self.new ≡ lanes self.old }
+        ensures capacity { capacity self.new ≡ capacity self.old }
+        ensures sent { OnOk result
+            (Sends (λ other. sent self.old other) (λ other. sent self.new other) (queued lane piece)) }
+        ensures given_back { IfErr result (λ back. back ≡ piece) }
+        ensures not_sent { OnErr result
+            (SendsNone (λ other. sent self.old other) (λ other. sent self.new other)) }
+
+        ensures room { alone self.old ≡ true → OnOk result (length (held self.old) < capacity self.old) }
+        ensures held { alone self.old ≡ true
+            → OnOk result (held self.new ≡ held self.old ++ queued lane piece ∷ []) }
+        ensures full { alone self.old ≡ true → OnErr result (capacity self.old ≤ length (held self.old)) }
+        ensures kept { alone self.old ≡ true → OnErr result (held self.new ≡ held self.old) };
+}
+
+/// A queue with one owner, who pushes for its lanes and takes for its drive.
+pub trait Lanes: Lane {
+    /// Takes the piece that came first. Takes no memory.
+    fn try_take(&mut self) -> Option<Piece>
+        ensures opens { (other : ℕ) → Self.opens self.old other → Self.opens self.new other }
+        ensures capacity { Self.capacity self.new ≡ Self.capacity self.old }
+        ensures lanes { Self.lanes self.new ≡ Self.lanes self.old }
+        ensures first { IfSome result (λ piece. (lane : ℕ) × (Self.held self.old ≡ queued lane piece ∷ Self.held self.new)) }
+        ensures empty { IfNone result ((Self.held self.old ≡ []) × (Self.held self.new ≡ [])) };
+
+    // Laws: its owner is alone, and each of its lanes may push.
+    ghost single: { (x : Self) → Self.alone x ≡ true };
+
+    ghost open: { (x : Self) (lane : ℕ) → 1 ≤ lane → lane ≤ Self.lanes x → Self.opens x lane };
+}

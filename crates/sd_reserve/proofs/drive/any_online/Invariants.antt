@@ -1,0 +1,6 @@
+use Rattle.sd_reserve.specs.Reserve.{IsOnline}
+use Rattle.sd_base.proofs.ChoiceLemmas.{NoneBelow}
+use Rattle.sd_reserve.proofs.drive.any_online.Given as goal
+
+abbrev pub invariant-loop-drive : goal.invariant-loop-drive
+invariant-loop-drive l = NoneBelow (IsOnline l.media) l.drives l.drive-index

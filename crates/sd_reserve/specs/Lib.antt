@@ -1,0 +1,3 @@
+pub mod Better
+pub mod Reserve
+pub mod Refusals

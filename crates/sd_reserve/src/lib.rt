@@ -1,0 +1,11 @@
+//! Which drive takes a new session, and which lane of it
+//! (as: Bacula Main manual, storage daemon, reservation of drives).
+#![tactic(auto)]
+
+mod drive;
+mod lane;
+#[cfg(test)]
+mod tests;
+
+pub use drive::{DriveView, ReserveFault, reserve};
+pub use lane::lowest_free_lane;

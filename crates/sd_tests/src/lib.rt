@@ -1,0 +1,8 @@
+//! Tests of libraries by their public calls: what no clause of theirs says. They stand in a crate above
+//! the libraries, since a crate with tests is proved twice, with them and without.
+#![tactic(auto)]
+
+#[cfg(test)]
+mod lines;
+#[cfg(test)]
+mod packets;

@@ -1,0 +1,104 @@
+// A line that was read, as plain parts that a table can hold.
+use sd_script::{Line, Setting};
+use std::str;
+
+/// What a line does, its numbers in their order and 0 behind them, and its words or its text.
+#[derive(Clone, Copy)]
+pub struct Parts<'a> {
+    pub does: &'a str,
+    pub numbers: [u64; 4],
+    pub words: [&'a str; 3],
+}
+
+const NO_WORDS: [&str; 3] = ["", "", ""];
+
+/// The parts of a line.
+pub fn parts_of<'a>(line: &'a Line<'_>) -> Parts<'a> {
+    match line {
+        Line::Empty => plain("nothing", 0),
+        Line::Set(Setting::Block(size)) => plain("sets the block limit", *size as u64),
+        Line::Set(Setting::Time(time)) => plain("sets the time", u64::from(*time)),
+        Line::At(moment) => plain("moment", u64::try_from(*moment).unwrap_or(u64::MAX)),
+        Line::Label {
+            drive,
+            volume,
+            pool,
+            media,
+        } => Parts {
+            does: "labels",
+            numbers: [u64::from(drive.get()), 0, 0, 0],
+            words: [volume.as_str(), pool.as_str(), media.as_str()],
+        },
+        Line::Mount { drive, volume } => Parts {
+            does: "mounts",
+            numbers: [u64::from(drive.get()), 0, 0, 0],
+            words: [volume.as_str(), "", ""],
+        },
+        Line::Open { job, pool, media } => Parts {
+            does: "opens",
+            numbers: [u64::from(job.get()), 0, 0, 0],
+            words: [pool.as_str(), media.as_str(), ""],
+        },
+        other => record_parts(other),
+    }
+}
+
+fn record_parts<'a>(line: &'a Line<'_>) -> Parts<'a> {
+    match line {
+        Line::Rec {
+            ticket,
+            index,
+            stream,
+            text,
+        } => Parts {
+            does: "takes",
+            numbers: [
+                u64::from(ticket.get()),
+                u64::from(*index),
+                u64::from(*stream),
+                0,
+            ],
+            words: [str::from_utf8(text.as_slice()).unwrap_or("no text"), "", ""],
+        },
+        Line::Fill {
+            ticket,
+            index,
+            stream,
+            count,
+        } => Parts {
+            does: "fills",
+            numbers: [
+                u64::from(ticket.get()),
+                u64::from(*index),
+                u64::from(*stream),
+                *count as u64,
+            ],
+            words: NO_WORDS,
+        },
+        other => step_parts(other),
+    }
+}
+
+fn step_parts<'a>(line: &Line<'_>) -> Parts<'a> {
+    match line {
+        Line::End(ticket) => plain("ends", u64::from(ticket.get())),
+        Line::Cancel(ticket) => plain("is cancelled", u64::from(ticket.get())),
+        Line::Spool(ticket) => plain("spools", u64::from(ticket.get())),
+        Line::Despool(ticket) => plain("despools", u64::from(ticket.get())),
+        Line::Close(ticket) => plain("closes", u64::from(ticket.get())),
+        Line::Read(ticket) => plain("is read", u64::from(ticket.get())),
+        Line::Seek(drive) => plain("seeks", u64::from(drive.get())),
+        Line::Take(drive) => plain("takes a body", u64::from(drive.get())),
+        Line::Place(drive) => plain("places", u64::from(drive.get())),
+        Line::Sync(drive) => plain("syncs", u64::from(drive.get())),
+        _ => plain("rounds", 0),
+    }
+}
+
+fn plain(does: &str, number: u64) -> Parts<'_> {
+    Parts {
+        does,
+        numbers: [number, 0, 0, 0],
+        words: NO_WORDS,
+    }
+}
