@@ -1,27 +1,51 @@
 //! How fast the byte path is, beside plain memory copies in the same run.
 //!
 //! Without an argument each job runs once, on little, and says what it made; so the gate sees that
-//! the jobs work. With the argument `times` they run long enough to be timed, and say their rates.
+//! the jobs work. With the argument `times` they run long enough to be timed, and say their rates. With
+//! `files FOLDER COUNT` it only writes so many blocks to a file in the folder, to be timed from outside.
 #![tactic(auto)]
 
 mod blocks;
 mod checksum;
 mod packing;
 mod rate;
+mod volumes;
 
-use anyhow::Result;
+use anyhow::{Result, bail};
 use rate::Length;
+use sd_base::VolName;
+use sd_filedrive::FileDrive;
 use std::env;
 
 fn main(rt: HostRuntime) -> Result<()> {
+    let mut arguments = env::args(&rt)?.skip(1);
     let mut length = Length::Once;
-    for argument in env::args(&rt)?.skip(1) {
-        if argument.as_str() == "times" {
+    if let Some(first) = arguments.next() {
+        if first.as_str() == "files" {
+            let (Some(folder), Some(count)) = (arguments.next(), arguments.next()) else {
+                bail!("usage: files FOLDER COUNT");
+            };
+            return files(rt, folder.as_str(), count.as_str().parse::<u64>()?);
+        }
+        if first.as_str() == "times" {
             length = Length::Timed;
         }
     }
     checksum::run(&rt, length)?;
     blocks::run(&rt, length)?;
     packing::run(&rt, length)?;
+    volumes::run(&rt, length)
+}
+
+// Writes so many blocks to a file of the folder.
+fn files(rt: HostRuntime, folder: &str, blocks: u64) -> Result<()> {
+    let Ok(name) = VolName::parse("Vol-0001") else {
+        bail!("the name is none");
+    };
+    let alloc = rt.alloc();
+    let mut drive = FileDrive::new(rt, alloc, folder)?;
+    if volumes::write(&mut drive, &name, blocks).is_err() {
+        bail!("the file could not be written");
+    }
     Ok(())
 }

@@ -1,8 +1,8 @@
 -- What a folder of files is, as a device.
-use Rattle.std.specs.Prelude.{ℕ, false, None, [], Option, List}
+use Rattle.std.specs.Prelude.{ℕ, false, None, [], List}
 use Rattle.sd_driver.specs.Shelf.{Shelf}
 use Rattle.sd_driver.specs.Meaning.{Meaning}
-use Rattle.sd_filedrive.specs.Volumes.{loaded_name}
+use Rattle.sd_filedrive.specs.Volumes.{loaded_name, folder_path}
 use Rattle.sd_filedrive.specs.declared.drive.FileDrive.{FileDrive}
 
 -- nothing is said of what stands on the shelf
@@ -16,3 +16,7 @@ meaning_of drive = record { honest = false; shelf = unknown_shelf; loaded = load
 -- the meaning of a drive of which no call was made yet
 abbrev pub unused : Meaning
 unused = record { honest = false; shelf = unknown_shelf; loaded = None; failures = 0; told = 0 }
+
+-- the path of the folder that a drive has its volumes in
+abbrev pub folder_of : {R F D : Type 0} → FileDrive R F D → List ℕ
+folder_of drive = folder_path drive.volumes

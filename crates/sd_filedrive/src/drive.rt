@@ -2,7 +2,8 @@
 ghost use Rattle.std.specs.Prelude.{◌≡◌, ◌≢◌, ◌⊎◌, ◌≤◌, None, Some, IfOk, IfErr, OnOk, OnErr, IsSome, length};
 ghost use Rattle.sd_driver.specs.Meaning.{Counts, SameCounts};
 ghost use Rattle.sd_filedrive.specs.Count.{failures_after, IsSpent};
-ghost use Rattle.sd_filedrive.specs.Drive.{meaning_of, unused};
+ghost use Rattle.sd_filedrive.specs.Drive.{meaning_of, unused, folder_of};
+ghost use Rattle.sd_filedrive.specs.Place.{folder_named};
 
 use crate::tally::Tally;
 use crate::volumes::Volumes;
@@ -12,7 +13,22 @@ use std::alloc::{AllocError, Global};
 use std::fs::Files;
 use std::os::unix::fs::FileExt;
 
-/// A folder in which each volume is a file of its name.
+/// A folder in which each volume is a file of its name. It keeps the system that it was made with.
+///
+/// It isn't honest: what the system does with a file, and what a stop leaves of it, can't be known here. Known
+/// are the loaded name, how often it failed and how often it was full; at the greatest count of failures no
+/// call does anything.
+///
+/// `NotThere` and `Exists` are the system's words, `NoRoom` is an append's want of space or quota, or a file at
+/// its greatest size, `Memory` a path that could not be spelled. All else is `Device`: also a link, a folder or
+/// anything but a regular file under a volume's name. The name is looked at first, and what was opened is
+/// compared with that, since the system can't be asked here to follow no link: where a link takes the name's
+/// place in between, its target is opened and closed, and no more.
+///
+/// A volume is made for its owner alone. The loaded volume's file stays open, and that of the volume that was
+/// read last without being loaded, up to the next create or load. An append that fails leaves what it wrote,
+/// and the next one goes on behind that. A sync has the system write the volume's bytes, and the first one
+/// after a create or load its name too; where one fails, all that follow it fail up to the next load.
 #[derive(Drop)]
 pub struct FileDrive<R: Files + Drop> {
     pub(crate) volumes: Volumes<R>,
@@ -26,7 +42,8 @@ where
     /// The drive of the folder at `path`, the current folder where that is empty. The folder is not looked
     /// at before a volume is.
     pub fn new(system: R, alloc: Global, path: &str) -> Result<FileDrive<R>, AllocError>
-        ensures { IfOk result (λ drive. meaning_of drive ≡ unused) }
+        ensures unused { IfOk result (λ drive. meaning_of drive ≡ unused) }
+        ensures folder { IfOk result (λ drive. folder_of drive ≡ folder_named path.now) }
     {
         Ok(FileDrive {
             volumes: Volumes::new(system, alloc, path)?,
@@ -44,9 +61,11 @@ where
     fn create(&mut self, name: &VolName) -> Result<(), DriverFault>
         requires { (meaning_of self.old).loaded ≡ None }
         ensures counts { Counts result (meaning_of self.old) (meaning_of self.new) }
-        ensures once { (meaning_of self.new).failures ≡ failures_after result (meaning_of self.old).failures }
+        ensures once { (meaning_of self.new).failures
+            ≡ failures_after result (meaning_of self.old).failures }
         ensures spent { IsSpent (meaning_of self.old).failures → self.new ≡ self.old }
-        ensures faults { IfErr result (λ fault. (fault ≢ DriverFault.NotThere) × (fault ≢ DriverFault.NoRoom)) }
+        ensures faults { IfErr result (λ fault.
+            (fault ≢ DriverFault.NotThere) × (fault ≢ DriverFault.NoRoom)) }
         ensures loaded { OnOk result ((meaning_of self.new).loaded ≡ Some name.now) }
         ensures not_loaded { OnErr result ((meaning_of self.new).loaded ≡ None) }
     {
@@ -60,9 +79,11 @@ where
     fn load(&mut self, name: &VolName) -> Result<(), DriverFault>
         requires { (meaning_of self.old).loaded ≡ None }
         ensures counts { Counts result (meaning_of self.old) (meaning_of self.new) }
-        ensures once { (meaning_of self.new).failures ≡ failures_after result (meaning_of self.old).failures }
+        ensures once { (meaning_of self.new).failures
+            ≡ failures_after result (meaning_of self.old).failures }
         ensures spent { IsSpent (meaning_of self.old).failures → self.new ≡ self.old }
-        ensures faults { IfErr result (λ fault. (fault ≢ DriverFault.Exists) × (fault ≢ DriverFault.NoRoom)) }
+        ensures faults { IfErr result (λ fault.
+            (fault ≢ DriverFault.Exists) × (fault ≢ DriverFault.NoRoom)) }
         ensures loaded { OnOk result ((meaning_of self.new).loaded ≡ Some name.now) }
         ensures not_loaded { OnErr result ((meaning_of self.new).loaded ≡ None) }
     {
@@ -82,9 +103,11 @@ where
 
     fn len(&mut self, name: &VolName) -> Result<u64, DriverFault>
         ensures counts { Counts result (meaning_of self.old) (meaning_of self.new) }
-        ensures once { (meaning_of self.new).failures ≡ failures_after result (meaning_of self.old).failures }
+        ensures once { (meaning_of self.new).failures
+            ≡ failures_after result (meaning_of self.old).failures }
         ensures spent { IsSpent (meaning_of self.old).failures → self.new ≡ self.old }
-        ensures faults { IfErr result (λ fault. (fault ≢ DriverFault.Exists) × (fault ≢ DriverFault.NoRoom)) }
+        ensures faults { IfErr result (λ fault.
+            (fault ≢ DriverFault.Exists) × (fault ≢ DriverFault.NoRoom)) }
         ensures loaded { (meaning_of self.new).loaded ≡ (meaning_of self.old).loaded }
     {
         if self.tally.is_spent() {
@@ -96,10 +119,12 @@ where
 
     fn read_at(&mut self, name: &VolName, at: u64, into: &mut [u8]) -> Result<usize, DriverFault>
         ensures counts { Counts result (meaning_of self.old) (meaning_of self.new) }
-        ensures once { (meaning_of self.new).failures ≡ failures_after result (meaning_of self.old).failures }
+        ensures once { (meaning_of self.new).failures
+            ≡ failures_after result (meaning_of self.old).failures }
         ensures spent { IsSpent (meaning_of self.old).failures → self.new ≡ self.old }
         ensures within { IfOk result (λ count. count ≤ length into.old) }
-        ensures faults { IfErr result (λ fault. (fault ≢ DriverFault.Exists) × (fault ≢ DriverFault.NoRoom)) }
+        ensures faults { IfErr result (λ fault.
+            (fault ≢ DriverFault.Exists) × (fault ≢ DriverFault.NoRoom)) }
         ensures loaded { (meaning_of self.new).loaded ≡ (meaning_of self.old).loaded }
     {
         if self.tally.is_spent() {
@@ -112,9 +137,11 @@ where
     fn append(&mut self, bytes: &[u8]) -> Result<(), DriverFault>
         requires { IsSome (meaning_of self.old).loaded }
         ensures counts { Counts result (meaning_of self.old) (meaning_of self.new) }
-        ensures once { (meaning_of self.new).failures ≡ failures_after result (meaning_of self.old).failures }
+        ensures once { (meaning_of self.new).failures
+            ≡ failures_after result (meaning_of self.old).failures }
         ensures spent { IsSpent (meaning_of self.old).failures → self.new ≡ self.old }
-        ensures faults { IfErr result (λ fault. (fault ≡ DriverFault.NoRoom) ⊎ (fault ≡ DriverFault.Device)) }
+        ensures faults { IfErr result (λ fault.
+            (fault ≡ DriverFault.NoRoom) ⊎ (fault ≡ DriverFault.Device)) }
         ensures loaded { (meaning_of self.new).loaded ≡ (meaning_of self.old).loaded }
     {
         if self.tally.is_spent() {
@@ -127,7 +154,8 @@ where
     fn sync(&mut self) -> Result<(), DriverFault>
         requires { IsSome (meaning_of self.old).loaded }
         ensures counts { Counts result (meaning_of self.old) (meaning_of self.new) }
-        ensures once { (meaning_of self.new).failures ≡ failures_after result (meaning_of self.old).failures }
+        ensures once { (meaning_of self.new).failures
+            ≡ failures_after result (meaning_of self.old).failures }
         ensures spent { IsSpent (meaning_of self.old).failures → self.new ≡ self.old }
         ensures faults { IfErr result (λ fault. fault ≡ DriverFault.Device) }
         ensures loaded { (meaning_of self.new).loaded ≡ (meaning_of self.old).loaded }
@@ -142,7 +170,8 @@ where
     fn cut(&mut self, to: u64) -> Result<(), DriverFault>
         requires { IsSome (meaning_of self.old).loaded }
         ensures counts { Counts result (meaning_of self.old) (meaning_of self.new) }
-        ensures once { (meaning_of self.new).failures ≡ failures_after result (meaning_of self.old).failures }
+        ensures once { (meaning_of self.new).failures
+            ≡ failures_after result (meaning_of self.old).failures }
         ensures spent { IsSpent (meaning_of self.old).failures → self.new ≡ self.old }
         ensures faults { IfErr result (λ fault. fault ≡ DriverFault.Device) }
         ensures loaded { (meaning_of self.new).loaded ≡ (meaning_of self.old).loaded }

@@ -1,7 +1,7 @@
 // The folder, and the files in it.
 ghost use Rattle.std.specs.Prelude.{◌≡◌, ◌≢◌, ◌↔◌, ◌⊎◌, ◌++◌, ◌∷◌, IfOk, IfErr, string_bytes};
 ghost use Rattle.std.specs.IoError.{error_kind};
-ghost use Rattle.sd_filedrive.specs.Place.{IsFileIn};
+ghost use Rattle.sd_filedrive.specs.Place.{IsFileIn, folder_named};
 
 use sd_base::VolName;
 use sd_driver::DriverFault;
@@ -24,7 +24,9 @@ pub(crate) struct Folder<R: Files + Drop> {
 
 impl<R: Files + Drop> Folder<R> {
     /// The folder at `path`; the current one where that is empty.
-    pub(crate) fn new(system: R, alloc: Global, path: &str) -> Result<Folder<R>, AllocError> {
+    pub(crate) fn new(system: R, alloc: Global, path: &str) -> Result<Folder<R>, AllocError>
+        ensures { IfOk result (λ folder. string_bytes folder.path ≡ folder_named path.now) }
+    {
         let path = if path.is_empty() { "." } else { path };
         Ok(Folder {
             system,
@@ -35,7 +37,8 @@ impl<R: Files + Drop> Folder<R> {
 
     // The path of a volume's file, which stands in this folder. No other path of a volume is made.
     fn path_of(&self, name: &VolName) -> Result<String, AllocError>
-        ensures { IfOk result (λ path. IsFileIn (string_bytes self.now.path) name.now (string_bytes path)) }
+        ensures { IfOk result (λ path.
+            IsFileIn (string_bytes self.now.path) name.now (string_bytes path)) }
     {
         let (folder, file) = (self.path.as_str(), name.as_str());
         format!(in self.alloc; "{folder}/{file}")
@@ -44,7 +47,8 @@ impl<R: Files + Drop> Folder<R> {
     /// Makes the file of a new volume, and opens it. The system makes it only where nothing has its name, and
     /// follows no link there.
     pub(crate) fn create(&self, name: &VolName) -> Result<R::File, DriverFault>
-        ensures faults { IfErr result (λ fault. (fault ≢ DriverFault.NotThere) × (fault ≢ DriverFault.NoRoom)) }
+        ensures faults { IfErr result (λ fault.
+            (fault ≢ DriverFault.NotThere) × (fault ≢ DriverFault.NoRoom)) }
     {
         let Ok(path) = self.path_of(name) else {
             return Err(DriverFault::Memory);
@@ -77,7 +81,8 @@ impl<R: Files + Drop> Folder<R> {
     /// Opens the file of a volume, if that is what has the volume's name. What was opened is compared with
     /// what stood there before, since a link could take its place in between.
     pub(crate) fn open(&self, name: &VolName, how: &OpenOptions) -> Result<R::File, DriverFault>
-        ensures faults { IfErr result (λ fault. (fault ≢ DriverFault.Exists) × (fault ≢ DriverFault.NoRoom)) }
+        ensures faults { IfErr result (λ fault.
+            (fault ≢ DriverFault.Exists) × (fault ≢ DriverFault.NoRoom)) }
     {
         let Ok(path) = self.path_of(name) else {
             return Err(DriverFault::Memory);
@@ -107,7 +112,8 @@ impl<R: Files + Drop> Folder<R> {
 
 // What an error says of a file that was to be there.
 fn missing(error: &io::Error) -> DriverFault
-    ensures missing { (result ≡ DriverFault.NotThere) ↔ (error_kind error.now ≡ ErrorKind.NotFound) }
+    ensures missing { (result ≡ DriverFault.NotThere)
+        ↔ (error_kind error.now ≡ ErrorKind.NotFound) }
     ensures faults { (result ≡ DriverFault.NotThere) ⊎ (result ≡ DriverFault.Device) }
 {
     match error.kind() {

@@ -28,7 +28,13 @@ pub(crate) struct Loaded<F: Drop> {
 impl<F: OpenFile + FileExt + Drop> Loaded<F> {
     /// A volume whose file was just opened.
     pub(crate) fn new(name: &VolName, file: F) -> Loaded<F>
-        ensures { result ≡ record { name = name.now; file = file; end = None; is_named = false; is_lost = false } }
+        ensures { result ≡ record {
+          name = name.now;
+          file = file;
+          end = None;
+          is_named = false;
+          is_lost = false;
+        } }
     {
         Loaded {
             name: name.copy(),
@@ -66,7 +72,8 @@ impl<F: OpenFile + FileExt + Drop> Loaded<F> {
     /// Ends the file at `to`, if it goes on past that.
     pub(crate) fn cut(&mut self, to: u64) -> io::Result<()>
         ensures ok { OnOk result (IsSomeAnd self.new.end (λ after. after ≤ to)) }
-        ensures known { OnOk result (IfSome self.old.end (λ end. self.new.end ≡ Some (min end to))) }
+        ensures known { OnOk result (IfSome self.old.end (λ end.
+            self.new.end ≡ Some (min end to))) }
         ensures err { OnErr result (self.new.end ≡ None) }
         ensures same { SameButEnd self.old self.new }
     {

@@ -29,7 +29,8 @@ impl<F: OpenFile + FileExt + Drop> Reader<F> {
         folder: &Folder<R>,
         name: &VolName,
     ) -> Result<&F, DriverFault>
-        ensures faults { IfErr result (λ fault. (fault ≢ DriverFault.Exists) × (fault ≢ DriverFault.NoRoom)) }
+        ensures faults { IfErr result (λ fault.
+            (fault ≢ DriverFault.Exists) × (fault ≢ DriverFault.NoRoom)) }
     {
         let is_open = match &self.last {
             Some((last, _)) => last.is_same(name),

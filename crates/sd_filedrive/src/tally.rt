@@ -38,7 +38,8 @@ impl Tally {
         ensures same { result ≡ answer }
         ensures failures { self.new.failures ≡ failures_after result self.old.failures }
         ensures later { self.old.failures ≤ self.new.failures }
-        ensures device { IsErrOf result DriverFault.Device ↔ Rose self.old.failures self.new.failures }
+        ensures device { IsErrOf result DriverFault.Device
+            ↔ Rose self.old.failures self.new.failures }
         ensures told { self.new.told ≡ told_after result self.old.told }
     {
         match &answer {

@@ -8,11 +8,12 @@ use faulty::{Call, Faulty, Plan};
 use sd_base::VolName;
 use sd_driver::Driver;
 use std::alloc::Global;
+use std::fs::Files;
 use std::os::unix::fs::{MetadataExt, symlink};
 use std::process::Abort;
 use std::sync::atomic::Ordering;
 use std::test::Fail;
-use std::{env, fs};
+use std::{env, fs, io};
 
 // What a drive answers that has the folder to itself.
 const HISTORY: [(Step, &str); 42] = [
@@ -281,7 +282,7 @@ fn make_bench<'a>(
 fn volumes_are_files(rt: HostRuntime) -> Result<(), Fail> {
     let alloc = rt.alloc();
     let plan = Plan::new();
-    let folder = make_folder(&rt, "volumes")?;
+    let folder = make_folder(&rt)?;
     let path = folder.as_str();
     play(
         &rt,
@@ -303,52 +304,41 @@ fn volumes_are_files(rt: HostRuntime) -> Result<(), Fail> {
     Ok(())
 }
 
+// A file, and what else can stand under a name.
+fn put_names<R: Files + AllocGlobal>(rt: &R, path: &str) -> io::Result<()> {
+    let alloc = rt.alloc();
+    fs::write(rt, format!(in alloc; "{path}/Target")?, b"kept".as_slice())?;
+    symlink(rt, "Target", format!(in alloc; "{path}/Link")?)?;
+    symlink(rt, "Nothing", format!(in alloc; "{path}/Dangling")?)?;
+    symlink(rt, "/dev/full", format!(in alloc; "{path}/Full")?)?;
+    fs::create_dir(rt, format!(in alloc; "{path}/Folder")?)
+}
+
+// A history on a drive of the folder at `path` that ends with so many failures.
+fn play_refusals(
+    rt: &impl Abort,
+    system: &HostRuntime,
+    path: &str,
+    rows: &[(Step, &str)],
+    failures: u64,
+) -> Result<(), Fail> {
+    let plan = Plan::new();
+    let mut bench = make_bench(system, &plan, path)?;
+    play(rt, system.alloc(), &mut bench, rows, (failures, 0))
+}
+
 #[test]
 fn what_is_no_file(rt: HostRuntime) -> Result<(), Fail> {
-    let alloc = rt.alloc();
-    let plan = Plan::new();
-    let folder = make_folder(&rt, "no_file")?;
+    let folder = make_folder(&rt)?;
     let path = folder.as_str();
-    fs::write(&rt, format!(in alloc; "{path}/Target")?, b"kept".as_slice())?;
-    symlink(&rt, "Target", format!(in alloc; "{path}/Link")?)?;
-    symlink(&rt, "Nothing", format!(in alloc; "{path}/Dangling")?)?;
-    symlink(&rt, "/dev/full", format!(in alloc; "{path}/Full")?)?;
-    fs::create_dir(&rt, format!(in alloc; "{path}/Folder")?)?;
-    play(
-        &rt,
-        alloc,
-        &mut make_bench(&rt, &plan, path)?,
-        &NO_FILES,
-        (16, 0),
-    )?;
-    let missing = format!(in alloc; "{path}/Nothing")?;
-    play(
-        &rt,
-        alloc,
-        &mut make_bench(&rt, &plan, missing.as_str())?,
-        &NO_FOLDER,
-        (1, 0),
-    )?;
-    let file = format!(in alloc; "{path}/Target")?;
-    play(
-        &rt,
-        alloc,
-        &mut make_bench(&rt, &plan, file.as_str())?,
-        &FILE_FOR_FOLDER,
-        (4, 0),
-    )?;
-    play(
-        &rt,
-        alloc,
-        &mut make_bench(&rt, &plan, "/proc")?,
-        &NO_PERMISSION,
-        (1, 0),
-    )?;
-    assert_eq!(rt;
-        fs::read(&rt, file.as_str())?.as_slice(),
-        b"kept".as_slice()
-    );
-    assert!(rt; !fs::exists(&rt, missing.as_str())?);
+    put_names(&rt, path)?;
+    play_refusals(&rt, &rt, path, &NO_FILES, 16)?;
+    let missing = format!(in rt.alloc(); "{path}/Nothing")?;
+    play_refusals(&rt, &rt, missing.as_str(), &NO_FOLDER, 1)?;
+    let target = format!(in rt.alloc(); "{path}/Target")?;
+    play_refusals(&rt, &rt, target.as_str(), &FILE_FOR_FOLDER, 4)?;
+    play_refusals(&rt, &rt, "/proc", &NO_PERMISSION, 1)?;
+    assert_eq!(rt; fs::read(&rt, target)?.as_slice(), b"kept".as_slice());
     fs::remove_dir_all(&rt, path)?;
     Ok(())
 }
@@ -356,7 +346,7 @@ fn what_is_no_file(rt: HostRuntime) -> Result<(), Fail> {
 #[test]
 fn calls_of_the_system_fail(rt: HostRuntime) -> Result<(), Fail> {
     let alloc = rt.alloc();
-    let folder = make_folder(&rt, "faults")?;
+    let folder = make_folder(&rt)?;
     let path = folder.as_str();
     let plan = Plan::new();
     let mut bench = make_bench(&rt, &plan, path)?;
@@ -368,7 +358,7 @@ fn calls_of_the_system_fail(rt: HostRuntime) -> Result<(), Fail> {
 #[test]
 fn few_opens(rt: HostRuntime) -> Result<(), Fail> {
     let alloc = rt.alloc();
-    let folder = make_folder(&rt, "opens")?;
+    let folder = make_folder(&rt)?;
     let path = folder.as_str();
     let plan = Plan::new();
     let mut bench = make_bench(&rt, &plan, path)?;
@@ -388,7 +378,7 @@ fn few_opens(rt: HostRuntime) -> Result<(), Fail> {
 // Each call once on the system's own files.
 #[test]
 fn on_the_system(rt: HostRuntime) -> Result<(), Fail> {
-    let folder = make_folder(&rt, "system")?;
+    let folder = make_folder(&rt)?;
     let name = VolName::parse("Vol-0001")?;
     let mut drive = FileDrive::new(rt.clone()?, rt.alloc(), folder.as_str())?;
     drive.create(&name)?;

@@ -1,6 +1,7 @@
 // The volumes of a folder, of which one may be loaded. What a call answers here is not counted yet.
 ghost use Rattle.std.specs.Prelude.{◌≡◌, ◌≢◌, ◌⊎◌, ◌≤◌, None, Some, IfOk, IfErr, OnOk, OnErr, IsSome, length};
-ghost use Rattle.sd_filedrive.specs.Volumes.{loaded_name};
+ghost use Rattle.sd_filedrive.specs.Place.{folder_named};
+ghost use Rattle.sd_filedrive.specs.Volumes.{loaded_name, folder_path};
 
 use crate::folder::Folder;
 use crate::loaded::{Loaded, append_fault};
@@ -25,7 +26,8 @@ where
 {
     /// Those of the folder at `path`. None is loaded.
     pub(crate) fn new(system: R, alloc: Global, path: &str) -> Result<Volumes<R>, AllocError>
-        ensures { IfOk result (λ volumes. loaded_name volumes ≡ None) }
+        ensures none { IfOk result (λ volumes. loaded_name volumes ≡ None) }
+        ensures folder { IfOk result (λ volumes. folder_path volumes ≡ folder_named path.now) }
     {
         Ok(Volumes {
             folder: Folder::new(system, alloc, path)?,
@@ -37,7 +39,8 @@ where
     pub(crate) fn create(&mut self, name: &VolName) -> Result<(), DriverFault>
         ensures loaded { OnOk result (loaded_name self.new ≡ Some name.now) }
         ensures not_loaded { OnErr result (loaded_name self.new ≡ loaded_name self.old) }
-        ensures faults { IfErr result (λ fault. (fault ≢ DriverFault.NotThere) × (fault ≢ DriverFault.NoRoom)) }
+        ensures faults { IfErr result (λ fault.
+            (fault ≢ DriverFault.NotThere) × (fault ≢ DriverFault.NoRoom)) }
     {
         let file = self.folder.create(name)?;
         self.keep(name, file);
@@ -47,7 +50,8 @@ where
     pub(crate) fn load(&mut self, name: &VolName) -> Result<(), DriverFault>
         ensures loaded { OnOk result (loaded_name self.new ≡ Some name.now) }
         ensures not_loaded { OnErr result (loaded_name self.new ≡ loaded_name self.old) }
-        ensures faults { IfErr result (λ fault. (fault ≢ DriverFault.Exists) × (fault ≢ DriverFault.NoRoom)) }
+        ensures faults { IfErr result (λ fault.
+            (fault ≢ DriverFault.Exists) × (fault ≢ DriverFault.NoRoom)) }
     {
         let file = self
             .folder
@@ -73,7 +77,8 @@ where
 
     pub(crate) fn len(&mut self, name: &VolName) -> Result<u64, DriverFault>
         ensures loaded { loaded_name self.new ≡ loaded_name self.old }
-        ensures faults { IfErr result (λ fault. (fault ≢ DriverFault.Exists) × (fault ≢ DriverFault.NoRoom)) }
+        ensures faults { IfErr result (λ fault.
+            (fault ≢ DriverFault.Exists) × (fault ≢ DriverFault.NoRoom)) }
     {
         match &self.loaded {
             Some(loaded) if loaded.name.is_same(name) => length_of(&loaded.file),
@@ -89,7 +94,8 @@ where
     ) -> Result<usize, DriverFault>
         ensures within { IfOk result (λ count. count ≤ length into.old) }
         ensures loaded { loaded_name self.new ≡ loaded_name self.old }
-        ensures faults { IfErr result (λ fault. (fault ≢ DriverFault.Exists) × (fault ≢ DriverFault.NoRoom)) }
+        ensures faults { IfErr result (λ fault.
+            (fault ≢ DriverFault.Exists) × (fault ≢ DriverFault.NoRoom)) }
     {
         match &self.loaded {
             Some(loaded) if loaded.name.is_same(name) => fill(&loaded.file, at, into),
@@ -100,7 +106,8 @@ where
     pub(crate) fn append(&mut self, bytes: &[u8]) -> Result<(), DriverFault>
         requires { IsSome (loaded_name self.old) }
         ensures loaded { loaded_name self.new ≡ loaded_name self.old }
-        ensures faults { IfErr result (λ fault. (fault ≡ DriverFault.NoRoom) ⊎ (fault ≡ DriverFault.Device)) }
+        ensures faults { IfErr result (λ fault.
+            (fault ≡ DriverFault.NoRoom) ⊎ (fault ≡ DriverFault.Device)) }
     {
         let Some(loaded) = &mut self.loaded else {
             unreachable!()

@@ -5,10 +5,11 @@ use super::faulty::{Call, Plan};
 use sd_base::VolName;
 use sd_driver::{Driver, DriverFault};
 use std::alloc::AllocError;
-use std::fs::{self, Files};
+use std::fs::Files;
+use std::io::ErrorKind;
 use std::rt::Env;
 use std::test::Fail;
-use std::{env, io};
+use std::{env, fs, io};
 
 // A step of a history.
 #[derive(Clone, Copy)]
@@ -139,11 +140,16 @@ impl<'a, D: Driver + Drop> Bench<'a, D> {
     }
 }
 
-// A new folder for the test of this name, among the system's temporary files. Nothing of an earlier run is in it.
-pub(super) fn make_folder<R: Files + Env + AllocGlobal>(rt: &R, test: &str) -> io::Result<String> {
+// A new folder for the test, among the system's temporary files: the first of these names that nothing has.
+pub(super) fn make_folder<R: Files + Env + AllocGlobal>(rt: &R) -> io::Result<String> {
     let place = env::temp_dir(rt)?;
-    let path = format!(in rt.alloc(); "{}/sd_filedrive_{test}", place.as_str())?;
-    let _ = fs::remove_dir_all(rt, path.as_str());
-    fs::create_dir(rt, path.as_str())?;
-    Ok(path)
+    for number in 0..1000u32 {
+        let path = format!(in rt.alloc(); "{}/sd_filedrive_{number}", place.as_str())?;
+        match fs::create_dir(rt, path.as_str()) {
+            Ok(()) => return Ok(path),
+            Err(error) if error.kind() == ErrorKind::AlreadyExists => {}
+            Err(error) => return Err(error),
+        }
+    }
+    Err(ErrorKind::AlreadyExists.into())
 }

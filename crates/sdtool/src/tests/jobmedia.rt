@@ -21,10 +21,10 @@ pub fn prints_the_text(alloc: Global) -> Result<bool, AllocError> {
     Ok(printed.as_slice() == text.as_bytes())
 }
 
-fn span(number: u64, start: u64, end: u64) -> Option<Span> {
+fn span(number: u32, start: u64, end: u64) -> Option<Span> {
     Some(Span {
         volume: VolName::parse("Vol-0001").ok()?,
-        vol_index: number,
+        vol_index: u64::from(number),
         first: number,
         last: number,
         start,

@@ -1,4 +1,4 @@
-use Rattle.std.proofs.Common.{◌≤◌, length}
+use Rattle.std.proofs.Common.{◌≤◌}
 use Rattle.sd_filedrive.proofs.reader.fill.Given as goal
 
 -- what is filled is within the room

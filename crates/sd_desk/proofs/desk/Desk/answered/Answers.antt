@@ -1,0 +1,6 @@
+use Rattle.std.proofs.Common.{rules}
+use Rattle.std.proofs.lemmas.Fn.{filter_same}
+use Rattle.sd_desk.proofs.desk.Desk.answered.Goals as goal
+
+pub returns-clause-requests : goal.returns-clause-requests
+returns-clause-requests c = filter_same _ _ _ (λ x b f' k. search rules) _ _ c.retain.ensures.filtered

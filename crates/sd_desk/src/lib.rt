@@ -1,0 +1,13 @@
+//! The operator's desk: at which drive each volume is, which volume a drive takes next, and which drives
+//! asked for one (as: Bacula Main manual, storage daemon, volume requests).
+#![tactic(auto)]
+
+mod desk;
+mod next;
+mod request;
+#[cfg(test)]
+mod tests;
+
+pub use desk::{ClaimFault, Desk};
+pub use next::next_volume;
+pub use request::Request;

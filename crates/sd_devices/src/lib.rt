@@ -1,0 +1,9 @@
+//! Volumes on devices, tested: histories of labels, blocks, listings and adoptions on a device of any kind,
+//! told as text, beside those of a plain model.
+#![tactic(auto)]
+
+mod bench;
+#[cfg(test)]
+mod tests;
+
+pub use bench::{LIMIT, Step, play};

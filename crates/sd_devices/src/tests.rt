@@ -1,0 +1,273 @@
+// Volumes on memory drives beside a plain model: each call of the device failing in each way, a volume cut or
+// damaged at every byte, and the example volume of docs/FORMATS.md.
+ghost use Rattle.std.specs.Prelude.{◌≡◌, None, IfOk};
+
+mod table;
+
+use crate::{Step, play};
+use sd_base::VolName;
+use sd_driver::Driver;
+use sd_memdrive::{Call, Fail, MemDrive, When};
+use std::alloc::{AllocError, Global};
+use std::test::Fail as TestFail;
+use table::TOLD;
+
+const BODY: &[u8] = b"twelve bytes";
+
+const OTHER_BODY: &[u8] = b"the body of another block";
+
+const LONG_BODY: &[u8] =
+    b"twelve bytesthe body of another blockthe body of another blockthe body of another blockthe body of another block";
+
+// The front of a third block, as a stop in the middle of its append may leave it.
+const FRONT: &[u8] = &[
+    0x12, 0x65, 0x47, 0xbf, 0, 0, 0, 0x24, 0, 0, 0, 3, 0x42, 0x42, 0x30, 0x32, 0, 0, 0, 1, 0, 0, 3,
+    0xe8, 0x74, 0x77, 0x65, 0x6c, 0x76, 0x65,
+];
+
+const HISTORY: [Step; 12] = [
+    Step::Label("Vol-0001"),
+    Step::Append(1000, BODY),
+    Step::Append(1001, OTHER_BODY),
+    Step::Write(FRONT),
+    Step::List,
+    Step::Adopt("Vol-0001", "File", 2000),
+    Step::Append(2000, BODY),
+    Step::Adopt("Vol-0001", "File", 2000),
+    Step::Adopt("Vol-0001", "Tape", 3000),
+    Step::Adopt("Vol-0002", "File", 3000),
+    Step::Label("Vol-0001"),
+    Step::Append(2000, LONG_BODY),
+];
+
+// How many calls of each kind the history makes.
+const KINDS: [(Call, u64); 7] = [
+    (Call::Create, 2),
+    (Call::Load, 6),
+    (Call::Len, 4),
+    (Call::Read, 6),
+    (Call::Append, 5),
+    (Call::Sync, 6),
+    (Call::Cut, 1),
+];
+
+// The length and a digest of a volume's bytes.
+fn tell_shelf<D: Driver>(driver: &mut D, text: &mut String) -> Result<(), TestFail> {
+    let name = VolName::parse("Vol-0001")?;
+    let mut buffer = [0; 512];
+    match driver.read_at(&name, 0, &mut buffer) {
+        Ok(count) => {
+            let mut digest = 0u64;
+            for byte in &buffer[..count] {
+                digest = digest.wrapping_mul(31).wrapping_add(u64::from(*byte));
+            }
+            write!(text, "{count} {digest:016x}")?;
+        }
+        Err(_) => text.push_str("none")?,
+    }
+    Ok(())
+}
+
+// The history under a plan, told as the table tells it.
+fn history(alloc: Global, plan: &[Fail]) -> Result<String, TestFail> {
+    let mut text = String::new(alloc);
+    let mut drive = MemDrive::new(alloc, 400, plan)?;
+    play(alloc, &mut drive, &HISTORY, &mut text)?;
+    text.push_str("| ")?;
+    let failures = drive.failures();
+    let mut left = drive.after_stop(alloc, drive.calls(), &[])?;
+    tell_shelf(&mut drive, &mut text)?;
+    text.push_str(" | ")?;
+    tell_shelf(&mut left, &mut text)?;
+    write!(text, " | {failures}")?;
+    Ok(text)
+}
+
+// The history where each call of a kind in turn fails so, a line for each.
+fn tell_failing(
+    alloc: Global,
+    text: &mut String,
+    call: Call,
+    count: u64,
+    when: When,
+) -> Result<(), TestFail> {
+    for nth in 1..=count {
+        let told = history(alloc, &[Fail { call, nth, when }])?;
+        writeln!(text, "{call:?} {nth} {when:?}: {told}")?;
+    }
+    Ok(())
+}
+
+fn tell_all(alloc: Global) -> Result<String, TestFail> {
+    let mut text = String::new(alloc);
+    let told = history(alloc, &[])?;
+    writeln!(text, "no failure: {told}")?;
+    for (call, count) in KINDS {
+        tell_failing(alloc, &mut text, call, count, When::Before)?;
+        if call == Call::Append {
+            tell_failing(alloc, &mut text, call, count, When::Half)?;
+        }
+        tell_failing(alloc, &mut text, call, count, When::After)?;
+    }
+    Ok(text)
+}
+
+#[test]
+fn every_call_fails(rt: HostRuntime) -> Result<(), TestFail> {
+    assert_eq!(rt; tell_all(rt.alloc())?.as_str(), TOLD);
+    Ok(())
+}
+
+// The bytes of the example volume, whose checksums are zlib's.
+const EXAMPLE: &str = "907120dc0000005200000000424230320000000000000000\
+fffffffe000000010000002e73642d70726f66696c650a00000000010000000000000000\
+566f6c2d303030310044656661756c740046696c6500\
+b5fb0a38000000a7000000014242303200000001000003e8\
+fffffffc000000070000002973642d70726f66696c650a0000000001000000070000000000000000\
+44656661756c740046696c6500\
+00000001000000020000000568656c6c6f\
+fffffffb000000070000003d73642d70726f66696c650a0000000001000000070000000000000000\
+44656661756c740046696c65000000000000000001000000000000000500000054";
+
+const EXAMPLE_BODY: &[u8] =
+    b"\xff\xff\xff\xfc\0\0\0\x07\0\0\0\x29sd-profile\n\0\0\0\0\x01\0\0\0\x07\
+\0\0\0\0\0\0\0\0Default\0File\0\
+\0\0\0\x01\0\0\0\x02\0\0\0\x05hello\
+\xff\xff\xff\xfb\0\0\0\x07\0\0\0\x3dsd-profile\n\0\0\0\0\x01\0\0\0\x07\
+\0\0\0\0\0\0\0\0Default\0File\0\
+\0\0\0\0\0\0\0\x01\0\0\0\0\0\0\0\x05\0\0\0\x54";
+
+// The bytes of the volume that these steps leave.
+fn bytes_after(alloc: Global, steps: &[Step]) -> Result<Vec<u8>, TestFail> {
+    let mut text = String::new(alloc);
+    let mut drive = MemDrive::new(alloc, 400, &[])?;
+    play(alloc, &mut drive, steps, &mut text)?;
+    let mut buffer = [0; 512];
+    let count = drive.read_at(&VolName::parse("Vol-0001")?, 0, &mut buffer)?;
+    Ok(buffer[..count].to_vec(alloc)?)
+}
+
+#[test]
+fn example_volume(rt: HostRuntime) -> Result<(), TestFail> {
+    let alloc = rt.alloc();
+    let steps = [Step::Label("Vol-0001"), Step::Append(1000, EXAMPLE_BODY)];
+    let mut text = String::new(alloc);
+    for byte in &bytes_after(alloc, &steps)? {
+        write!(text, "{byte:02x}")?;
+    }
+    assert_eq!(rt; text.as_str(), EXAMPLE);
+    Ok(())
+}
+
+// What the adoption of a volume of these bytes answers.
+fn tell_adopted(alloc: Global, bytes: &[u8], text: &mut String) -> Result<(), TestFail> {
+    let mut drive = MemDrive::new(alloc, 400, &[])?;
+    drive.create(&VolName::parse("Vol-0001")?)?;
+    drive.append(bytes)?;
+    drive.unload();
+    play(
+        alloc,
+        &mut drive,
+        &[Step::Adopt("Vol-0001", "File", 2000)],
+        text,
+    )?;
+    Ok(())
+}
+
+const TWO_BLOCKS: [Step; 3] = [
+    Step::Label("Vol-0001"),
+    Step::Append(1000, BODY),
+    Step::Append(1001, OTHER_BODY),
+];
+
+fn tell_cut_everywhere(alloc: Global) -> Result<String, TestFail> {
+    let bytes = bytes_after(alloc, &TWO_BLOCKS)?;
+    let mut text = String::new(alloc);
+    for length in 0..=bytes.len() {
+        tell_adopted(alloc, &bytes[..length], &mut text)?;
+    }
+    Ok(text)
+}
+
+fn tell_damaged_everywhere(alloc: Global) -> Result<String, TestFail> {
+    let mut bytes = bytes_after(alloc, &TWO_BLOCKS)?;
+    let mut text = String::new(alloc);
+    for place in 0..bytes.len() {
+        bytes[place] ^= 0x40;
+        tell_adopted(alloc, &bytes, &mut text)?;
+        bytes[place] ^= 0x40;
+    }
+    Ok(text)
+}
+
+// A word so many times, then the next.
+fn repeated(alloc: Global, words: &[(&str, usize)]) -> Result<String, TestFail> {
+    let mut text = String::new(alloc);
+    for (word, count) in words {
+        text.push_str(word.repeat(alloc, *count)?.as_str())?;
+    }
+    Ok(text)
+}
+
+// Cut within a block, a volume is adopted with the blocks before it.
+#[test]
+fn cut_at_every_byte(rt: HostRuntime) -> Result<(), TestFail> {
+    let alloc = rt.alloc();
+    let told = tell_cut_everywhere(alloc)?;
+    let expected = repeated(
+        alloc,
+        &[("3931 ", 82), ("82/1 ", 36), ("118/2 ", 49), ("167/3 ", 1)],
+    )?;
+    assert_eq!(rt; told.as_str(), expected.as_str());
+    Ok(())
+}
+
+// So it is where a byte of the block is wrong.
+#[test]
+fn wrong_at_every_byte(rt: HostRuntime) -> Result<(), TestFail> {
+    let alloc = rt.alloc();
+    let told = tell_damaged_everywhere(alloc)?;
+    let expected = repeated(alloc, &[("3931 ", 82), ("82/1 ", 36), ("118/2 ", 49)])?;
+    assert_eq!(rt; told.as_str(), expected.as_str());
+    Ok(())
+}
+
+// On drives with little room, and at a volume's limit.
+const NARROW: [(u64, &[Step], &str); 3] = [
+    (81, &[Step::Label("Vol-0001"), Step::List], "3939 - "),
+    (
+        117,
+        &[
+            Step::Label("Vol-0001"),
+            Step::Append(1000, BODY),
+            Step::Append(1000, BODY),
+        ],
+        "82/1 no room full ",
+    ),
+    (
+        400,
+        &[
+            Step::Label("Vol-0001"),
+            Step::Append(1000, LONG_BODY),
+            Step::Append(1000, &[7; 58]),
+            Step::Adopt("Vol-0001", "File", 2000),
+            Step::Append(2000, BODY),
+        ],
+        "82/1 82+136 218+82 300/3full full ",
+    ),
+];
+
+fn tell_narrow(alloc: Global, capacity: u64, steps: &[Step]) -> Result<String, TestFail> {
+    let mut text = String::new(alloc);
+    let mut drive = MemDrive::new(alloc, capacity, &[])?;
+    play(alloc, &mut drive, steps, &mut text)?;
+    Ok(text)
+}
+
+#[test]
+fn little_room(rt: HostRuntime) -> Result<(), TestFail> {
+    for (capacity, steps, told) in NARROW {
+        assert_eq!(rt; tell_narrow(rt.alloc(), capacity, steps)?.as_str(), told);
+    }
+    Ok(())
+}

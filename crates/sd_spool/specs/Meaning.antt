@@ -1,0 +1,34 @@
+-- What a store of a spool is to the daemon, and what every store tells by its answers.
+use Rattle.std.specs.Prelude.{◌≡◌, ◌↔◌, ℕ, Bool, ◌-◌, ◌≤◌, ◌<◌, ◌^◌, ◌⊎◌, List, [], ◌++◌, Result, IsTrue, IsErrOf}
+use Rattle.sd_spool.specs.declared.store.SpoolStoreFault.{SpoolStoreFault}
+use Rattle.sd_spool.specs.declared.store.SpoolStoreFault.TheVariants.{Device}
+
+-- all that clauses say of a store
+pub record Meaning : Type 0 where
+  -- it keeps what it was given, and tells what it keeps
+  pub honest : Bool
+  -- what was appended since the last clear
+  pub bytes : List ℕ
+  pub failures : ℕ
+
+abbrev pub IsHonest : Meaning → Type 0
+IsHonest meaning = IsTrue meaning.honest
+
+-- a count rose, or stands at the greatest value of 64 bits
+abbrev pub Rose : ℕ → ℕ → Type 0
+Rose old new = (old < new) ⊎ (new ≡ 2 ^ 64 - 1)
+
+-- no call changes whether the store is honest; the count of failures doesn't fall; a fault of the device is
+-- answered exactly where a failure was counted, or where the count can't rise any more
+pub record Counts {T : Type 0} (result : Result T SpoolStoreFault) (old new : Meaning) : Type 0 where
+  pub honest : new.honest ≡ old.honest
+  pub failures : old.failures ≤ new.failures
+  pub device : IsErrOf result Device ↔ Rose old.failures new.failures
+
+-- the bytes are those that stood, and some behind them, or none
+abbrev pub MayAppend : List ℕ → List ℕ → Type 0
+MayAppend old new = (tail : List ℕ) × (new ≡ old ++ tail)
+
+-- the bytes are those that stood, or none is left
+abbrev pub MayClear : List ℕ → List ℕ → Type 0
+MayClear old new = (new ≡ old) ⊎ (new ≡ [])

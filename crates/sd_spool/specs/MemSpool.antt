@@ -1,0 +1,50 @@
+-- What a spool in memory is, as a store.
+use Rattle.std.specs.Prelude.{◌≡◌, ◌↔◌, ◌<◌, ◌+◌, ◌-◌, ◌^◌, ◌⊎◌, ℕ, true, false, List, [], length, IsSome, Result, IsErrOf}
+use Rattle.sd_spool.specs.Meaning.{Meaning}
+use Rattle.sd_spool.specs.Plan.{counted, due_of, works, Strikes}
+use Rattle.sd_spool.specs.declared.memory.MemSpool.{MemSpool}
+use Rattle.sd_spool.specs.declared.plan.SpoolCall.{SpoolCall}
+use Rattle.sd_spool.specs.declared.plan.SpoolFail.{SpoolFail}
+use Rattle.sd_spool.specs.declared.store.SpoolStoreFault.{SpoolStoreFault}
+use Rattle.sd_spool.specs.declared.store.SpoolStoreFault.TheVariants.{Device, Memory}
+
+-- the meaning of a spool in memory: it is honest
+abbrev pub meaning_of : MemSpool → Meaning
+meaning_of spool = record {
+  honest = true;
+  bytes = spool.bytes.items;
+  failures = spool.failures;
+}
+
+-- the meaning of a spool of which no call was made yet
+abbrev pub unused : Meaning
+unused = record { honest = true; bytes = []; failures = 0 }
+
+-- the plan that a spool was made with
+abbrev pub plan_of : MemSpool → List SpoolFail
+plan_of spool = spool.plan.fails.items
+
+-- no call of any kind was counted in its plan yet
+abbrev pub NoneCounted : MemSpool → Type 0
+NoneCounted spool = (call : SpoolCall) → counted call spool.plan ≡ 0
+
+-- so many bytes don't stand from this place on
+abbrev pub IsShort : ℕ → ℕ → MemSpool → Type 0
+IsShort at count spool = length spool.bytes.items < at + count
+
+-- a call of that kind fails at once: the plan has it fail before its work, or no failure can be
+-- counted any more
+abbrev pub FailsAtOnce : SpoolCall → MemSpool → Type 0
+FailsAtOnce call spool =
+    (spool.failures ≡ 2 ^ 64 - 1) ⊎ (works call (due_of call spool.plan) ≡ false)
+
+-- a call counts once in the plan; it answers `Device` exactly where it fails at once, or where it has a cause
+-- of its own or an entry is due for it, and it isn't refused for want of memory
+pub record FollowsPlan
+    {T : Type 0} (call : SpoolCall) (own_cause : Type 0) (result : Result T SpoolStoreFault)
+    (old new : MemSpool) : Type 0 where
+  pub strikes : Strikes call old.plan new.plan
+  pub device : IsErrOf result Device
+      ↔ FailsAtOnce call old
+      ⊎ own_cause
+      ⊎ (IsSome (due_of call old.plan) × ¬ IsErrOf result Memory)

@@ -1,0 +1,111 @@
+// A spool in a file, as a store.
+ghost use Rattle.std.specs.Prelude.{◌≡◌, ◌≢◌, ◌↔◌, ◌≤◌, ◌-◌, ◌^◌, IsOk, IfOk, IfErr, IsErrOf};
+ghost use Rattle.sd_spool.specs.Meaning.{Counts, Rose};
+ghost use Rattle.sd_spool.specs.FileSpool.{meaning_of, unused, failures_after, IsSpent};
+
+use crate::spool_file::SpoolFile;
+use crate::store::{SpoolStore, SpoolStoreFault};
+use sd_base::{DriveNo, LaneNo};
+use std::alloc::{AllocError, Global};
+use std::fs::Files;
+use std::io;
+use std::os::unix::fs::FileExt;
+
+/// A spool in a file of its own. It claims nothing of what the file holds; its failures are counted. A `Device`
+/// is answered to each call of the system that failed, want of memory too.
+#[derive(Drop)]
+pub struct FileSpool<R: Files + Drop> {
+    pub(crate) file: SpoolFile<R>,
+    pub(crate) failures: u64,
+}
+
+impl<R: Files + Drop> FileSpool<R> {
+    /// The spool of a lane, in the folder at a path, the current folder where that is empty. Nothing of the
+    /// folder is touched before the first append or clear, which empties a file that an earlier run left. The
+    /// file's name is no volume's, since a `~` stands in it. A drop removes it only where this spool made it.
+    pub fn new(
+        system: R,
+        alloc: Global,
+        folder: &str,
+        drive: DriveNo,
+        lane: LaneNo,
+    ) -> Result<FileSpool<R>, AllocError>
+        ensures { IfOk result (λ spool. meaning_of spool ≡ unused) }
+    {
+        let folder = if folder.is_empty() { "." } else { folder };
+        let (drive, lane) = (drive.get(), lane.get());
+        let path = format!(in alloc; "{folder}/spool~{drive}~{lane}")?;
+        Ok(FileSpool {
+            file: SpoolFile::new(system, path),
+            failures: 0,
+        })
+    }
+}
+
+impl<R: Files + Send + Drop> SpoolStore for FileSpool<R>
+where
+    R::File: FileExt + Send,
+{
+    ghost meaning = { meaning_of };
+
+    fn append(&mut self, bytes: &[u8]) -> Result<(), SpoolStoreFault>
+        ensures counts { Counts result (meaning_of self.old) (meaning_of self.new) }
+        ensures once { (meaning_of self.new).failures
+            ≡ failures_after result (meaning_of self.old).failures }
+        ensures spent { IsSpent (meaning_of self.old).failures → self.new ≡ self.old }
+        ensures faults { IfErr result (λ fault. fault ≡ SpoolStoreFault.Device) }
+    {
+        if self.failures == u64::MAX {
+            return Err(SpoolStoreFault::Device);
+        }
+        answer(&mut self.failures, self.file.append(bytes))
+    }
+
+    fn read_at(&mut self, at: u64, into: &mut [u8]) -> Result<(), SpoolStoreFault>
+        ensures counts { Counts result (meaning_of self.old) (meaning_of self.new) }
+        ensures once { (meaning_of self.new).failures
+            ≡ failures_after result (meaning_of self.old).failures }
+        ensures spent { IsSpent (meaning_of self.old).failures → self.new ≡ self.old }
+        ensures faults { IfErr result (λ fault. fault ≡ SpoolStoreFault.Device) }
+    {
+        if self.failures == u64::MAX {
+            return Err(SpoolStoreFault::Device);
+        }
+        answer(&mut self.failures, self.file.read_at(at, into))
+    }
+
+    fn clear(&mut self) -> Result<(), SpoolStoreFault>
+        ensures counts { Counts result (meaning_of self.old) (meaning_of self.new) }
+        ensures once { (meaning_of self.new).failures
+            ≡ failures_after result (meaning_of self.old).failures }
+        ensures spent { IsSpent (meaning_of self.old).failures → self.new ≡ self.old }
+        ensures faults { IfErr result (λ fault. fault ≡ SpoolStoreFault.Device) }
+    {
+        if self.failures == u64::MAX {
+            return Err(SpoolStoreFault::Device);
+        }
+        answer(&mut self.failures, self.file.clear())
+    }
+
+    fn failures(&self) -> u64 {
+        self.failures
+    }
+}
+
+// What the system's answer is to the spool's caller; a failure is counted.
+fn answer(failures: &mut u64, answer: io::Result<()>) -> Result<(), SpoolStoreFault>
+    requires { failures.old ≢ 2 ^ 64 - 1 }
+    ensures ok { IsOk result ↔ IsOk answer }
+    ensures once { failures.new ≡ failures_after result failures.old }
+    ensures later { failures.old ≤ failures.new }
+    ensures device { IsErrOf result SpoolStoreFault.Device ↔ Rose failures.old failures.new }
+    ensures faults { IfErr result (λ fault. fault ≡ SpoolStoreFault.Device) }
+{
+    match answer {
+        Ok(()) => Ok(()),
+        Err(_) => {
+            *failures = failures.saturating_add(1);
+            Err(SpoolStoreFault::Device)
+        }
+    }
+}

@@ -1,0 +1,160 @@
+// The spool of one session.
+ghost use Rattle.std.specs.Prelude.{◌≡◌, ◌↔◌, ◌+◌, ◌<◌, [], length, IfOk, IfErr, OnOk, IsErrOf, IsTrue, MatchOption};
+ghost use Rattle.sd_spool.specs.Job.{state_of, empty_on, HasCause, FailsToClear, Puts, FailsToPut, Takes, FailsToTake};
+
+use crate::entry::{Entry, Extent};
+use crate::store::{SpoolStore, SpoolStoreFault};
+use sd_base::Bytes;
+use sd_pack::Body;
+use std::alloc::Global;
+use std::collections::VecDeque;
+use std::marker::Model;
+
+/// Why a body isn't in the spool.
+#[derive(Clone, Copy, Debug, PartialEq, Eq)]
+pub enum PutFault {
+    /// It would pass the limit.
+    Full,
+    /// The store failed, and counted that.
+    Device,
+    /// Memory was wanted.
+    Memory,
+}
+
+/// A store that could not be cleared, and why.
+#[derive(Drop)]
+pub struct NotCleared<S> {
+    pub store: S,
+    pub fault: SpoolStoreFault,
+}
+
+/// Bodies on their way through a store: they come out as they were put in, in order, once each. The limit counts the
+/// bytes of all bodies put since the spool was last empty. A spool that has run empty clears its store at the
+/// next put.
+#[derive(Drop)]
+pub struct JobSpool<S: SpoolStore> {
+    alloc: Global,
+    store: S,
+    entries: VecDeque<Entry>,
+    extent: Extent,
+    limit: u64,
+}
+
+impl<S: SpoolStore> Model for JobSpool<S> {
+    ghost use Rattle.sd_spool.specs.Job.{JobView, view_of, IsKept};
+
+    ghost Value = { JobView };
+
+    ghost view = { λ j. view_of (S.meaning j.store) j.entries.items j.extent j.limit };
+
+    ghost invariant = { λ j. IsKept (S.meaning j.store) j.entries.items j.extent j.limit };
+}
+
+impl<S: SpoolStore> JobSpool<S> {
+    /// An empty spool on a store, which it clears.
+    pub fn new(alloc: Global, store: S, limit: u64) -> Result<JobSpool<S>, NotCleared<S>>
+        ensures ok { IfOk result (λ spool. spool ≡ empty_on (S.meaning store) limit) }
+        ensures err { IfErr result (λ kept.
+            FailsToClear kept.fault (S.meaning store) (S.meaning kept.store)) }
+    {
+        let mut store = store;
+        match store.clear() {
+            Ok(()) => Ok(JobSpool {
+                alloc,
+                store,
+                entries: VecDeque::new(alloc),
+                extent: Extent {
+                    end: 0,
+                    torn: false,
+                },
+                limit,
+            }),
+            Err(fault) => Err(NotCleared { store, fault }),
+        }
+    }
+
+    /// The store; what bodies are in it are lost.
+    pub fn into_store(self) -> S
+        ensures { state_of (S.meaning result) ≡ self.store }
+    {
+        let JobSpool {
+            alloc: _,
+            store,
+            entries: _,
+            extent: _,
+            limit: _,
+        } = self;
+        store
+    }
+
+    /// Whether no body is in the spool.
+    pub fn is_empty(&self) -> bool
+        ensures shapes { IsTrue result ↔ (self.now.shapes ≡ []) }
+        ensures bodies { IsTrue result ↔ (self.now.bodies ≡ []) }
+    {
+        self.entries.is_empty()
+    }
+
+    /// Puts a body behind those in the spool. `Full` and `Memory` leave the spool as it was.
+    pub fn put_body(&mut self, body: &Body) -> Result<(), PutFault>
+        ensures cause { HasCause (IsErrOf result PutFault.Device) self.old.store self.new.store }
+        ensures ok { OnOk result (Puts body.now self.old self.new) }
+        ensures full { IsErrOf result PutFault.Full
+            ↔ (self.old.limit < self.old.used + length body.now.bytes) }
+        ensures unchanged { IsErrOf result PutFault.Full → self.new ≡ self.old }
+        ensures memory { IsErrOf result PutFault.Memory → self.new ≡ self.old }
+        ensures device { IsErrOf result PutFault.Device → FailsToPut self.old self.new }
+    {
+        let bytes = body.bytes.as_slice();
+        let is_first = self.is_empty();
+        let used = if is_first { 0 } else { self.extent.end };
+        if bytes.len() as u64 > self.limit - used {
+            return Err(PutFault::Full);
+        }
+        if self.entries.reserve(1).is_err() {
+            return Err(PutFault::Memory);
+        }
+        let at = match self.extent.put(&mut self.store, is_first, bytes) {
+            Ok(at) => at,
+            Err(SpoolStoreFault::Device) => return Err(PutFault::Device),
+            Err(SpoolStoreFault::Memory) => return Err(PutFault::Memory),
+        };
+        let entry = Entry {
+            at,
+            length: bytes.len(),
+            first: body.first,
+            last: body.last,
+        };
+        self.entries.push_back(entry).unwrap();
+        Ok(())
+    }
+
+    /// Takes the oldest body out, none where the spool is empty. After a fault of the store the same bodies are
+    /// in the spool; `Memory` leaves it as it was.
+    pub fn next_body(&mut self) -> Result<Option<Body>, SpoolStoreFault>
+        ensures cause { HasCause (IsErrOf result SpoolStoreFault.Device)
+            self.old.store self.new.store }
+        ensures ok { IfOk result (λ found. MatchOption found
+            ((self.old.shapes ≡ []) × (self.new ≡ self.old))
+            (λ body. Takes body self.old self.new)) }
+        ensures memory { IsErrOf result SpoolStoreFault.Memory → self.new ≡ self.old }
+        ensures device { IsErrOf result SpoolStoreFault.Device → FailsToTake self.old self.new }
+    {
+        let Some(entry) = self.entries.front() else {
+            return Ok(None);
+        };
+        let Entry {
+            at,
+            length,
+            first,
+            last,
+        } = *entry;
+        let Ok(mut bytes) = vec![in self.alloc; 0; length] else {
+            return Err(SpoolStoreFault::Memory);
+        };
+        self.store.read_at(at, &mut bytes)?;
+        let _ = self.entries.pop_front();
+        let bytes = Bytes::from_vec(bytes);
+        Ok(Some(Body { bytes, first, last }))
+    }
+}

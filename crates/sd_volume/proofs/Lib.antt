@@ -1,0 +1,7 @@
+pub mod AdoptLemmas
+pub mod BlockLemmas
+pub mod DeviceLemmas
+pub mod ImageLemmas
+pub mod ReaderLemmas
+pub mod VolumeLemmas
+pub mod DueLemmas

@@ -1,0 +1,111 @@
+-- What adopting a volume finds on the shelf, and what it leaves there.
+use Rattle.std.specs.Prelude.{◌≡◌, ◌≢◌, ℕ, ◌+◌, ◌<◌, ◌≤◌, List, [], ◌∷◌, ◌++◌, length, take, drop, All, if◌then◌else◌, nat_le, None, Some}
+use Rattle.sd_base.specs.Limits.{block_header, most_volume}
+use Rattle.sd_block.specs.declared.head.Head.{Head}
+use Rattle.sd_driver.specs.Shelf.{Shelf, Held, BeginsWith, Lasts}
+use Rattle.sd_label.specs.declared.label.VolumeLabel.{VolumeLabel}
+use Rattle.sd_label.specs.Label.{IsVolumeLabel}
+use Rattle.sd_volume.specs.declared.volume.VolumeStatus.{VolumeStatus}
+use Rattle.sd_volume.specs.declared.volume.VolumeStatus.TheVariants.{Append, Full}
+use Rattle.sd_volume.specs.declared.fault.AdoptFault.{AdoptFault}
+use Rattle.sd_volume.specs.declared.fault.AdoptFault.TheVariants.{NotOnShelf, NotOurVolume, OtherMedia, BlocksOfThisRun, Device, Memory}
+use Rattle.sd_volume.specs.declared.survey.Labelled.{Labelled}
+use Rattle.sd_volume.specs.Image.{Block, label_block, volume_end, BeginsWithBlock, VolumeImage, WholeImage}
+use Rattle.sd_volume.specs.Volume.{VolumeView, StandsOn}
+
+-- the bytes are a volume of this profile with this name: the block of its label begins them, and they are no
+-- longer than a volume may be
+pub record IsVolumeOf (name bytes : List ℕ) (label : VolumeLabel) : Type 0 where
+  pub label_is : IsVolumeLabel label
+  pub name_is : label.name ≡ name
+  pub begins : BeginsWith bytes (label_block label)
+  pub most : length bytes ≤ most_volume
+
+-- each of the blocks is of a session of an earlier run
+abbrev pub AreEarlier : ℕ → List Block → Type 0
+AreEarlier start = All (λ block. block.key.time < start)
+
+-- among the blocks that stand in order behind the label there is one that is of no earlier run
+pub record HasBlockOfThisRun (start : ℕ) (bytes : List ℕ) (label : VolumeLabel) : Type 0 where
+  pub before : List Block
+  pub block : Block
+  pub tail : List ℕ
+  pub image : VolumeImage bytes label (before ++ block ∷ []) tail
+  pub time : start ≤ block.key.time
+
+-- Which refusal of an adoption is due, by what stands on the shelf: the first in this order.
+abbrev pub IsDue : AdoptFault → List ℕ → List ℕ → ℕ → Shelf → Type 0
+IsDue NotOnShelf name media start shelf = shelf.volume name ≡ None
+IsDue NotOurVolume name media start shelf =
+    (held : Held) × (shelf.volume name ≡ Some held) × ((label : VolumeLabel) → ¬ IsVolumeOf name held.bytes label)
+IsDue OtherMedia name media start shelf =
+    (held : Held) × (shelf.volume name ≡ Some held)
+    × ((label : VolumeLabel) × IsVolumeOf name held.bytes label × (label.media ≢ media))
+IsDue BlocksOfThisRun name media start shelf =
+    (held : Held) × (shelf.volume name ≡ Some held)
+    × ((label : VolumeLabel) × IsVolumeOf name held.bytes label × (label.media ≡ media) × HasBlockOfThisRun start held.bytes label)
+IsDue Device name media start shelf = ⊥
+IsDue Memory name media start shelf = ⊥
+
+-- The bytes are a volume of this name and media type, all of whose blocks are of earlier runs, and this is known
+-- of it: where its blocks end, so that no block with the next number stands there, and what that number is.
+pub record IsAdoptable (name media : List ℕ) (start : ℕ) (bytes : List ℕ) (v : VolumeView) : Type 0 where
+  pub label : VolumeLabel
+  pub blocks : List Block
+  pub tail : List ℕ
+  pub ours : IsVolumeOf name bytes label
+  pub media_is : label.media ≡ media
+  pub whole : WholeImage bytes label blocks tail
+  pub earlier : AreEarlier start blocks
+  pub pool_is : v.pool ≡ label.pool
+  pub end_is : v.end ≡ volume_end label blocks
+  pub next_is : v.next_number ≡ 1 + length blocks
+  pub first_is : v.first ≡ length (label_block label)
+
+-- The volume was there and adoptable. It was cut where its blocks end and nowhere else, stands there with those
+-- blocks, and all of it lasts from now on; all other volumes stay.
+pub record Adopts (name media : List ℕ) (start : ℕ) (v : VolumeView) (old new : Shelf) : Type 0 where
+  pub held : Held
+  pub there : old.volume name ≡ Some held
+  pub found : IsAdoptable name media start held.bytes v
+  pub cut : new.volume name ≡ Some (record { bytes = take v.end held.bytes; stable = v.end })
+  pub stands : StandsOn v new found.label found.blocks []
+  pub lasts : Lasts new.moment name (take v.end held.bytes) new
+  pub others : (other : List ℕ) → other ≢ name → new.volume other ≡ old.volume other
+
+-- whether blocks are added to an adopted volume that ends there
+abbrev pub status_at : ℕ → ℕ → VolumeStatus
+status_at limit end = if nat_le limit end then Full else Append
+
+-- the bytes of the volume up to a place are as they were, whatever stands behind, and so are all other volumes
+pub record KeepsUpTo (to : ℕ) (name : List ℕ) (old new : Shelf) : Type 0 where
+  pub here : (held : Held) → old.volume name ≡ Some held
+      → (after : Held) × (new.volume name ≡ Some after) × BeginsWith after.bytes (take to held.bytes)
+  pub others : (other : List ℕ) → other ≢ name → new.volume other ≡ old.volume other
+
+-- a volume was cut at a place, and all of what is left lasts from now on; all others stay
+pub record CutsAt (to : ℕ) (name : List ℕ) (old new : Shelf) : Type 0 where
+  pub here : (held : Held) → old.volume name ≡ Some held
+      → new.volume name ≡ Some (record { bytes = take to held.bytes; stable = length (take to held.bytes) })
+  pub lasts : (held : Held) → old.volume name ≡ Some held → Lasts new.moment name (take to held.bytes) new
+  pub others : (other : List ℕ) → other ≢ name → new.volume other ≡ old.volume other
+
+-- the blocks that stand in order behind the label, all of earlier runs, up to a place where the next number is due
+pub record GoesUpTo (start : ℕ) (bytes : List ℕ) (label : VolumeLabel) (end next : ℕ) : Type 0 where
+  pub blocks : List Block
+  pub image : VolumeImage bytes label blocks (drop end bytes)
+  pub end_is : end ≡ volume_end label blocks
+  pub next_is : next ≡ 1 + length blocks
+  pub earlier : AreEarlier start blocks
+
+-- at that place stands the block with this head and that number
+abbrev pub StandsAt : ℕ → ℕ → List ℕ → Head → Type 0
+StandsAt at number bytes head =
+    (body : List ℕ) × BeginsWithBlock (drop at bytes) head.key number body × (head.size ≡ block_header + length body)
+
+-- the block is the label block of what was read from it, under that name
+pub record IsLabelled (name block : List ℕ) (found : Labelled) : Type 0 where
+  pub label_is : IsVolumeLabel found.label
+  pub name_is : found.label.name ≡ name
+  pub block_is : block ≡ label_block found.label
+  pub first_is : found.first ≡ length block

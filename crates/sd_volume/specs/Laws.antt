@@ -1,0 +1,56 @@
+-- What holds of the images of volumes, whoever wrote them.
+use Rattle.std.specs.Prelude.{◌≡◌, ℕ, ◌+◌, List, [], ◌∷◌, ◌++◌, length, take, drop, Some}
+use Rattle.sd_base.specs.Limits.{block_header}
+use Rattle.sd_driver.specs.Shelf.{Shelf, Held, BeginsWith}
+use Rattle.sd_label.specs.declared.label.VolumeLabel.{VolumeLabel}
+use Rattle.sd_volume.specs.Image.{Block, BeginsWithBlock, volume_end, VolumeImage, WholeImage}
+use Rattle.sd_volume.specs.Volume.{VolumeView, StandsOn}
+
+-- the whole image of bytes is one: they tell its label, its blocks and its tail
+abbrev pub OneWholeImage : Type 0
+OneWholeImage =
+    (bytes : List ℕ) (label other : VolumeLabel) (blocks others : List Block) (tail rest : List ℕ)
+    → WholeImage bytes label blocks tail
+    → WholeImage bytes other others rest
+    → (label ≡ other) × (blocks ≡ others) × (tail ≡ rest)
+
+-- bytes that begin with a label block and blocks have a whole image with that label, which begins with those blocks
+abbrev pub WholeImageGoesOn : Type 0
+WholeImageGoesOn =
+    (bytes : List ℕ) (label other : VolumeLabel) (blocks all : List Block) (rest tail : List ℕ)
+    → VolumeImage bytes label blocks rest
+    → WholeImage bytes other all tail
+    → (label ≡ other) × ((more : List Block) × (all ≡ blocks ++ more))
+
+-- what keeps the bytes of a volume up to the end of its blocks, whatever stands behind, is a volume with these blocks
+abbrev pub KeptBlocksStand : Type 0
+KeptBlocksStand =
+    (bytes left : List ℕ) (label : VolumeLabel) (blocks : List Block) (tail : List ℕ)
+    → VolumeImage bytes label blocks tail
+    → BeginsWith left (take (volume_end label blocks) bytes)
+    → VolumeImage left label blocks (drop (volume_end label blocks) left)
+
+-- where the tail begins with the next block, that block is one block more
+abbrev pub OneBlockMore : Type 0
+OneBlockMore =
+    (bytes : List ℕ) (label : VolumeLabel) (blocks : List Block) (tail : List ℕ) (block : Block)
+    → VolumeImage bytes label blocks tail
+    → BeginsWithBlock tail block.key (1 + length blocks) block.body
+    → VolumeImage bytes label (blocks ++ block ∷ []) (drop (block_header + length block.body) tail)
+
+-- the image of each block stands where those before it end
+abbrev pub PlacedBlockStands : Type 0
+PlacedBlockStands =
+    (bytes : List ℕ) (label : VolumeLabel) (before after : List Block) (block : Block) (tail : List ℕ)
+    → VolumeImage bytes label (before ++ block ∷ after) tail
+    → BeginsWithBlock (drop (volume_end label before) bytes) block.key (1 + length before) block.body
+
+-- what is known of a volume stays so where its bytes stay, whatever else changes on the shelf
+abbrev pub StandsByItsBytes : Type 0
+StandsByItsBytes =
+    (v : VolumeView) (old new : Shelf) (label : VolumeLabel) (blocks : List Block) (tail : List ℕ) (held after : Held)
+    → StandsOn v old label blocks tail
+    → old.volume v.name ≡ Some held
+    → new.volume v.name ≡ Some after
+    → after.bytes ≡ held.bytes
+    → StandsOn v new label blocks tail

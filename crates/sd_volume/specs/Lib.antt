@@ -1,0 +1,9 @@
+pub mod Image
+pub mod Volume
+pub mod Device
+pub mod Reader
+pub mod Fault
+pub mod Label
+pub mod Append
+pub mod Adopt
+pub mod Laws

@@ -1,0 +1,115 @@
+// A block more on a volume.
+ghost use Rattle.std.specs.Prelude.{◌≡◌, ◌≢◌, ◌+◌, ◌≤◌, ◌<◌, ◌⊎◌, List, ℕ, length, OnOk, OnErr, Some};
+ghost use Rattle.sd_base.specs.Limits.{block_header, least_block, least_body, most_body, most_volume};
+ghost use Rattle.sd_driver.specs.Meaning.{IsHonest, Rose, Unchanged};
+ghost use Rattle.sd_driver.specs.Shelf.{StillLasts};
+ghost use Rattle.sd_volume.specs.declared.volume.VolumeStatus.TheVariants.{Append, Full, Error};
+ghost use Rattle.sd_volume.specs.Append.{IfPlaced, IfNotPlaced, end_with, AddsBlock, KeepsBlocks};
+ghost use Rattle.sd_volume.specs.Device.{Counted};
+
+use crate::volume::{Volume, VolumeStatus};
+use sd_base::{BLOCK_HEADER, SessionKey};
+use sd_block::seal_into;
+use sd_driver::{Driver, DriverFault};
+
+/// What became of a block that was to be added to a volume.
+#[derive(Clone, Copy, Debug, PartialEq, Eq)]
+pub enum Appended {
+    /// It stands there, with so many bytes, its header included.
+    At { start: u64, length: u64 },
+    /// It would pass the limit, or the device is full. The volume is full from now on.
+    NoRoom,
+    /// The device failed. What stands behind the volume's blocks may be anything from now on.
+    Fault,
+    /// Memory was wanted. All is as before, and the block may be added again.
+    Memory,
+}
+
+/// Adds the next block, with `body` of the session `key`, at the end of the loaded volume. Where it would end
+/// past `limit`, neither memory nor the device is asked for anything; else the block is made in `image`, which
+/// is kept from block to block, and the device is called once.
+pub fn append_block<D: Driver>(
+    driver: &mut D,
+    volume: &mut Volume,
+    image: &mut Vec<u8>,
+    key: SessionKey,
+    body: &[u8],
+    limit: u64,
+) -> Appended
+    requires loaded { (D.meaning driver.old).loaded ≡ Some volume.old.name }
+    requires status { volume.old.status ≡ Append }
+    requires least { least_body ≤ length body.now }
+    requires most { length body.now ≤ most_body }
+    requires limit { limit ≤ most_volume }
+
+    ensures placed { IfPlaced result (λ start size.
+        (start ≡ volume.old.end) × (size ≡ block_header + length body.now)) }
+    ensures end { IfPlaced result (λ start size. volume.new ≡ record volume.old {
+      end = volume.old.end + size;
+      next_number = volume.old.next_number + 1;
+    }) }
+    ensures full { result ≡ Appended.NoRoom → volume.new ≡ record volume.old { status = Full } }
+    ensures error { result ≡ Appended.Fault → volume.new ≡ record volume.old { status = Error } }
+    ensures memory { result ≡ Appended.Memory → volume.new ≡ volume.old }
+
+    ensures past { limit < end_with volume.old body.now → result ≡ Appended.NoRoom }
+    ensures unchanged { (limit < end_with volume.old body.now) ⊎ (result ≡ Appended.Memory)
+        → Unchanged (D.meaning driver.old) (D.meaning driver.new) }
+    ensures counted { Counted (result ≡ Appended.Fault)
+        ((result ≡ Appended.NoRoom) × (end_with volume.old body.now ≤ limit))
+        (D.meaning driver.old) (D.meaning driver.new) }
+    ensures loaded { (D.meaning driver.new).loaded ≡ (D.meaning driver.old).loaded }
+    ensures lasts { StillLasts (D.meaning driver.old).shelf (D.meaning driver.new).shelf }
+
+    ensures adds { IsHonest (D.meaning driver.old) → IfPlaced result (λ _ _.
+        AddsBlock (record { key = key; body = body.now })
+        volume.old (D.meaning driver.old).shelf volume.new (D.meaning driver.new).shelf) }
+    ensures keeps { IsHonest (D.meaning driver.old) → IfNotPlaced result
+        (KeepsBlocks volume.old (D.meaning driver.old).shelf volume.new (D.meaning driver.new).shelf) }
+    ensures others { IsHonest (D.meaning driver.old) → (other : List ℕ) → other ≢ volume.old.name
+        → (D.meaning driver.new).shelf.volume other ≡ (D.meaning driver.old).shelf.volume other }
+{
+    let size = (BLOCK_HEADER + body.len()) as u64;
+    if volume.end + size > limit {
+        volume.status = VolumeStatus::Full;
+        return Appended::NoRoom;
+    }
+    let Ok(()) = seal_into(image, key, volume.next_number, body) else {
+        return Appended::Memory;
+    };
+    let Err(fault) = driver.append(image) else {
+        return Appended::At {
+            start: volume.advance(size),
+            length: size,
+        };
+    };
+    match fault {
+        DriverFault::NoRoom => {
+            volume.status = VolumeStatus::Full;
+            Appended::NoRoom
+        }
+        DriverFault::Memory => Appended::Memory,
+        _ => {
+            volume.status = VolumeStatus::Error;
+            Appended::Fault
+        }
+    }
+}
+
+impl Volume {
+    // A block of that size has come to stand at the end. Answers where it begins.
+    fn advance(&mut self, size: u64) -> u64
+        requires least { least_block ≤ size }
+        requires most { self.old.end + size ≤ most_volume }
+        ensures start { result ≡ self.old.end }
+        ensures volume { self.new ≡ record self.old {
+          end = self.old.end + size;
+          next_number = self.old.next_number + 1;
+        } }
+    {
+        let start = self.end;
+        self.end = start + size;
+        self.next_number += 1;
+        start
+    }
+}

@@ -1,0 +1,32 @@
+// What holds of the images of volumes, whoever wrote them.
+ghost use Rattle.sd_volume.specs.Laws.{OneWholeImage, WholeImageGoesOn, KeptBlocksStand, OneBlockMore, PlacedBlockStands, StandsByItsBytes};
+
+/// The whole image of a volume is told by its bytes.
+pub fn one_whole_image()
+    ensures { OneWholeImage }
+{}
+
+/// A whole image begins with every block that stands in order behind the label.
+pub fn whole_image_goes_on()
+    ensures { WholeImageGoesOn }
+{}
+
+/// Blocks whose bytes are kept stand, whatever stands behind them.
+pub fn kept_blocks_stand()
+    ensures { KeptBlocksStand }
+{}
+
+/// The next block at the front of a tail is one block more.
+pub fn one_block_more()
+    ensures { OneBlockMore }
+{}
+
+/// A block of a volume stands where those before it end.
+pub fn placed_block_stands()
+    ensures { PlacedBlockStands }
+{}
+
+/// A volume stands as long as its bytes do.
+pub fn stands_by_its_bytes()
+    ensures { StandsByItsBytes }
+{}

@@ -1,0 +1,24 @@
+//! A labelled volume on any device: its label, its blocks one behind another, and what may stand behind them.
+#![tactic(auto)]
+
+mod adoption;
+mod append;
+mod block;
+mod fault;
+mod label;
+mod laws;
+mod reader;
+mod survey;
+mod volume;
+
+pub use adoption::adopt;
+pub use append::{Appended, append_block};
+pub use block::next_block;
+pub use fault::{AdoptFault, LabelFault};
+pub use label::label_new;
+pub use laws::{
+    kept_blocks_stand, one_block_more, one_whole_image, placed_block_stands, stands_by_its_bytes,
+    whole_image_goes_on,
+};
+pub use reader::VolumeReader;
+pub use volume::{Volume, VolumeStatus};

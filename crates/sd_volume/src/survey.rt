@@ -1,0 +1,189 @@
+// What stands on a volume: its label, and its blocks one after another. Nothing is changed.
+ghost use Rattle.std.specs.Prelude.{◌≡◌, ◌≢◌, ◌*◌, ◌+◌, ◌≤◌, ◌<◌, ℕ, List, [], length, drop, IfOk, IfErr, IfSome, IfNone, IsErrOf, IsTrue, ◌↔◌, None, Some};
+ghost use Rattle.sd_base.specs.Limits.{least_block, most_volume};
+ghost use Rattle.sd_driver.specs.Meaning.{IsHonest};
+ghost use Rattle.sd_driver.specs.Shelf.{Held, BeginsWith};
+ghost use Rattle.sd_label.specs.Label.{IsVolumeLabel};
+ghost use Rattle.sd_label.specs.declared.label.VolumeLabel.{VolumeLabel as SpecLabel};
+ghost use Rattle.sd_volume.specs.Adopt.{IsVolumeOf, HasBlockOfThisRun, GoesUpTo, StandsAt, IsLabelled};
+ghost use Rattle.sd_volume.specs.Device.{OnlyReads};
+ghost use Rattle.sd_volume.specs.Image.{NoBlockNext, no_session, label_block};
+ghost use Rattle.sd_volume.specs.Reader.{Shows, IsBlockOf};
+
+use crate::block::next_block;
+use crate::fault::AdoptFault;
+use crate::label::NO_SESSION;
+use crate::reader::VolumeReader;
+use sd_base::{BLOCK_HEADER, VolName};
+use sd_block::Head;
+use sd_driver::{Driver, DriverFault};
+use sd_label::{VolumeLabel, read_volume_label};
+
+/// The label of a volume, and where its first block begins.
+#[derive(Drop)]
+pub(crate) struct Labelled {
+    pub(crate) label: VolumeLabel,
+    pub(crate) first: u64,
+}
+
+/// Where the blocks of a volume end, and which number the next one gets.
+#[derive(Clone, Copy)]
+pub(crate) struct End {
+    pub(crate) end: u64,
+    pub(crate) next_number: u32,
+}
+
+/// The label of a volume of that size, which is to have that name.
+pub(crate) fn read_label<D: Driver>(
+    driver: &mut D,
+    reader: &mut VolumeReader,
+    name: &VolName,
+    size: u64,
+) -> Result<Labelled, AdoptFault>
+    ensures name { reader.new.name ≡ reader.old.name }
+    ensures device { OnlyReads (IsErrOf result AdoptFault.Device)
+        (D.meaning driver.old) (D.meaning driver.new) }
+    ensures faults { IfErr result (λ fault. (fault ≢ AdoptFault.OtherMedia) × (fault ≢ AdoptFault.BlocksOfThisRun)) }
+    ensures label { IfOk result (λ found. IsVolumeLabel found.label) }
+    ensures named { IfOk result (λ found. found.label.name ≡ name.now) }
+    ensures first { IfOk result (λ found. found.first ≡ length (label_block found.label)) }
+    ensures within { IfOk result (λ found. found.first ≤ size) }
+
+    ensures begins { IsHonest (D.meaning driver.old) → Shows reader.old (D.meaning driver.old).shelf
+        → (held : Held) → (D.meaning driver.old).shelf.volume reader.old.name ≡ Some held
+        → IfOk result (λ found. BeginsWith held.bytes (label_block found.label)) }
+    ensures not_ours { IsHonest (D.meaning driver.old) → Shows reader.old (D.meaning driver.old).shelf
+        → (held : Held) → (D.meaning driver.old).shelf.volume reader.old.name ≡ Some held
+        → size ≡ length held.bytes → IsErrOf result AdoptFault.NotOurVolume
+        → (label : SpecLabel) → ¬ IsVolumeOf name.now held.bytes label }
+    ensures shows { IsHonest (D.meaning driver.old) → Shows reader.old (D.meaning driver.old).shelf
+        → Shows reader.new (D.meaning driver.new).shelf }
+    ensures not_there { IsHonest (D.meaning driver.old) → IsErrOf result AdoptFault.NotOnShelf
+        → (D.meaning driver.old).shelf.volume reader.old.name ≡ None }
+{
+    let Some(head) = next_block(driver, reader, 0)? else {
+        return Err(AdoptFault::NotOurVolume);
+    };
+    if head.size as u64 > size {
+        return Err(AdoptFault::NotOurVolume);
+    }
+    label_of(name, &head, reader.shown())
+}
+
+// The label that a block holds, which is to be a label block with that name.
+fn label_of(name: &VolName, head: &Head, block: &[u8]) -> Result<Labelled, AdoptFault>
+    requires { IsBlockOf block.now head.now }
+    ensures ok { IfOk result (λ found. IsLabelled name.now block.now found) }
+    ensures err { IfErr result (λ fault. (fault ≡ AdoptFault.NotOurVolume)
+        × ((label : SpecLabel) → IsVolumeLabel label → label.name ≡ name.now → block.now ≢ label_block label)) }
+{
+    if !is_label_head(head) {
+        return Err(AdoptFault::NotOurVolume);
+    }
+    let (_, body) = block.split_at(BLOCK_HEADER);
+    let Ok(label) = read_volume_label(body) else {
+        return Err(AdoptFault::NotOurVolume);
+    };
+    if !label.name.is_same(name) {
+        return Err(AdoptFault::NotOurVolume);
+    }
+    Ok(Labelled {
+        label,
+        first: block.len() as u64,
+    })
+}
+
+// Whether the head is a label block's: it has the number 0, and is of no session.
+fn is_label_head(head: &Head) -> bool
+    ensures { IsTrue result ↔ ((head.now.number ≡ 0) × (head.now.key ≡ no_session)) }
+{
+    head.number == 0 && head.key == NO_SESSION
+}
+
+/// Where the blocks behind the label of a volume of that size end. All of them are to be of earlier runs
+/// than the one that began at `start`.
+pub(crate) fn find_end<D: Driver>(
+    driver: &mut D,
+    reader: &mut VolumeReader,
+    first: u64,
+    size: u64,
+    start: u32,
+) -> Result<End, AdoptFault>
+    requires least { least_block ≤ first }
+    requires within { first ≤ size }
+    requires most { size ≤ most_volume }
+    ensures name { reader.new.name ≡ reader.old.name }
+    ensures device { OnlyReads (IsErrOf result AdoptFault.Device)
+        (D.meaning driver.old) (D.meaning driver.new) }
+    ensures faults { IfErr result (λ fault. (fault ≢ AdoptFault.NotOurVolume) × (fault ≢ AdoptFault.OtherMedia)) }
+    ensures first { IfOk result (λ found. first ≤ found.end) }
+    ensures end { IfOk result (λ found. found.end ≤ size) }
+    ensures least { IfOk result (λ found. 1 ≤ found.next_number) }
+    ensures next { IfOk result (λ found. found.next_number * least_block ≤ found.end) }
+
+    ensures goes { IsHonest (D.meaning driver.old) → Shows reader.old (D.meaning driver.old).shelf
+        → (held : Held) → (D.meaning driver.old).shelf.volume reader.old.name ≡ Some held
+        → (label : SpecLabel) → GoesUpTo start held.bytes label first 1
+        → IfOk result (λ found. GoesUpTo start held.bytes label found.end found.next_number) }
+    ensures ended { IsHonest (D.meaning driver.old) → Shows reader.old (D.meaning driver.old).shelf
+        → (held : Held) → (D.meaning driver.old).shelf.volume reader.old.name ≡ Some held
+        → size ≡ length held.bytes
+        → IfOk result (λ found. NoBlockNext found.next_number (drop found.end held.bytes)) }
+    ensures this_run { IsHonest (D.meaning driver.old) → Shows reader.old (D.meaning driver.old).shelf
+        → (held : Held) → (D.meaning driver.old).shelf.volume reader.old.name ≡ Some held
+        → (label : SpecLabel) → GoesUpTo start held.bytes label first 1
+        → IsErrOf result AdoptFault.BlocksOfThisRun → HasBlockOfThisRun start held.bytes label }
+    ensures not_there { IsHonest (D.meaning driver.old) → IsErrOf result AdoptFault.NotOnShelf
+        → (D.meaning driver.old).shelf.volume reader.old.name ≡ None }
+{
+    let mut end = first;
+    let mut next_number = 1;
+    while let Some(head) = numbered_block(driver, reader, end, next_number, size)? {
+        if head.key.time >= start {
+            return Err(AdoptFault::BlocksOfThisRun);
+        }
+        end += head.size as u64;
+        next_number += 1;
+    }
+    Ok(End { end, next_number })
+}
+
+// The block with that number at a place of a volume of that size.
+fn numbered_block<D: Driver>(
+    driver: &mut D,
+    reader: &mut VolumeReader,
+    at: u64,
+    number: u32,
+    size: u64,
+) -> Result<Option<Head>, DriverFault>
+    requires { at ≤ size }
+    ensures name { reader.new.name ≡ reader.old.name }
+    ensures device { OnlyReads (IsErrOf result DriverFault.Device)
+        (D.meaning driver.old) (D.meaning driver.new) }
+    ensures faults { IfErr result (λ fault. (fault ≢ DriverFault.Exists) × (fault ≢ DriverFault.NoRoom)) }
+    ensures within { IfOk result (λ found. IfSome found
+        (λ head. (least_block ≤ head.size) × (at + head.size ≤ size))) }
+
+    ensures there { IsHonest (D.meaning driver.old) → Shows reader.old (D.meaning driver.old).shelf
+        → (held : Held) → (D.meaning driver.old).shelf.volume reader.old.name ≡ Some held
+        → IfOk result (λ found. IfSome found (StandsAt at number held.bytes)) }
+    ensures none { IsHonest (D.meaning driver.old) → Shows reader.old (D.meaning driver.old).shelf
+        → (held : Held) → (D.meaning driver.old).shelf.volume reader.old.name ≡ Some held
+        → size ≡ length held.bytes
+        → IfOk result (λ found. IfNone found (NoBlockNext number (drop at held.bytes))) }
+    ensures shows { IsHonest (D.meaning driver.old) → Shows reader.old (D.meaning driver.old).shelf
+        → Shows reader.new (D.meaning driver.new).shelf }
+    ensures not_there { IsHonest (D.meaning driver.old) → IsErrOf result DriverFault.NotThere
+        → (D.meaning driver.old).shelf.volume reader.old.name ≡ None }
+{
+    let Some(head) = next_block(driver, reader, at)? else {
+        return Ok(None);
+    };
+    if head.number != number {
+        return Ok(None);
+    }
+    if head.size as u64 > size - at {
+        return Ok(None);
+    }
+    Ok(Some(head))
+}
