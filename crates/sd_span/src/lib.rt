@@ -1,0 +1,13 @@
+//! Where the blocks of sessions lie: placements, the spans of a session, and the JobMedia text that says
+//! them.
+#![tactic(auto)]
+
+mod laws;
+mod placement;
+mod progress;
+mod span;
+
+pub use laws::{jobmedia_texts_apart, stretches_grow};
+pub use placement::Placement;
+pub use progress::Progress;
+pub use span::{Span, put_jobmedia};
