@@ -28,7 +28,8 @@ use Rattle.sd_core.specs.Drive.{volume_name, DriveView, synced_if, synced_bytes}
 use Rattle.sd_core.specs.World.{WorldView, entry_of, with_entry, on_the_way, bodies_with, IsOnTheWay, IsOutstanding}
 use Rattle.sd_core.specs.Matches.{block_of, ArePlaced, first_block, BeginsPacked, HasBodies, SessionMatches, SessionsMatch, JournalsFollow, NumbersRise, AreOfOpened, Matches}
 use Rattle.sd_core.proofs.BlockLemmas.{is_key_same, is_key_other, length-images, bodies_with-append}
-use Rattle.sd_core.proofs.JournalLemmas.{placement_at, end_at, placements_at-append, placements_of-append, follows_from-append}
+use Rattle.sd_span.proofs.SpanLemmas.{placements_of-append}
+use Rattle.sd_core.proofs.JournalLemmas.{placement_at, end_at, placements_at-append, follows_from-append}
 use Rattle.sd_core.proofs.ListLemmas.{back_nil}
 use Rattle.sd_core.proofs.VolumeLemmas.{image_more}
 use Rattle.sd_core.proofs.SessionLookups.{length-with_entry, numbered_key, numbers_with}

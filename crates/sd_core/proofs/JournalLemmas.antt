@@ -4,14 +4,12 @@ use Rattle.std.specs.Str.{bytes_eq}
 use Rattle.std.proofs.lemmas.Bool.{cond-true}
 use Rattle.std.proofs.lemmas.Slice.Eq.{bytes_eq-Decides}
 use Rattle.sd_base.specs.Limits.{block_header}
-use Rattle.sd_base.specs.declared.number.SessionKey.{SessionKey}
 use Rattle.sd_base.specs.FileIndex.{first_nonzero}
 use Rattle.sd_span.specs.declared.span.Span.{Span}
 use Rattle.sd_span.specs.declared.placement.Placement.{Placement}
 use Rattle.sd_core.specs.declared.journal.Run.{Run}
 use Rattle.sd_core.specs.declared.journal.SessionJournal.{SessionJournal}
-use Rattle.sd_base.specs.Key.{is_key}
-use Rattle.sd_core.proofs.ListLemmas.{cond_more}
+use Rattle.sd_span.proofs.SpanLemmas.{first_nonzero_assoc}
 use Rattle.sd_span.specs.Spans.{placements_of, in_front, stretches, numbered_from}
 use Rattle.sd_core.specs.Journal.{placements_at, AreOn, run_of, noted, empty_journal, follows_from, Follows, spans_in}
 use Rattle.sd_core.specs.SentBody.{SentBody}
@@ -30,10 +28,6 @@ joined r s = record { first = first_nonzero r.first s.first; last = first_nonzer
 
 run_parts : ℕ → ℕ → ℕ → ℕ → Run
 run_parts first last start end = record { first = first; last = last; start = start; end = end }
-
-first_nonzero_assoc : (x y z : ℕ) → first_nonzero (first_nonzero x y) z ≡ first_nonzero x (first_nonzero y z)
-first_nonzero_assoc zero y z = refl
-first_nonzero_assoc (suc x) y z = refl
 
 joined_assoc : (r s t : Run) → joined (joined r s) t ≡ joined r (joined s t)
 unfolding joined run_parts
@@ -88,7 +82,7 @@ journal_gives_spans j volume (p ∷ ps) follows on =
     ap (λ (k : SessionJournal). spans_in volume k.run) (sym follows)
     ∙ (ap (spans_in volume) (run_of_followed p ps) ∙ sym (ap (numbered_from 1) (one_stretch volume p ps on)))
 
--- Where bodies lie, and the placements of a session.
+-- Where bodies lie.
 
 -- where a body lies that is placed from byte `at` on
 abbrev pub placement_at : List ℕ → ℕ → SentBody → Placement
@@ -105,8 +99,3 @@ pub placements_at-append : (volume : List ℕ) (at : ℕ) (bs cs : List SentBody
 placements_at-append volume at [] cs = refl
 placements_at-append volume at (b ∷ bs) cs =
     ap (λ l. placement_at volume at b ∷ l) (placements_at-append volume (at + (block_header + length b.body.bytes)) bs cs)
-
-pub placements_of-append : (key : SessionKey) (ps qs : List Placement) → placements_of key (ps ++ qs) ≡ placements_of key ps ++ placements_of key qs
-placements_of-append key [] qs = refl
-placements_of-append key (p ∷ ps) qs =
-    cond_more (is_key key p.key) p (placements_of key ps) (placements_of key qs) (placements_of key (ps ++ qs)) (placements_of-append key ps qs)

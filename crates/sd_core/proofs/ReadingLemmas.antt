@@ -12,7 +12,7 @@ use Rattle.sd_core.specs.Volume.{Block, images, blocks_of}
 use Rattle.sd_base.specs.Key.{is_key}
 use Rattle.sd_core.specs.Reading.{Shelf, SpanHolds, AllHold, ReadsToOneList}
 use Rattle.sd_core.specs.ReadFaults.{IsPartOf}
-use Rattle.sd_core.proofs.ListLemmas.{cond_more}
+use Rattle.sd_span.proofs.SpanLemmas.{cond_more}
 use Rattle.sd_core.proofs.VolumeLemmas.{images_one}
 
 -- all the blocks of some spans, in order

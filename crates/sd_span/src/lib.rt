@@ -6,8 +6,10 @@ mod laws;
 mod placement;
 mod progress;
 mod span;
+mod stretches;
 
 pub use laws::{jobmedia_texts_apart, stretches_grow};
 pub use placement::Placement;
 pub use progress::Progress;
 pub use span::{Span, put_jobmedia};
+pub use stretches::{grow, numbered, spans_of};
