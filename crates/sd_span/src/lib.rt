@@ -7,6 +7,8 @@ mod placement;
 mod progress;
 mod span;
 mod stretches;
+#[cfg(test)]
+mod tests;
 
 pub use laws::{jobmedia_texts_apart, stretches_grow};
 pub use placement::Placement;

@@ -15,10 +15,10 @@ returns-in_default-clause-read c =
 pub returns-then-value-least-clause-read : goal.returns-then-value-least-clause-read
 returns-then-value-least-clause-read c =
     refused_range ParseIntError c.args.least c.args.most c.args.word.now c.in-Ok.value (c.if-not-is_plain.ensures.0 refl) c.in-Ok.ensures.value.0
-      (elim c.then-value-least.branch [
-        | then-value-least-via-then-value-least w ↦ inl (omega arith)
-        | then-value-least-via-else-value-least+then-value-most w ↦ inr (omega arith)
-      ])
+    (elim c.then-value-least.branch [
+      | then-value-least-via-then-value-least w ↦ inl (omega arith)
+      | then-value-least-via-else-value-least+then-value-most w ↦ inr (omega arith)
+    ])
 
 pub returns-clause-read : goal.returns-clause-read
 returns-clause-read c =
