@@ -1,5 +1,5 @@
 -- Journals: what they note of placements one after another, and that they give the spans of those.
-use Rattle.std.proofs.Common.{◌≡◌, ℕ, zero, suc, ◌+◌, Some, List, [], ◌∷◌, ◌++◌, length, refl, ap, ap₂, sym, ◌∙◌}
+use Rattle.std.proofs.Common.{◌≡◌, ℕ, ◌+◌, Some, List, [], ◌∷◌, ◌++◌, length, refl, ap, ap₂, sym, ◌∙◌}
 use Rattle.std.specs.Str.{bytes_eq}
 use Rattle.std.proofs.lemmas.Bool.{cond-true}
 use Rattle.std.proofs.lemmas.Slice.Eq.{bytes_eq-Decides}
@@ -10,7 +10,7 @@ use Rattle.sd_span.specs.declared.placement.Placement.{Placement}
 use Rattle.sd_core.specs.declared.journal.Run.{Run}
 use Rattle.sd_core.specs.declared.journal.SessionJournal.{SessionJournal}
 use Rattle.sd_span.proofs.SpanLemmas.{first_nonzero_assoc}
-use Rattle.sd_span.specs.Spans.{placements_of, in_front, stretches, numbered_from}
+use Rattle.sd_span.specs.Spans.{in_front, stretches, numbered_from}
 use Rattle.sd_core.specs.Journal.{placements_at, AreOn, run_of, noted, empty_journal, follows_from, Follows, spans_in}
 use Rattle.sd_core.specs.SentBody.{SentBody}
 

@@ -1,7 +1,6 @@
 -- Journals and spans: which blocks of a session were placed, and the stretches of a volume that they lie on.
 use Rattle.std.specs.Prelude.{◌≡◌, ℕ, ◌+◌, Option, Some, None, List, [], ◌∷◌, length}
 use Rattle.sd_base.specs.Limits.{block_header}
-use Rattle.sd_base.specs.declared.number.SessionKey.{SessionKey}
 use Rattle.sd_base.specs.FileIndex.{first_nonzero}
 use Rattle.sd_span.specs.declared.span.Span.{Span}
 use Rattle.sd_span.specs.declared.placement.Placement.{Placement}

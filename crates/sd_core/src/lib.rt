@@ -22,8 +22,8 @@ mod world;
 pub use conf::WorldConf;
 pub use event::Event;
 pub use laws::{
-    closed_keep_their_records, closed_keep_their_status, journal_gives_spans, one_image_of_a_volume,
-    placed_block_stands,
+    closed_keep_their_records, closed_keep_their_status, journal_gives_spans,
+    one_image_of_a_volume, placed_block_stands,
 };
 pub use readback::{ReadEnd, ReadFault, Sink};
 pub use reading_laws::{fault_is_no_reading, one_first_fault, reads_to_one_list};

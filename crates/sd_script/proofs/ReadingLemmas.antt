@@ -1,5 +1,5 @@
 -- The lines of one number: what is read as one is written so, and what is written so is read.
-use Rattle.std.proofs.Common.{◌≡◌, ℕ, ◌^◌, ◌<◌, ◌≤◌, ap, ◌∙◌, List, [], ◌∷◌, Option, Some}
+use Rattle.std.proofs.Common.{◌≡◌, ℕ, ◌^◌, ◌<◌, ◌≤◌, ap, [], ◌∷◌, Option, Some}
 use Rattle.std.specs.Fmt.{decimal}
 use Rattle.sd_words.specs.Fields.{Fields}
 use Rattle.sd_words.specs.Reading.{◌>>=◌, only_number}
