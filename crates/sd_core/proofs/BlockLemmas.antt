@@ -13,7 +13,8 @@ use Rattle.sd_base.specs.Key.{is_key}
 use Rattle.sd_core.specs.SentBody.{SentBody}
 use Rattle.sd_core.specs.World.{bodies_with}
 use Rattle.sd_core.specs.Matches.{block_of}
-use Rattle.sd_core.proofs.ListLemmas.{cond_more, cond_map}
+use Rattle.sd_span.proofs.SpanLemmas.{cond_more}
+use Rattle.sd_core.proofs.ListLemmas.{cond_map}
 use Rattle.sd_core.proofs.JournalLemmas.{end_at}
 
 -- Keys.

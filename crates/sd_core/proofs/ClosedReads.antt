@@ -21,7 +21,8 @@ use Rattle.sd_core.specs.Machine.{Machine, MachineSession, session_of}
 use Rattle.sd_core.specs.Session.{parts_of}
 use Rattle.sd_core.specs.Volume.{VolumeView, VolumeImage, label_block, images, AreImages, blocks_of}
 use Rattle.sd_base.specs.Key.{is_key}
-use Rattle.sd_core.specs.Journal.{placements_at, placements_of, run_of, run_with, noted, empty_journal, follows_from, spans_in}
+use Rattle.sd_span.specs.Spans.{placements_of}
+use Rattle.sd_core.specs.Journal.{placements_at, run_of, run_with, noted, empty_journal, follows_from, spans_in}
 use Rattle.sd_core.specs.SentBody.{SentBody}
 use Rattle.sd_core.specs.Drive.{volume_name}
 use Rattle.sd_core.specs.World.{WorldView, entry_of, on_the_way, bodies_with, bodies_in, IsOutstanding, spans_of_entry, shelf_of}

@@ -10,7 +10,7 @@ use Rattle.sd_block.specs.Image.{block_image}
 use Rattle.sd_label.specs.Cutting.{Between, AtEnd}
 use Rattle.sd_pack.specs.Packing.{Packs}
 use Rattle.sd_core.specs.declared.entry.Entry.{Entry}
-use Rattle.sd_core.specs.declared.placement.Placement.{Placement}
+use Rattle.sd_span.specs.declared.placement.Placement.{Placement}
 use Rattle.sd_core.specs.declared.journal.SessionJournal.{SessionJournal}
 use Rattle.sd_core.specs.declared.journal.Run.{Run}
 use Rattle.sd_core.specs.declared.volume.VolumeStatus.{VolumeStatus}
@@ -20,14 +20,16 @@ use Rattle.sd_core.specs.Machine.{Machine, MachineSession}
 use Rattle.sd_core.specs.Session.{SessionView, parts_of}
 use Rattle.sd_core.specs.Volume.{VolumeView, VolumeImage, PlacesBlock, label_block, images}
 use Rattle.sd_base.specs.Key.{is_key}
-use Rattle.sd_core.specs.Journal.{placements_at, placements_of, noted_run, noted, empty_journal, follows_from, Follows}
+use Rattle.sd_span.specs.Spans.{placements_of}
+use Rattle.sd_core.specs.Journal.{placements_at, noted_run, noted, empty_journal, follows_from, Follows}
 use Rattle.sd_core.specs.SentBody.{SentBody}
 use Rattle.sd_core.specs.declared.piece.Piece.{Piece}
 use Rattle.sd_core.specs.Drive.{volume_name, DriveView, synced_if, synced_bytes}
 use Rattle.sd_core.specs.World.{WorldView, entry_of, with_entry, on_the_way, bodies_with, IsOnTheWay, IsOutstanding}
 use Rattle.sd_core.specs.Matches.{block_of, ArePlaced, first_block, BeginsPacked, HasBodies, SessionMatches, SessionsMatch, JournalsFollow, NumbersRise, AreOfOpened, Matches}
 use Rattle.sd_core.proofs.BlockLemmas.{is_key_same, is_key_other, length-images, bodies_with-append}
-use Rattle.sd_core.proofs.JournalLemmas.{placement_at, end_at, placements_at-append, placements_of-append, follows_from-append}
+use Rattle.sd_span.proofs.SpanLemmas.{placements_of-append}
+use Rattle.sd_core.proofs.JournalLemmas.{placement_at, end_at, placements_at-append, follows_from-append}
 use Rattle.sd_core.proofs.ListLemmas.{back_nil}
 use Rattle.sd_core.proofs.VolumeLemmas.{image_more}
 use Rattle.sd_core.proofs.SessionLookups.{length-with_entry, numbered_key, numbers_with}

@@ -6,7 +6,7 @@ use Rattle.sd_base.specs.declared.number.SessionKey.{SessionKey}
 use Rattle.sd_block.specs.Image.{block_image}
 use Rattle.sd_block.specs.declared.head.Head.{Head}
 use Rattle.sd_block.proofs.HeaderLemmas.{SaysFields-same}
-use Rattle.sd_core.specs.declared.span.Span.{Span}
+use Rattle.sd_span.specs.declared.span.Span.{Span}
 use Rattle.sd_core.specs.declared.readback.fault.ReadFault.{ReadFault}
 use Rattle.sd_core.specs.declared.readback.fault.ReadFault.TheVariants.{BadSpan, VolumeNotOnShelf, SpanEndsEarly, DamagedBlock, Memory}
 use Rattle.sd_core.specs.Volume.{Block, images, AreImages, blocks_of}

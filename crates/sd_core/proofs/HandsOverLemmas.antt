@@ -8,7 +8,7 @@ use Rattle.sd_base.specs.declared.number.SessionKey.{SessionKey}
 use Rattle.sd_label.specs.Cutting.{Standing, Holds, WholeOf}
 use Rattle.sd_label.proofs.CuttingLemmas.{front_nil, holds_one, holds_front}
 use Rattle.sd_unpack.specs.Unpacking.{Unpacking, Unpacks}
-use Rattle.sd_core.specs.declared.span.Span.{Span}
+use Rattle.sd_span.specs.declared.span.Span.{Span}
 use Rattle.sd_core.specs.declared.readback.reader.Reader.{Reader}
 use Rattle.sd_core.specs.Volume.{Block, images, blocks_of}
 use Rattle.sd_base.specs.Key.{is_key}

@@ -10,7 +10,7 @@ use Rattle.sd_pack.specs.Body.{PackedBody}
 use Rattle.sd_core.specs.declared.entry.Entry.{Entry}
 use Rattle.sd_core.specs.declared.piece.Piece.{Piece}
 use Rattle.sd_core.specs.declared.journal.Run.{Run}
-use Rattle.sd_core.specs.declared.placement.Placement.{Placement}
+use Rattle.sd_span.specs.declared.placement.Placement.{Placement}
 use Rattle.sd_core.specs.Session.{SessionView, LeavesLane, HasLeft, MayClose, CloseRefused, SendsBody}
 use Rattle.sd_core.specs.Journal.{noted, empty_journal}
 use Rattle.sd_core.specs.SentBody.{SentBody}

@@ -1,18 +1,17 @@
 -- Journals: what they note of placements one after another, and that they give the spans of those.
-use Rattle.std.proofs.Common.{◌≡◌, ℕ, zero, suc, ◌+◌, Some, List, [], ◌∷◌, ◌++◌, length, refl, ap, ap₂, sym, ◌∙◌}
+use Rattle.std.proofs.Common.{◌≡◌, ℕ, ◌+◌, Some, List, [], ◌∷◌, ◌++◌, length, refl, ap, ap₂, sym, ◌∙◌}
 use Rattle.std.specs.Str.{bytes_eq}
 use Rattle.std.proofs.lemmas.Bool.{cond-true}
 use Rattle.std.proofs.lemmas.Slice.Eq.{bytes_eq-Decides}
 use Rattle.sd_base.specs.Limits.{block_header}
-use Rattle.sd_base.specs.declared.number.SessionKey.{SessionKey}
 use Rattle.sd_base.specs.FileIndex.{first_nonzero}
-use Rattle.sd_core.specs.declared.span.Span.{Span}
-use Rattle.sd_core.specs.declared.placement.Placement.{Placement}
+use Rattle.sd_span.specs.declared.span.Span.{Span}
+use Rattle.sd_span.specs.declared.placement.Placement.{Placement}
 use Rattle.sd_core.specs.declared.journal.Run.{Run}
 use Rattle.sd_core.specs.declared.journal.SessionJournal.{SessionJournal}
-use Rattle.sd_base.specs.Key.{is_key}
-use Rattle.sd_core.proofs.ListLemmas.{cond_more}
-use Rattle.sd_core.specs.Journal.{placements_at, placements_of, AreOn, run_of, noted, empty_journal, follows_from, Follows, spans_in, in_front, stretches, numbered_from, spans_of}
+use Rattle.sd_span.proofs.SpanLemmas.{first_nonzero_assoc}
+use Rattle.sd_span.specs.Spans.{in_front, stretches, numbered_from}
+use Rattle.sd_core.specs.Journal.{placements_at, AreOn, run_of, noted, empty_journal, follows_from, Follows, spans_in}
 use Rattle.sd_core.specs.SentBody.{SentBody}
 
 -- One placement more.
@@ -29,10 +28,6 @@ joined r s = record { first = first_nonzero r.first s.first; last = first_nonzer
 
 run_parts : ℕ → ℕ → ℕ → ℕ → Run
 run_parts first last start end = record { first = first; last = last; start = start; end = end }
-
-first_nonzero_assoc : (x y z : ℕ) → first_nonzero (first_nonzero x y) z ≡ first_nonzero x (first_nonzero y z)
-first_nonzero_assoc zero y z = refl
-first_nonzero_assoc (suc x) y z = refl
 
 joined_assoc : (r s t : Run) → joined (joined r s) t ≡ joined r (joined s t)
 unfolding joined run_parts
@@ -57,33 +52,37 @@ unfolding run_of_all
 run_of_followed p [] = refl
 run_of_followed p (q ∷ qs) = run_behind 1 (run_of p) q qs
 
--- a run as the span of a volume
+-- a run as the stretch of a volume
+abbrev pub stretch_of_run : List ℕ → Run → Span
+stretch_of_run volume r = record { volume = volume; vol_index = 0; first = r.first; last = r.last; start = r.start; end = r.end }
+
+-- the same as the first span
 abbrev pub span_of_run : List ℕ → Run → Span
 span_of_run volume r = record { volume = volume; vol_index = 1; first = r.first; last = r.last; start = r.start; end = r.end }
 
 -- going through placements on one volume from the last one gives their run too
-first_span : (volume : List ℕ) (p : Placement) → p.volume ≡ volume → in_front p [] ≡ span_of_run volume (run_of p) ∷ []
-first_span volume p on = ap (λ v. span_of_run v (run_of p) ∷ []) on
+first_span : (volume : List ℕ) (p : Placement) → p.volume ≡ volume → in_front p [] ≡ stretch_of_run volume (run_of p) ∷ []
+first_span volume p on = ap (λ v. stretch_of_run v (run_of p) ∷ []) on
 
 span_in_front : (volume : List ℕ) (p : Placement) (r : Run) → p.volume ≡ volume
-    → in_front p (span_of_run volume r ∷ []) ≡ span_of_run volume (joined (run_of p) r) ∷ []
+    → in_front p (stretch_of_run volume r ∷ []) ≡ stretch_of_run volume (joined (run_of p) r) ∷ []
 unfolding joined
 span_in_front volume p r on = cond-true (bytes_eq p.volume volume) _ _ ((bytes_eq-Decides p.volume volume).1 on)
 
 one_stretch : (volume : List ℕ) (p : Placement) (ps : List Placement) → AreOn volume (p ∷ ps)
-    → stretches (p ∷ ps) ≡ span_of_run volume (run_of_all p ps) ∷ []
+    → stretches (p ∷ ps) ≡ stretch_of_run volume (run_of_all p ps) ∷ []
 unfolding run_of_all
 one_stretch volume p [] on = first_span volume p on.0
 one_stretch volume p (q ∷ qs) on =
     ap (in_front p) (one_stretch volume q qs on.1) ∙ span_in_front volume p (run_of_all q qs) on.0
 
-pub journal_gives_spans : (j : SessionJournal) (volume : List ℕ) (ps : List Placement) → Follows j ps → AreOn volume ps → spans_in volume j.run ≡ spans_of ps
+pub journal_gives_spans : (j : SessionJournal) (volume : List ℕ) (ps : List Placement) → Follows j ps → AreOn volume ps → spans_in volume j.run ≡ numbered_from 1 (stretches ps)
 journal_gives_spans j volume [] follows on = ap (λ (k : SessionJournal). spans_in volume k.run) (sym follows)
 journal_gives_spans j volume (p ∷ ps) follows on =
     ap (λ (k : SessionJournal). spans_in volume k.run) (sym follows)
     ∙ (ap (spans_in volume) (run_of_followed p ps) ∙ sym (ap (numbered_from 1) (one_stretch volume p ps on)))
 
--- Where bodies lie, and the placements of a session.
+-- Where bodies lie.
 
 -- where a body lies that is placed from byte `at` on
 abbrev pub placement_at : List ℕ → ℕ → SentBody → Placement
@@ -100,8 +99,3 @@ pub placements_at-append : (volume : List ℕ) (at : ℕ) (bs cs : List SentBody
 placements_at-append volume at [] cs = refl
 placements_at-append volume at (b ∷ bs) cs =
     ap (λ l. placement_at volume at b ∷ l) (placements_at-append volume (at + (block_header + length b.body.bytes)) bs cs)
-
-pub placements_of-append : (key : SessionKey) (ps qs : List Placement) → placements_of key (ps ++ qs) ≡ placements_of key ps ++ placements_of key qs
-placements_of-append key [] qs = refl
-placements_of-append key (p ∷ ps) qs =
-    cond_more (is_key key p.key) p (placements_of key ps) (placements_of key qs) (placements_of key (ps ++ qs)) (placements_of-append key ps qs)

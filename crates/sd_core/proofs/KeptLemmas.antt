@@ -8,18 +8,19 @@ use Rattle.sd_label.specs.Cutting.{total_bytes}
 use Rattle.sd_core.specs.declared.entry.Entry.{Entry}
 use Rattle.sd_core.specs.declared.event.Event.{Event}
 use Rattle.sd_core.specs.declared.event.Event.TheVariants.{Open, Append, End, Close, Cancel, Spool, Despool, Take, Place, Sync, Label, Mount, Seek}
-use Rattle.sd_core.specs.declared.placement.Placement.{Placement}
+use Rattle.sd_span.specs.declared.placement.Placement.{Placement}
 use Rattle.sd_core.specs.declared.journal.SessionJournal.{SessionJournal}
 use Rattle.sd_core.specs.declared.piece.Piece.{Piece}
 use Rattle.sd_core.specs.declared.reply.Reply.{Reply}
 use Rattle.sd_core.specs.declared.reply.Reply.TheVariants.{Refused, Opened, Taken, Ended, Closed, Cancelled, Nothing, NoSpool, Sent, LaneFull, InHand, HandFull, Idle, Placed, NeedVolume, VolumeFull, Synced, Labelled, Mounted, Requested, NoNeed}
-use Rattle.sd_core.specs.declared.span.Span.{Span}
+use Rattle.sd_span.specs.declared.span.Span.{Span}
 use Rattle.sd_core.specs.declared.status.Status.TheVariants.{Closed as IsClosed}
 use Rattle.sd_core.specs.Machine.{Machine, MachineSession, session_of}
 use Rattle.sd_core.specs.Session.{SessionView, IsRunning, TakesRecord, EndsSession, CancelsSession, SendsBody, FindsQueueFull, HasNothingDue}
 use Rattle.sd_core.specs.Volume.{VolumeView}
 use Rattle.sd_base.specs.Key.{is_key}
-use Rattle.sd_core.specs.Journal.{placements_at, placements_of, follows_from, empty_journal, spans_in}
+use Rattle.sd_span.specs.Spans.{placements_of}
+use Rattle.sd_core.specs.Journal.{placements_at, follows_from, empty_journal, spans_in}
 use Rattle.sd_core.specs.SentBody.{SentBody}
 use Rattle.sd_core.specs.Drive.{DriveView, volume_name, synced_if}
 use Rattle.sd_core.specs.Reading.{Reads}

@@ -8,7 +8,6 @@ pub mod FirstFaultLemmas
 pub mod FrontLemmas
 pub mod HandsOverLemmas
 pub mod InvariantLemmas
-pub mod JobMediaLemmas
 pub mod JournalLemmas
 pub mod KeptLemmas
 pub mod ListLemmas

@@ -18,10 +18,6 @@ nil_from_map f [] e = refl
 nil_from_map f (x ∷ xs) e = cc
 
 -- one element, put in front of a list where a test says so
-pub cond_more : {X : Type 0} (b : Bool) (x : X) (xs ys all : List X) → all ≡ xs ++ ys → cond b (x ∷ all) all ≡ cond b (x ∷ xs) xs ++ ys
-cond_more true x xs ys all e = ap (λ l. x ∷ l) e
-cond_more false x xs ys all e = e
-
 pub cond_map : {X Y : Type 0} (f : X → Y) (b : Bool) (x : X) (xs : List X) (ys : List Y) → ys ≡ map f xs → cond b (f x ∷ ys) ys ≡ map f (cond b (x ∷ xs) xs)
 cond_map f true x xs ys e = ap (λ l. f x ∷ l) e
 cond_map f false x xs ys e = e

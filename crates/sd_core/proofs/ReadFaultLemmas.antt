@@ -15,7 +15,7 @@ use Rattle.sd_block.proofs.HeaderLemmas.{SaysFields-same, SaysSize-same}
 use Rattle.sd_block.proofs.ImageLemmas.{length-block_image, IsHeadOf-image, HasSum-image}
 use Rattle.sd_label.specs.Cutting.{total_bytes, WholeOf}
 use Rattle.sd_label.proofs.CuttingLemmas.{front_nil, holds_front}
-use Rattle.sd_core.specs.declared.span.Span.{Span}
+use Rattle.sd_span.specs.declared.span.Span.{Span}
 use Rattle.sd_core.specs.declared.readback.fault.ReadFault.{ReadFault}
 use Rattle.sd_core.specs.declared.readback.fault.ReadFault.TheVariants.{BadSpan, VolumeNotOnShelf, SpanEndsEarly, DamagedBlock, Memory}
 use Rattle.sd_core.specs.Volume.{Block, images, AreImages, blocks_of}

@@ -7,12 +7,12 @@ use Rattle.sd_base.specs.Record.{Record}
 use Rattle.sd_base.specs.declared.number.SessionKey.{SessionKey}
 use Rattle.sd_label.specs.Cutting.{WholeOf, is_ended}
 use Rattle.sd_label.proofs.CuttingLemmas.{holds_one}
-use Rattle.sd_core.specs.declared.span.Span.{Span}
+use Rattle.sd_span.specs.declared.span.Span.{Span}
 use Rattle.sd_core.specs.Volume.{Block, images, blocks_of}
 use Rattle.sd_base.specs.Key.{is_key}
 use Rattle.sd_core.specs.Reading.{Shelf, SpanHolds, AllHold, ReadsToOneList}
 use Rattle.sd_core.specs.ReadFaults.{IsPartOf}
-use Rattle.sd_core.proofs.ListLemmas.{cond_more}
+use Rattle.sd_span.proofs.SpanLemmas.{cond_more}
 use Rattle.sd_core.proofs.VolumeLemmas.{images_one}
 
 -- all the blocks of some spans, in order

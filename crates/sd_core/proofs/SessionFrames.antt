@@ -13,7 +13,8 @@ use Rattle.sd_core.specs.declared.entry.Entry.{Entry}
 use Rattle.sd_core.specs.declared.piece.Piece.{Piece}
 use Rattle.sd_core.specs.Machine.{Machine, MachineSession, with_session, changed}
 use Rattle.sd_core.specs.Session.{SessionView, IsRunning, due_of, parts_of}
-use Rattle.sd_core.specs.Journal.{placements_at, placements_of, Follows}
+use Rattle.sd_span.specs.Spans.{placements_of}
+use Rattle.sd_core.specs.Journal.{placements_at, Follows}
 use Rattle.sd_core.specs.SentBody.{SentBody}
 use Rattle.sd_core.specs.Drive.{volume_name}
 use Rattle.sd_core.specs.World.{WorldView, entry_of, with_entry, on_the_way, body_of_piece, bodies_with, bodies_in, IsOutstanding}

@@ -5,7 +5,8 @@ use Rattle.sd_base.specs.Limits.{block_header}
 use Rattle.sd_base.specs.declared.number.SessionKey.{SessionKey}
 use Rattle.sd_core.specs.declared.entry.Entry.{Entry}
 use Rattle.sd_core.specs.Machine.{MachineSession, session_of, with_session}
-use Rattle.sd_core.specs.Journal.{placements_at, placements_of, Follows}
+use Rattle.sd_span.specs.Spans.{placements_of}
+use Rattle.sd_core.specs.Journal.{placements_at, Follows}
 use Rattle.sd_core.specs.SentBody.{SentBody}
 use Rattle.sd_core.specs.World.{WorldView, entry_of, with_entry, bodies_with}
 use Rattle.sd_core.specs.Matches.{SessionMatches, SessionsMatch, JournalsFollow, NumbersRise, AreOfOpened}

@@ -12,7 +12,7 @@ use Rattle.sd_core.specs.declared.event.Event.TheVariants.{Open, Append, End, Cl
 use Rattle.sd_core.specs.declared.piece.Piece.{Piece}
 use Rattle.sd_core.specs.declared.reply.Reply.{Reply}
 use Rattle.sd_core.specs.declared.reply.Reply.TheVariants.{Refused, Opened, Taken, Ended, Closed, Cancelled, Nothing, NoSpool, Sent, LaneFull}
-use Rattle.sd_core.specs.declared.span.Span.{Span}
+use Rattle.sd_span.specs.declared.span.Span.{Span}
 use Rattle.sd_core.specs.declared.status.Status.{Status}
 use Rattle.sd_core.specs.declared.status.Status.TheVariants.{Active as IsActive, Ended as IsEnded, Closed as IsClosed, Cancelled as IsCancelled, Failed as IsFailed}
 use Rattle.sd_core.specs.Machine.{Machine, MachineSession, session_of, changed, opened}

@@ -13,7 +13,7 @@ use Rattle.sd_core.specs.declared.readback.reader.Reader.{Reader}
 use Rattle.sd_core.specs.Volume.{Block, images, AreImages, blocks_of}
 use Rattle.sd_core.specs.ReadFaults.{last_number, BeginsWithRefused, StopsWithin, AreSpans, IsPartOf, PartFault, CantRead, MeetsFault}
 use Rattle.sd_core.specs.Reading.{Shelf, SpanHolds, AllHold, AreNumbered, Reads}
-use Rattle.sd_core.specs.declared.span.Span.{Span}
+use Rattle.sd_span.specs.declared.span.Span.{Span}
 use Rattle.sd_core.specs.Reader.{HasRead, ReadsOn}
 use Rattle.sd_core.proofs.ReadingLemmas.{joined_blocks, AllHold-more}
 use Rattle.sd_core.proofs.ReadFaultLemmas.{fault_no_reading}

@@ -7,7 +7,7 @@ use Rattle.sd_block.specs.Image.{block_image, IsBlockImage, IsImage}
 use Rattle.sd_block.proofs.ImageLemmas.{length-block_image, one_block, one_image}
 use Rattle.sd_label.proofs.CuttingLemmas.{front_nil}
 use Rattle.sd_pack.specs.Body.{PackedBody}
-use Rattle.sd_core.specs.declared.placement.Placement.{Placement}
+use Rattle.sd_span.specs.declared.placement.Placement.{Placement}
 use Rattle.sd_core.specs.Volume.{VolumeView, Block, images, AreImages, VolumeImage, PlacesBlock, label_block}
 
 -- an image is as long as its header and its body

@@ -9,7 +9,7 @@ use Rattle.sd_label.specs.Cutting.{total_bytes}
 use Rattle.sd_core.specs.declared.entry.Entry.{Entry}
 use Rattle.sd_core.specs.declared.reply.Reply.{Reply}
 use Rattle.sd_core.specs.declared.reply.Reply.TheVariants.{Closed, Refused, Opened, Taken, Ended, Cancelled, Spooled, SpoolFull, Nothing, NoSpool, Sent, LaneFull, NotDue, InHand, HandFull, Idle, Placed, NeedVolume, VolumeFull, VolumeError, Synced, Labelled, Mounted, Requested, NoNeed}
-use Rattle.sd_core.specs.declared.span.Span.{Span}
+use Rattle.sd_span.specs.declared.span.Span.{Span}
 use Rattle.sd_core.specs.declared.readback.ReadEnd.{ReadEnd}
 use Rattle.sd_core.specs.declared.readback.fault.ReadFault.{ReadFault}
 use Rattle.sd_core.specs.declared.readback.fault.ReadFault.TheVariants.{Memory}

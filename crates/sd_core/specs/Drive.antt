@@ -5,7 +5,7 @@ use Rattle.sd_base.specs.declared.refusal.Refusal.{Refusal}
 use Rattle.sd_base.specs.declared.refusal.Refusal.TheVariants.{VolumeNotOnShelf, OtherPoolOrMedia, InUse, NotAppendable, Memory}
 use Rattle.sd_label.specs.declared.label.VolumeLabel.{VolumeLabel}
 use Rattle.sd_core.specs.declared.piece.Piece.{Piece}
-use Rattle.sd_core.specs.declared.placement.Placement.{Placement}
+use Rattle.sd_span.specs.declared.placement.Placement.{Placement}
 use Rattle.sd_core.specs.declared.volume.VolumeStatus.TheVariants.{Append as Appendable}
 use Rattle.sd_core.specs.declared.drive.Placing.{Placing}
 use Rattle.sd_core.specs.declared.drive.Placing.TheVariants.{Placed, NeedVolume, VolumeFull, Idle, Memory as NoMemory}

@@ -4,7 +4,7 @@ use Rattle.std.specs.List.{flat_map}
 use Rattle.sd_base.specs.Record.{Record}
 use Rattle.sd_base.specs.declared.number.SessionKey.{SessionKey}
 use Rattle.sd_label.specs.Cutting.{Standing, Holds}
-use Rattle.sd_core.specs.declared.span.Span.{Span}
+use Rattle.sd_span.specs.declared.span.Span.{Span}
 use Rattle.sd_core.specs.Volume.{Block, images, AreImages, blocks_of}
 use Rattle.sd_core.specs.Reading.{Shelf, AllHold}
 use Rattle.sd_core.specs.ReadFaults.{AreSpans, IsPartOf}

@@ -1,15 +1,13 @@
 -- Journals and spans: which blocks of a session were placed, and the stretches of a volume that they lie on.
-use Rattle.std.specs.Prelude.{◌≡◌, ℕ, ◌+◌, if◌then◌else◌, Option, Some, None, List, [], ◌∷◌, length}
-use Rattle.std.specs.Str.{bytes_eq}
+use Rattle.std.specs.Prelude.{◌≡◌, ℕ, ◌+◌, Option, Some, None, List, [], ◌∷◌, length}
 use Rattle.sd_base.specs.Limits.{block_header}
-use Rattle.sd_base.specs.declared.number.SessionKey.{SessionKey}
 use Rattle.sd_base.specs.FileIndex.{first_nonzero}
-use Rattle.sd_core.specs.declared.span.Span.{Span}
-use Rattle.sd_core.specs.declared.placement.Placement.{Placement}
+use Rattle.sd_span.specs.declared.span.Span.{Span}
+use Rattle.sd_span.specs.declared.placement.Placement.{Placement}
+use Rattle.sd_span.specs.Spans.{stretches, numbered_from}
 use Rattle.sd_core.specs.declared.journal.Run.{Run}
 use Rattle.sd_core.specs.declared.journal.SessionJournal.{SessionJournal}
 use Rattle.sd_core.specs.SentBody.{SentBody}
-use Rattle.sd_base.specs.Key.{is_key}
 
 -- where bodies lie that were placed on a volume one behind the other, from byte `at` on
 abbrev pub placements_at : List ℕ → ℕ → List SentBody → List Placement
@@ -17,11 +15,6 @@ placements_at volume at [] = []
 placements_at volume at (b ∷ bs) =
     record { key = b.key; volume = volume; start = at; length = block_header + length b.body.bytes; first = b.body.first; last = b.body.last }
     ∷ placements_at volume (at + (block_header + length b.body.bytes)) bs
-
--- a session's own placements, in order
-abbrev pub placements_of : SessionKey → List Placement → List Placement
-placements_of key [] = []
-placements_of key (p ∷ ps) = if is_key key p.key then p ∷ placements_of key ps else placements_of key ps
 
 -- all of them are on that volume
 abbrev pub AreOn : List ℕ → List Placement → Type 0
@@ -63,33 +56,9 @@ abbrev pub spans_in : List ℕ → Option Run → List Span
 spans_in volume None = []
 spans_in volume (Some r) = record { volume = volume; vol_index = 1; first = r.first; last = r.last; start = r.start; end = r.end } ∷ []
 
--- The spans of a session's placements: the longest stretches of them that are on one volume.
-
--- a placement in front of a span: it begins the span where it is on its volume, else a span of its own
-abbrev pub in_front : Placement → List Span → List Span
-in_front p [] = record { volume = p.volume; vol_index = 1; first = p.first; last = p.last; start = p.start; end = p.start + p.length } ∷ []
-in_front p (s ∷ ss) =
-    if bytes_eq p.volume s.volume
-    then record s { first = first_nonzero p.first s.first; last = first_nonzero s.last p.last; start = p.start } ∷ ss
-    else record { volume = p.volume; vol_index = 1; first = p.first; last = p.last; start = p.start; end = p.start + p.length } ∷ s ∷ ss
-
--- the stretches, not numbered yet
-abbrev pub stretches : List Placement → List Span
-stretches [] = []
-stretches (p ∷ ps) = in_front p (stretches ps)
-
--- spans numbered from `index` on
-abbrev pub numbered_from : ℕ → List Span → List Span
-numbered_from index [] = []
-numbered_from index (s ∷ ss) = record s { vol_index = index } ∷ numbered_from (index + 1) ss
-
--- the longest stretches of a session's placements on one volume, numbered from 1 on
-abbrev pub spans_of : List Placement → List Span
-spans_of ps = numbered_from 1 (stretches ps)
-
 -- Laws.
 
 -- the spans of a journal are those of the placements that it follows
 abbrev pub JournalGivesSpans : Type 0
 JournalGivesSpans = (j : SessionJournal) (volume : List ℕ) (ps : List Placement)
-    → Follows j ps → AreOn volume ps → spans_in volume j.run ≡ spans_of ps
+    → Follows j ps → AreOn volume ps → spans_in volume j.run ≡ numbered_from 1 (stretches ps)

@@ -5,7 +5,7 @@ use Rattle.sd_core.specs.declared.entry.Entry.{Entry}
 use Rattle.sd_core.specs.declared.event.Event.{Event}
 use Rattle.sd_core.specs.declared.reply.Reply.{Reply}
 use Rattle.sd_core.specs.declared.reply.Reply.TheVariants.{Closed}
-use Rattle.sd_core.specs.declared.span.Span.{Span}
+use Rattle.sd_span.specs.declared.span.Span.{Span}
 use Rattle.sd_core.specs.declared.status.Status.TheVariants.{Closed as IsClosed}
 use Rattle.sd_core.specs.Machine.{Machine, MachineSession, session_of}
 use Rattle.sd_core.specs.Step.{Run}

@@ -1,7 +1,6 @@
 pub mod Drive
 pub mod HandsOver
 pub mod Invariants
-pub mod JobMedia
 pub mod Journal
 pub mod Kept
 pub mod Machine

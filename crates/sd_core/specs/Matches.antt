@@ -13,7 +13,8 @@ use Rattle.sd_core.specs.Machine.{Machine, MachineSession, last_index}
 use Rattle.sd_core.specs.Session.{SessionView}
 use Rattle.sd_core.specs.Step.{Step}
 use Rattle.sd_core.specs.Volume.{VolumeView, VolumeImage, Block, label_block}
-use Rattle.sd_core.specs.Journal.{placements_at, placements_of, Follows}
+use Rattle.sd_span.specs.Spans.{placements_of}
+use Rattle.sd_core.specs.Journal.{placements_at, Follows}
 use Rattle.sd_core.specs.SentBody.{SentBody}
 use Rattle.sd_core.specs.Drive.{volume_name}
 use Rattle.sd_core.specs.World.{WorldView, next_of, on_the_way, bodies_with, bodies_in, IsOutstanding}

@@ -10,8 +10,8 @@ use Rattle.sd_core.specs.declared.reply.Reply.{Reply}
 use Rattle.sd_core.specs.declared.reply.Reply.TheVariants.{Refused, Opened, Taken, Ended, Closed, Cancelled, Nothing, NoSpool, Sent, LaneFull, InHand, HandFull, Idle, Placed, NeedVolume, VolumeFull, Synced, Labelled, Mounted, Requested, NoNeed}
 use Rattle.sd_core.specs.declared.status.Status.TheVariants.{Ended as IsEnded, Closed as IsClosed}
 use Rattle.sd_core.specs.declared.piece.Piece.{Piece}
-use Rattle.sd_core.specs.declared.span.Span.{Span}
-use Rattle.sd_core.specs.declared.placement.Placement.{Placement}
+use Rattle.sd_span.specs.declared.span.Span.{Span}
+use Rattle.sd_span.specs.declared.placement.Placement.{Placement}
 use Rattle.sd_core.specs.declared.entry.Entry.{Entry}
 use Rattle.sd_core.specs.Session.{SessionView, IsRunning, status_refusal, StartsSession, TakesRecord, AppendRefused, EndsSession, EndRefused, CancelsSession, NotRunning, SendsBody, FindsQueueFull, HasNothingDue}
 use Rattle.sd_core.specs.Journal.{empty_journal, noted}

@@ -13,7 +13,7 @@ use Rattle.sd_block.specs.declared.head.Head.{Head}
 use Rattle.sd_label.specs.Cutting.{Standing, Holds, total_bytes}
 use Rattle.sd_unpack.specs.declared.damage.AddFault.{AddFault}
 use Rattle.sd_unpack.specs.declared.damage.AddFault.TheVariants as adding
-use Rattle.sd_core.specs.declared.span.Span.{Span}
+use Rattle.sd_span.specs.declared.span.Span.{Span}
 use Rattle.sd_core.specs.declared.readback.fault.ReadFault.{ReadFault}
 use Rattle.sd_core.specs.declared.readback.fault.ReadFault.TheVariants.{BadSpan, VolumeNotOnShelf, SpanEndsEarly, DamagedBlock, Memory}
 use Rattle.sd_core.specs.Volume.{Block, images, AreImages, blocks_of}

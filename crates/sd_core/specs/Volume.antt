@@ -8,7 +8,7 @@ use Rattle.sd_label.specs.Label.{IsVolumeLabel, volume_label_bytes}
 use Rattle.sd_pack.specs.Body.{PackedBody}
 use Rattle.sd_core.specs.declared.volume.VolumeStatus.{VolumeStatus}
 use Rattle.sd_core.specs.declared.volume.VolumeStatus.TheVariants.{Append, Full}
-use Rattle.sd_core.specs.declared.placement.Placement.{Placement}
+use Rattle.sd_span.specs.declared.placement.Placement.{Placement}
 use Rattle.sd_base.specs.Key.{is_key}
 
 -- A volume: its name, pool and media; whether blocks are added; its bytes, of which the first `synced` last

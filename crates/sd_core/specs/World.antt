@@ -4,7 +4,7 @@ use Rattle.std.specs.Option.{option_to_list}
 use Rattle.sd_base.specs.declared.number.SessionKey.{SessionKey}
 use Rattle.sd_pack.specs.Body.{PackedBody}
 use Rattle.sd_core.specs.declared.piece.Piece.{Piece}
-use Rattle.sd_core.specs.declared.span.Span.{Span}
+use Rattle.sd_span.specs.declared.span.Span.{Span}
 use Rattle.sd_core.specs.declared.journal.Run.{Run}
 use Rattle.sd_core.specs.declared.journal.SessionJournal.{SessionJournal}
 use Rattle.sd_core.specs.Drive.{DriveView, synced_bytes, volume_name}

@@ -3,7 +3,7 @@ use Rattle.std.specs.Prelude.{◌≡◌, ◌≢◌, ◌⊎◌, true, Option, Som
 use Rattle.sd_base.specs.Record.{Record}
 use Rattle.sd_base.specs.declared.number.SessionKey.{SessionKey}
 use Rattle.sd_label.specs.Cutting.{total_bytes}
-use Rattle.sd_core.specs.declared.span.Span.{Span}
+use Rattle.sd_span.specs.declared.span.Span.{Span}
 use Rattle.sd_core.specs.declared.status.Status.TheVariants.{Closed}
 use Rattle.sd_core.specs.declared.readback.ReadEnd.{ReadEnd}
 use Rattle.sd_core.specs.declared.readback.fault.ReadFault.{ReadFault}

@@ -7,11 +7,10 @@ ghost use Rattle.sd_core.specs.Drive.{synced_bytes, volume_name, after_sync, Hol
 
 use crate::journal::SessionJournal;
 use crate::piece::Piece;
-use crate::placement::Placement;
-use crate::span::Span;
 use crate::volume::{NotAppended, Volume, VolumeStatus};
 use sd_base::{Items, MOST_VOLUME, MediaName, PoolName, Refusal, VolName};
 use sd_label::VolumeLabel;
+use sd_span::{Placement, Span};
 use std::alloc::{AllocError, Global};
 use std::marker::Model;
 

@@ -3,9 +3,8 @@ ghost use Rattle.std.specs.Prelude.{◌≡◌, ◌+◌, ◌^◌, ◌<◌, ◌≤
 ghost use Rattle.sd_core.specs.Journal.{empty_journal, noted, run_of, run_with, spans_in};
 ghost use Rattle.sd_base.specs.FileIndex.{first_nonzero};
 
-use crate::placement::Placement;
-use crate::span::Span;
 use sd_base::{Items, VolName};
+use sd_span::{Placement, Span};
 use std::alloc::{AllocError, Global};
 
 /// Where the blocks of one session lie on one volume.

@@ -1,7 +1,6 @@
 // What holds of volumes, journals and runs, whoever made them.
 ghost use Rattle.sd_core.specs.Volume.{PlacedBlockStands, OneImageOfAVolume};
 ghost use Rattle.sd_core.specs.Journal.{JournalGivesSpans};
-ghost use Rattle.sd_core.specs.JobMedia.{JobMediaTextsApart};
 ghost use Rattle.sd_core.specs.Kept.{ClosedKeepTheirRecords, ClosedKeepTheirStatus};
 
 /// A block that was placed stands on the volume behind those that stood there before.
@@ -17,11 +16,6 @@ pub fn one_image_of_a_volume()
 /// The spans that a journal gives are those of the placements that it follows.
 pub fn journal_gives_spans()
     ensures { JournalGivesSpans }
-{}
-
-/// No two sessions, and no two lists of spans, have one JobMedia text.
-pub fn jobmedia_texts_apart()
-    ensures { JobMediaTextsApart }
 {}
 
 /// Whatever events follow, a closed session of the list machine keeps its records.

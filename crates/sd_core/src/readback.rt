@@ -12,10 +12,10 @@ mod reader;
 mod sink;
 mod spans;
 
-use crate::span::Span;
 pub use fault::ReadFault;
 use reader::Reader;
 use sd_base::{SessionKey, VolName};
+use sd_span::Span;
 pub use sink::Sink;
 use spans::{are_spans, part_of};
 use std::alloc::Global;

@@ -1,6 +1,6 @@
 // What a world answers to an event.
-use crate::span::Span;
 use sd_base::{DriveNo, Items, Refusal, SessionKey, Ticket, VolName};
+use sd_span::Span;
 
 /// The reply to an event. A refused event changes nothing.
 #[derive(Drop)]

@@ -2,11 +2,11 @@
 ghost use Rattle.std.specs.Prelude.{◌≡◌, ◌+◌, ◌≤◌, ◌↔◌, length, IfOk, IsErrOf, IsTrue};
 ghost use Rattle.sd_base.specs.Limits.{block_header, most_volume};
 
-use crate::placement::Placement;
 use sd_base::{BLOCK_HEADER, MediaName, PoolName, SessionKey, VolName};
 use sd_block::seal;
 use sd_label::{VolumeLabel, put_volume_label, volume_label_length};
 use sd_pack::Body;
+use sd_span::Placement;
 use std::alloc::{AllocError, Global};
 use std::marker::Model;
 

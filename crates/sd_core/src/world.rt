@@ -26,12 +26,12 @@ use crate::queue::Queue;
 use crate::readback::{ReadEnd, ReadFault, Sink, read_session};
 use crate::reply::Reply;
 use crate::session::Session;
-use crate::span::Span;
 use crate::status::Status;
 use sd_base::{
     DriveNo, JobId, MOST_NUMBER, MediaName, PoolName, Rec, Refusal, SessionKey, Ticket, VolName,
 };
 use sd_label::VolumeLabel;
+use sd_span::Span;
 use std::alloc::{AllocError, Global};
 use std::marker::Model;
 

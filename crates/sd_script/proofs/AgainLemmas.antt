@@ -17,11 +17,14 @@ use Rattle.sd_script.specs.declared.line.Setting.TheVariants as setting
 use Rattle.sd_script.specs.declared.line.Line.{Line}
 use Rattle.sd_script.specs.declared.line.Line.TheVariants as line
 use Rattle.sd_script.specs.Command.{command_text}
-use Rattle.sd_script.specs.Grammar.{HasNoBlank, IsWord, IsSpelled, IsWithin, AreWords, IsNumber, IsDrive, joined}
-use Rattle.sd_script.specs.Reading.{most_moment, Fields, fields_of, text_of, shape, word_at, one_number, label_shape, mount_shape, open_shape, rec_shape, fill_shape}
-use Rattle.sd_script.proofs.NumberLemmas.{own}
-use Rattle.sd_script.proofs.FieldLemmas.{fields_of-joined, fields_of-behind, text_of-fields_of}
-use Rattle.sd_script.proofs.ReadingLemmas.{number_at_again, word_at_again, word_at_takes, only_number_again, one_number_again}
+use Rattle.sd_words.specs.Fields.{HasNoBlank, joined, Fields, fields_of}
+use Rattle.sd_script.specs.Grammar.{IsWord, IsSpelled, IsWithin, AreWords, IsNumber, IsDrive}
+use Rattle.sd_words.specs.Reading.{word_at}
+use Rattle.sd_script.specs.Reading.{most_moment, shape, one_number, label_shape, mount_shape, open_shape, rec_shape, fill_shape}
+use Rattle.sd_words.proofs.NumberLemmas.{own}
+use Rattle.sd_words.proofs.FieldLemmas.{fields_of-joined, fields_of-behind, joined-fields_of}
+use Rattle.sd_words.proofs.ReadingLemmas.{number_at_again, word_at_again, word_at_takes, only_number_again}
+use Rattle.sd_script.proofs.ReadingLemmas.{one_number_again}
 
 -- the command of a word, found by trying each
 abbrev command_at : List ℕ → Option Command
@@ -144,7 +147,7 @@ unfolding open_shape
 open_again j p m within p_word m_word =
     rw (number_at_again 1 most_number j (p ∷ m ∷ []) (lit< tt) within.0 within.1, word_at_again p (m ∷ []) p_word.0, word_at_again m [] m_word.0) refl
 
-rec_again : (t i s : ℕ) (rest : Fields) (text : List ℕ) → text_of rest ≡ text → IsWithin (line.Rec t i s text)
+rec_again : (t i s : ℕ) (rest : Fields) (text : List ℕ) → joined rest ≡ text → IsWithin (line.Rec t i s text)
     → rec_shape (decimal t ∷ decimal i ∷ decimal s ∷ rest) ≡ Some (line.Rec t i s text)
 unfolding rec_shape
 rec_again t i s rest text same within =
@@ -154,7 +157,7 @@ rec_again t i s rest text same within =
       number_at_again 1 most_number i (decimal s ∷ rest) (lit< tt) within.1.0 within.1.1,
       number_at_again 1 most_number s rest (lit< tt) within.2.0 within.2.1,
     )
-    (cond-true (nat_le (length (text_of rest)) most_data) (Some (line.Rec t i s (text_of rest))) None (le-leb (length (text_of rest)) most_data (omega (arith, ap length same)))
+    (cond-true (nat_le (length (joined rest)) most_data) (Some (line.Rec t i s (joined rest))) None (le-leb (length (joined rest)) most_data (omega (arith, ap length same)))
     ∙ ap (λ (x : List ℕ). Some (line.Rec t i s x)) same)
 
 fill_again : (t i s n : ℕ) → IsWithin (line.Fill t i s n) → fill_shape (decimal t ∷ decimal i ∷ decimal s ∷ decimal n ∷ []) ≡ Some (line.Fill t i s n)
@@ -188,7 +191,7 @@ rec_parts bytes t i s text within e = record {
   command = Rec;
   rest = decimal t ∷ decimal i ∷ decimal s ∷ fields_of text;
   fields_are = ap fields_of e ∙ rec_fields t i s text within.0 within.1 within.2;
-  shape_is = rec_again t i s (fields_of text) text (text_of-fields_of text) within;
+  shape_is = rec_again t i s (fields_of text) text (joined-fields_of text) within;
 }
 
 short_parts : (bytes : List ℕ) (t i s : ℕ) → IsWithin (line.Rec t i s [])

@@ -1,5 +1,3 @@
-pub mod FieldLemmas
-pub mod NumberLemmas
 pub mod ReadingLemmas
 pub mod TakesLemmas
 pub mod AgainLemmas

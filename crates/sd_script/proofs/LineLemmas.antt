@@ -14,8 +14,9 @@ use Rattle.sd_script.specs.declared.line.LineFault.{LineFault}
 use Rattle.sd_script.specs.declared.line.LineFault.TheVariants.{BadCommand, BadName}
 use Rattle.sd_script.specs.Command.{command_text}
 use Rattle.sd_script.specs.Grammar.{IsSpelled, IsWord, AreNames, HasShape, HasForm, HaveOneForm, names}
-use Rattle.sd_script.specs.Reading.{Fields, Gives, fields_of, shape}
-use Rattle.sd_script.proofs.ReadingLemmas.{some_is}
+use Rattle.sd_words.specs.Fields.{Fields, fields_of}
+use Rattle.sd_script.specs.Reading.{Gives, shape}
+use Rattle.sd_words.proofs.ReadingLemmas.{some_is}
 use Rattle.sd_script.proofs.TakesLemmas.{takes}
 use Rattle.sd_script.proofs.AgainLemmas.{command_one, parts_of}
 

@@ -14,10 +14,13 @@ use Rattle.sd_script.specs.declared.line.Setting.TheVariants as setting
 use Rattle.sd_script.specs.declared.line.Line.{Line}
 use Rattle.sd_script.specs.declared.line.Line.TheVariants as line
 use Rattle.sd_script.specs.Command.{command_text}
-use Rattle.sd_script.specs.Grammar.{HasNoBlank, IsSpelled, IsWithin, AreWords, joined}
-use Rattle.sd_script.specs.Reading.{most_moment, ◌>>=◌, Fields, fields_of, text_of, shape, number_at, word_at, all_read, only_number, one_number, label_shape, mount_shape, open_shape, rec_shape, fill_shape}
-use Rattle.sd_script.proofs.FieldLemmas.{text_of-fields_of, fields_of-plain}
-use Rattle.sd_script.proofs.ReadingLemmas.{bind_some, some_is, TakesNumber, number_at_takes, word_at_takes, all_read_takes, only_number_takes, one_number_takes}
+use Rattle.sd_words.specs.Fields.{HasNoBlank, joined, Fields, fields_of}
+use Rattle.sd_script.specs.Grammar.{IsSpelled, IsWithin, AreWords}
+use Rattle.sd_words.specs.Reading.{◌>>=◌, number_at, word_at, all_read, only_number}
+use Rattle.sd_script.specs.Reading.{most_moment, shape, one_number, label_shape, mount_shape, open_shape, rec_shape, fill_shape}
+use Rattle.sd_words.proofs.FieldLemmas.{joined-fields_of, fields_of-plain}
+use Rattle.sd_words.proofs.ReadingLemmas.{bind_some, some_is, TakesNumber, number_at_takes, word_at_takes, all_read_takes, only_number_takes}
+use Rattle.sd_script.proofs.ReadingLemmas.{one_number_takes}
 
 -- what a line is that these bytes spell, whatever its names are
 pub record Spells (bytes : List ℕ) (l : Line) : Type 0 where
@@ -32,7 +35,7 @@ pub record HasFields (bytes : List ℕ) (command : List ℕ) (fs : Fields) : Typ
 
 has_fields : (bytes command : List ℕ) (fs : Fields) → fields_of bytes ≡ command ∷ fs → HasFields bytes command fs
 has_fields bytes command fs e = record {
-  text = sym (text_of-fields_of bytes) ∙ ap text_of e;
+  text = sym (joined-fields_of bytes) ∙ ap joined e;
   plain = (subst (λ (gs : Fields). AllByRecursion HasNoBlank gs) e (fields_of-plain bytes)).1;
 }
 
@@ -97,7 +100,7 @@ open_takes bytes fs l has e =
 
 -- the text behind three numbers, with a blank before it or not there
 rec_spelled : (bytes : List ℕ) (t i s : ℕ) (rest : Fields) → bytes ≡ joined (command_text Rec ∷ decimal t ∷ decimal i ∷ decimal s ∷ rest)
-    → IsSpelled bytes (line.Rec t i s (text_of rest))
+    → IsSpelled bytes (line.Rec t i s (joined rest))
 rec_spelled bytes t i s [] e = inr e
 rec_spelled bytes t i s (f ∷ rest) e = inl e
 
@@ -105,12 +108,12 @@ rec_takes : (bytes : List ℕ) (fs : Fields) (l : Line) → HasFields bytes (com
 unfolding rec_shape
 rec_takes bytes fs l has e =
     let a = bind_some (number_at 1 most_number fs) (λ ticket. number_at 1 most_number ticket.1 >>= λ index. number_at 1 most_number index.1 >>= λ stream.
-    cond (nat_le (length (text_of stream.1)) most_data) (Some (line.Rec ticket.0 index.0 stream.0 (text_of stream.1))) None) l e in
+    cond (nat_le (length (joined stream.1)) most_data) (Some (line.Rec ticket.0 index.0 stream.0 (joined stream.1))) None) l e in
     let b = bind_some (number_at 1 most_number a.0.1) (λ index. number_at 1 most_number index.1 >>= λ stream.
-    cond (nat_le (length (text_of stream.1)) most_data) (Some (line.Rec a.0.0 index.0 stream.0 (text_of stream.1))) None) l a.2 in
+    cond (nat_le (length (joined stream.1)) most_data) (Some (line.Rec a.0.0 index.0 stream.0 (joined stream.1))) None) l a.2 in
     let d = bind_some (number_at 1 most_number b.0.1) (λ stream.
-    cond (nat_le (length (text_of stream.1)) most_data) (Some (line.Rec a.0.0 b.0.0 stream.0 (text_of stream.1))) None) l b.2 in
-    let all = cond_some (nat_le (length (text_of d.0.1)) most_data) (line.Rec a.0.0 b.0.0 d.0.0 (text_of d.0.1)) l d.2 in
+    cond (nat_le (length (joined stream.1)) most_data) (Some (line.Rec a.0.0 b.0.0 stream.0 (joined stream.1))) None) l b.2 in
+    let all = cond_some (nat_le (length (joined d.0.1)) most_data) (line.Rec a.0.0 b.0.0 d.0.0 (joined d.0.1)) l d.2 in
     let ticket = number_at_takes 1 most_number fs a.0 a.1 in
     let index = number_at_takes 1 most_number a.0.1 b.0 b.1 in
     let stream = number_at_takes 1 most_number b.0.1 d.0 d.1 in

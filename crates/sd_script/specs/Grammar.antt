@@ -1,12 +1,13 @@
 -- The lines of a script: how each is spelled, and within which limits.
-use Rattle.std.specs.Prelude.{◌≡◌, ◌≢◌, ◌⊎◌, ℕ, ◌≤◌, ◌<◌, pos, ◌≤ℤ◌, FitsSigned, List, [], ◌∷◌, length, All, codes}
+use Rattle.std.specs.Prelude.{◌≡◌, ◌⊎◌, ℕ, ◌≤◌, ◌<◌, pos, ◌≤ℤ◌, FitsSigned, List, [], ◌∷◌, length, All, codes}
 use Rattle.std.specs.Int.{w64}
-use Rattle.std.specs.List.{join_with_byte, AllByRecursion}
+use Rattle.std.specs.List.{AllByRecursion}
 use Rattle.std.specs.Fmt.{decimal, signed_decimal}
 use Rattle.sd_base.specs.Name.{IsName}
 use Rattle.sd_base.specs.Limits.{least_block_limit, most_block, most_data, most_number}
 use Rattle.sd_base.specs.declared.refusal.Refusal as base
 use Rattle.sd_base.specs.declared.refusal.Refusal.TheVariants as refusals
+use Rattle.sd_words.specs.Fields.{HasNoBlank, joined}
 use Rattle.sd_script.specs.declared.line.Setting.TheVariants.{Block, Time}
 use Rattle.sd_script.specs.declared.line.Line.{Line}
 use Rattle.sd_script.specs.declared.line.Line.TheVariants.{Empty, Set, At, Label, Mount, Seek, Open, Rec, Fill, End, Cancel, Spool, Despool, Take, Place, Sync, Close, Read, Drain}
@@ -38,10 +39,6 @@ fields (Sync drive) = codes "sync" ∷ decimal drive ∷ []
 fields (Close ticket) = codes "close" ∷ decimal ticket ∷ []
 fields (Read ticket) = codes "read" ∷ decimal ticket ∷ []
 fields Drain = codes "drain" ∷ []
-
--- the fields, parted by one blank
-abbrev pub joined : List (List ℕ) → List ℕ
-joined fs = join_with_byte 32 fs
 
 -- how a line is written, without the newline behind it
 abbrev pub spelling : Line → List ℕ
@@ -96,10 +93,6 @@ names (Label drive volume pool media) = volume ∷ pool ∷ media ∷ []
 names (Mount drive volume) = volume ∷ []
 names (Open job pool media) = pool ∷ media ∷ []
 names line = []
-
--- none of its characters is a blank
-abbrev pub HasNoBlank : List ℕ → Type 0
-HasNoBlank text = All (λ c. c ≢ 32) text
 
 -- one character or more, none of them a blank
 abbrev pub IsWord : List ℕ → Type 0

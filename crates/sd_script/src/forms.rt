@@ -4,8 +4,8 @@ ghost use Rattle.sd_script.specs.Reading.{Gives, shape};
 ghost use Rattle.sd_script.specs.declared.command.Command.TheVariants as commands;
 
 use crate::line::{Line, LineFault, MOST_MOMENT, Setting, Text};
-use crate::words::Words;
 use sd_base::{LEAST_BLOCK_LIMIT, MOST_BLOCK, MOST_DATA, MOST_NUMBER, Name};
+use sd_words::Words;
 
 /// The greatest FileIndex, Stream and time, as a number of the width that fields are read in.
 const MOST: u64 = MOST_NUMBER as u64;

@@ -7,7 +7,6 @@ mod forms;
 mod laws;
 mod line;
 mod read;
-mod words;
 
 pub use laws::{lines_have_one_form, lines_have_one_shape};
 pub use line::{Line, LineFault, Setting, Text};

@@ -1,9 +1,10 @@
 // A line of a script as a value, and why a line is none.
 ghost use Rattle.std.specs.Prelude.{◌≡◌};
 ghost use Rattle.sd_script.specs.Grammar.{line_refusal};
-ghost use Rattle.sd_script.specs.declared.line.LineFault.TheVariants.{BadName};
+ghost use Rattle.sd_script.specs.declared.line.LineFault.TheVariants.{BadCommand, BadName};
 
 use sd_base::{BadName, DriveNo, JobId, MediaName, PoolName, Refusal, Ticket, VolName};
+use sd_words::BadField;
 use std::marker::Model;
 
 /// The last moment, in microseconds.
@@ -112,6 +113,14 @@ impl LineFault {
             LineFault::BadCommand => Refusal::BadCommand,
             LineFault::BadName => Refusal::BadName,
         }
+    }
+}
+
+impl From<BadField> for LineFault {
+    ghost from_gives = { λ _ e. e ≡ BadCommand };
+
+    fn from(_fault: BadField) -> LineFault {
+        LineFault::BadCommand
     }
 }
 

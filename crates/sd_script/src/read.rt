@@ -9,7 +9,7 @@ ghost use Rattle.sd_script.specs.declared.command.Command.{Command as SpecComman
 use crate::command::{Command, command_of};
 use crate::forms::{at, block, drain, fill, label, mount, open, rec, time};
 use crate::line::{Line, LineFault};
-use crate::words::Words;
+use sd_words::Words;
 use std::str;
 
 /// The line that `bytes` spell, without the newline behind it.

@@ -15,6 +15,7 @@ pub record BodyShape : Type 0 where
   pub first : ℕ
   pub last : ℕ
 
+-- what a spool knows of this body
 abbrev pub shape_of : PackedBody → BodyShape
 shape_of body = record { length = length body.bytes; first = body.first; last = body.last }
 
@@ -24,6 +25,7 @@ pub record StoreState : Type 0 where
   pub honest : Bool
   pub failures : ℕ
 
+-- what of this store outlasts its bytes
 abbrev pub state_of : Meaning → StoreState
 state_of store = record { honest = store.honest; failures = store.failures }
 
@@ -42,6 +44,7 @@ pub record JobView : Type 0 where
   -- stand as they did, but what is put behind them may come back as other bytes
   pub torn : Bool
 
+-- the spool's store is honest
 abbrev pub StoreIsHonest : JobView → Type 0
 StoreIsHonest view = IsTrue view.store.honest
 
@@ -55,11 +58,11 @@ abbrev pub torn_with : List BodyShape → Bool → Bool
 torn_with [] torn = false
 torn_with (s ∷ ss) torn = torn
 
--- the view of a spool by its parts
-
+-- what a spool knows of the body of an entry
 abbrev pub entry_shape : Entry → BodyShape
 entry_shape entry = record { length = entry.length; first = entry.first; last = entry.last }
 
+-- that body, with the bytes that stand at its place
 abbrev pub entry_body : List ℕ → Entry → PackedBody
 entry_body bytes entry = record {
   bytes = take entry.length (drop entry.at bytes);
@@ -67,6 +70,7 @@ entry_body bytes entry = record {
   last = entry.last;
 }
 
+-- the view of a spool by its parts
 abbrev pub view_of : Meaning → List Entry → Extent → ℕ → JobView
 view_of store entries extent limit = record {
   store = state_of store;
@@ -93,12 +97,12 @@ pub record IsKept (store : Meaning) (entries : List Entry) (extent : Extent) (li
   pub within : extent.end ≤ limit
   pub ends : EndsAt store extent
 
--- what a put begins from: as things stand, or as a clear leaves them where no body is in the spool
-
+-- where a put begins: where things stand, or at the start where no body is in the spool and it is cleared
 abbrev pub begin_extent : Bool → Extent → Extent
 begin_extent true extent = record { end = 0; torn = false }
 begin_extent false extent = extent
 
+-- the bytes behind which a put begins, in the same way
 abbrev pub begin_bytes : Bool → List ℕ → List ℕ
 begin_bytes true bytes = []
 begin_bytes false bytes = bytes

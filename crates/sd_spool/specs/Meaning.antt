@@ -11,6 +11,7 @@ pub record Meaning : Type 0 where
   pub bytes : List ℕ
   pub failures : ℕ
 
+-- the store keeps what it was given, and tells what it keeps
 abbrev pub IsHonest : Meaning → Type 0
 IsHonest meaning = IsTrue meaning.honest
 

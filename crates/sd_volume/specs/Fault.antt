@@ -8,12 +8,14 @@ use Rattle.sd_volume.specs.declared.fault.LabelFault.TheVariants as label
 use Rattle.sd_volume.specs.declared.fault.AdoptFault.{AdoptFault}
 use Rattle.sd_volume.specs.declared.fault.AdoptFault.TheVariants as adopt
 
+-- the refusal that each fault of labelling is
 abbrev pub label_refusal : LabelFault → Refusal
 label_refusal label.AlreadyLabelled = refusal.AlreadyLabelled
 label_refusal label.NoRoom = refusal.NoRoom
 label_refusal label.Device = refusal.DeviceFault
 label_refusal label.Memory = refusal.Memory
 
+-- the refusal that each fault of an adoption is
 abbrev pub adopt_refusal : AdoptFault → Refusal
 adopt_refusal adopt.NotOnShelf = refusal.VolumeNotOnShelf
 adopt_refusal adopt.NotOurVolume = refusal.NotOurVolume

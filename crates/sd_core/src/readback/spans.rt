@@ -4,8 +4,8 @@ ghost use Rattle.sd_core.specs.Reading.{shelf_with};
 ghost use Rattle.sd_core.specs.ReadFaults.{AreSpans, IsPartOf, EndsEarly, PartFault};
 
 use crate::readback::fault::ReadFault;
-use crate::span::Span;
 use sd_base::VolName;
+use sd_span::Span;
 
 /// Whether there are spans, numbered from 1 on, and each begins below its end.
 pub(crate) fn are_spans(spans: &[Span]) -> bool

@@ -1,7 +1,7 @@
 use Rattle.std.proofs.Common.{sym, subst, ◌∙◌, refl, take, drop, suc, List, [], ◌∷◌, append-nil}
 use Rattle.std.proofs.lemmas.List.{take_all}
 use Rattle.std.proofs.lemmas.Result.{err_from_is_err_and, IfErr-weaker, IfOk-weaker}
-use Rattle.sd_core.specs.declared.span.Span.{Span}
+use Rattle.sd_span.specs.declared.span.Span.{Span}
 use Rattle.sd_core.specs.Reading.{shelf_with}
 use Rattle.sd_core.specs.ReadFaults.{PartFault, CantRead}
 use Rattle.sd_core.proofs.ReaderLemmas.{if_err}

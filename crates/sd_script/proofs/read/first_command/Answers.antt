@@ -1,11 +1,11 @@
-use Rattle.sd_script.proofs.ReadingLemmas.{no_word}
+use Rattle.sd_words.proofs.ReadingLemmas.{no_word}
 use Rattle.sd_script.proofs.AgainLemmas.{command-some, command_read, no_command}
 use Rattle.sd_script.specs.Command.{command_text}
 use Rattle.sd_script.proofs.read.first_command.Goals as goal
 
 pub returns-in_default-clause-none : goal.returns-in_default-clause-none
 returns-in_default-clause-none c k rest e =
-    no_word c.args.words.now (command_text k) rest c.in_default.ensures.1 e (command-some k)
+    no_word c.args.words.now (command_text k) rest c.in_default.ensures e (command-some k)
 
 pub returns-clause-found : goal.returns-clause-found
 returns-clause-found c =

@@ -3,7 +3,7 @@ use Rattle.std.proofs.lemmas.Bool.{eqb-true}
 use Rattle.std.proofs.lemmas.List.{nil_from_length}
 use Rattle.std.proofs.lemmas.Result.{IfErr-weaker, IfOk-weaker, on_err_weaker}
 use Rattle.std.specs.Option.{option_copied}
-use Rattle.sd_core.specs.declared.span.Span.{Span}
+use Rattle.sd_span.specs.declared.span.Span.{Span}
 use Rattle.sd_core.specs.declared.readback.fault.ReadFault.TheVariants.{BadSpan, VolumeNotOnShelf}
 use Rattle.sd_core.specs.World.{WorldView, shelf_of}
 use Rattle.sd_core.specs.Invariants.{IsWorldView}

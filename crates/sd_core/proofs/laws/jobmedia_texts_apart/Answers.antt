@@ -1,5 +1,0 @@
-use Rattle.sd_core.proofs.JobMediaLemmas.{jobmedia_texts_apart}
-use Rattle.sd_core.proofs.laws.jobmedia_texts_apart.Goals as goal
-
-pub returns : goal.returns
-returns c = jobmedia_texts_apart

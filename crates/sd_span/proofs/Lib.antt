@@ -1,0 +1,2 @@
+pub mod JobMediaLemmas
+pub mod SpanLemmas

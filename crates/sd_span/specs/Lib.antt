@@ -1,0 +1,2 @@
+pub mod JobMedia
+pub mod Spans

@@ -1,0 +1,17 @@
+//! Where the blocks of sessions lie: placements, the spans of a session, and the JobMedia text that says
+//! them.
+#![tactic(auto)]
+
+mod laws;
+mod placement;
+mod progress;
+mod span;
+mod stretches;
+#[cfg(test)]
+mod tests;
+
+pub use laws::{jobmedia_texts_apart, stretches_grow};
+pub use placement::Placement;
+pub use progress::Progress;
+pub use span::{Span, put_jobmedia};
+pub use stretches::{grow, numbered, spans_of};

@@ -1,0 +1,25 @@
+// Spans of placements, by a table, as the text that they print.
+mod table;
+
+use sd_base::SessionKey;
+use std::test::Fail;
+use table::text_of;
+
+#[test]
+fn spans_of_a_table(rt: HostRuntime) -> Result<(), Fail> {
+    let own = text_of(rt.alloc(), SessionKey { time: 7, id: 1 }).ok_or("memory")?;
+    // A volume that comes again is a span of its own, and a block of another session ends none.
+    assert_eq!(rt;
+        own.as_str(),
+        "session 7 1
+span A 1 0 0 82 120
+span B 2 1 3 0 160
+span A 3 3 4 300 4294967767
+"
+    );
+    let other = text_of(rt.alloc(), SessionKey { time: 7, id: 2 }).ok_or("memory")?;
+    assert_eq!(rt; other.as_str(), "session 7 2\nspan B 1 5 5 50 90\n");
+    let none = text_of(rt.alloc(), SessionKey { time: 8, id: 1 }).ok_or("memory")?;
+    assert_eq!(rt; none.as_str(), "session 8 1\n");
+    Ok(())
+}
