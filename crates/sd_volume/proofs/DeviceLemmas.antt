@@ -57,33 +57,12 @@ Counted-as fault fault' no_room no_room' old new to from full_to full_from count
   not_told = λ none. counted.not_told (λ n. none (full_to n));
 }
 
--- no call, or one that counts nothing
-pub Counted-same : (fault no_room : Type 0) (old new : Meaning) → ¬ fault → ¬ no_room → SameCounts old new → Counted fault no_room old new
-Counted-same fault no_room old new no_fault not_full same = record {
-  honest = same.honest;
-  failures = omega (arith, same.failures);
-  failed = λ f. absurd (no_fault f);
-  no_failure = λ none. same.failures;
-  told = λ n. absurd (not_full n);
-  not_told = λ none. same.told;
-}
-
-SameCounts-none : (m : Meaning) → SameCounts m m
-SameCounts-none m = record { honest = refl; failures = refl; told = refl }
-
 -- a call that was answered neither way counted nothing
 pub SameCounts-of : (fault no_room : Type 0) (old new : Meaning) → ¬ fault → ¬ no_room → Counted fault no_room old new → SameCounts old new
 SameCounts-of fault no_room old new no_fault not_full counted = record {
   honest = counted.honest;
   failures = counted.no_failure no_fault;
   told = counted.not_told not_full;
-}
-
-pub SameCounts-trans : (a b c : Meaning) → SameCounts a b → SameCounts b c → SameCounts a c
-SameCounts-trans a b c first then = record {
-  honest = then.honest ∙ first.honest;
-  failures = then.failures ∙ first.failures;
-  told = then.told ∙ first.told;
 }
 
 -- a call behind others that counted nothing
@@ -97,17 +76,6 @@ Counted-behind fault no_room a b c first then = record {
   not_told = λ none. then.not_told none ∙ first.told;
 }
 
--- and before others that counted nothing
-pub Counted-before : (fault no_room : Type 0) (a b c : Meaning) → Counted fault no_room a b → SameCounts b c → Counted fault no_room a c
-Counted-before fault no_room a b c first then = record {
-  honest = then.honest ∙ first.honest;
-  failures = omega (arith, first.failures, then.failures);
-  failed = λ f. subst (λ n. Rose a.failures n) (sym then.failures) (first.failed f);
-  no_failure = λ none. then.failures ∙ first.no_failure none;
-  told = λ n. subst (λ t. Rose a.told t) (sym then.told) (first.told n);
-  not_told = λ none. then.told ∙ first.not_told none;
-}
-
 -- Reading.
 
 -- one call that reads
@@ -119,14 +87,6 @@ only_reads_call result old new counts room passes stable loaded same = record {
   loaded = loaded;
   lasts = still_lasts old.shelf new.shelf passes stable;
   same = same;
-}
-
-pub OnlyReads-none : (fault : Type 0) (m : Meaning) → ¬ fault → OnlyReads fault m m
-OnlyReads-none fault m none = record {
-  counted = Counted-same fault ⊥ m m none (λ n. n) (SameCounts-none m);
-  loaded = refl;
-  lasts = λ since name bytes lasts. lasts;
-  same = λ honest name. refl;
 }
 
 pub OnlyReads-as : (fault fault' : Type 0) (old new : Meaning) → (fault → fault') → (fault' → fault) → OnlyReads fault old new → OnlyReads fault' old new
@@ -162,9 +122,6 @@ writes_of more loaded still a b c same appends syncs = record {
       );
   others = λ name other. syncs.others name (λ e. other (sym same ∙ e)) ∙ appends.others name other;
 }
-
-pub others_of_append : (loaded still : Option (List ℕ)) (a b c : Shelf) → still ≡ loaded → OthersStay loaded a b → OthersStay still b c → OthersStay loaded a c
-others_of_append loaded still a b c same one two = λ name other. two name (λ e. other (sym same ∙ e)) ∙ one name other
 
 -- a new volume, written and unloaded
 pub stores_of : (name bytes : List ℕ) (loaded : Option (List ℕ)) (a b c d : Shelf) → loaded ≡ Some name → Creates name a b → Writes bytes loaded b c → SameShelf c d → Passes c d

@@ -63,13 +63,6 @@ label_block-least label = omega (arith, length-label_block label, length-volume_
 IsImage-of : (image : List ℕ) (key : SessionKey) (number : ℕ) (body : List ℕ) → IsBlockImage most_block image key number body → IsImage most_block image
 IsImage-of image key number body is = record { key = key; number = number; body = body; block = is }
 
-never_nil : (key : SessionKey) (number : ℕ) (body rest : List ℕ) → block_image key number body ++ rest ≡ [] → ⊥
-never_nil key number body rest e =
-    let none : block_image key number body ≡ [] = front_nil (block_image key number body) rest e in
-    let long = length-block_image key number body in
-    let zero : length (block_image key number body) ≡ 0 = ap length none in
-    absurd (omega arith)
-
 -- Blocks behind blocks.
 
 -- the number behind one block and n more
@@ -88,21 +81,9 @@ AreImages-append number [] cs front back = subst (λ n. AreImages n cs) (add-zer
 AreImages-append number (b ∷ bs) cs front back =
     (front.0, AreImages-append (number + 1) bs cs front.1 (subst (λ n. AreImages n cs) (sym (suc_number number (length bs))) back))
 
-pub AreImages-front : (number : ℕ) (bs cs : List Block) → AreImages number (bs ++ cs) → AreImages number bs
-AreImages-front number [] cs are = tt
-AreImages-front number (b ∷ bs) cs are = (are.0, AreImages-front (number + 1) bs cs are.1)
-
 pub AreImages-behind : (number : ℕ) (bs cs : List Block) → AreImages number (bs ++ cs) → AreImages (number + length bs) cs
 AreImages-behind number [] cs are = subst (λ n. AreImages n cs) (sym (add-zero number)) are
 AreImages-behind number (b ∷ bs) cs are = subst (λ n. AreImages n cs) (suc_number number (length bs)) (AreImages-behind (number + 1) bs cs are.1)
-
--- each block has the bytes of the least one at least
-pub images-least : (number : ℕ) (bs : List Block) → AreImages number bs → length bs * 36 ≤ length (images number bs)
-images-least number [] are = omega arith
-images-least number (b ∷ bs) are =
-    let later = images-least (number + 1) bs are.1 in
-    let least = are.0.least in
-    omega (arith, length-append (block_image b.key number b.body) (images (number + 1) bs), length-block_image b.key number b.body)
 
 -- Images that stand at one place.
 
@@ -215,12 +196,6 @@ one_whole_image bytes label other blocks others tail rest is is' =
     let tail_is : tail ≡ rest = on.rest_is ∙ ap (λ l. images (1 + length blocks) l ++ rest) none in
     let blocks_are : blocks ≡ others = sym (on.all_are ∙ ap (λ l. blocks ++ l) none ∙ append-nil blocks) in
     (to.label_is, blocks_are, tail_is)
-
--- what stands where the blocks end
-pub tail_there : (bytes : List ℕ) (label : VolumeLabel) (blocks : List Block) (tail : List ℕ) → VolumeImage bytes label blocks tail
-    → drop (volume_end label blocks) bytes ≡ tail
-tail_there bytes label blocks tail is =
-    ap (drop (volume_end label blocks)) is.bytes_are ∙ drop_at (label_and_blocks label blocks) tail (volume_end label blocks) refl
 
 pub bytes_before : (bytes : List ℕ) (label : VolumeLabel) (blocks : List Block) (tail : List ℕ) → VolumeImage bytes label blocks tail
     → take (volume_end label blocks) bytes ≡ label_and_blocks label blocks

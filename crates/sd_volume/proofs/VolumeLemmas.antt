@@ -76,9 +76,9 @@ blocks_kept v status old new loaded label blocks tail is other appends stands =
     )
 
 -- the same bytes are the same volume
-pub stands_by_its_bytes : (v : VolumeView) (old new : Shelf) (label : VolumeLabel) (blocks : List Block) (tail : List ℕ) (held after : Held) → StandsOn v old label blocks tail
+pub stands_by_its_bytes : (v : VolumeView) (old new : Shelf) (held after : Held) (label : VolumeLabel) (blocks : List Block) (tail : List ℕ) → StandsOn v old label blocks tail
     → old.volume v.name ≡ Some held → new.volume v.name ≡ Some after → after.bytes ≡ held.bytes → StandsOn v new label blocks tail
-stands_by_its_bytes v old new label blocks tail held after stands there here same =
+stands_by_its_bytes v old new held after label blocks tail stands there here same =
     let one : stands.held ≡ held = some_is (sym stands.there ∙ there) in
     record {
       held = after;

@@ -37,13 +37,15 @@ pub record HasBlockOfThisRun (start : ℕ) (bytes : List ℕ) (label : VolumeLab
 abbrev pub IsDue : AdoptFault → List ℕ → List ℕ → ℕ → Shelf → Type 0
 IsDue NotOnShelf name media start shelf = shelf.volume name ≡ None
 IsDue NotOurVolume name media start shelf =
-    (held : Held) × (shelf.volume name ≡ Some held) × ((label : VolumeLabel) → ¬ IsVolumeOf name held.bytes label)
+    (held : Held) × (shelf.volume name ≡ Some held)
+    × ((label : VolumeLabel) → ¬ IsVolumeOf name held.bytes label)
 IsDue OtherMedia name media start shelf =
     (held : Held) × (shelf.volume name ≡ Some held)
     × ((label : VolumeLabel) × IsVolumeOf name held.bytes label × (label.media ≢ media))
 IsDue BlocksOfThisRun name media start shelf =
     (held : Held) × (shelf.volume name ≡ Some held)
-    × ((label : VolumeLabel) × IsVolumeOf name held.bytes label × (label.media ≡ media) × HasBlockOfThisRun start held.bytes label)
+    × ((label : VolumeLabel) × IsVolumeOf name held.bytes label
+    × (label.media ≡ media) × HasBlockOfThisRun start held.bytes label)
 IsDue Device name media start shelf = ⊥
 IsDue Memory name media start shelf = ⊥
 
@@ -80,14 +82,17 @@ status_at limit end = if nat_le limit end then Full else Append
 -- the bytes of the volume up to a place are as they were, whatever stands behind, and so are all other volumes
 pub record KeepsUpTo (to : ℕ) (name : List ℕ) (old new : Shelf) : Type 0 where
   pub here : (held : Held) → old.volume name ≡ Some held
-      → (after : Held) × (new.volume name ≡ Some after) × BeginsWith after.bytes (take to held.bytes)
+      → (after : Held) × (new.volume name ≡ Some after)
+      × BeginsWith after.bytes (take to held.bytes)
   pub others : (other : List ℕ) → other ≢ name → new.volume other ≡ old.volume other
 
 -- a volume was cut at a place, and all of what is left lasts from now on; all others stay
 pub record CutsAt (to : ℕ) (name : List ℕ) (old new : Shelf) : Type 0 where
   pub here : (held : Held) → old.volume name ≡ Some held
-      → new.volume name ≡ Some (record { bytes = take to held.bytes; stable = length (take to held.bytes) })
-  pub lasts : (held : Held) → old.volume name ≡ Some held → Lasts new.moment name (take to held.bytes) new
+      → new.volume name
+      ≡ Some (record { bytes = take to held.bytes; stable = length (take to held.bytes) })
+  pub lasts : (held : Held) → old.volume name ≡ Some held
+      → Lasts new.moment name (take to held.bytes) new
   pub others : (other : List ℕ) → other ≢ name → new.volume other ≡ old.volume other
 
 -- the blocks that stand in order behind the label, all of earlier runs, up to a place where the next number is due
@@ -101,7 +106,8 @@ pub record GoesUpTo (start : ℕ) (bytes : List ℕ) (label : VolumeLabel) (end 
 -- at that place stands the block with this head and that number
 abbrev pub StandsAt : ℕ → ℕ → List ℕ → Head → Type 0
 StandsAt at number bytes head =
-    (body : List ℕ) × BeginsWithBlock (drop at bytes) head.key number body × (head.size ≡ block_header + length body)
+    (body : List ℕ) × BeginsWithBlock (drop at bytes) head.key number body
+    × (head.size ≡ block_header + length body)
 
 -- the block is the label block of what was read from it, under that name
 pub record IsLabelled (name block : List ℕ) (found : Labelled) : Type 0 where

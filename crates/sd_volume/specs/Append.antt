@@ -35,5 +35,6 @@ AddsBlock block before old after new =
 -- whatever volume stood there, its label and blocks stand there still, and perhaps a tail behind them
 abbrev pub KeepsBlocks : VolumeView → Shelf → VolumeView → Shelf → Type 0
 KeepsBlocks before old after new =
-    (label : VolumeLabel) (blocks : List Block) (tail : List ℕ) → StandsOn before old label blocks tail
+    (label : VolumeLabel) (blocks : List Block) (tail : List ℕ)
+    → StandsOn before old label blocks tail
     → (rest : List ℕ) × StandsOn after new label blocks rest

@@ -24,7 +24,8 @@ pub record OnlyReads (fault : Type 0) (old new : Meaning) : Type 0 where
 
 -- these bytes at the end of the loaded volume, all of which is stable now
 abbrev pub Writes : List ℕ → Option (List ℕ) → Shelf → Shelf → Type 0
-Writes more = Changes (λ held after. after ≡ record { bytes = held.bytes ++ more; stable = length (held.bytes ++ more) })
+Writes more = Changes
+    (λ held after. after ≡ record { bytes = held.bytes ++ more; stable = length (held.bytes ++ more) })
 
 -- every volume but the loaded one is as it was
 abbrev pub OthersStay : Option (List ℕ) → Shelf → Shelf → Type 0
@@ -32,7 +33,8 @@ OthersStay loaded old new = (name : List ℕ) → loaded ≢ Some name → new.v
 
 -- the loaded volume was cut at a place, and all of what is left is stable
 abbrev pub CutsLoaded : ℕ → Option (List ℕ) → Shelf → Shelf → Type 0
-CutsLoaded to = Changes (λ held after. after ≡ record { bytes = take to held.bytes; stable = length (take to held.bytes) })
+CutsLoaded to = Changes
+    (λ held after. after ≡ record { bytes = take to held.bytes; stable = length (take to held.bytes) })
 
 -- the bytes of the loaded volume up to a place are as they were, whatever stands behind
 abbrev pub KeepsLoaded : ℕ → Option (List ℕ) → Shelf → Shelf → Type 0

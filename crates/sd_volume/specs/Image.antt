@@ -20,16 +20,19 @@ images number (b ∷ bs) = block_image b.key number b.body ++ images (number + 1
 abbrev pub AreImages : ℕ → List Block → Type 0
 AreImages number [] = Unit {0}
 AreImages number (b ∷ bs) =
-    IsBlockImage most_block (block_image b.key number b.body) b.key number b.body × AreImages (number + 1) bs
+    IsBlockImage most_block (block_image b.key number b.body) b.key number b.body
+    × AreImages (number + 1) bs
 
 -- the bytes begin with the image of this block
 abbrev pub BeginsWithBlock : List ℕ → SessionKey → ℕ → List ℕ → Type 0
-BeginsWithBlock bytes key number body = IsBlockImage most_block (take (block_header + length body) bytes) key number body
+BeginsWithBlock bytes key number body =
+    IsBlockImage most_block (take (block_header + length body) bytes) key number body
 
 -- the bytes begin with no image of a block with this number; they may begin with anything else, also with
 -- most of such a block
 abbrev pub NoBlockNext : ℕ → List ℕ → Type 0
-NoBlockNext number bytes = (key : SessionKey) (body : List ℕ) → ¬ BeginsWithBlock bytes key number body
+NoBlockNext number bytes =
+    (key : SessionKey) (body : List ℕ) → ¬ BeginsWithBlock bytes key number body
 
 -- a label block is of no session: the session's number and time are 0
 abbrev pub no_session : SessionKey
@@ -44,7 +47,8 @@ abbrev pub label_and_blocks : VolumeLabel → List Block → List ℕ
 label_and_blocks label blocks = label_block label ++ images 1 blocks
 
 -- The bytes of a volume are its label block, then these blocks, numbered 1, 2, .., then a tail of any bytes.
-pub record VolumeImage (bytes : List ℕ) (label : VolumeLabel) (blocks : List Block) (tail : List ℕ) : Type 0 where
+pub record VolumeImage (bytes : List ℕ)
+    (label : VolumeLabel) (blocks : List Block) (tail : List ℕ) : Type 0 where
   pub label_is : IsVolumeLabel label
   pub blocks_are : AreImages 1 blocks
   pub bytes_are : bytes ≡ label_and_blocks label blocks ++ tail
@@ -55,6 +59,7 @@ volume_end label blocks = length (label_and_blocks label blocks)
 
 -- These are all the blocks: where they end stands no image of a block with the next number. So `volume_end` of
 -- them is the end of the volume.
-pub record WholeImage (bytes : List ℕ) (label : VolumeLabel) (blocks : List Block) (tail : List ℕ) : Type 0 where
+pub record WholeImage (bytes : List ℕ)
+    (label : VolumeLabel) (blocks : List Block) (tail : List ℕ) : Type 0 where
   pub image : VolumeImage bytes label blocks tail
   pub ended : NoBlockNext (1 + length blocks) tail

@@ -9,7 +9,15 @@ use Rattle.sd_volume.specs.Volume.{VolumeView, StandsOn}
 -- a volume that has just been labelled
 abbrev pub new_volume : VolumeLabel → VolumeView
 new_volume label =
-    record { name = label.name; pool = label.pool; media = label.media; status = Append; end = length (label_block label); next_number = 1; first = length (label_block label) }
+    record {
+      name = label.name;
+      pool = label.pool;
+      media = label.media;
+      status = Append;
+      end = length (label_block label);
+      next_number = 1;
+      first = length (label_block label);
+    }
 
 -- a volume of these bytes under a name that the shelf lacked, which lasts from now on; all others stay
 pub record Stores (name bytes : List ℕ) (old new : Shelf) : Type 0 where

@@ -41,14 +41,17 @@ OneBlockMore =
 -- the image of each block stands where those before it end
 abbrev pub PlacedBlockStands : Type 0
 PlacedBlockStands =
-    (bytes : List ℕ) (label : VolumeLabel) (before after : List Block) (block : Block) (tail : List ℕ)
+    (bytes : List ℕ) (label : VolumeLabel)
+    (before after : List Block) (block : Block) (tail : List ℕ)
     → VolumeImage bytes label (before ++ block ∷ after) tail
-    → BeginsWithBlock (drop (volume_end label before) bytes) block.key (1 + length before) block.body
+    → BeginsWithBlock (drop (volume_end label before) bytes)
+    block.key (1 + length before) block.body
 
 -- what is known of a volume stays so where its bytes stay, whatever else changes on the shelf
 abbrev pub StandsByItsBytes : Type 0
 StandsByItsBytes =
-    (v : VolumeView) (old new : Shelf) (label : VolumeLabel) (blocks : List Block) (tail : List ℕ) (held after : Held)
+    (v : VolumeView) (old new : Shelf) (held after : Held)
+    (label : VolumeLabel) (blocks : List Block) (tail : List ℕ)
     → StandsOn v old label blocks tail
     → old.volume v.name ≡ Some held
     → new.volume v.name ≡ Some after

@@ -17,11 +17,15 @@ pub record ReaderView : Type 0 where
 
 -- what it holds is what stands at its place of the volume, where there is such a volume
 abbrev pub Shows : ReaderView → Shelf → Type 0
-Shows reader shelf = (held : Held) → shelf.volume reader.name ≡ Some held → BeginsWith (drop reader.from held.bytes) reader.bytes
+Shows reader shelf =
+    (held : Held) → shelf.volume reader.name ≡ Some held
+    → BeginsWith (drop reader.from held.bytes) reader.bytes
 
 -- it shows the bytes from `at` on, so many of them, or as many as there are before the volume's end
 abbrev pub ShowsPart : ℕ → ℕ → ReaderView → Shelf → Type 0
-ShowsPart at count reader shelf = (held : Held) → shelf.volume reader.name ≡ Some held → reader.shown ≡ take count (drop at held.bytes)
+ShowsPart at count reader shelf =
+    (held : Held) → shelf.volume reader.name ≡ Some held
+    → reader.shown ≡ take count (drop at held.bytes)
 
 -- it holds these bytes of the volume already
 abbrev pub HoldsPart : ℕ → ℕ → ReaderView → Type 0
@@ -29,7 +33,9 @@ HoldsPart at count reader = (reader.from ≤ at) × (at + count ≤ reader.from 
 
 -- it holds the bytes from `at` on, as many as it has room for, or as many as there are before the volume's end
 abbrev pub HoldsFrom : ℕ → ReaderView → Shelf → Type 0
-HoldsFrom at reader shelf = (held : Held) → shelf.volume reader.name ≡ Some held → reader.bytes ≡ take most_block (drop at held.bytes)
+HoldsFrom at reader shelf =
+    (held : Held) → shelf.volume reader.name ≡ Some held
+    → reader.bytes ≡ take most_block (drop at held.bytes)
 
 -- the bytes are a block with this head, all of them
 pub record IsBlockOf (bytes : List ℕ) (head : Head) : Type 0 where
@@ -39,8 +45,10 @@ pub record IsBlockOf (bytes : List ℕ) (head : Head) : Type 0 where
 
 -- no whole block stands at that place of the volume, whatever its number
 abbrev pub NoBlockAt : ℕ → List ℕ → Shelf → Type 0
-NoBlockAt at name shelf = (held : Held) → shelf.volume name ≡ Some held
-    → (key : SessionKey) (number : ℕ) (body : List ℕ) → ¬ BeginsWithBlock (drop at held.bytes) key number body
+NoBlockAt at name shelf =
+    (held : Held) → shelf.volume name ≡ Some held
+    → (key : SessionKey) (number : ℕ) (body : List ℕ)
+    → ¬ BeginsWithBlock (drop at held.bytes) key number body
 
 -- a buffer of one block's greatest length, of which the first `held` bytes are the volume's, and those that are
 -- shown are among them

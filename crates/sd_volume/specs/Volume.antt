@@ -29,7 +29,8 @@ pub record IsVolumeView (v : VolumeView) : Type 0 where
 -- On the shelf stands a volume of this name with this label, these blocks and this tail, and what is known of it
 -- is so. The blocks may be of earlier runs too. While it takes blocks there is no tail; after an append that
 -- failed there may be one, of any bytes.
-pub record StandsOn (v : VolumeView) (shelf : Shelf) (label : VolumeLabel) (blocks : List Block) (tail : List ℕ) : Type 0 where
+pub record StandsOn (v : VolumeView) (shelf : Shelf)
+    (label : VolumeLabel) (blocks : List Block) (tail : List ℕ) : Type 0 where
   pub held : Held
   pub there : shelf.volume v.name ≡ Some held
   pub image : VolumeImage held.bytes label blocks tail

@@ -20,7 +20,7 @@ use std::alloc::Global;
 
 /// Takes over the volume of that name, which is to be of that media type: reads its label and its blocks one
 /// after another up to the first place where no whole block with the next number stands, cuts it there, and
-/// makes it last. All its blocks are to be of runs before the one that began at `start`. It is full where it
+/// makes it last. All its blocks are to be of runs before the one that began at `start_time`. It is full where it
 /// ends at `limit` or past it.
 ///
 /// Calls len once, then reads, each byte once; then load, cut, sync and unload, in this order. Holds one buffer
@@ -30,44 +30,51 @@ pub fn adopt<D: Driver>(
     driver: &mut D,
     name: &VolName,
     media: &MediaName,
-    start: u32,
+    start_time: u32,
     limit: u64,
 ) -> Result<Volume, AdoptFault>
     requires { (D.meaning driver.old).loaded ≡ None }
     ensures unloaded { (D.meaning driver.new).loaded ≡ None }
-    ensures counted { Counted (IsErrOf result AdoptFault.Device) ⊥ (D.meaning driver.old) (D.meaning driver.new) }
+    ensures counted { Counted (IsErrOf result AdoptFault.Device) ⊥
+        (D.meaning driver.old) (D.meaning driver.new) }
     ensures name { IfOk result (λ volume. volume.name ≡ name.now) }
     ensures media { IfOk result (λ volume. volume.media ≡ media.now) }
     ensures status { IfOk result (λ volume. volume.status ≡ status_at limit volume.end) }
-    ensures lasts_below { IfOk result (λ volume.
-        StillLastsBelow volume.end name.now (D.meaning driver.old).shelf (D.meaning driver.new).shelf) }
-    ensures others_last { StillLastsBelow 0 name.now (D.meaning driver.old).shelf (D.meaning driver.new).shelf }
+    ensures lasts_below { IfOk result (λ volume. StillLastsBelow volume.end name.now
+        (D.meaning driver.old).shelf (D.meaning driver.new).shelf) }
+    ensures others_last { StillLastsBelow 0 name.now
+        (D.meaning driver.old).shelf (D.meaning driver.new).shelf }
     ensures refused_last { IfErr result (λ fault. fault ≢ AdoptFault.Device
         → StillLasts (D.meaning driver.old).shelf (D.meaning driver.new).shelf) }
 
-    ensures adopts { IsHonest (D.meaning driver.old) → IfOk result (λ volume.
-        Adopts name.now media.now start volume (D.meaning driver.old).shelf (D.meaning driver.new).shelf) }
+    ensures adopts { IsHonest (D.meaning driver.old)
+        → IfOk result (λ volume. Adopts name.now media.now start_time volume
+        (D.meaning driver.old).shelf (D.meaning driver.new).shelf) }
     ensures due { IsHonest (D.meaning driver.old) → IfErr result (λ fault.
         fault ≢ AdoptFault.Device → fault ≢ AdoptFault.Memory
-        → IsDue fault name.now media.now start (D.meaning driver.old).shelf) }
+        → IsDue fault name.now media.now start_time (D.meaning driver.old).shelf) }
     ensures refuses { IsHonest (D.meaning driver.old) → (fault : SpecFault)
-        → IsDue fault name.now media.now start (D.meaning driver.old).shelf
+        → IsDue fault name.now media.now start_time (D.meaning driver.old).shelf
         → IsErrAnd result (λ answer.
         (answer ≡ fault) ⊎ (answer ≡ AdoptFault.Device) ⊎ (answer ≡ AdoptFault.Memory)) }
-    ensures same { IsHonest (D.meaning driver.old) → IfErr result (λ fault. fault ≢ AdoptFault.Device
+    ensures same { IsHonest (D.meaning driver.old)
+        → IfErr result (λ fault. fault ≢ AdoptFault.Device
         → SameShelf (D.meaning driver.old).shelf (D.meaning driver.new).shelf) }
     ensures keeps { IsHonest (D.meaning driver.old)
         → (held : Held) → (D.meaning driver.old).shelf.volume name.now ≡ Some held
-        → (label : SpecLabel) (blocks : List Block) (tail : List ℕ) → VolumeImage held.bytes label blocks tail
-        → KeepsUpTo (volume_end label blocks) name.now (D.meaning driver.old).shelf (D.meaning driver.new).shelf }
+        → (label : SpecLabel) (blocks : List Block) (tail : List ℕ)
+        → VolumeImage held.bytes label blocks tail
+        → KeepsUpTo (volume_end label blocks) name.now
+        (D.meaning driver.old).shelf (D.meaning driver.new).shelf }
     ensures lasts { IsHonest (D.meaning driver.old)
         → (held : Held) → (D.meaning driver.old).shelf.volume name.now ≡ Some held
-        → (label : SpecLabel) (blocks : List Block) (tail : List ℕ) → VolumeImage held.bytes label blocks tail
+        → (label : SpecLabel) (blocks : List Block) (tail : List ℕ)
+        → VolumeImage held.bytes label blocks tail
         → StillLastsBelow (volume_end label blocks) name.now
         (D.meaning driver.old).shelf (D.meaning driver.new).shelf }
 {
     let mut reader = VolumeReader::new(alloc, name)?;
-    let volume = survey(driver, &mut reader, name, media, start, limit)?;
+    let volume = survey(driver, &mut reader, name, media, start_time, limit)?;
     cut_back(driver, name, volume.end)?;
     Ok(volume)
 }
@@ -78,7 +85,7 @@ fn survey<D: Driver>(
     reader: &mut VolumeReader,
     name: &VolName,
     media: &MediaName,
-    start: u32,
+    start_time: u32,
     limit: u64,
 ) -> Result<Volume, AdoptFault>
     requires { reader.old.name ≡ name.now }
@@ -89,17 +96,18 @@ fn survey<D: Driver>(
     ensures status { IfOk result (λ volume. volume.status ≡ status_at limit volume.end) }
 
     ensures found { IsHonest (D.meaning driver.old) → Shows reader.old (D.meaning driver.old).shelf
-        → IfOk result (λ volume. (held : Held) × ((D.meaning driver.old).shelf.volume name.now ≡ Some held)
-        × IsAdoptable name.now media.now start held.bytes volume) }
+        → IfOk result (λ volume. (held : Held)
+        × ((D.meaning driver.old).shelf.volume name.now ≡ Some held)
+        × IsAdoptable name.now media.now start_time held.bytes volume) }
     ensures due { IsHonest (D.meaning driver.old) → Shows reader.old (D.meaning driver.old).shelf
         → IfErr result (λ fault. fault ≢ AdoptFault.Device → fault ≢ AdoptFault.Memory
-        → IsDue fault name.now media.now start (D.meaning driver.old).shelf) }
+        → IsDue fault name.now media.now start_time (D.meaning driver.old).shelf) }
 {
     let size = driver.len(name)?;
     if size > MOST_VOLUME {
         return Err(AdoptFault::NotOurVolume);
     }
-    find_volume(driver, reader, name, media, start, limit, size)
+    find_volume(driver, reader, name, media, start_time, limit, size)
 }
 
 // What stands under the reader's name, which has that size, as it will be known once it is cut.
@@ -108,7 +116,7 @@ fn find_volume<D: Driver>(
     reader: &mut VolumeReader,
     name: &VolName,
     media: &MediaName,
-    start: u32,
+    start_time: u32,
     limit: u64,
     size: u64,
 ) -> Result<Volume, AdoptFault>
@@ -121,18 +129,20 @@ fn find_volume<D: Driver>(
     ensures status { IfOk result (λ volume. volume.status ≡ status_at limit volume.end) }
 
     ensures found { IsHonest (D.meaning driver.old) → Shows reader.old (D.meaning driver.old).shelf
-        → (held : Held) → (D.meaning driver.old).shelf.volume name.now ≡ Some held → size ≡ length held.bytes
-        → IfOk result (IsAdoptable name.now media.now start held.bytes) }
+        → (held : Held) → (D.meaning driver.old).shelf.volume name.now ≡ Some held
+        → size ≡ length held.bytes
+        → IfOk result (IsAdoptable name.now media.now start_time held.bytes) }
     ensures due { IsHonest (D.meaning driver.old) → Shows reader.old (D.meaning driver.old).shelf
-        → (held : Held) → (D.meaning driver.old).shelf.volume name.now ≡ Some held → size ≡ length held.bytes
+        → (held : Held) → (D.meaning driver.old).shelf.volume name.now ≡ Some held
+        → size ≡ length held.bytes
         → IfErr result (λ fault. fault ≢ AdoptFault.Device → fault ≢ AdoptFault.Memory
-        → IsDue fault name.now media.now start (D.meaning driver.old).shelf) }
+        → IsDue fault name.now media.now start_time (D.meaning driver.old).shelf) }
 {
     let found = read_label(driver, reader, name, size)?;
     if !found.label.media.is_same(media) {
         return Err(AdoptFault::OtherMedia);
     }
-    let end = find_end(driver, reader, found.first, size, start)?;
+    let end = find_end(driver, reader, found.first, size, start_time)?;
     Ok(Volume {
         name: name.copy(),
         pool: found.label.pool.copy(),
@@ -159,10 +169,12 @@ fn status_at(limit: u64, end: u64) -> VolumeStatus
 fn cut_back<D: Driver>(driver: &mut D, name: &VolName, to: u64) -> Result<(), AdoptFault>
     requires { (D.meaning driver.old).loaded ≡ None }
     ensures unloaded { (D.meaning driver.new).loaded ≡ None }
-    ensures counted { Counted (IsErrOf result AdoptFault.Device) ⊥ (D.meaning driver.old) (D.meaning driver.new) }
+    ensures counted { Counted (IsErrOf result AdoptFault.Device) ⊥
+        (D.meaning driver.old) (D.meaning driver.new) }
     ensures faults { IfErr result (λ fault. (fault ≡ AdoptFault.NotOnShelf)
         ⊎ (fault ≡ AdoptFault.Device) ⊎ (fault ≡ AdoptFault.Memory)) }
-    ensures lasts_below { StillLastsBelow to name.now (D.meaning driver.old).shelf (D.meaning driver.new).shelf }
+    ensures lasts_below { StillLastsBelow to name.now
+        (D.meaning driver.old).shelf (D.meaning driver.new).shelf }
     ensures refused_last { IfErr result (λ fault. fault ≢ AdoptFault.Device
         → StillLasts (D.meaning driver.old).shelf (D.meaning driver.new).shelf) }
 
@@ -170,7 +182,8 @@ fn cut_back<D: Driver>(driver: &mut D, name: &VolName, to: u64) -> Result<(), Ad
         (CutsAt to name.now (D.meaning driver.old).shelf (D.meaning driver.new).shelf) }
     ensures keeps { IsHonest (D.meaning driver.old)
         → KeepsUpTo to name.now (D.meaning driver.old).shelf (D.meaning driver.new).shelf }
-    ensures same { IsHonest (D.meaning driver.old) → IfErr result (λ fault. fault ≢ AdoptFault.Device
+    ensures same { IsHonest (D.meaning driver.old)
+        → IfErr result (λ fault. fault ≢ AdoptFault.Device
         → SameShelf (D.meaning driver.old).shelf (D.meaning driver.new).shelf) }
     ensures not_there { IsHonest (D.meaning driver.old) → IsErrOf result AdoptFault.NotOnShelf
         → (D.meaning driver.old).shelf.volume name.now ≡ None }
@@ -185,8 +198,10 @@ fn cut_back<D: Driver>(driver: &mut D, name: &VolName, to: u64) -> Result<(), Ad
 fn cut_loaded<D: Driver>(driver: &mut D, to: u64) -> Result<(), AdoptFault>
     requires { IsSome (D.meaning driver.old).loaded }
     ensures loaded { (D.meaning driver.new).loaded ≡ (D.meaning driver.old).loaded }
-    ensures counted { Counted (IsErrOf result AdoptFault.Device) ⊥ (D.meaning driver.old) (D.meaning driver.new) }
-    ensures faults { IfErr result (λ fault. (fault ≡ AdoptFault.Device) ⊎ (fault ≡ AdoptFault.Memory)) }
+    ensures counted { Counted (IsErrOf result AdoptFault.Device) ⊥
+        (D.meaning driver.old) (D.meaning driver.new) }
+    ensures faults { IfErr result
+        (λ fault. (fault ≡ AdoptFault.Device) ⊎ (fault ≡ AdoptFault.Memory)) }
     ensures lasts_below { (volume : List ℕ) → (D.meaning driver.old).loaded ≡ Some volume
         → StillLastsBelow to volume (D.meaning driver.old).shelf (D.meaning driver.new).shelf }
     ensures refused_last { IfErr result (λ fault. fault ≢ AdoptFault.Device
@@ -196,7 +211,8 @@ fn cut_loaded<D: Driver>(driver: &mut D, to: u64) -> Result<(), AdoptFault>
         (D.meaning driver.old).loaded (D.meaning driver.old).shelf (D.meaning driver.new).shelf) }
     ensures keeps { IsHonest (D.meaning driver.old) → KeepsLoaded to
         (D.meaning driver.old).loaded (D.meaning driver.old).shelf (D.meaning driver.new).shelf }
-    ensures same { IsHonest (D.meaning driver.old) → IfErr result (λ fault. fault ≢ AdoptFault.Device
+    ensures same { IsHonest (D.meaning driver.old)
+        → IfErr result (λ fault. fault ≢ AdoptFault.Device
         → SameShelf (D.meaning driver.old).shelf (D.meaning driver.new).shelf) }
 {
     driver.cut(to)?;

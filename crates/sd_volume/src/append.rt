@@ -64,8 +64,8 @@ pub fn append_block<D: Driver>(
     ensures adds { IsHonest (D.meaning driver.old) → IfPlaced result (λ _ _.
         AddsBlock (record { key = key; body = body.now })
         volume.old (D.meaning driver.old).shelf volume.new (D.meaning driver.new).shelf) }
-    ensures keeps { IsHonest (D.meaning driver.old) → IfNotPlaced result
-        (KeepsBlocks volume.old (D.meaning driver.old).shelf volume.new (D.meaning driver.new).shelf) }
+    ensures keeps { IsHonest (D.meaning driver.old) → IfNotPlaced result (KeepsBlocks
+        volume.old (D.meaning driver.old).shelf volume.new (D.meaning driver.new).shelf) }
     ensures others { IsHonest (D.meaning driver.old) → (other : List ℕ) → other ≢ volume.old.name
         → (D.meaning driver.new).shelf.volume other ≡ (D.meaning driver.old).shelf.volume other }
 {

@@ -22,14 +22,16 @@ pub fn next_block<D: Driver>(
     ensures name { reader.new.name ≡ reader.old.name }
     ensures device { OnlyReads (IsErrOf result DriverFault.Device)
         (D.meaning driver.old) (D.meaning driver.new) }
-    ensures faults { IfErr result (λ fault. (fault ≢ DriverFault.Exists) × (fault ≢ DriverFault.NoRoom)) }
+    ensures faults { IfErr result
+        (λ fault. (fault ≢ DriverFault.Exists) × (fault ≢ DriverFault.NoRoom)) }
     ensures block { IfOk result (λ found. IfSome found (IsBlockOf reader.new.shown)) }
 
     ensures there { IsHonest (D.meaning driver.old) → Shows reader.old (D.meaning driver.old).shelf
         → IfOk result (λ found. IfSome found
         (λ head. ShowsPart at head.size reader.new (D.meaning driver.new).shelf)) }
     ensures none { IsHonest (D.meaning driver.old) → Shows reader.old (D.meaning driver.old).shelf
-        → IfOk result (λ found. IfNone found (NoBlockAt at reader.old.name (D.meaning driver.old).shelf)) }
+        → IfOk result (λ found. IfNone found
+        (NoBlockAt at reader.old.name (D.meaning driver.old).shelf)) }
     ensures shows { IsHonest (D.meaning driver.old) → Shows reader.old (D.meaning driver.old).shelf
         → Shows reader.new (D.meaning driver.new).shelf }
     ensures not_there { IsHonest (D.meaning driver.old) → IsErrOf result DriverFault.NotThere

@@ -72,11 +72,14 @@ impl VolumeReader {
         ensures most { OnOk result (length self.new.shown ≤ count) }
         ensures device { OnlyReads (IsErrOf result DriverFault.Device)
             (D.meaning driver.old) (D.meaning driver.new) }
-        ensures faults { IfErr result (λ fault. (fault ≢ DriverFault.Exists) × (fault ≢ DriverFault.NoRoom)) }
+        ensures faults { IfErr result
+            (λ fault. (fault ≢ DriverFault.Exists) × (fault ≢ DriverFault.NoRoom)) }
 
-        ensures shown { IsHonest (D.meaning driver.old) → Shows self.old (D.meaning driver.old).shelf
+        ensures shown { IsHonest (D.meaning driver.old)
+            → Shows self.old (D.meaning driver.old).shelf
             → OnOk result (ShowsPart at count self.new (D.meaning driver.new).shelf) }
-        ensures shows { IsHonest (D.meaning driver.old) → Shows self.old (D.meaning driver.old).shelf
+        ensures shows { IsHonest (D.meaning driver.old)
+            → Shows self.old (D.meaning driver.old).shelf
             → Shows self.new (D.meaning driver.new).shelf }
         ensures not_there { IsHonest (D.meaning driver.old) → IsErrOf result DriverFault.NotThere
             → (D.meaning driver.old).shelf.volume self.old.name ≡ None }
@@ -84,7 +87,8 @@ impl VolumeReader {
         // What it holds is not read again, and what is read fills the buffer.
         ensures held { HoldsPart at count self.old
             → IsOk result × Unchanged (D.meaning driver.old) (D.meaning driver.new) }
-        ensures read { IsHonest (D.meaning driver.old) → Shows self.old (D.meaning driver.old).shelf
+        ensures read { IsHonest (D.meaning driver.old)
+            → Shows self.old (D.meaning driver.old).shelf
             → ¬ HoldsPart at count self.old
             → OnOk result (HoldsFrom at self.new (D.meaning driver.new).shelf) }
     {
@@ -120,11 +124,14 @@ impl VolumeReader {
         ensures from { OnOk result (self.new.from ≡ at) }
         ensures device { OnlyReads (IsErrOf result DriverFault.Device)
             (D.meaning driver.old) (D.meaning driver.new) }
-        ensures faults { IfErr result (λ fault. (fault ≢ DriverFault.Exists) × (fault ≢ DriverFault.NoRoom)) }
+        ensures faults { IfErr result
+            (λ fault. (fault ≢ DriverFault.Exists) × (fault ≢ DriverFault.NoRoom)) }
 
-        ensures holds { IsHonest (D.meaning driver.old) → Shows self.old (D.meaning driver.old).shelf
+        ensures holds { IsHonest (D.meaning driver.old)
+            → Shows self.old (D.meaning driver.old).shelf
             → OnOk result (HoldsFrom at self.new (D.meaning driver.new).shelf) }
-        ensures shows { IsHonest (D.meaning driver.old) → Shows self.old (D.meaning driver.old).shelf
+        ensures shows { IsHonest (D.meaning driver.old)
+            → Shows self.old (D.meaning driver.old).shelf
             → Shows self.new (D.meaning driver.new).shelf }
         ensures not_there { IsHonest (D.meaning driver.old) → IsErrOf result DriverFault.NotThere
             → (D.meaning driver.old).shelf.volume self.old.name ≡ None }
@@ -170,7 +177,9 @@ impl VolumeReader {
     fn show(&mut self, at: u64, count: usize)
         requires from { self.old.from ≤ at }
         requires within { at ≤ self.old.from + length self.old.bytes }
-        ensures { self.new ≡ record self.old { shown = take count (drop (at - self.old.from) self.old.bytes) } }
+        ensures { self.new ≡ record self.old {
+          shown = take count (drop (at - self.old.from) self.old.bytes);
+        } }
     {
         let start = (at - self.from) as usize;
         self.start = start;
@@ -193,12 +202,14 @@ fn read_behind<D: Driver>(
     ensures kept { take held buffer.new ≡ take held buffer.old }
     ensures device { OnlyReads (IsErrOf result DriverFault.Device)
         (D.meaning driver.old) (D.meaning driver.new) }
-    ensures faults { IfErr result (λ fault. (fault ≢ DriverFault.Exists) × (fault ≢ DriverFault.NoRoom)) }
+    ensures faults { IfErr result
+        (λ fault. (fault ≢ DriverFault.Exists) × (fault ≢ DriverFault.NoRoom)) }
 
     ensures bytes { IsHonest (D.meaning driver.old) → (volume : Held)
         → (D.meaning driver.old).shelf.volume name.now ≡ Some volume
         → BeginsWith (drop at volume.bytes) (take held buffer.old)
-        → IfOk result (λ count. take (held + count) buffer.new ≡ take (length buffer.old) (drop at volume.bytes)) }
+        → IfOk result (λ count.
+        take (held + count) buffer.new ≡ take (length buffer.old) (drop at volume.bytes)) }
     ensures not_there { IsHonest (D.meaning driver.old) → IsErrOf result DriverFault.NotThere
         → (D.meaning driver.old).shelf.volume name.now ≡ None }
 {

@@ -43,7 +43,8 @@ pub(crate) fn read_label<D: Driver>(
     ensures name { reader.new.name ≡ reader.old.name }
     ensures device { OnlyReads (IsErrOf result AdoptFault.Device)
         (D.meaning driver.old) (D.meaning driver.new) }
-    ensures faults { IfErr result (λ fault. (fault ≢ AdoptFault.OtherMedia) × (fault ≢ AdoptFault.BlocksOfThisRun)) }
+    ensures faults { IfErr result
+        (λ fault. (fault ≢ AdoptFault.OtherMedia) × (fault ≢ AdoptFault.BlocksOfThisRun)) }
     ensures label { IfOk result (λ found. IsVolumeLabel found.label) }
     ensures named { IfOk result (λ found. found.label.name ≡ name.now) }
     ensures first { IfOk result (λ found. found.first ≡ length (label_block found.label)) }
@@ -52,7 +53,8 @@ pub(crate) fn read_label<D: Driver>(
     ensures begins { IsHonest (D.meaning driver.old) → Shows reader.old (D.meaning driver.old).shelf
         → (held : Held) → (D.meaning driver.old).shelf.volume reader.old.name ≡ Some held
         → IfOk result (λ found. BeginsWith held.bytes (label_block found.label)) }
-    ensures not_ours { IsHonest (D.meaning driver.old) → Shows reader.old (D.meaning driver.old).shelf
+    ensures not_ours { IsHonest (D.meaning driver.old)
+        → Shows reader.old (D.meaning driver.old).shelf
         → (held : Held) → (D.meaning driver.old).shelf.volume reader.old.name ≡ Some held
         → size ≡ length held.bytes → IsErrOf result AdoptFault.NotOurVolume
         → (label : SpecLabel) → ¬ IsVolumeOf name.now held.bytes label }
@@ -75,7 +77,8 @@ fn label_of(name: &VolName, head: &Head, block: &[u8]) -> Result<Labelled, Adopt
     requires { IsBlockOf block.now head.now }
     ensures ok { IfOk result (λ found. IsLabelled name.now block.now found) }
     ensures err { IfErr result (λ fault. (fault ≡ AdoptFault.NotOurVolume)
-        × ((label : SpecLabel) → IsVolumeLabel label → label.name ≡ name.now → block.now ≢ label_block label)) }
+        × ((label : SpecLabel) → IsVolumeLabel label → label.name ≡ name.now
+        → block.now ≢ label_block label)) }
 {
     if !is_label_head(head) {
         return Err(AdoptFault::NotOurVolume);
@@ -101,13 +104,13 @@ fn is_label_head(head: &Head) -> bool
 }
 
 /// Where the blocks behind the label of a volume of that size end. All of them are to be of earlier runs
-/// than the one that began at `start`.
+/// than the one that began at `start_time`.
 pub(crate) fn find_end<D: Driver>(
     driver: &mut D,
     reader: &mut VolumeReader,
     first: u64,
     size: u64,
-    start: u32,
+    start_time: u32,
 ) -> Result<End, AdoptFault>
     requires least { least_block ≤ first }
     requires within { first ≤ size }
@@ -115,7 +118,8 @@ pub(crate) fn find_end<D: Driver>(
     ensures name { reader.new.name ≡ reader.old.name }
     ensures device { OnlyReads (IsErrOf result AdoptFault.Device)
         (D.meaning driver.old) (D.meaning driver.new) }
-    ensures faults { IfErr result (λ fault. (fault ≢ AdoptFault.NotOurVolume) × (fault ≢ AdoptFault.OtherMedia)) }
+    ensures faults { IfErr result
+        (λ fault. (fault ≢ AdoptFault.NotOurVolume) × (fault ≢ AdoptFault.OtherMedia)) }
     ensures first { IfOk result (λ found. first ≤ found.end) }
     ensures end { IfOk result (λ found. found.end ≤ size) }
     ensures least { IfOk result (λ found. 1 ≤ found.next_number) }
@@ -123,23 +127,24 @@ pub(crate) fn find_end<D: Driver>(
 
     ensures goes { IsHonest (D.meaning driver.old) → Shows reader.old (D.meaning driver.old).shelf
         → (held : Held) → (D.meaning driver.old).shelf.volume reader.old.name ≡ Some held
-        → (label : SpecLabel) → GoesUpTo start held.bytes label first 1
-        → IfOk result (λ found. GoesUpTo start held.bytes label found.end found.next_number) }
+        → (label : SpecLabel) → GoesUpTo start_time held.bytes label first 1
+        → IfOk result (λ found. GoesUpTo start_time held.bytes label found.end found.next_number) }
     ensures ended { IsHonest (D.meaning driver.old) → Shows reader.old (D.meaning driver.old).shelf
         → (held : Held) → (D.meaning driver.old).shelf.volume reader.old.name ≡ Some held
         → size ≡ length held.bytes
         → IfOk result (λ found. NoBlockNext found.next_number (drop found.end held.bytes)) }
-    ensures this_run { IsHonest (D.meaning driver.old) → Shows reader.old (D.meaning driver.old).shelf
+    ensures this_run { IsHonest (D.meaning driver.old)
+        → Shows reader.old (D.meaning driver.old).shelf
         → (held : Held) → (D.meaning driver.old).shelf.volume reader.old.name ≡ Some held
-        → (label : SpecLabel) → GoesUpTo start held.bytes label first 1
-        → IsErrOf result AdoptFault.BlocksOfThisRun → HasBlockOfThisRun start held.bytes label }
+        → (label : SpecLabel) → GoesUpTo start_time held.bytes label first 1
+        → IsErrOf result AdoptFault.BlocksOfThisRun → HasBlockOfThisRun start_time held.bytes label }
     ensures not_there { IsHonest (D.meaning driver.old) → IsErrOf result AdoptFault.NotOnShelf
         → (D.meaning driver.old).shelf.volume reader.old.name ≡ None }
 {
     let mut end = first;
     let mut next_number = 1;
     while let Some(head) = numbered_block(driver, reader, end, next_number, size)? {
-        if head.key.time >= start {
+        if head.key.time >= start_time {
             return Err(AdoptFault::BlocksOfThisRun);
         }
         end += head.size as u64;
@@ -160,7 +165,8 @@ fn numbered_block<D: Driver>(
     ensures name { reader.new.name ≡ reader.old.name }
     ensures device { OnlyReads (IsErrOf result DriverFault.Device)
         (D.meaning driver.old) (D.meaning driver.new) }
-    ensures faults { IfErr result (λ fault. (fault ≢ DriverFault.Exists) × (fault ≢ DriverFault.NoRoom)) }
+    ensures faults { IfErr result
+        (λ fault. (fault ≢ DriverFault.Exists) × (fault ≢ DriverFault.NoRoom)) }
     ensures within { IfOk result (λ found. IfSome found
         (λ head. (least_block ≤ head.size) × (at + head.size ≤ size))) }
 

@@ -17,7 +17,7 @@ returns-in_err-volume-clause-refuses g c = λ honest fault due.
     let p = err_from_is_err_and c.from_residual-in_err-volume.result c.from_residual-in_err-volume.ensures.1 in
     let shelf = (g.D.Driver.meaning c.args.driver.now).shelf in
     let shows = shows_nothing c.in_ok-reader.reader shelf c.in_ok-reader.ensures.bytes in
-    rw (p.1, p.2) (refuses_due c.in_err-volume.field-0.0 fault c.args.name.now c.args.media.now c.args.start shelf (c.in_err-volume.ensures.due honest shows) due)
+    rw (p.1, p.2) (refuses_due c.in_err-volume.field-0.0 fault c.args.name.now c.args.media.now c.args.start_time shelf (c.in_err-volume.ensures.due honest shows) due)
 
 pub returns-in_err-volume-clause-keeps : goal.returns-in_err-volume-clause-keeps
 returns-in_err-volume-clause-keeps g c = λ honest held there label blocks tail is. KeepsUpTo-same (volume_end label blocks) c.args.name.now _ _ (c.in_err-volume.ensures.device.same honest)
@@ -91,14 +91,14 @@ returns-clause-adopts g c = λ honest.
     let found = c.in_ok-volume.ensures.found honest (shows_nothing c.in_ok-reader.reader shelf_0 c.in_ok-reader.ensures.bytes) in
     let honest_1 = subst IsTrue (sym c.in_ok-volume.ensures.device.counted.honest) honest in
     let end_is = ap (λ (v : VolumeView). v.end) c.volume.view_is in
-    adopts_of c.args.name.now c.args.media.now c.args.start c.in_ok-volume.volume shelf_0 shelf_1 shelf_2 found.0 found.1 found.2 c.in_ok-volume.ensures.name c.in_ok-volume.ensures.media
+    adopts_of c.args.name.now c.args.media.now c.args.start_time c.in_ok-volume.volume shelf_0 shelf_1 shelf_2 found.0 found.1 found.2 c.in_ok-volume.ensures.name c.in_ok-volume.ensures.media
     (c.in_ok-volume.ensures.device.same honest) (subst (λ to. CutsAt to c.args.name.now shelf_1 shelf_2) end_is (c.in_ok-cut_back.ensures.ok honest_1))
 
 pub returns-clause-refuses : goal.returns-clause-refuses
 returns-clause-refuses g c = λ honest fault due.
     let shelf_0 = (g.D.Driver.meaning c.args.driver.now).shelf in
     let found = c.in_ok-volume.ensures.found honest (shows_nothing c.in_ok-reader.reader shelf_0 c.in_ok-reader.ensures.bytes) in
-    not_due fault c.args.name.now c.args.media.now c.args.start shelf_0 found.0 c.in_ok-volume.volume found.1 found.2 due
+    not_due fault c.args.name.now c.args.media.now c.args.start_time shelf_0 found.0 c.in_ok-volume.volume found.1 found.2 due
 
 pub returns-clause-keeps : goal.returns-clause-keeps
 returns-clause-keeps g c = λ honest held there label blocks tail is.

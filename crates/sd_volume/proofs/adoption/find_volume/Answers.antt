@@ -31,9 +31,9 @@ returns-in_err-end-clause-due g c = λ honest shows held there whole.
     let there_1 : mid.volume c.read_label.new.reader.name ≡ Some held = ap mid.volume named ∙ (read.device.same honest _ ∙ there) in
     let honest_1 = subst IsTrue (sym read.device.counted.honest) honest in
     let begins = read.begins honest shows held there_0 in
-    let goes = goes_from_label c.args.start held.bytes label c.in_ok-found.found.first read.label begins read.first in
+    let goes = goes_from_label c.args.start_time held.bytes label c.in_ok-found.found.first read.label begins read.first in
     let ours : IsVolumeOf c.args.name.now held.bytes label = record { label_is = read.label; name_is = read.named; begins = begins; most = omega (arith, c.requires.most, whole) } in
-    rw (p.1, p.2) (λ a b. due_behind_label c.in_err-end.field-0.0 c.args.name.now c.args.media.now c.args.start shelf held label c.in_err-end.ensures.faults there ours (c.if-not-is_same.ensures.0 refl)
+    rw (p.1, p.2) (λ a b. due_behind_label c.in_err-end.field-0.0 c.args.name.now c.args.media.now c.args.start_time shelf held label c.in_err-end.ensures.faults there ours (c.if-not-is_same.ensures.0 refl)
     (λ e. c.in_err-end.ensures.this_run honest_1 (read.shows honest shows) held there_1 label goes (ap Err e))
     (λ e. sym (read.device.same honest _) ∙ (ap mid.volume (sym named) ∙ c.in_err-end.ensures.not_there honest_1 (ap Err e))) a b)
 
@@ -48,8 +48,8 @@ returns-clause-found g c = λ honest shows held there whole.
     let there_1 : mid.volume c.read_label.new.reader.name ≡ Some held = ap mid.volume named ∙ (read.device.same honest _ ∙ there) in
     let honest_1 = subst IsTrue (sym read.device.counted.honest) honest in
     let begins = read.begins honest shows held there_0 in
-    let goes = goes_from_label c.args.start held.bytes label c.in_ok-found.found.first read.label begins read.first in
+    let goes = goes_from_label c.args.start_time held.bytes label c.in_ok-found.found.first read.label begins read.first in
     let ours : IsVolumeOf c.args.name.now held.bytes label = record { label_is = read.label; name_is = read.named; begins = begins; most = omega (arith, c.requires.most, whole) } in
     let ends = c.in_ok-end.ensures in
-    adoptable_of c.args.name.now c.args.media.now c.args.start held.bytes _ label ours (c.if-not-is_same.ensures.0 refl) c.copy-2.ensures read.first
+    adoptable_of c.args.name.now c.args.media.now c.args.start_time held.bytes _ label ours (c.if-not-is_same.ensures.0 refl) c.copy-2.ensures read.first
     (ends.goes honest_1 (read.shows honest shows) held there_1 label goes) (ends.ended honest_1 (read.shows honest shows) held there_1 whole)

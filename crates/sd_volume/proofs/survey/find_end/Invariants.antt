@@ -19,7 +19,7 @@ invariant-loop-head g l =
       least : 1 ≤ l.next_number;
       next : l.next_number * 36 ≤ l.end;
       shows : IsHonest old → Shows l.initial.reader old.shelf → Shows l.reader now.shelf;
-      goes : IsHonest old → Shows l.initial.reader old.shelf → (held : Held) → old.shelf.volume l.initial.reader.name ≡ Some held → (label : VolumeLabel) → GoesUpTo l.start held.bytes label l.first 1 → GoesUpTo l.start held.bytes label l.end l.next_number;
+      goes : IsHonest old → Shows l.initial.reader old.shelf → (held : Held) → old.shelf.volume l.initial.reader.name ≡ Some held → (label : VolumeLabel) → GoesUpTo l.start_time held.bytes label l.first 1 → GoesUpTo l.start_time held.bytes label l.end l.next_number;
     }
 
 abbrev pub decreases-loop-head : goal.decreases-loop-head
