@@ -48,6 +48,7 @@ impl VolumeReader {
     pub fn new(alloc: Global, name: &VolName) -> Result<Self, AllocError>
         ensures name { IfOk result (λ reader. reader.name ≡ name.now) }
         ensures bytes { IfOk result (λ reader. reader.bytes ≡ []) }
+        ensures shows { IfOk result (λ reader. (shelf : Shelf) → Shows reader shelf) }
     {
         Ok(VolumeReader {
             name: name.copy(),
