@@ -1,4 +1,5 @@
 pub mod Choice
+pub mod Count
 pub mod Field
 pub mod FileIndex
 pub mod Key

@@ -9,6 +9,7 @@ mod blocks;
 mod checksum;
 mod packing;
 mod rate;
+mod readback;
 mod volumes;
 
 use anyhow::{Result, bail};
@@ -34,7 +35,8 @@ fn main(rt: HostRuntime) -> Result<()> {
     checksum::run(&rt, length)?;
     blocks::run(&rt, length)?;
     packing::run(&rt, length)?;
-    volumes::run(&rt, length)
+    volumes::run(&rt, length)?;
+    readback::run(&rt, length)
 }
 
 // Writes so many blocks to a file of the folder.

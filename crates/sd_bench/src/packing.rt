@@ -63,7 +63,8 @@ fn pack_and_unpack<R: Print + Clock + AllocGlobal>(
     Ok(())
 }
 
-fn packed<R: AllocGlobal>(rt: &R, rec: &Rec, count: usize) -> Result<Vec<Body>> {
+/// The bodies of a session of so many of this record, without its end label.
+pub fn packed<R: AllocGlobal>(rt: &R, rec: &Rec, count: usize) -> Result<Vec<Body>> {
     let mut packer = Packer::new(rt.alloc(), BLOCK)?;
     packer.put_label(&start_label()?)?;
     for _ in 0..count {

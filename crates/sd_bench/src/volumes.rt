@@ -4,6 +4,7 @@ ghost use Rattle.std.specs.Prelude.{◌≡◌, ◌≤◌, None, Some, OnOk};
 use crate::rate::{Length, print_rate};
 use anyhow::{Result, bail};
 use sd_base::{MOST_VOLUME, MediaName, PoolName, SessionKey, VolName};
+use sd_crc::crc32;
 use sd_driver::{Driver, DriverFault};
 use sd_label::VolumeLabel;
 use sd_memdrive::MemDrive;
@@ -44,10 +45,31 @@ pub fn run<R: Print + Clock + AllocGlobal>(rt: &R, length: Length) -> Result<()>
     print_rate(rt, length, "adopt a volume", start, BLOCK, blocks)?;
     let all = added == blocks && adopted.is_ok();
     println!(rt; "volumes of blocks of 64,512 bytes are adopted: {all}")?;
+    sum(rt, length, blocks)
+}
+
+// The checksums alone of as many bytes, which like the volume's are in no cache.
+fn sum<R: Print + Clock + AllocGlobal>(rt: &R, length: Length, blocks: usize) -> Result<()> {
+    let bytes = vec![in rt.alloc(); 0x5au8; blocks.saturating_mul(BLOCK)]?;
+    let start = Instant::now(rt)?;
+    let mut sum = 0;
+    for block in bytes.chunks(BLOCK) {
+        sum ^= crc32(block);
+    }
+    print_rate(
+        rt,
+        length,
+        "crc32 of a volume's bytes",
+        start,
+        BLOCK,
+        blocks,
+    )?;
+    println!(rt; "checksums of a volume's bytes: {sum:08x}")?;
     Ok(())
 }
 
-fn label() -> Option<VolumeLabel> {
+/// The label of the volume that jobs write.
+pub fn label() -> Option<VolumeLabel> {
     Some(VolumeLabel {
         name: VolName::parse("Vol-0001").ok()?,
         pool: PoolName::parse("Default").ok()?,

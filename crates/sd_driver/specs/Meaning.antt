@@ -1,5 +1,6 @@
 -- What a device is to the daemon, and what every device tells by its answers.
-use Rattle.std.specs.Prelude.{◌≡◌, ◌↔◌, ℕ, Bool, ◌+◌, ◌-◌, ◌≤◌, ◌<◌, ◌^◌, ◌⊎◌, min, List, length, take, drop, Option, Some, Result, Ok, Err, IsTrue, IsErrOf}
+use Rattle.std.specs.Prelude.{◌≡◌, ◌↔◌, ℕ, Bool, ◌+◌, ◌-◌, ◌≤◌, ◌^◌, ◌⊎◌, min, List, length, take, drop, Option, Some, Result, Ok, Err, IsTrue, IsErrOf}
+use Rattle.sd_base.specs.Count.{Rose}
 use Rattle.sd_driver.specs.declared.driver.DriverFault.{DriverFault}
 use Rattle.sd_driver.specs.declared.driver.DriverFault.TheVariants.{NotThere, Exists, NoRoom, Device, Memory}
 use Rattle.sd_driver.specs.Shelf.{Shelf, Held, SameShelf}
@@ -19,10 +20,6 @@ pub record Meaning : Type 0 where
 abbrev pub IsHonest : Meaning → Type 0
 IsHonest meaning = IsTrue meaning.honest
 
--- a count rose, or stands at the greatest value of 64 bits
-abbrev pub Rose : ℕ → ℕ → Type 0
-Rose old new = (old < new) ⊎ (new ≡ 2 ^ 64 - 1)
-
 -- the count of `NoRoom` answers after this answer; it stays at the greatest value of 64 bits
 abbrev pub told_after : {T : Type 0} → Result T DriverFault → ℕ → ℕ
 told_after (Ok value) told = told
@@ -34,7 +31,7 @@ told_after (Err Memory) told = told
 
 -- no call changes whether the device is honest; no count falls; a fault of the device is answered exactly
 -- where a failure was counted, or where the count can't rise any more
-pub record Counts {T : Type 0} (result : Result T DriverFault) (old new : Meaning) : Type 0 where
+pub record CountsFailures {T : Type 0} (result : Result T DriverFault) (old new : Meaning) : Type 0 where
   pub honest : new.honest ≡ old.honest
   pub failures : old.failures ≤ new.failures
   pub device : IsErrOf result Device ↔ Rose old.failures new.failures

@@ -1,7 +1,7 @@
 // A device that holds volumes under names, of which at most one is loaded.
 ghost use Rattle.std.specs.Prelude.{◌≡◌, ◌≢◌, ◌≤◌, ◌⊎◌, None, Some, IfOk, IfErr, OnOk, OnErr, IsSome, IsErrOf, length};
 ghost use Rattle.sd_driver.specs.Shelf.{SameShelf, Passes, KeepsStable, KeepsStableTo, Creates, MayCreate, Appends, MayAppend, Syncs, MaySync, Truncates, MayTruncate};
-ghost use Rattle.sd_driver.specs.Meaning.{Meaning, IsHonest, Counts, SameCounts, Unchanged, TellsLength, TellsBytes};
+ghost use Rattle.sd_driver.specs.Meaning.{Meaning, IsHonest, CountsFailures, SameCounts, Unchanged, TellsLength, TellsBytes};
 
 use sd_base::VolName;
 
@@ -33,7 +33,7 @@ pub trait Driver: Send {
     /// A new empty volume, which is then loaded.
     fn create(&mut self, name: &VolName) -> Result<(), DriverFault>
         requires { (meaning self.old).loaded ≡ None }
-        ensures counts { Counts result (meaning self.old) (meaning self.new) }
+        ensures counts { CountsFailures result (meaning self.old) (meaning self.new) }
         ensures faults { IfErr result
             (λ fault. (fault ≢ DriverFault.NotThere) × (fault ≢ DriverFault.NoRoom)) }
         ensures memory { IsErrOf result DriverFault.Memory
@@ -54,7 +54,7 @@ pub trait Driver: Send {
     /// Loads a volume.
     fn load(&mut self, name: &VolName) -> Result<(), DriverFault>
         requires { (meaning self.old).loaded ≡ None }
-        ensures counts { Counts result (meaning self.old) (meaning self.new) }
+        ensures counts { CountsFailures result (meaning self.old) (meaning self.new) }
         ensures faults { IfErr result
             (λ fault. (fault ≢ DriverFault.Exists) × (fault ≢ DriverFault.NoRoom)) }
         ensures memory { IsErrOf result DriverFault.Memory
@@ -83,7 +83,7 @@ pub trait Driver: Send {
 
     /// The length of a volume, in bytes.
     fn len(&mut self, name: &VolName) -> Result<u64, DriverFault>
-        ensures counts { Counts result (meaning self.old) (meaning self.new) }
+        ensures counts { CountsFailures result (meaning self.old) (meaning self.new) }
         ensures faults { IfErr result
             (λ fault. (fault ≢ DriverFault.Exists) × (fault ≢ DriverFault.NoRoom)) }
         ensures memory { IsErrOf result DriverFault.Memory
@@ -104,7 +104,7 @@ pub trait Driver: Send {
     /// only at the volume's end. After a fault `into` may hold anything.
     fn read_at(&mut self, name: &VolName, at: u64, into: &mut [u8]) -> Result<usize, DriverFault>
         ensures within { IfOk result (λ count. count ≤ length into.old) }
-        ensures counts { Counts result (meaning self.old) (meaning self.new) }
+        ensures counts { CountsFailures result (meaning self.old) (meaning self.new) }
         ensures faults { IfErr result
             (λ fault. (fault ≢ DriverFault.Exists) × (fault ≢ DriverFault.NoRoom)) }
         ensures memory { IsErrOf result DriverFault.Memory
@@ -125,7 +125,7 @@ pub trait Driver: Send {
     /// Adds bytes at the end of the loaded volume. They are not stable before a sync.
     fn append(&mut self, bytes: &[u8]) -> Result<(), DriverFault>
         requires { IsSome (meaning self.old).loaded }
-        ensures counts { Counts result (meaning self.old) (meaning self.new) }
+        ensures counts { CountsFailures result (meaning self.old) (meaning self.new) }
         ensures faults { IfErr result
             (λ fault. (fault ≢ DriverFault.NotThere) × (fault ≢ DriverFault.Exists)) }
         ensures memory { IsErrOf result DriverFault.Memory
@@ -144,7 +144,7 @@ pub trait Driver: Send {
     /// Makes all bytes of the loaded volume stable: a stop leaves them. Takes no memory.
     fn sync(&mut self) -> Result<(), DriverFault>
         requires { IsSome (meaning self.old).loaded }
-        ensures counts { Counts result (meaning self.old) (meaning self.new) }
+        ensures counts { CountsFailures result (meaning self.old) (meaning self.new) }
         ensures faults { IfErr result (λ fault. fault ≡ DriverFault.Device) }
         ensures passes { Passes (meaning self.old).shelf (meaning self.new).shelf }
         ensures stable { KeepsStable (meaning self.old).shelf (meaning self.new).shelf }
@@ -158,7 +158,7 @@ pub trait Driver: Send {
     /// Takes away what stands past the byte at `to` of the loaded volume.
     fn cut(&mut self, to: u64) -> Result<(), DriverFault>
         requires { IsSome (meaning self.old).loaded }
-        ensures counts { Counts result (meaning self.old) (meaning self.new) }
+        ensures counts { CountsFailures result (meaning self.old) (meaning self.new) }
         ensures faults { IfErr result
             (λ fault. (fault ≡ DriverFault.Device) ⊎ (fault ≡ DriverFault.Memory)) }
         ensures memory { IsErrOf result DriverFault.Memory

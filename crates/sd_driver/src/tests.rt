@@ -1,7 +1,8 @@
 // The trait as its implementations see it: a device that is always broken, a bare one that has no volume and
 // no memory, and an enum and a box of the two, which show that drivers of several kinds go together.
 ghost use Rattle.std.specs.Prelude.{◌≡◌, ◌≤◌, ℕ, OnOk, None, length};
-ghost use Rattle.sd_driver.specs.Meaning.{Rose, IsHonest};
+ghost use Rattle.sd_base.specs.Count.{Rose};
+ghost use Rattle.sd_driver.specs.Meaning.{IsHonest};
 ghost use Rattle.sd_driver.specs.Shelf.{Lasts, low_mark};
 
 use crate::{Driver, DriverFault};

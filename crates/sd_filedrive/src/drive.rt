@@ -1,6 +1,6 @@
 // A folder of files, as a device.
 ghost use Rattle.std.specs.Prelude.{◌≡◌, ◌≢◌, ◌⊎◌, ◌≤◌, None, Some, IfOk, IfErr, OnOk, OnErr, IsSome, length};
-ghost use Rattle.sd_driver.specs.Meaning.{Counts, SameCounts};
+ghost use Rattle.sd_driver.specs.Meaning.{CountsFailures, SameCounts};
 ghost use Rattle.sd_filedrive.specs.Count.{failures_after, IsSpent};
 ghost use Rattle.sd_filedrive.specs.Drive.{meaning_of, unused, folder_of};
 ghost use Rattle.sd_filedrive.specs.Place.{folder_named};
@@ -60,7 +60,7 @@ where
 
     fn create(&mut self, name: &VolName) -> Result<(), DriverFault>
         requires { (meaning_of self.old).loaded ≡ None }
-        ensures counts { Counts result (meaning_of self.old) (meaning_of self.new) }
+        ensures counts { CountsFailures result (meaning_of self.old) (meaning_of self.new) }
         ensures once { (meaning_of self.new).failures
             ≡ failures_after result (meaning_of self.old).failures }
         ensures spent { IsSpent (meaning_of self.old).failures → self.new ≡ self.old }
@@ -78,7 +78,7 @@ where
 
     fn load(&mut self, name: &VolName) -> Result<(), DriverFault>
         requires { (meaning_of self.old).loaded ≡ None }
-        ensures counts { Counts result (meaning_of self.old) (meaning_of self.new) }
+        ensures counts { CountsFailures result (meaning_of self.old) (meaning_of self.new) }
         ensures once { (meaning_of self.new).failures
             ≡ failures_after result (meaning_of self.old).failures }
         ensures spent { IsSpent (meaning_of self.old).failures → self.new ≡ self.old }
@@ -102,7 +102,7 @@ where
     }
 
     fn len(&mut self, name: &VolName) -> Result<u64, DriverFault>
-        ensures counts { Counts result (meaning_of self.old) (meaning_of self.new) }
+        ensures counts { CountsFailures result (meaning_of self.old) (meaning_of self.new) }
         ensures once { (meaning_of self.new).failures
             ≡ failures_after result (meaning_of self.old).failures }
         ensures spent { IsSpent (meaning_of self.old).failures → self.new ≡ self.old }
@@ -118,7 +118,7 @@ where
     }
 
     fn read_at(&mut self, name: &VolName, at: u64, into: &mut [u8]) -> Result<usize, DriverFault>
-        ensures counts { Counts result (meaning_of self.old) (meaning_of self.new) }
+        ensures counts { CountsFailures result (meaning_of self.old) (meaning_of self.new) }
         ensures once { (meaning_of self.new).failures
             ≡ failures_after result (meaning_of self.old).failures }
         ensures spent { IsSpent (meaning_of self.old).failures → self.new ≡ self.old }
@@ -136,7 +136,7 @@ where
 
     fn append(&mut self, bytes: &[u8]) -> Result<(), DriverFault>
         requires { IsSome (meaning_of self.old).loaded }
-        ensures counts { Counts result (meaning_of self.old) (meaning_of self.new) }
+        ensures counts { CountsFailures result (meaning_of self.old) (meaning_of self.new) }
         ensures once { (meaning_of self.new).failures
             ≡ failures_after result (meaning_of self.old).failures }
         ensures spent { IsSpent (meaning_of self.old).failures → self.new ≡ self.old }
@@ -153,7 +153,7 @@ where
 
     fn sync(&mut self) -> Result<(), DriverFault>
         requires { IsSome (meaning_of self.old).loaded }
-        ensures counts { Counts result (meaning_of self.old) (meaning_of self.new) }
+        ensures counts { CountsFailures result (meaning_of self.old) (meaning_of self.new) }
         ensures once { (meaning_of self.new).failures
             ≡ failures_after result (meaning_of self.old).failures }
         ensures spent { IsSpent (meaning_of self.old).failures → self.new ≡ self.old }
@@ -169,7 +169,7 @@ where
 
     fn cut(&mut self, to: u64) -> Result<(), DriverFault>
         requires { IsSome (meaning_of self.old).loaded }
-        ensures counts { Counts result (meaning_of self.old) (meaning_of self.new) }
+        ensures counts { CountsFailures result (meaning_of self.old) (meaning_of self.new) }
         ensures once { (meaning_of self.new).failures
             ≡ failures_after result (meaning_of self.old).failures }
         ensures spent { IsSpent (meaning_of self.old).failures → self.new ≡ self.old }

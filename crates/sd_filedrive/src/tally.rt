@@ -1,6 +1,7 @@
 // How a device counts what it answers.
 ghost use Rattle.std.specs.Prelude.{◌≡◌, ◌≢◌, ◌↔◌, ◌≤◌, ◌^◌, ◌-◌, IsErrOf, IsTrue};
-ghost use Rattle.sd_driver.specs.Meaning.{Rose, told_after};
+ghost use Rattle.sd_base.specs.Count.{Rose};
+ghost use Rattle.sd_driver.specs.Meaning.{told_after};
 ghost use Rattle.sd_filedrive.specs.Count.{failures_after};
 
 use sd_driver::DriverFault;

@@ -1,7 +1,7 @@
 // A drive in memory, as a device.
 ghost use Rattle.std.specs.Prelude.{◌≡◌, ◌≢◌, ◌↔◌, ◌≤◌, ◌<◌, ◌-◌, ◌^◌, ◌⊎◌, false, None, Some, IfOk, IfErr, OnOk, OnErr, IsOk, IsSome, IsTrue, IsErrOf, ◌+◌, length, [], vec_len};
 ghost use Rattle.std.specs.Option.{ForSome};
-ghost use Rattle.sd_driver.specs.Meaning.{Rose};
+ghost use Rattle.sd_base.specs.Count.{Rose};
 ghost use Rattle.sd_memdrive.specs.Plan.{part_of, works};
 ghost use Rattle.sd_memdrive.specs.Volumes.{volume_of, StandsFirstAt};
 
@@ -104,14 +104,14 @@ impl MemDrive {
 
 impl Driver for MemDrive {
     ghost use Rattle.sd_driver.specs.Shelf.{SameShelf, Passes, KeepsStable, KeepsStableTo, Creates, MayCreate, Appends, MayAppend, Syncs, MaySync, Truncates, MayTruncate};
-    ghost use Rattle.sd_driver.specs.Meaning.{IsHonest, Counts, SameCounts, Unchanged, TellsLength, TellsBytes};
+    ghost use Rattle.sd_driver.specs.Meaning.{IsHonest, CountsFailures, SameCounts, Unchanged, TellsLength, TellsBytes};
     ghost use Rattle.sd_memdrive.specs.Drive.{meaning_of, capacity_of, HasRoom, LacksRoom, FollowsPlan, KeepsPlan};
 
     ghost meaning = { meaning_of };
 
     fn create(&mut self, name: &VolName) -> Result<(), DriverFault>
         requires { (meaning_of self.old).loaded ≡ None }
-        ensures counts { Counts result (meaning_of self.old) (meaning_of self.new) }
+        ensures counts { CountsFailures result (meaning_of self.old) (meaning_of self.new) }
         ensures faults { IfErr result
             (λ fault. (fault ≢ DriverFault.NotThere) × (fault ≢ DriverFault.NoRoom)) }
         ensures memory { IsErrOf result DriverFault.Memory
@@ -150,7 +150,7 @@ impl Driver for MemDrive {
 
     fn load(&mut self, name: &VolName) -> Result<(), DriverFault>
         requires { (meaning_of self.old).loaded ≡ None }
-        ensures counts { Counts result (meaning_of self.old) (meaning_of self.new) }
+        ensures counts { CountsFailures result (meaning_of self.old) (meaning_of self.new) }
         ensures faults { IfErr result
             (λ fault. (fault ≢ DriverFault.Exists) × (fault ≢ DriverFault.NoRoom)) }
         ensures memory { IsErrOf result DriverFault.Memory
@@ -197,7 +197,7 @@ impl Driver for MemDrive {
     }
 
     fn len(&mut self, name: &VolName) -> Result<u64, DriverFault>
-        ensures counts { Counts result (meaning_of self.old) (meaning_of self.new) }
+        ensures counts { CountsFailures result (meaning_of self.old) (meaning_of self.new) }
         ensures faults { IfErr result
             (λ fault. (fault ≢ DriverFault.Exists) × (fault ≢ DriverFault.NoRoom)) }
         ensures memory { IsErrOf result DriverFault.Memory
@@ -229,7 +229,7 @@ impl Driver for MemDrive {
 
     fn read_at(&mut self, name: &VolName, at: u64, into: &mut [u8]) -> Result<usize, DriverFault>
         ensures within { IfOk result (λ count. count ≤ length into.old) }
-        ensures counts { Counts result (meaning_of self.old) (meaning_of self.new) }
+        ensures counts { CountsFailures result (meaning_of self.old) (meaning_of self.new) }
         ensures faults { IfErr result
             (λ fault. (fault ≢ DriverFault.Exists) × (fault ≢ DriverFault.NoRoom)) }
         ensures memory { IsErrOf result DriverFault.Memory
@@ -264,7 +264,7 @@ impl Driver for MemDrive {
     #[tactic(auto, using(crate::proofs::Exits::may_append_same, crate::proofs::Exits::may_append_done))]
     fn append(&mut self, bytes: &[u8]) -> Result<(), DriverFault>
         requires { IsSome (meaning_of self.old).loaded }
-        ensures counts { Counts result (meaning_of self.old) (meaning_of self.new) }
+        ensures counts { CountsFailures result (meaning_of self.old) (meaning_of self.new) }
         ensures faults { IfErr result
             (λ fault. (fault ≢ DriverFault.NotThere) × (fault ≢ DriverFault.Exists)) }
         ensures memory { IsErrOf result DriverFault.Memory
@@ -302,7 +302,7 @@ impl Driver for MemDrive {
 
     fn sync(&mut self) -> Result<(), DriverFault>
         requires { IsSome (meaning_of self.old).loaded }
-        ensures counts { Counts result (meaning_of self.old) (meaning_of self.new) }
+        ensures counts { CountsFailures result (meaning_of self.old) (meaning_of self.new) }
         ensures faults { IfErr result (λ fault. fault ≡ DriverFault.Device) }
         ensures passes { Passes (meaning_of self.old).shelf (meaning_of self.new).shelf }
         ensures stable { KeepsStable (meaning_of self.old).shelf (meaning_of self.new).shelf }
@@ -328,7 +328,7 @@ impl Driver for MemDrive {
     #[tactic(auto, using(crate::proofs::Exits::may_cut_same, crate::proofs::Exits::may_cut_done, crate::proofs::Exits::keeps_to_same))]
     fn cut(&mut self, to: u64) -> Result<(), DriverFault>
         requires { IsSome (meaning_of self.old).loaded }
-        ensures counts { Counts result (meaning_of self.old) (meaning_of self.new) }
+        ensures counts { CountsFailures result (meaning_of self.old) (meaning_of self.new) }
         ensures faults { IfErr result
             (λ fault. (fault ≡ DriverFault.Device) ⊎ (fault ≡ DriverFault.Memory)) }
         ensures memory { IsErrOf result DriverFault.Memory

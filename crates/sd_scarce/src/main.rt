@@ -9,6 +9,8 @@
 mod devices;
 mod packets;
 mod session;
+mod stations;
+mod volumes;
 mod worlds;
 
 use anyhow::Result;
@@ -17,6 +19,8 @@ fn main(rt: HostRuntime) -> Result<()> {
     packets::run(&rt)?;
     session::run(&rt)?;
     devices::run(&rt)?;
+    volumes::run(&rt)?;
+    stations::run(&rt)?;
     worlds::run(&rt)?;
     Ok(())
 }

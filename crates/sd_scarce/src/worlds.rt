@@ -4,6 +4,7 @@ use sd_base::{
     Bytes, DriveNo, Items, JobId, MediaName, PoolName, Rec, Refusal, SessionKey, Ticket, VolName,
 };
 use sd_core::{Event, ReadEnd, ReadFault, Reply, Span, World, WorldConf, put_jobmedia};
+use sd_span::{JobMediaFault, read_jobmedia};
 use std::alloc::{AllocError, Global};
 
 // The names of what there is one of.
@@ -186,6 +187,18 @@ fn read(
     }
 }
 
+// How many spans a JobMedia text is read back to.
+fn spans_again(alloc: Global, text: &str) -> Result<usize> {
+    let mut answer = read_jobmedia(alloc, text);
+    if let Err(JobMediaFault::Memory) = answer {
+        answer = read_jobmedia(alloc, text);
+    }
+    match answer {
+        Ok(read) => Ok(read.spans.len()),
+        Err(_) => anyhow::bail!("no JobMedia text"),
+    }
+}
+
 fn print_session<R: Print + AllocGlobal>(
     rt: &R,
     world: &World,
@@ -199,6 +212,8 @@ fn print_session<R: Print + AllocGlobal>(
         put_jobmedia(&mut text, key, spans)?;
     }
     print!(rt; "{text}")?;
+    let again = spans_again(rt.alloc(), &text)?;
+    println!(rt; "spans read back: {again}")?;
     let (records, end) = read(rt.alloc(), world, key, spans)?;
     for rec in &records {
         let size = rec.bytes.len();

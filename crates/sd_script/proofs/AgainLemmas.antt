@@ -1,5 +1,5 @@
 -- What is spelled so is read so, and the word of a command tells the command.
-use Rattle.std.proofs.Common.{◌≡◌, ◌≢◌, ℕ, ◌^◌, ◌<◌, ◌≤◌, refl, sym, ap, ◌∙◌, arith, lit<, inl, inr, cond, List, [], ◌∷◌, length, Option, Some, None, rules}
+use Rattle.std.proofs.Common.{◌≡◌, ◌≢◌, ℕ, ◌^◌, ◌<◌, ◌≤◌, refl, sym, ap, ◌∙◌, arith, lit<, inl, inr, Bool, true, false, cond, List, [], ◌∷◌, length, Option, Some, None, rules}
 use Rattle.std.specs.Prelude.{IfSome, IfNone, pos, negsuc, nat_le, FitsSigned}
 use Rattle.std.specs.List.{AllByRecursion}
 use Rattle.std.specs.Int.{w64}
@@ -12,15 +12,16 @@ use Rattle.std.proofs.lemmas.Fmt.{digits_decimal}
 use Rattle.std.proofs.lemmas.Str.Parse.{digit_at}
 use Rattle.sd_base.specs.Limits.{least_block_limit, most_block, most_data, most_number}
 use Rattle.sd_script.specs.declared.command.Command.{Command}
-use Rattle.sd_script.specs.declared.command.Command.TheVariants.{Block, Time, At, Label, Mount, Seek, Open, Rec, Fill, End, Cancel, Spool, Despool, Take, Place, Sync, Close, Read, Drain}
+use Rattle.sd_script.specs.declared.command.Command.TheVariants.{Block, Time, At, Label, Adopt, Mount, Unmount, Seek, Retire, Open, Rec, Fill, End, Cancel, Spool, Despool, Take, Place, Sync, Close, JobMedia, Read, Drain, Status, Requests}
+use Rattle.sd_script.specs.declared.console.ConsoleCmd.TheVariants as console
 use Rattle.sd_script.specs.declared.line.Setting.TheVariants as setting
 use Rattle.sd_script.specs.declared.line.Line.{Line}
 use Rattle.sd_script.specs.declared.line.Line.TheVariants as line
-use Rattle.sd_script.specs.Command.{command_text}
+use Rattle.sd_script.specs.Command.{command_text, is_console}
 use Rattle.sd_words.specs.Fields.{HasNoBlank, joined, Fields, fields_of}
 use Rattle.sd_script.specs.Grammar.{IsWord, IsSpelled, IsWithin, AreWords, IsNumber, IsDrive}
 use Rattle.sd_words.specs.Reading.{word_at}
-use Rattle.sd_script.specs.Reading.{most_moment, shape, one_number, label_shape, mount_shape, open_shape, rec_shape, fill_shape}
+use Rattle.sd_script.specs.Reading.{most_moment, shape, one_number, label_shape, adopt_shape, mount_shape, open_shape, rec_shape, fill_shape}
 use Rattle.sd_words.proofs.NumberLemmas.{own}
 use Rattle.sd_words.proofs.FieldLemmas.{fields_of-joined, fields_of-behind, joined-fields_of}
 use Rattle.sd_words.proofs.ReadingLemmas.{number_at_again, word_at_again, word_at_takes, only_number_again}
@@ -33,8 +34,11 @@ command_at word =
     cond (bytes_eq word (command_text Time)) (Some Time) (
     cond (bytes_eq word (command_text At)) (Some At) (
     cond (bytes_eq word (command_text Label)) (Some Label) (
+    cond (bytes_eq word (command_text Adopt)) (Some Adopt) (
     cond (bytes_eq word (command_text Mount)) (Some Mount) (
+    cond (bytes_eq word (command_text Unmount)) (Some Unmount) (
     cond (bytes_eq word (command_text Seek)) (Some Seek) (
+    cond (bytes_eq word (command_text Retire)) (Some Retire) (
     cond (bytes_eq word (command_text Open)) (Some Open) (
     cond (bytes_eq word (command_text Rec)) (Some Rec) (
     cond (bytes_eq word (command_text Fill)) (Some Fill) (
@@ -46,16 +50,22 @@ command_at word =
     cond (bytes_eq word (command_text Place)) (Some Place) (
     cond (bytes_eq word (command_text Sync)) (Some Sync) (
     cond (bytes_eq word (command_text Close)) (Some Close) (
+    cond (bytes_eq word (command_text JobMedia)) (Some JobMedia) (
     cond (bytes_eq word (command_text Read)) (Some Read) (
-    cond (bytes_eq word (command_text Drain)) (Some Drain) None))))))))))))))))))
+    cond (bytes_eq word (command_text Drain)) (Some Drain) (
+    cond (bytes_eq word (command_text Status)) (Some Status) (
+    cond (bytes_eq word (command_text Requests)) (Some Requests) None))))))))))))))))))))))))
 
 command_found : (k : Command) → command_at (command_text k) ≡ Some k
 command_found Block = refl
 command_found Time = refl
 command_found At = refl
 command_found Label = refl
+command_found Adopt = refl
 command_found Mount = refl
+command_found Unmount = refl
 command_found Seek = refl
+command_found Retire = refl
 command_found Open = refl
 command_found Rec = refl
 command_found Fill = refl
@@ -67,8 +77,11 @@ command_found Take = refl
 command_found Place = refl
 command_found Sync = refl
 command_found Close = refl
+command_found JobMedia = refl
 command_found Read = refl
 command_found Drain = refl
+command_found Status = refl
+command_found Requests = refl
 
 -- no two commands are written alike
 pub command_one : (k j : Command) → command_text k ≡ command_text j → k ≡ j
@@ -80,8 +93,11 @@ plain_command Block = search rules
 plain_command Time = search rules
 plain_command At = search rules
 plain_command Label = search rules
+plain_command Adopt = search rules
 plain_command Mount = search rules
+plain_command Unmount = search rules
 plain_command Seek = search rules
+plain_command Retire = search rules
 plain_command Open = search rules
 plain_command Rec = search rules
 plain_command Fill = search rules
@@ -93,8 +109,11 @@ plain_command Take = search rules
 plain_command Place = search rules
 plain_command Sync = search rules
 plain_command Close = search rules
+plain_command JobMedia = search rules
 plain_command Read = search rules
 plain_command Drain = search rules
+plain_command Status = search rules
+plain_command Requests = search rules
 
 command-plain : (k : Command) → HasNoBlank (command_text k)
 command-plain k = All-from_recursion (λ c. c ≢ 32) (command_text k) (plain_command k)
@@ -103,42 +122,53 @@ decimal-plain : (n : ℕ) → n < 2 ^ 64 → HasNoBlank (decimal n)
 decimal-plain n small =
     All-from_get_or (λ c. c ≢ 32) (decimal n) 0 (λ i within blank. let digit = digit_at (decimal n) i (digits_decimal own n small) within in omega arith)
 
--- the command that bytes begin with, the fields behind it, and that these are read as that line
+-- a console has the line too
+abbrev pub is_console_line : Line → Bool
+is_console_line (line.Console command) = true
+is_console_line l = false
+
+-- the command that bytes begin with, whose it is, the fields behind it, and that these are read as that line
 pub record Parts (bytes : List ℕ) (l : Line) : Type 0 where
   pub command : Command
+  pub kind_is : is_console command ≡ is_console_line l
   pub rest : Fields
   pub fields_are : fields_of bytes ≡ command_text command ∷ rest
   pub shape_is : shape command rest ≡ Some l
 
-plain_parts : (bytes : List ℕ) (k : Command) (rest : Fields) (l : Line) → AllByRecursion HasNoBlank rest → bytes ≡ joined (command_text k ∷ rest)
+plain_parts : (bytes : List ℕ) (k : Command) (rest : Fields) (l : Line) → is_console k ≡ is_console_line l → AllByRecursion HasNoBlank rest → bytes ≡ joined (command_text k ∷ rest)
     → shape k rest ≡ Some l → Parts bytes l
-plain_parts bytes k rest l plain e read = record {
+plain_parts bytes k rest l kind plain e read = record {
   command = k;
+  kind_is = kind;
   rest = rest;
   fields_are = ap fields_of e ∙ fields_of-joined (command_text k) rest (command-plain k, plain);
   shape_is = read;
 }
 
 -- a line of one number
-one_parts : (bytes : List ℕ) (k : Command) (least most n : ℕ) (made : ℕ → Line) → most < 2 ^ 64 → (least ≤ n) × (n ≤ most)
+one_parts : (bytes : List ℕ) (k : Command) (least most n : ℕ) (made : ℕ → Line) → is_console k ≡ is_console_line (made n) → most < 2 ^ 64 → (least ≤ n) × (n ≤ most)
     → shape k (decimal n ∷ []) ≡ one_number least most made (decimal n ∷ []) → bytes ≡ joined (command_text k ∷ decimal n ∷ []) → Parts bytes (made n)
-one_parts bytes k least most n made small within same e =
-    plain_parts bytes k (decimal n ∷ []) (made n) (decimal-plain n (omega arith), tt) e (same ∙ one_number_again least most n made small within.0 within.1)
+one_parts bytes k least most n made kind small within same e =
+    plain_parts bytes k (decimal n ∷ []) (made n) kind (decimal-plain n (omega arith), tt) e (same ∙ one_number_again least most n made small within.0 within.1)
 
-drive_parts : (bytes : List ℕ) (k : Command) (n : ℕ) (made : ℕ → Line) → IsDrive n
+drive_parts : (bytes : List ℕ) (k : Command) (n : ℕ) (made : ℕ → Line) → is_console k ≡ is_console_line (made n) → IsDrive n
     → shape k (decimal n ∷ []) ≡ one_number 1 8 made (decimal n ∷ []) → bytes ≡ joined (command_text k ∷ decimal n ∷ []) → Parts bytes (made n)
-drive_parts bytes k n made within same e = one_parts bytes k 1 8 n made (lit< tt) within same e
+drive_parts bytes k n made kind within same e = one_parts bytes k 1 8 n made kind (lit< tt) within same e
 
-session_parts : (bytes : List ℕ) (k : Command) (n : ℕ) (made : ℕ → Line) → IsNumber n
+session_parts : (bytes : List ℕ) (k : Command) (n : ℕ) (made : ℕ → Line) → is_console k ≡ is_console_line (made n) → IsNumber n
     → shape k (decimal n ∷ []) ≡ one_number 1 most_number made (decimal n ∷ []) → bytes ≡ joined (command_text k ∷ decimal n ∷ []) → Parts bytes (made n)
-session_parts bytes k n made within same e = one_parts bytes k 1 most_number n made (lit< tt) within same e
+session_parts bytes k n made kind within same e = one_parts bytes k 1 most_number n made kind (lit< tt) within same e
 
-label_again : (d : ℕ) (v p m : List ℕ) → IsDrive d → IsWord v → IsWord p → IsWord m → label_shape (decimal d ∷ v ∷ p ∷ m ∷ []) ≡ Some (line.Label d v p m)
+label_again : (d : ℕ) (v p m : List ℕ) → IsDrive d → IsWord v → IsWord p → IsWord m → label_shape (decimal d ∷ v ∷ p ∷ m ∷ []) ≡ Some (line.Console (console.Label d v p m))
 unfolding label_shape
 label_again d v p m within v_word p_word m_word =
     rw (number_at_again 1 8 d (v ∷ p ∷ m ∷ []) (lit< tt) within.0 within.1, word_at_again v (p ∷ m ∷ []) v_word.0, word_at_again p (m ∷ []) p_word.0, word_at_again m [] m_word.0) refl
 
-mount_again : (d : ℕ) (v : List ℕ) → IsDrive d → IsWord v → mount_shape (decimal d ∷ v ∷ []) ≡ Some (line.Mount d v)
+adopt_again : (d : ℕ) (v : List ℕ) → IsDrive d → IsWord v → adopt_shape (decimal d ∷ v ∷ []) ≡ Some (line.Console (console.Adopt d v))
+unfolding adopt_shape
+adopt_again d v within v_word = rw (number_at_again 1 8 d (v ∷ []) (lit< tt) within.0 within.1, word_at_again v [] v_word.0) refl
+
+mount_again : (d : ℕ) (v : List ℕ) → IsDrive d → IsWord v → mount_shape (decimal d ∷ v ∷ []) ≡ Some (line.Console (console.Mount d v))
 unfolding mount_shape
 mount_again d v within v_word = rw (number_at_again 1 8 d (v ∷ []) (lit< tt) within.0 within.1, word_at_again v [] v_word.0) refl
 
@@ -189,6 +219,7 @@ rec_parts : (bytes : List ℕ) (t i s : ℕ) (text : List ℕ) → IsWithin (lin
     → bytes ≡ joined (command_text Rec ∷ decimal t ∷ decimal i ∷ decimal s ∷ text ∷ []) → Parts bytes (line.Rec t i s text)
 rec_parts bytes t i s text within e = record {
   command = Rec;
+  kind_is = refl;
   rest = decimal t ∷ decimal i ∷ decimal s ∷ fields_of text;
   fields_are = ap fields_of e ∙ rec_fields t i s text within.0 within.1 within.2;
   shape_is = rec_again t i s (fields_of text) text (joined-fields_of text) within;
@@ -197,7 +228,7 @@ rec_parts bytes t i s text within e = record {
 short_parts : (bytes : List ℕ) (t i s : ℕ) → IsWithin (line.Rec t i s [])
     → bytes ≡ joined (command_text Rec ∷ decimal t ∷ decimal i ∷ decimal s ∷ []) → Parts bytes (line.Rec t i s [])
 short_parts bytes t i s within e =
-    plain_parts bytes Rec (decimal t ∷ decimal i ∷ decimal s ∷ []) (line.Rec t i s [])
+    plain_parts bytes Rec (decimal t ∷ decimal i ∷ decimal s ∷ []) (line.Rec t i s []) refl
     (number-plain t within.0, (number-plain i within.1, (number-plain s within.2, tt))) e (rec_again t i s [] [] refl within)
 
 -- a moment that is not negative
@@ -207,28 +238,45 @@ moment_most n fits = omega (arith, fits.sfits)
 pub parts_of : (bytes : List ℕ) (l : Line) → bytes ≢ [] → IsSpelled bytes l → IsWithin l → AreWords l → Parts bytes l
 parts_of bytes line.Empty some_there spelled within words = elim spelled [ inl e ↦ absurd (some_there e) | inr short ↦ absurd short ]
 parts_of bytes (line.Set (setting.Block n)) some_there spelled within words =
-    elim spelled [ inl e ↦ one_parts bytes Block least_block_limit most_block n (λ m. line.Set (setting.Block m)) (lit< tt) within refl e | inr short ↦ absurd short ]
+    elim spelled [ inl e ↦ one_parts bytes Block least_block_limit most_block n (λ m. line.Set (setting.Block m)) refl (lit< tt) within refl e | inr short ↦ absurd short ]
 parts_of bytes (line.Set (setting.Time n)) some_there spelled within words =
-    elim spelled [ inl e ↦ session_parts bytes Time n (λ m. line.Set (setting.Time m)) within refl e | inr short ↦ absurd short ]
+    elim spelled [ inl e ↦ session_parts bytes Time n (λ m. line.Set (setting.Time m)) refl within refl e | inr short ↦ absurd short ]
 parts_of bytes (line.At (pos n)) some_there spelled within words =
-    elim spelled [ inl e ↦ one_parts bytes At 0 most_moment n (λ m. line.At (pos m)) (lit< tt) (omega arith, moment_most n within.1) refl e | inr short ↦ absurd short ]
+    elim spelled [ inl e ↦ one_parts bytes At 0 most_moment n (λ m. line.At (pos m)) refl (lit< tt) (omega arith, moment_most n within.1) refl e | inr short ↦ absurd short ]
 parts_of bytes (line.At (negsuc n)) some_there spelled within words = absurd (omega (arith, ints, within.0))
-parts_of bytes (line.Label d v p m) some_there spelled within words =
+parts_of bytes (line.Console (console.Label d v p m)) some_there spelled within words =
     elim spelled [
       | inl e ↦
-          plain_parts bytes Label (decimal d ∷ v ∷ p ∷ m ∷ []) (line.Label d v p m)
+          plain_parts bytes Label (decimal d ∷ v ∷ p ∷ m ∷ []) (line.Console (console.Label d v p m)) refl
           (drive-plain d within, (words.0.1, (words.1.0.1, (words.1.1.0.1, tt)))) e (label_again d v p m within words.0 words.1.0 words.1.1.0)
       | inr short ↦ absurd short
     ]
-parts_of bytes (line.Mount d v) some_there spelled within words =
+parts_of bytes (line.Console (console.Adopt d v)) some_there spelled within words =
     elim spelled [
-      | inl e ↦ plain_parts bytes Mount (decimal d ∷ v ∷ []) (line.Mount d v) (drive-plain d within, (words.0.1, tt)) e (mount_again d v within words.0)
+      | inl e ↦ plain_parts bytes Adopt (decimal d ∷ v ∷ []) (line.Console (console.Adopt d v)) refl (drive-plain d within, (words.0.1, tt)) e (adopt_again d v within words.0)
       | inr short ↦ absurd short
     ]
+parts_of bytes (line.Console (console.Mount d v)) some_there spelled within words =
+    elim spelled [
+      | inl e ↦ plain_parts bytes Mount (decimal d ∷ v ∷ []) (line.Console (console.Mount d v)) refl (drive-plain d within, (words.0.1, tt)) e (mount_again d v within words.0)
+      | inr short ↦ absurd short
+    ]
+parts_of bytes (line.Console (console.Unmount n)) some_there spelled within words =
+    elim spelled [ inl e ↦ drive_parts bytes Unmount n (λ m. line.Console (console.Unmount m)) refl within refl e | inr short ↦ absurd short ]
+parts_of bytes (line.Console (console.Retire n)) some_there spelled within words =
+    elim spelled [ inl e ↦ drive_parts bytes Retire n (λ m. line.Console (console.Retire m)) refl within refl e | inr short ↦ absurd short ]
+parts_of bytes (line.Console (console.Cancel n)) some_there spelled within words =
+    elim spelled [ inl e ↦ session_parts bytes Cancel n (λ m. line.Console (console.Cancel m)) refl within refl e | inr short ↦ absurd short ]
+parts_of bytes (line.Console (console.JobMedia n)) some_there spelled within words =
+    elim spelled [ inl e ↦ session_parts bytes JobMedia n (λ m. line.Console (console.JobMedia m)) refl within refl e | inr short ↦ absurd short ]
+parts_of bytes (line.Console console.Status) some_there spelled within words =
+    elim spelled [ inl e ↦ plain_parts bytes Status [] (line.Console console.Status) refl tt e refl | inr short ↦ absurd short ]
+parts_of bytes (line.Console console.Requests) some_there spelled within words =
+    elim spelled [ inl e ↦ plain_parts bytes Requests [] (line.Console console.Requests) refl tt e refl | inr short ↦ absurd short ]
 parts_of bytes (line.Open j p m) some_there spelled within words =
     elim spelled [
       | inl e ↦
-          plain_parts bytes Open (decimal j ∷ p ∷ m ∷ []) (line.Open j p m)
+          plain_parts bytes Open (decimal j ∷ p ∷ m ∷ []) (line.Open j p m) refl
           (number-plain j within, (words.0.1, (words.1.0.1, tt))) e (open_again j p m within words.0 words.1.0)
       | inr short ↦ absurd short
     ]
@@ -239,32 +287,30 @@ parts_of bytes (line.Rec t i s (x ∷ text)) some_there spelled within words =
 parts_of bytes (line.Fill t i s n) some_there spelled within words =
     elim spelled [
       | inl e ↦
-          plain_parts bytes Fill (decimal t ∷ decimal i ∷ decimal s ∷ decimal n ∷ []) (line.Fill t i s n)
+          plain_parts bytes Fill (decimal t ∷ decimal i ∷ decimal s ∷ decimal n ∷ []) (line.Fill t i s n) refl
           (number-plain t within.0, (number-plain i within.1, (number-plain s within.2, (decimal-plain n (omega (arith, within.3)), tt)))) e (fill_again t i s n within)
       | inr short ↦ absurd short
     ]
 parts_of bytes (line.Seek n) some_there spelled within words =
-    elim spelled [ inl e ↦ drive_parts bytes Seek n line.Seek within refl e | inr short ↦ absurd short ]
+    elim spelled [ inl e ↦ drive_parts bytes Seek n line.Seek refl within refl e | inr short ↦ absurd short ]
 parts_of bytes (line.Take n) some_there spelled within words =
-    elim spelled [ inl e ↦ drive_parts bytes Take n line.Take within refl e | inr short ↦ absurd short ]
+    elim spelled [ inl e ↦ drive_parts bytes Take n line.Take refl within refl e | inr short ↦ absurd short ]
 parts_of bytes (line.Place n) some_there spelled within words =
-    elim spelled [ inl e ↦ drive_parts bytes Place n line.Place within refl e | inr short ↦ absurd short ]
+    elim spelled [ inl e ↦ drive_parts bytes Place n line.Place refl within refl e | inr short ↦ absurd short ]
 parts_of bytes (line.Sync n) some_there spelled within words =
-    elim spelled [ inl e ↦ drive_parts bytes Sync n line.Sync within refl e | inr short ↦ absurd short ]
+    elim spelled [ inl e ↦ drive_parts bytes Sync n line.Sync refl within refl e | inr short ↦ absurd short ]
 parts_of bytes (line.End n) some_there spelled within words =
-    elim spelled [ inl e ↦ session_parts bytes End n line.End within refl e | inr short ↦ absurd short ]
-parts_of bytes (line.Cancel n) some_there spelled within words =
-    elim spelled [ inl e ↦ session_parts bytes Cancel n line.Cancel within refl e | inr short ↦ absurd short ]
+    elim spelled [ inl e ↦ session_parts bytes End n line.End refl within refl e | inr short ↦ absurd short ]
 parts_of bytes (line.Spool n) some_there spelled within words =
-    elim spelled [ inl e ↦ session_parts bytes Spool n line.Spool within refl e | inr short ↦ absurd short ]
+    elim spelled [ inl e ↦ session_parts bytes Spool n line.Spool refl within refl e | inr short ↦ absurd short ]
 parts_of bytes (line.Despool n) some_there spelled within words =
-    elim spelled [ inl e ↦ session_parts bytes Despool n line.Despool within refl e | inr short ↦ absurd short ]
+    elim spelled [ inl e ↦ session_parts bytes Despool n line.Despool refl within refl e | inr short ↦ absurd short ]
 parts_of bytes (line.Close n) some_there spelled within words =
-    elim spelled [ inl e ↦ session_parts bytes Close n line.Close within refl e | inr short ↦ absurd short ]
+    elim spelled [ inl e ↦ session_parts bytes Close n line.Close refl within refl e | inr short ↦ absurd short ]
 parts_of bytes (line.Read n) some_there spelled within words =
-    elim spelled [ inl e ↦ session_parts bytes Read n line.Read within refl e | inr short ↦ absurd short ]
+    elim spelled [ inl e ↦ session_parts bytes Read n line.Read refl within refl e | inr short ↦ absurd short ]
 parts_of bytes line.Drain some_there spelled within words =
-    elim spelled [ inl e ↦ plain_parts bytes Drain [] line.Drain tt e refl | inr short ↦ absurd short ]
+    elim spelled [ inl e ↦ plain_parts bytes Drain [] line.Drain refl tt e refl | inr short ↦ absurd short ]
 
 -- no command is written by no characters
 pub command-some : (k : Command) → 0 < length (command_text k)
@@ -272,8 +318,11 @@ command-some Block = lit< tt
 command-some Time = lit< tt
 command-some At = lit< tt
 command-some Label = lit< tt
+command-some Adopt = lit< tt
 command-some Mount = lit< tt
+command-some Unmount = lit< tt
 command-some Seek = lit< tt
+command-some Retire = lit< tt
 command-some Open = lit< tt
 command-some Rec = lit< tt
 command-some Fill = lit< tt
@@ -285,8 +334,11 @@ command-some Take = lit< tt
 command-some Place = lit< tt
 command-some Sync = lit< tt
 command-some Close = lit< tt
+command-some JobMedia = lit< tt
 command-some Read = lit< tt
 command-some Drain = lit< tt
+command-some Status = lit< tt
+command-some Requests = lit< tt
 
 -- the command of the first word, or none
 pub command_read : (fs : Fields) (word : List ℕ) (rest : Fields) (r : Option Command) → word_at fs ≡ Some (word, rest)

@@ -9,7 +9,8 @@ use Rattle.std.proofs.lemmas.Int.{ints}
 use Rattle.std.proofs.lemmas.Option.{cond_some}
 use Rattle.sd_base.specs.Limits.{least_block_limit, most_block, most_data, most_number}
 use Rattle.sd_script.specs.declared.command.Command.{Command}
-use Rattle.sd_script.specs.declared.command.Command.TheVariants.{Block, Time, At, Label, Mount, Seek, Open, Rec, Fill, End, Cancel, Spool, Despool, Take, Place, Sync, Close, Read, Drain}
+use Rattle.sd_script.specs.declared.command.Command.TheVariants.{Block, Time, At, Label, Adopt, Mount, Unmount, Seek, Retire, Open, Rec, Fill, End, Cancel, Spool, Despool, Take, Place, Sync, Close, JobMedia, Read, Drain, Status, Requests}
+use Rattle.sd_script.specs.declared.console.ConsoleCmd.TheVariants as console
 use Rattle.sd_script.specs.declared.line.Setting.TheVariants as setting
 use Rattle.sd_script.specs.declared.line.Line.{Line}
 use Rattle.sd_script.specs.declared.line.Line.TheVariants as line
@@ -17,7 +18,7 @@ use Rattle.sd_script.specs.Command.{command_text}
 use Rattle.sd_words.specs.Fields.{HasNoBlank, joined, Fields, fields_of}
 use Rattle.sd_script.specs.Grammar.{IsSpelled, IsWithin, AreWords}
 use Rattle.sd_words.specs.Reading.{◌>>=◌, number_at, word_at, all_read, only_number}
-use Rattle.sd_script.specs.Reading.{most_moment, shape, one_number, label_shape, mount_shape, open_shape, rec_shape, fill_shape}
+use Rattle.sd_script.specs.Reading.{most_moment, shape, one_number, label_shape, adopt_shape, mount_shape, open_shape, rec_shape, fill_shape}
 use Rattle.sd_words.proofs.FieldLemmas.{joined-fields_of, fields_of-plain}
 use Rattle.sd_words.proofs.ReadingLemmas.{bind_some, some_is, TakesNumber, number_at_takes, word_at_takes, all_read_takes, only_number_takes}
 use Rattle.sd_script.proofs.ReadingLemmas.{one_number_takes}
@@ -45,11 +46,11 @@ one_text bytes command fs least most n has takes = has.text ∙ ap (λ (gs : Fie
 label_takes : (bytes : List ℕ) (fs : Fields) (l : Line) → HasFields bytes (command_text Label) fs → label_shape fs ≡ Some l → Spells bytes l
 unfolding label_shape
 label_takes bytes fs l has e =
-    let a = bind_some (number_at 1 8 fs) (λ drive. word_at drive.1 >>= λ volume. word_at volume.1 >>= λ pool. word_at pool.1 >>= λ media. all_read (line.Label drive.0 volume.0 pool.0 media.0) media.1) l e in
-    let b = bind_some (word_at a.0.1) (λ volume. word_at volume.1 >>= λ pool. word_at pool.1 >>= λ media. all_read (line.Label a.0.0 volume.0 pool.0 media.0) media.1) l a.2 in
-    let p = bind_some (word_at b.0.1) (λ pool. word_at pool.1 >>= λ media. all_read (line.Label a.0.0 b.0.0 pool.0 media.0) media.1) l b.2 in
-    let m = bind_some (word_at p.0.1) (λ media. all_read (line.Label a.0.0 b.0.0 p.0.0 media.0) media.1) l p.2 in
-    let all = all_read_takes (line.Label a.0.0 b.0.0 p.0.0 m.0.0) l m.0.1 m.2 in
+    let a = bind_some (number_at 1 8 fs) (λ drive. word_at drive.1 >>= λ volume. word_at volume.1 >>= λ pool. word_at pool.1 >>= λ media. all_read (line.Console (console.Label drive.0 volume.0 pool.0 media.0)) media.1) l e in
+    let b = bind_some (word_at a.0.1) (λ volume. word_at volume.1 >>= λ pool. word_at pool.1 >>= λ media. all_read (line.Console (console.Label a.0.0 volume.0 pool.0 media.0)) media.1) l a.2 in
+    let p = bind_some (word_at b.0.1) (λ pool. word_at pool.1 >>= λ media. all_read (line.Console (console.Label a.0.0 b.0.0 pool.0 media.0)) media.1) l b.2 in
+    let m = bind_some (word_at p.0.1) (λ media. all_read (line.Console (console.Label a.0.0 b.0.0 p.0.0 media.0)) media.1) l p.2 in
+    let all = all_read_takes (line.Console (console.Label a.0.0 b.0.0 p.0.0 m.0.0)) l m.0.1 m.2 in
     let drive = number_at_takes 1 8 fs a.0 a.1 in
     let volume = word_at_takes a.0.1 b.0 b.1 in
     let pool = word_at_takes b.0.1 p.0 p.1 in
@@ -63,12 +64,28 @@ label_takes bytes fs l has e =
       words = ((volume.1, plain.1.0), ((pool.1, plain.1.1.0), ((media.1, plain.1.1.1.0), tt)));
     })
 
+adopt_takes : (bytes : List ℕ) (fs : Fields) (l : Line) → HasFields bytes (command_text Adopt) fs → adopt_shape fs ≡ Some l → Spells bytes l
+unfolding adopt_shape
+adopt_takes bytes fs l has e =
+    let a = bind_some (number_at 1 8 fs) (λ drive. word_at drive.1 >>= λ volume. all_read (line.Console (console.Adopt drive.0 volume.0)) volume.1) l e in
+    let b = bind_some (word_at a.0.1) (λ volume. all_read (line.Console (console.Adopt a.0.0 volume.0)) volume.1) l a.2 in
+    let all = all_read_takes (line.Console (console.Adopt a.0.0 b.0.0)) l b.0.1 b.2 in
+    let drive = number_at_takes 1 8 fs a.0 a.1 in
+    let volume = word_at_takes a.0.1 b.0 b.1 in
+    let fields : fs ≡ decimal a.0.0 ∷ b.0.0 ∷ [] = drive.fields_are ∙ ap (λ (gs : Fields). decimal a.0.0 ∷ gs) (volume.0 ∙ ap (λ (gs : Fields). b.0.0 ∷ gs) all.0) in
+    let plain = subst (λ (gs : Fields). AllByRecursion HasNoBlank gs) fields has.plain in
+    subst (λ (x : Line). Spells bytes x) all.1 (record {
+      spelled = inl (has.text ∙ ap (λ (gs : Fields). joined (command_text Adopt ∷ gs)) fields);
+      within = (drive.least_is, drive.most_is);
+      words = ((volume.1, plain.1.0), tt);
+    })
+
 mount_takes : (bytes : List ℕ) (fs : Fields) (l : Line) → HasFields bytes (command_text Mount) fs → mount_shape fs ≡ Some l → Spells bytes l
 unfolding mount_shape
 mount_takes bytes fs l has e =
-    let a = bind_some (number_at 1 8 fs) (λ drive. word_at drive.1 >>= λ volume. all_read (line.Mount drive.0 volume.0) volume.1) l e in
-    let b = bind_some (word_at a.0.1) (λ volume. all_read (line.Mount a.0.0 volume.0) volume.1) l a.2 in
-    let all = all_read_takes (line.Mount a.0.0 b.0.0) l b.0.1 b.2 in
+    let a = bind_some (number_at 1 8 fs) (λ drive. word_at drive.1 >>= λ volume. all_read (line.Console (console.Mount drive.0 volume.0)) volume.1) l e in
+    let b = bind_some (word_at a.0.1) (λ volume. all_read (line.Console (console.Mount a.0.0 volume.0)) volume.1) l a.2 in
+    let all = all_read_takes (line.Console (console.Mount a.0.0 b.0.0)) l b.0.1 b.2 in
     let drive = number_at_takes 1 8 fs a.0 a.1 in
     let volume = word_at_takes a.0.1 b.0 b.1 in
     let fields : fs ≡ decimal a.0.0 ∷ b.0.0 ∷ [] = drive.fields_are ∙ ap (λ (gs : Fields). decimal a.0.0 ∷ gs) (volume.0 ∙ ap (λ (gs : Fields). b.0.0 ∷ gs) all.0) in
@@ -171,6 +188,7 @@ fields_take Time bytes fs l has e =
 fields_take At bytes fs l has e =
     one_takes bytes At fs 0 most_moment (λ n. line.At (pos n)) l (λ n low high text. spelled_so bytes (line.At (pos n)) (inl text) (omega (arith, ints), moment_fits n high) tt) has e
 fields_take Label bytes fs l has e = label_takes bytes fs l has e
+fields_take Adopt bytes fs l has e = adopt_takes bytes fs l has e
 fields_take Mount bytes fs l has e = mount_takes bytes fs l has e
 fields_take Open bytes fs l has e = open_takes bytes fs l has e
 fields_take Rec bytes fs l has e = rec_takes bytes fs l has e
@@ -185,8 +203,14 @@ fields_take Sync bytes fs l has e =
     one_takes bytes Sync fs 1 8 line.Sync l (λ n low high text. spelled_so bytes (line.Sync n) (inl text) (low, high) tt) has e
 fields_take End bytes fs l has e =
     one_takes bytes End fs 1 most_number line.End l (λ n low high text. spelled_so bytes (line.End n) (inl text) (low, high) tt) has e
+fields_take Unmount bytes fs l has e =
+    one_takes bytes Unmount fs 1 8 (λ n. line.Console (console.Unmount n)) l (λ n low high text. spelled_so bytes (line.Console (console.Unmount n)) (inl text) (low, high) tt) has e
+fields_take Retire bytes fs l has e =
+    one_takes bytes Retire fs 1 8 (λ n. line.Console (console.Retire n)) l (λ n low high text. spelled_so bytes (line.Console (console.Retire n)) (inl text) (low, high) tt) has e
 fields_take Cancel bytes fs l has e =
-    one_takes bytes Cancel fs 1 most_number line.Cancel l (λ n low high text. spelled_so bytes (line.Cancel n) (inl text) (low, high) tt) has e
+    one_takes bytes Cancel fs 1 most_number (λ n. line.Console (console.Cancel n)) l (λ n low high text. spelled_so bytes (line.Console (console.Cancel n)) (inl text) (low, high) tt) has e
+fields_take JobMedia bytes fs l has e =
+    one_takes bytes JobMedia fs 1 most_number (λ n. line.Console (console.JobMedia n)) l (λ n low high text. spelled_so bytes (line.Console (console.JobMedia n)) (inl text) (low, high) tt) has e
 fields_take Spool bytes fs l has e =
     one_takes bytes Spool fs 1 most_number line.Spool l (λ n low high text. spelled_so bytes (line.Spool n) (inl text) (low, high) tt) has e
 fields_take Despool bytes fs l has e =
@@ -198,6 +222,12 @@ fields_take Read bytes fs l has e =
 fields_take Drain bytes fs l has e =
     let all = all_read_takes line.Drain l fs e in
     subst (λ (x : Line). Spells bytes x) all.1 (spelled_so bytes line.Drain (inl (has.text ∙ ap (λ (gs : Fields). joined (command_text Drain ∷ gs)) all.0)) tt tt)
+fields_take Status bytes fs l has e =
+    let all = all_read_takes (line.Console console.Status) l fs e in
+    subst (λ (x : Line). Spells bytes x) all.1 (spelled_so bytes (line.Console console.Status) (inl (has.text ∙ ap (λ (gs : Fields). joined (command_text Status ∷ gs)) all.0)) tt tt)
+fields_take Requests bytes fs l has e =
+    let all = all_read_takes (line.Console console.Requests) l fs e in
+    subst (λ (x : Line). Spells bytes x) all.1 (spelled_so bytes (line.Console console.Requests) (inl (has.text ∙ ap (λ (gs : Fields). joined (command_text Requests ∷ gs)) all.0)) tt tt)
 
 pub takes : (k : Command) (bytes : List ℕ) (fs : Fields) (l : Line) → fields_of bytes ≡ command_text k ∷ fs → shape k fs ≡ Some l → Spells bytes l
 takes k bytes fs l fields e = fields_take k bytes fs l (has_fields bytes (command_text k) fs fields) e

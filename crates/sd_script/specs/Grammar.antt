@@ -10,9 +10,24 @@ use Rattle.sd_base.specs.declared.refusal.Refusal.TheVariants as refusals
 use Rattle.sd_words.specs.Fields.{HasNoBlank, joined}
 use Rattle.sd_script.specs.declared.line.Setting.TheVariants.{Block, Time}
 use Rattle.sd_script.specs.declared.line.Line.{Line}
-use Rattle.sd_script.specs.declared.line.Line.TheVariants.{Empty, Set, At, Label, Mount, Seek, Open, Rec, Fill, End, Cancel, Spool, Despool, Take, Place, Sync, Close, Read, Drain}
+use Rattle.sd_script.specs.declared.line.Line.TheVariants.{Empty, Set, At, Console, Seek, Open, Rec, Fill, End, Spool, Despool, Take, Place, Sync, Close, Read, Drain}
+use Rattle.sd_script.specs.declared.console.ConsoleCmd.{ConsoleCmd}
+use Rattle.sd_script.specs.declared.console.ConsoleCmd.TheVariants.{Label, Adopt, Mount, Unmount, Retire, Cancel, JobMedia, Status, Requests}
 use Rattle.sd_script.specs.declared.line.LineFault.{LineFault}
 use Rattle.sd_script.specs.declared.line.LineFault.TheVariants.{BadCommand, BadName}
+
+-- the fields of a line that a console has too
+abbrev pub console_fields : ConsoleCmd → List (List ℕ)
+console_fields (Label drive volume pool media) =
+    codes "label" ∷ decimal drive ∷ volume ∷ pool ∷ media ∷ []
+console_fields (Adopt drive volume) = codes "adopt" ∷ decimal drive ∷ volume ∷ []
+console_fields (Mount drive volume) = codes "mount" ∷ decimal drive ∷ volume ∷ []
+console_fields (Unmount drive) = codes "unmount" ∷ decimal drive ∷ []
+console_fields (Retire drive) = codes "retire" ∷ decimal drive ∷ []
+console_fields (Cancel ticket) = codes "cancel" ∷ decimal ticket ∷ []
+console_fields (JobMedia ticket) = codes "jobmedia" ∷ decimal ticket ∷ []
+console_fields Status = codes "status" ∷ []
+console_fields Requests = codes "requests" ∷ []
 
 -- the fields of a line; the last one of `rec` is its text, which may hold blanks
 abbrev pub fields : Line → List (List ℕ)
@@ -20,9 +35,7 @@ fields Empty = []
 fields (Set (Block size)) = codes "block" ∷ decimal size ∷ []
 fields (Set (Time time)) = codes "time" ∷ decimal time ∷ []
 fields (At moment) = codes "at" ∷ signed_decimal moment ∷ []
-fields (Label drive volume pool media) =
-    codes "label" ∷ decimal drive ∷ volume ∷ pool ∷ media ∷ []
-fields (Mount drive volume) = codes "mount" ∷ decimal drive ∷ volume ∷ []
+fields (Console command) = console_fields command
 fields (Seek drive) = codes "seek" ∷ decimal drive ∷ []
 fields (Open job pool media) = codes "open" ∷ decimal job ∷ pool ∷ media ∷ []
 fields (Rec ticket index stream text) =
@@ -30,7 +43,6 @@ fields (Rec ticket index stream text) =
 fields (Fill ticket index stream count) =
     codes "fill" ∷ decimal ticket ∷ decimal index ∷ decimal stream ∷ decimal count ∷ []
 fields (End ticket) = codes "end" ∷ decimal ticket ∷ []
-fields (Cancel ticket) = codes "cancel" ∷ decimal ticket ∷ []
 fields (Spool ticket) = codes "spool" ∷ decimal ticket ∷ []
 fields (Despool ticket) = codes "despool" ∷ decimal ticket ∷ []
 fields (Take drive) = codes "take" ∷ decimal drive ∷ []
@@ -62,14 +74,25 @@ IsNumber n = (1 ≤ n) × (n ≤ most_number)
 abbrev pub IsDrive : ℕ → Type 0
 IsDrive n = (1 ≤ n) × (n ≤ 8)
 
+-- the numbers of a console's line are within their limits
+abbrev pub IsConsoleWithin : ConsoleCmd → Type 0
+IsConsoleWithin (Label drive volume pool media) = IsDrive drive
+IsConsoleWithin (Adopt drive volume) = IsDrive drive
+IsConsoleWithin (Mount drive volume) = IsDrive drive
+IsConsoleWithin (Unmount drive) = IsDrive drive
+IsConsoleWithin (Retire drive) = IsDrive drive
+IsConsoleWithin (Cancel ticket) = IsNumber ticket
+IsConsoleWithin (JobMedia ticket) = IsNumber ticket
+IsConsoleWithin Status = Unit {0}
+IsConsoleWithin Requests = Unit {0}
+
 -- the numbers are within their limits, and so is the length of a text
 abbrev pub IsWithin : Line → Type 0
 IsWithin Empty = Unit {0}
 IsWithin (Set (Block size)) = (least_block_limit ≤ size) × (size ≤ most_block)
 IsWithin (Set (Time time)) = IsNumber time
 IsWithin (At moment) = (pos 0 ≤ℤ moment) × FitsSigned w64 moment
-IsWithin (Label drive volume pool media) = IsDrive drive
-IsWithin (Mount drive volume) = IsDrive drive
+IsWithin (Console command) = IsConsoleWithin command
 IsWithin (Seek drive) = IsDrive drive
 IsWithin (Open job pool media) = IsNumber job
 IsWithin (Rec ticket index stream text) =
@@ -77,7 +100,6 @@ IsWithin (Rec ticket index stream text) =
 IsWithin (Fill ticket index stream count) =
     IsNumber ticket × IsNumber index × IsNumber stream × (count ≤ most_data)
 IsWithin (End ticket) = IsNumber ticket
-IsWithin (Cancel ticket) = IsNumber ticket
 IsWithin (Spool ticket) = IsNumber ticket
 IsWithin (Despool ticket) = IsNumber ticket
 IsWithin (Take drive) = IsDrive drive
@@ -87,10 +109,16 @@ IsWithin (Close ticket) = IsNumber ticket
 IsWithin (Read ticket) = IsNumber ticket
 IsWithin Drain = Unit {0}
 
+-- the fields of a console's line that stand in the place of a name
+abbrev pub console_names : ConsoleCmd → List (List ℕ)
+console_names (Label drive volume pool media) = volume ∷ pool ∷ media ∷ []
+console_names (Adopt drive volume) = volume ∷ []
+console_names (Mount drive volume) = volume ∷ []
+console_names command = []
+
 -- the fields of a line that stand in the place of a name
 abbrev pub names : Line → List (List ℕ)
-names (Label drive volume pool media) = volume ∷ pool ∷ media ∷ []
-names (Mount drive volume) = volume ∷ []
+names (Console command) = console_names command
 names (Open job pool media) = pool ∷ media ∷ []
 names line = []
 
@@ -119,6 +147,10 @@ pub record HasForm (bytes : List ℕ) (line : Line) : Type 0 where
   pub spelled : IsSpelled bytes line
   pub within : IsWithin line
   pub names : AreNames line
+
+-- a console has the line too
+abbrev pub IsConsole : Line → Type 0
+IsConsole line = (command : ConsoleCmd) × (line ≡ Console command)
 
 -- bytes that have a shape have one
 abbrev pub HaveOneShape : Type 0

@@ -3,6 +3,7 @@ ghost use Rattle.std.specs.Prelude.{◌≡◌};
 ghost use Rattle.sd_script.specs.Reading.{Gives, shape};
 ghost use Rattle.sd_script.specs.declared.command.Command.TheVariants as commands;
 
+use crate::console::ConsoleCmd;
 use crate::line::{Line, LineFault, MOST_MOMENT, Setting, Text};
 use sd_base::{LEAST_BLOCK_LIMIT, MOST_BLOCK, MOST_DATA, MOST_NUMBER, Name};
 use sd_words::Words;
@@ -40,12 +41,25 @@ pub fn label(mut words: Words<'_>) -> Result<Line<'_>, LineFault>
     let pool = words.word()?;
     let media = words.word()?;
     words.end()?;
-    Ok(Line::Label {
+    Ok(Line::Console(ConsoleCmd::Label {
         drive,
         volume: Name::parse(volume)?,
         pool: Name::parse(pool)?,
         media: Name::parse(media)?,
-    })
+    }))
+}
+
+#[tactic(auto, unfolding(crate::specs::Reading::adopt_shape))]
+pub fn adopt(mut words: Words<'_>) -> Result<Line<'_>, LineFault>
+    ensures { Gives result (shape commands.Adopt words.entry) }
+{
+    let drive = words.numbered()?;
+    let volume = words.word()?;
+    words.end()?;
+    Ok(Line::Console(ConsoleCmd::Adopt {
+        drive,
+        volume: Name::parse(volume)?,
+    }))
 }
 
 #[tactic(auto, unfolding(crate::specs::Reading::mount_shape))]
@@ -55,10 +69,10 @@ pub fn mount(mut words: Words<'_>) -> Result<Line<'_>, LineFault>
     let drive = words.numbered()?;
     let volume = words.word()?;
     words.end()?;
-    Ok(Line::Mount {
+    Ok(Line::Console(ConsoleCmd::Mount {
         drive,
         volume: Name::parse(volume)?,
-    })
+    }))
 }
 
 #[tactic(auto, unfolding(crate::specs::Reading::open_shape))]
@@ -116,4 +130,18 @@ pub fn drain(words: Words<'_>) -> Result<Line<'_>, LineFault>
 {
     words.end()?;
     Ok(Line::Drain)
+}
+
+pub fn status(words: Words<'_>) -> Result<Line<'_>, LineFault>
+    ensures { Gives result (shape commands.Status words.entry) }
+{
+    words.end()?;
+    Ok(Line::Console(ConsoleCmd::Status))
+}
+
+pub fn requests(words: Words<'_>) -> Result<Line<'_>, LineFault>
+    ensures { Gives result (shape commands.Requests words.entry) }
+{
+    words.end()?;
+    Ok(Line::Console(ConsoleCmd::Requests))
 }

@@ -1,13 +1,15 @@
 //! The script language of `sdtool run`, as far as reading its lines goes: a line's bytes to the line
-//! as a value, or to the refusal that it prints.
+//! as a value, or to the refusal that it prints. A console has some of these lines too.
 #![tactic(auto)]
 
 mod command;
+mod console;
 mod forms;
 mod laws;
 mod line;
 mod read;
 
+pub use console::ConsoleCmd;
 pub use laws::{lines_have_one_form, lines_have_one_shape};
 pub use line::{Line, LineFault, Setting, Text};
-pub use read::read_line;
+pub use read::{read_console, read_line};

@@ -3,7 +3,8 @@ ghost use Rattle.std.specs.Prelude.{◌≡◌};
 ghost use Rattle.sd_script.specs.Grammar.{line_refusal};
 ghost use Rattle.sd_script.specs.declared.line.LineFault.TheVariants.{BadCommand, BadName};
 
-use sd_base::{BadName, DriveNo, JobId, MediaName, PoolName, Refusal, Ticket, VolName};
+use crate::console::ConsoleCmd;
+use sd_base::{BadName, DriveNo, JobId, MediaName, PoolName, Refusal, Ticket};
 use sd_words::BadField;
 use std::marker::Model;
 
@@ -17,16 +18,8 @@ pub enum Line<'a> {
     Set(Setting),
     /// Sets the moment, in microseconds.
     At(i64),
-    Label {
-        drive: DriveNo,
-        volume: VolName,
-        pool: PoolName,
-        media: MediaName,
-    },
-    Mount {
-        drive: DriveNo,
-        volume: VolName,
-    },
+    /// A line that a console has too.
+    Console(ConsoleCmd),
     Seek(DriveNo),
     Open {
         job: JobId,
@@ -47,7 +40,6 @@ pub enum Line<'a> {
         count: usize,
     },
     End(Ticket),
-    Cancel(Ticket),
     Spool(Ticket),
     Despool(Ticket),
     Take(DriveNo),

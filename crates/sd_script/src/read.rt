@@ -1,13 +1,18 @@
 // The lines of a script, read: what is read has the form of the line, and what has a form is read.
-ghost use Rattle.std.specs.Prelude.{◌≡◌, ◌<◌, ◌↔◌, ℕ, List, ◌∷◌, Ok, Err, IfOk, IfSome, IfNone, All};
-ghost use Rattle.sd_script.specs.Grammar.{HasForm, HasShape, AreNames};
+ghost use Rattle.std.specs.Prelude.{◌≡◌, ◌<◌, ◌↔◌, ℕ, List, ◌∷◌, Ok, Err, IfOk, IfSome, IfNone, IsTrue, All};
+ghost use Rattle.sd_script.specs.Grammar.{HasForm, HasShape, AreNames, IsConsole};
 ghost use Rattle.sd_script.specs.Command.{command_text};
 ghost use Rattle.sd_script.specs.Reading.{Gives, shape};
+ghost use Rattle.sd_script.specs.declared.console.ConsoleCmd.{ConsoleCmd as SpecConsole};
 ghost use Rattle.sd_script.specs.declared.line.Line.{Line as SpecLine};
+ghost use Rattle.sd_script.specs.declared.line.Line.TheVariants.{Console};
 ghost use Rattle.sd_script.specs.declared.command.Command.{Command as SpecCommand};
 
 use crate::command::{Command, command_of};
-use crate::forms::{at, block, drain, fill, label, mount, open, rec, time};
+use crate::console::ConsoleCmd;
+use crate::forms::{
+    adopt, at, block, drain, fill, label, mount, open, rec, requests, status, time,
+};
 use crate::line::{Line, LineFault};
 use sd_words::Words;
 use std::str;
@@ -36,6 +41,55 @@ pub fn read_line(bytes: &[u8]) -> Result<Line<'_>, LineFault>
         return Err(LineFault::BadCommand);
     };
     line_of(command, words)
+}
+
+/// The command that `bytes` spell on a console, without the newline behind it: `read_line` of those lines
+/// that a console has too.
+pub fn read_console(bytes: &[u8]) -> Result<ConsoleCmd, LineFault>
+    // What is read has the form of that command,
+    ensures ok { IfOk result (λ command. HasForm bytes.now (Console command)) }
+    // and what has the form of a command is read as that.
+    ensures found { (command : SpecConsole) → HasForm bytes.now (Console command)
+        → result ≡ Ok command }
+    // A bad name: the form of a command is there, but for a word that is no name.
+    ensures bad_name { (result ≡ Err LineFault.BadName) ↔ ((command : SpecConsole)
+        × HasShape bytes.now (Console command) × (AreNames (Console command) → ⊥)) }
+    // A bad command: there is no form of a command, whatever the names are.
+    ensures bad_command { (result ≡ Err LineFault.BadCommand)
+        ↔ ((command : SpecConsole) → HasShape bytes.now (Console command) → ⊥) }
+{
+    if !begins_as_console(bytes) {
+        return Err(LineFault::BadCommand);
+    }
+    match read_line(bytes) {
+        Ok(line) => console_of(line),
+        Err(fault) => Err(fault),
+    }
+}
+
+/// The command of a line that a console has too.
+fn console_of(line: Line<'_>) -> Result<ConsoleCmd, LineFault>
+    ensures { (command : SpecConsole) → line.entry ≡ Console command → result ≡ Ok command }
+{
+    match line {
+        Line::Console(command) => Ok(command),
+        _ => Err(LineFault::BadCommand),
+    }
+}
+
+/// Whether the first word is of a line that a console has too.
+fn begins_as_console(bytes: &[u8]) -> bool
+    ensures yes { IsTrue result → (line : SpecLine) → HasShape bytes.now line → IsConsole line }
+    ensures no { (command : SpecConsole) → HasShape bytes.now (Console command) → IsTrue result }
+{
+    let Some(line) = ascii_text(bytes) else {
+        return false;
+    };
+    let mut words = Words::new(line);
+    match first_command(&mut words) {
+        Some(command) => command.is_console(),
+        None => false,
+    }
 }
 
 /// The bytes as a text, where they are ASCII.
@@ -74,20 +128,26 @@ fn line_of(command: Command, words: Words<'_>) -> Result<Line<'_>, LineFault>
         Command::Time => time(words),
         Command::At => at(words),
         Command::Label => label(words),
+        Command::Adopt => adopt(words),
         Command::Mount => mount(words),
+        Command::Unmount => Ok(Line::Console(ConsoleCmd::Unmount(words.only()?))),
         Command::Seek => Ok(Line::Seek(words.only()?)),
+        Command::Retire => Ok(Line::Console(ConsoleCmd::Retire(words.only()?))),
         Command::Open => open(words),
         Command::Rec => rec(words),
         Command::Fill => fill(words),
         Command::End => Ok(Line::End(words.only()?)),
-        Command::Cancel => Ok(Line::Cancel(words.only()?)),
+        Command::Cancel => Ok(Line::Console(ConsoleCmd::Cancel(words.only()?))),
         Command::Spool => Ok(Line::Spool(words.only()?)),
         Command::Despool => Ok(Line::Despool(words.only()?)),
         Command::Take => Ok(Line::Take(words.only()?)),
         Command::Place => Ok(Line::Place(words.only()?)),
         Command::Sync => Ok(Line::Sync(words.only()?)),
         Command::Close => Ok(Line::Close(words.only()?)),
+        Command::JobMedia => Ok(Line::Console(ConsoleCmd::JobMedia(words.only()?))),
         Command::Read => Ok(Line::Read(words.only()?)),
         Command::Drain => drain(words),
+        Command::Status => status(words),
+        Command::Requests => requests(words),
     }
 }

@@ -11,10 +11,11 @@ use Rattle.std.proofs.lemmas.List.Elements.{recursion_from_All}
 use Rattle.sd_base.specs.Name.{IsName, is_name_char}
 use Rattle.sd_base.specs.declared.number.SessionKey.{SessionKey}
 use Rattle.sd_span.specs.declared.span.Span.{Span}
-use Rattle.sd_span.specs.JobMedia.{line, session_text, span_text, KeyFits, SpanFits, JobMediaTextsApart}
+use Rattle.sd_words.specs.Lines.{line}
+use Rattle.sd_span.specs.JobMedia.{session_text, span_text, KeyFits, SpanFits, JobMediaTextsApart}
 
 -- the byte isn't in the text
-abbrev Lacks : ℕ → List ℕ → Type 0
+abbrev pub Lacks : ℕ → List ℕ → Type 0
 Lacks c text = AllByRecursion (λ d. d ≢ c) text
 
 -- a text up to the first of a byte, and what stands behind that
@@ -33,16 +34,16 @@ digits_lack : (c : ℕ) → 10 ≤ digit_value c → (ds : List ℕ) → AllDigi
 digits_lack c none [] h = tt
 digits_lack c none (d ∷ ds) h = ((λ same. let small = subst (λ n. digit_value n < 10) same h.0 in omega (arith, small)), digits_lack c none ds h.1)
 
-decimal_lacks : (c n : ℕ) → 10 ≤ digit_value c → n < 2 ^ 64 → Lacks c (decimal n)
+pub decimal_lacks : (c n : ℕ) → 10 ≤ digit_value c → n < 2 ^ 64 → Lacks c (decimal n)
 decimal_lacks c n none small = digits_lack c none (decimal n) (decimal_is_IsNumeral n small).0.1
 
--- a blank isn't in a name
+-- what is no letter of a name isn't in one
 chars_lack : (c : ℕ) → (IsTrue (is_name_char c) → ⊥) → (text : List ℕ) → AllByRecursion (λ d. IsTrue (is_name_char d)) text → Lacks c text
 chars_lack c none [] h = tt
 chars_lack c none (d ∷ ds) h = ((λ same. none (subst (λ n. IsTrue (is_name_char n)) same h.0)), chars_lack c none ds h.1)
 
-name_lacks : (text : List ℕ) → IsName text → Lacks 32 text
-name_lacks text is = chars_lack 32 (λ e. cc e) text (recursion_from_All (λ c. IsTrue (is_name_char c)) text is.2)
+pub name_lacks : (c : ℕ) → (IsTrue (is_name_char c) → ⊥) → (text : List ℕ) → IsName text → Lacks c text
+name_lacks c none text is = chars_lack c none text (recursion_from_All (λ c. IsTrue (is_name_char c)) text is.2)
 
 -- a number and what stands behind the byte at its end
 number_apart : (c n m : ℕ) (x y : List ℕ) → 10 ≤ digit_value c → n < 2 ^ 64 → m < 2 ^ 64
@@ -51,10 +52,10 @@ number_apart c n m x y none small small' e =
     let parts = cut_at c (decimal n) (decimal m) x y (decimal_lacks c n none small) (decimal_lacks c m none small') e in
     (decimal_injective n m small small' parts.0, parts.1)
 
-blank_is_none : 10 ≤ digit_value 32
+pub blank_is_none : 10 ≤ digit_value 32
 blank_is_none = search rules
 
-newline_is_none : 10 ≤ digit_value 10
+pub newline_is_none : 10 ≤ digit_value 10
 newline_is_none = search rules
 
 -- the session's line, field by field
@@ -81,7 +82,7 @@ span_apart : (s t : Span) (x y : List ℕ) → SpanFits s → SpanFits t
     → line (span_text s) ++ x ≡ line (span_text t) ++ y → (s ≡ t) × (x ≡ y)
 span_apart s t x y fits fits' e =
     let all = append_cancel_left (codes "span ") _ _ (sym (span_line s x) ∙ e ∙ span_line t y) in
-    let volume = cut_at 32 s.volume t.volume _ _ (name_lacks s.volume fits.volume_is) (name_lacks t.volume fits'.volume_is) all in
+    let volume = cut_at 32 s.volume t.volume _ _ (name_lacks 32 (λ h. cc h) s.volume fits.volume_is) (name_lacks 32 (λ h. cc h) t.volume fits'.volume_is) all in
     let index = number_apart 32 s.vol_index t.vol_index _ _ blank_is_none fits.vol_index_fits fits'.vol_index_fits volume.1 in
     let first = number_apart 32 s.first t.first _ _ blank_is_none (omega (arith, fits.first_fits)) (omega (arith, fits'.first_fits)) index.1 in
     let last = number_apart 32 s.last t.last _ _ blank_is_none (omega (arith, fits.last_fits)) (omega (arith, fits'.last_fits)) first.1 in

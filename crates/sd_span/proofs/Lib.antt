@@ -1,2 +1,4 @@
 pub mod JobMediaLemmas
+pub mod ReadingLemmas
 pub mod SpanLemmas
+pub mod TextLemmas

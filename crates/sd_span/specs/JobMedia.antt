@@ -1,14 +1,15 @@
 -- The JobMedia text: what a client keeps of a closed session, to read it by.
-use Rattle.std.specs.Prelude.{◌≡◌, ◌<◌, ◌^◌, All, List, ◌++◌, ℕ, codes}
+use Rattle.std.specs.Prelude.{◌≡◌, ◌⊎◌, ◌<◌, ◌^◌, All, List, ◌++◌, ℕ, codes}
 use Rattle.std.specs.List.{flat_map}
 use Rattle.std.specs.Fmt.{decimal}
 use Rattle.sd_base.specs.Name.{IsName}
+use Rattle.sd_words.specs.Lines.{line}
+use Rattle.sd_base.specs.declared.refusal.Refusal as base
+use Rattle.sd_base.specs.declared.refusal.Refusal.TheVariants as refusals
 use Rattle.sd_base.specs.declared.number.SessionKey.{SessionKey}
 use Rattle.sd_span.specs.declared.span.Span.{Span}
-
--- a text as a line
-abbrev pub line : List ℕ → List ℕ
-line text = text ++ codes "\n"
+use Rattle.sd_span.specs.declared.jobmedia.JobMediaFault.{JobMediaFault}
+use Rattle.sd_span.specs.declared.jobmedia.JobMediaFault.TheVariants.{BadSpan, Memory}
 
 -- the session's key: its time, then its id
 abbrev pub session_text : SessionKey → List ℕ
@@ -39,6 +40,17 @@ pub record SpanFits (s : Span) : Type 0 where
   pub start_fits : s.start < 2 ^ 64
   pub end_fits : s.end < 2 ^ 64
 
+-- the text says this session and these spans: it is their JobMedia text, but that its last newline may lack
+pub record IsJobMedia (text : List ℕ) (key : SessionKey) (spans : List Span) : Type 0 where
+  pub key_fits : KeyFits key
+  pub spans_fit : All SpanFits spans
+  pub written : (text ≡ jobmedia_text key spans) ⊎ (line text ≡ jobmedia_text key spans)
+
+-- what the daemon answers for a fault
+abbrev pub jobmedia_refusal : JobMediaFault → base.Refusal
+jobmedia_refusal BadSpan = refusals.BadSpan
+jobmedia_refusal Memory = refusals.Memory
+
 -- Laws.
 
 -- two sessions or two lists of spans never share a text
@@ -46,3 +58,8 @@ abbrev pub JobMediaTextsApart : Type 0
 JobMediaTextsApart = (key key' : SessionKey) (spans spans' : List Span)
     → KeyFits key → KeyFits key' → All SpanFits spans → All SpanFits spans'
     → jobmedia_text key spans ≡ jobmedia_text key' spans' → (key ≡ key') × (spans ≡ spans')
+
+-- no text says two sessions or two lists of spans, with the last newline or without it
+abbrev pub JobMediaIsOne : Type 0
+JobMediaIsOne = (text : List ℕ) (key key' : SessionKey) (spans spans' : List Span)
+    → IsJobMedia text key spans → IsJobMedia text key' spans' → (key ≡ key') × (spans ≡ spans')

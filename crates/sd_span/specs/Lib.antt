@@ -1,2 +1,3 @@
 pub mod JobMedia
+pub mod Reading
 pub mod Spans

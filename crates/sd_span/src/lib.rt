@@ -2,6 +2,7 @@
 //! them.
 #![tactic(auto)]
 
+mod jobmedia;
 mod laws;
 mod placement;
 mod progress;
@@ -10,7 +11,8 @@ mod stretches;
 #[cfg(test)]
 mod tests;
 
-pub use laws::{jobmedia_texts_apart, stretches_grow};
+pub use jobmedia::{JobMediaFault, SessionSpans, read_jobmedia};
+pub use laws::{jobmedia_is_one, jobmedia_texts_apart, stretches_grow};
 pub use placement::Placement;
 pub use progress::Progress;
 pub use span::{Span, put_jobmedia};

@@ -1,6 +1,8 @@
-// Spans of placements, by a table, as the text that they print.
+// Spans of placements, by a table, as the text that they print, and texts that are read or refused.
+mod reading;
 mod table;
 
+use reading::{READ, REFUSED, is_refused, outcome_of, read_at_last};
 use sd_base::SessionKey;
 use std::test::Fail;
 use table::text_of;
@@ -22,4 +24,32 @@ span A 3 3 4 300 4294967767
     let none = text_of(rt.alloc(), SessionKey { time: 8, id: 1 }).ok_or("memory")?;
     assert_eq!(rt; none.as_str(), "session 8 1\n");
     Ok(())
+}
+
+#[test]
+fn texts_are_read_back(rt: HostRuntime) -> Result<(), Fail> {
+    for text in READ {
+        let again = outcome_of(rt.alloc(), text).ok_or("memory")?;
+        assert_eq!(rt; again.as_str().trim_end(), text.trim_end(), "{text}");
+    }
+    Ok(())
+}
+
+#[test]
+fn other_texts_are_refused(rt: HostRuntime) -> Result<(), Fail> {
+    for text in REFUSED {
+        let refused = outcome_of(rt.alloc(), text).ok_or("memory")?;
+        assert_eq!(rt; refused.as_str(), "3950 Bad span", "{text}");
+    }
+    Ok(())
+}
+
+#[test]
+fn memory_comes_back(rt: HostRuntime) {
+    for text in READ {
+        assert!(rt; read_at_last(rt.alloc(), text), "{text}");
+    }
+    for text in REFUSED {
+        assert!(rt; is_refused(rt.alloc(), text), "{text}");
+    }
 }

@@ -3,7 +3,8 @@ use Rattle.std.specs.Prelude.{◌≡◌, ℕ, ◌+◌, ◌≤◌, ◌<◌, Bool,
 use Rattle.std.specs.List.{AllByRecursion}
 use Rattle.sd_base.specs.Limits.{least_body, most_body}
 use Rattle.sd_pack.specs.Body.{PackedBody}
-use Rattle.sd_spool.specs.Meaning.{Meaning, IsHonest, Rose, Counts, MayClear}
+use Rattle.sd_base.specs.Count.{Rose}
+use Rattle.sd_spool.specs.Meaning.{Meaning, IsHonest, CountsFailures, MayClear}
 use Rattle.sd_spool.specs.declared.entry.Entry.{Entry}
 use Rattle.sd_spool.specs.declared.entry.Extent.{Extent}
 use Rattle.sd_spool.specs.declared.store.SpoolStoreFault.{SpoolStoreFault}
@@ -122,7 +123,7 @@ empty_on store limit = record {
 
 -- a store that could not be cleared, with the fault
 pub record FailsToClear (fault : SpoolStoreFault) (old new : Meaning) : Type 0 where
-  pub counts : Counts {T = Unit {0}} (Err fault) old new
+  pub counts : CountsFailures {T = Unit {0}} (Err fault) old new
   pub memory : fault ≡ Memory → new ≡ old
   pub bytes : IsHonest old → MayClear old.bytes new.bytes
 

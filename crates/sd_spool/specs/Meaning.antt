@@ -1,5 +1,6 @@
 -- What a store of a spool is to the daemon, and what every store tells by its answers.
-use Rattle.std.specs.Prelude.{◌≡◌, ◌↔◌, ℕ, Bool, ◌-◌, ◌≤◌, ◌<◌, ◌^◌, ◌⊎◌, List, [], ◌++◌, Result, IsTrue, IsErrOf}
+use Rattle.std.specs.Prelude.{◌≡◌, ◌↔◌, ℕ, Bool, ◌≤◌, ◌⊎◌, List, [], ◌++◌, Result, IsTrue, IsErrOf}
+use Rattle.sd_base.specs.Count.{Rose}
 use Rattle.sd_spool.specs.declared.store.SpoolStoreFault.{SpoolStoreFault}
 use Rattle.sd_spool.specs.declared.store.SpoolStoreFault.TheVariants.{Device}
 
@@ -15,13 +16,9 @@ pub record Meaning : Type 0 where
 abbrev pub IsHonest : Meaning → Type 0
 IsHonest meaning = IsTrue meaning.honest
 
--- a count rose, or stands at the greatest value of 64 bits
-abbrev pub Rose : ℕ → ℕ → Type 0
-Rose old new = (old < new) ⊎ (new ≡ 2 ^ 64 - 1)
-
 -- no call changes whether the store is honest; the count of failures doesn't fall; a fault of the device is
 -- answered exactly where a failure was counted, or where the count can't rise any more
-pub record Counts {T : Type 0} (result : Result T SpoolStoreFault) (old new : Meaning) : Type 0 where
+pub record CountsFailures {T : Type 0} (result : Result T SpoolStoreFault) (old new : Meaning) : Type 0 where
   pub honest : new.honest ≡ old.honest
   pub failures : old.failures ≤ new.failures
   pub device : IsErrOf result Device ↔ Rose old.failures new.failures

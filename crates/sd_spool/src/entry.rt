@@ -1,6 +1,6 @@
 // Where the bodies of a spool stand in its store.
 ghost use Rattle.std.specs.Prelude.{◌≡◌, ◌↔◌, ◌+◌, ◌^◌, ◌<◌, ◌≤◌, ◌++◌, [], false, true, length, IfOk, OnOk, OnErr, IsErrOf, IsTrue};
-ghost use Rattle.sd_spool.specs.Meaning.{IsHonest, Counts, MayAppend};
+ghost use Rattle.sd_spool.specs.Meaning.{IsHonest, CountsFailures, MayAppend};
 ghost use Rattle.sd_spool.specs.Job.{EndsAt, HasCause, state_of, begin_extent, begin_bytes};
 
 use crate::store::{SpoolStore, SpoolStoreFault};
@@ -62,7 +62,7 @@ impl Extent {
         requires ends { EndsAt (S.meaning store.old) self.old }
         requires fits { self.old.end + length bytes.now < 2 ^ 64 }
         ensures ends { EndsAt (S.meaning store.new) self.new }
-        ensures counts { Counts result (S.meaning store.old) (S.meaning store.new) }
+        ensures counts { CountsFailures result (S.meaning store.old) (S.meaning store.new) }
         ensures memory { IsErrOf result SpoolStoreFault.Memory
             → (S.meaning store.new ≡ S.meaning store.old) × (self.new ≡ self.old) }
         ensures device { IsErrOf result SpoolStoreFault.Device

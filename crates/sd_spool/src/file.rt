@@ -1,6 +1,7 @@
 // A spool in a file, as a store.
 ghost use Rattle.std.specs.Prelude.{◌≡◌, ◌≢◌, ◌↔◌, ◌≤◌, ◌-◌, ◌^◌, IsOk, IfOk, IfErr, IsErrOf};
-ghost use Rattle.sd_spool.specs.Meaning.{Counts, Rose};
+ghost use Rattle.sd_base.specs.Count.{Rose};
+ghost use Rattle.sd_spool.specs.Meaning.{CountsFailures};
 ghost use Rattle.sd_spool.specs.FileSpool.{meaning_of, unused, failures_after, IsSpent};
 
 use crate::spool_file::SpoolFile;
@@ -49,7 +50,7 @@ where
     ghost meaning = { meaning_of };
 
     fn append(&mut self, bytes: &[u8]) -> Result<(), SpoolStoreFault>
-        ensures counts { Counts result (meaning_of self.old) (meaning_of self.new) }
+        ensures counts { CountsFailures result (meaning_of self.old) (meaning_of self.new) }
         ensures once { (meaning_of self.new).failures
             ≡ failures_after result (meaning_of self.old).failures }
         ensures spent { IsSpent (meaning_of self.old).failures → self.new ≡ self.old }
@@ -62,7 +63,7 @@ where
     }
 
     fn read_at(&mut self, at: u64, into: &mut [u8]) -> Result<(), SpoolStoreFault>
-        ensures counts { Counts result (meaning_of self.old) (meaning_of self.new) }
+        ensures counts { CountsFailures result (meaning_of self.old) (meaning_of self.new) }
         ensures once { (meaning_of self.new).failures
             ≡ failures_after result (meaning_of self.old).failures }
         ensures spent { IsSpent (meaning_of self.old).failures → self.new ≡ self.old }
@@ -75,7 +76,7 @@ where
     }
 
     fn clear(&mut self) -> Result<(), SpoolStoreFault>
-        ensures counts { Counts result (meaning_of self.old) (meaning_of self.new) }
+        ensures counts { CountsFailures result (meaning_of self.old) (meaning_of self.new) }
         ensures once { (meaning_of self.new).failures
             ≡ failures_after result (meaning_of self.old).failures }
         ensures spent { IsSpent (meaning_of self.old).failures → self.new ≡ self.old }

@@ -1,6 +1,6 @@
 // A spool in memory, as a store.
 ghost use Rattle.std.specs.Prelude.{◌≡◌, ◌≢◌, ◌↔◌, ◌≤◌, ◌<◌, ◌+◌, ◌-◌, ◌^◌, ◌⊎◌, ◌++◌, [], false, None, take, drop, length, IfErr, OnOk, OnErr, IsOk, IsTrue, IsErrOf};
-ghost use Rattle.sd_spool.specs.Meaning.{Rose};
+ghost use Rattle.sd_base.specs.Count.{Rose};
 ghost use Rattle.sd_spool.specs.Plan.{part_of, works};
 
 use crate::plan::{Plan, SpoolCall, SpoolFail, SpoolWhen};
@@ -42,13 +42,13 @@ impl MemSpool {
 }
 
 impl SpoolStore for MemSpool {
-    ghost use Rattle.sd_spool.specs.Meaning.{IsHonest, Counts, MayAppend, MayClear};
+    ghost use Rattle.sd_spool.specs.Meaning.{IsHonest, CountsFailures, MayAppend, MayClear};
     ghost use Rattle.sd_spool.specs.MemSpool.{meaning_of, FollowsPlan, IsShort};
 
     ghost meaning = { meaning_of };
 
     fn append(&mut self, bytes: &[u8]) -> Result<(), SpoolStoreFault>
-        ensures counts { Counts result (meaning_of self.old) (meaning_of self.new) }
+        ensures counts { CountsFailures result (meaning_of self.old) (meaning_of self.new) }
         ensures memory { IsErrOf result SpoolStoreFault.Memory
             → meaning_of self.new ≡ meaning_of self.old }
         ensures ok { IsHonest (meaning_of self.old) → OnOk result
@@ -67,7 +67,7 @@ impl SpoolStore for MemSpool {
     }
 
     fn read_at(&mut self, at: u64, into: &mut [u8]) -> Result<(), SpoolStoreFault>
-        ensures counts { Counts result (meaning_of self.old) (meaning_of self.new) }
+        ensures counts { CountsFailures result (meaning_of self.old) (meaning_of self.new) }
         ensures memory { IsErrOf result SpoolStoreFault.Memory
             → meaning_of self.new ≡ meaning_of self.old }
         ensures ok { IsHonest (meaning_of self.old) → OnOk result
@@ -89,7 +89,7 @@ impl SpoolStore for MemSpool {
     }
 
     fn clear(&mut self) -> Result<(), SpoolStoreFault>
-        ensures counts { Counts result (meaning_of self.old) (meaning_of self.new) }
+        ensures counts { CountsFailures result (meaning_of self.old) (meaning_of self.new) }
         ensures memory { IsErrOf result SpoolStoreFault.Memory
             → meaning_of self.new ≡ meaning_of self.old }
         ensures ok { IsHonest (meaning_of self.old) → OnOk result

@@ -1,6 +1,6 @@
 // A store of bytes: they are appended, read back, and all thrown away at once.
 ghost use Rattle.std.specs.Prelude.{◌≡◌, ◌++◌, [], take, drop, length, OnOk, OnErr, IsErrOf};
-ghost use Rattle.sd_spool.specs.Meaning.{Meaning, IsHonest, Counts, MayAppend, MayClear};
+ghost use Rattle.sd_spool.specs.Meaning.{Meaning, IsHonest, CountsFailures, MayAppend, MayClear};
 
 /// Why a store refused a call.
 #[derive(Clone, Copy, Debug, PartialEq, Eq)]
@@ -22,7 +22,7 @@ pub trait SpoolStore: Send {
 
     /// Adds bytes behind those that stand. After a fault some of them may stand there.
     fn append(&mut self, bytes: &[u8]) -> Result<(), SpoolStoreFault>
-        ensures counts { Counts result (meaning self.old) (meaning self.new) }
+        ensures counts { CountsFailures result (meaning self.old) (meaning self.new) }
         ensures memory { IsErrOf result SpoolStoreFault.Memory
             → meaning self.new ≡ meaning self.old }
         ensures ok { IsHonest (meaning self.old) → OnOk result
@@ -33,7 +33,7 @@ pub trait SpoolStore: Send {
     /// Fills `into` with the bytes that stand from `at` on. Where there are fewer than it has room for, that is
     /// a fault of the store. After a fault `into` may hold anything.
     fn read_at(&mut self, at: u64, into: &mut [u8]) -> Result<(), SpoolStoreFault>
-        ensures counts { Counts result (meaning self.old) (meaning self.new) }
+        ensures counts { CountsFailures result (meaning self.old) (meaning self.new) }
         ensures memory { IsErrOf result SpoolStoreFault.Memory
             → meaning self.new ≡ meaning self.old }
         ensures ok { IsHonest (meaning self.old) → OnOk result
@@ -43,7 +43,7 @@ pub trait SpoolStore: Send {
 
     /// Throws all bytes away. After a fault they stand, or none is left.
     fn clear(&mut self) -> Result<(), SpoolStoreFault>
-        ensures counts { Counts result (meaning self.old) (meaning self.new) }
+        ensures counts { CountsFailures result (meaning self.old) (meaning self.new) }
         ensures memory { IsErrOf result SpoolStoreFault.Memory
             → meaning self.new ≡ meaning self.old }
         ensures ok { IsHonest (meaning self.old) → OnOk result ((meaning self.new).bytes ≡ []) }

@@ -11,7 +11,7 @@ use Rattle.sd_label.specs.declared.label.VolumeLabel.{VolumeLabel}
 use Rattle.sd_label.specs.Label.{IsVolumeLabel, volume_label_bytes}
 use Rattle.sd_volume.specs.Image.{Block, BeginsWithBlock, no_session, label_block, VolumeImage}
 use Rattle.sd_volume.specs.Reader.{IsBlockOf}
-use Rattle.sd_volume.specs.Adopt.{GoesUpTo, HasBlockOfThisRun, StandsAt, IsVolumeOf}
+use Rattle.sd_volume.specs.Adopt.{GoesUpTo, HasBlockOfThisRun, BlockStandsAt, IsVolumeOf}
 use Rattle.sd_volume.proofs.ImageLemmas.{block_and_behind, own_image, one_block_there, one_block_more, volume_end-more, length-image, label_image, length-label_block}
 
 -- at one place begins one block
@@ -22,7 +22,7 @@ one_block_begins bytes key key' number number' body body' is is' =
     (sym (block_and_behind bytes key number body is) ∙ block_and_behind bytes key' number' body' is')).number_is
 
 -- a block that was shown stands there
-pub shown_stands : (bytes shown : List ℕ) (at : ℕ) (head : Head) → shown ≡ take head.size (drop at bytes) → IsBlockOf shown head → StandsAt at head.number bytes head
+pub shown_stands : (bytes shown : List ℕ) (at : ℕ) (head : Head) → shown ≡ take head.size (drop at bytes) → IsBlockOf shown head → BlockStandsAt at head.number bytes head
 shown_stands bytes shown at head is block =
     let long : head.size ≡ 24 + length block.body = block.size_is ∙ length-image shown head.key head.number block.body block.image in
     (block.body, subst (λ (image : List ℕ). IsBlockImage most_block image head.key head.number block.body) (is ∙ ap (λ n. take n (drop at bytes)) long) block.image, long)
@@ -32,7 +32,7 @@ shown_within bytes shown at head is block within =
     omega (arith, block.size_is, ap length is, length-take head.size (drop at bytes), length-drop at bytes)
 
 -- one block more
-pub goes_on : (start : ℕ) (bytes : List ℕ) (label : VolumeLabel) (end next : ℕ) (head : Head) → GoesUpTo start bytes label end next → StandsAt end next bytes head → head.key.time < start
+pub goes_on : (start : ℕ) (bytes : List ℕ) (label : VolumeLabel) (end next : ℕ) (head : Head) → GoesUpTo start bytes label end next → BlockStandsAt end next bytes head → head.key.time < start
     → GoesUpTo start bytes label (end + head.size) (next + 1)
 goes_on start bytes label end next head goes stands earlier =
     let block : Block = record { key = head.key; body = stands.0 } in
@@ -47,7 +47,7 @@ goes_on start bytes label end next head goes stands earlier =
     }
 
 -- a block that is of no earlier run
-pub of_this_run : (start : ℕ) (bytes : List ℕ) (label : VolumeLabel) (end next : ℕ) (head : Head) → GoesUpTo start bytes label end next → StandsAt end next bytes head → start ≤ head.key.time
+pub of_this_run : (start : ℕ) (bytes : List ℕ) (label : VolumeLabel) (end next : ℕ) (head : Head) → GoesUpTo start bytes label end next → BlockStandsAt end next bytes head → start ≤ head.key.time
     → HasBlockOfThisRun start bytes label
 of_this_run start bytes label end next head goes stands late =
     let block : Block = record { key = head.key; body = stands.0 } in

@@ -6,7 +6,8 @@ use Rattle.std.proofs.lemmas.Bool.{cases_lt}
 use Rattle.sd_driver.specs.declared.driver.DriverFault.{DriverFault}
 use Rattle.sd_driver.specs.declared.driver.DriverFault.TheVariants.{NotThere, Exists, NoRoom, Device, Memory}
 use Rattle.sd_driver.specs.Shelf.{Shelf, Held, stable_bytes, SameShelf, Passes, KeepsStable, Creates, Appends, Syncs, MaySync, Truncates, MayTruncate}
-use Rattle.sd_driver.specs.Meaning.{Meaning, IsHonest, Rose, Counts, SameCounts, told_after}
+use Rattle.sd_base.specs.Count.{Rose}
+use Rattle.sd_driver.specs.Meaning.{Meaning, IsHonest, CountsFailures, SameCounts, told_after}
 use Rattle.sd_driver.proofs.Lasting.{still_lasts, StillLasts-trans, Lasts-begin, BeginsWith-same}
 use Rattle.sd_volume.specs.Device.{Counted, OnlyReads, Writes, OthersStay, CutsLoaded, KeepsLoaded}
 use Rattle.sd_volume.specs.Fault.{adopt_fault_of}
@@ -35,7 +36,7 @@ told_rose (Err Device) old new e is = absurd cc
 told_rose (Err Memory) old new e is = absurd cc
 
 -- one call
-pub counted_call : {T : Type 0} (result : Result T DriverFault) (old new : Meaning) → Counts result old new → Counted (IsErrOf result Device) (IsErrOf result NoRoom) old new
+pub counted_call : {T : Type 0} (result : Result T DriverFault) (old new : Meaning) → CountsFailures result old new → Counted (IsErrOf result Device) (IsErrOf result NoRoom) old new
 counted_call result old new counts = record {
   honest = counts.honest;
   failures = counts.failures;
@@ -79,7 +80,7 @@ Counted-behind fault no_room a b c first then = record {
 -- Reading.
 
 -- one call that reads
-pub only_reads_call : {T : Type 0} (result : Result T DriverFault) (old new : Meaning) → Counts result old new → (result ≢ Err NoRoom)
+pub only_reads_call : {T : Type 0} (result : Result T DriverFault) (old new : Meaning) → CountsFailures result old new → (result ≢ Err NoRoom)
     → Passes old.shelf new.shelf → KeepsStable old.shelf new.shelf → new.loaded ≡ old.loaded → (IsHonest old → SameShelf old.shelf new.shelf)
     → OnlyReads (IsErrOf result Device) old new
 only_reads_call result old new counts room passes stable loaded same = record {

@@ -104,8 +104,8 @@ pub record GoesUpTo (start : ℕ) (bytes : List ℕ) (label : VolumeLabel) (end 
   pub earlier : AreEarlier start blocks
 
 -- at that place stands the block with this head and that number
-abbrev pub StandsAt : ℕ → ℕ → List ℕ → Head → Type 0
-StandsAt at number bytes head =
+abbrev pub BlockStandsAt : ℕ → ℕ → List ℕ → Head → Type 0
+BlockStandsAt at number bytes head =
     (body : List ℕ) × BeginsWithBlock (drop at bytes) head.key number body
     × (head.size ≡ block_header + length body)
 

@@ -1,7 +1,8 @@
 -- What a call that makes several calls of a device leaves of it, whatever device it is.
 use Rattle.std.specs.Prelude.{◌≡◌, ◌≢◌, ℕ, ◌≤◌, List, ◌++◌, length, take, Option, Some}
 use Rattle.sd_driver.specs.Shelf.{Shelf, SameShelf, StillLasts, Changes, BeginsWith}
-use Rattle.sd_driver.specs.Meaning.{Meaning, IsHonest, Rose}
+use Rattle.sd_base.specs.Count.{Rose}
+use Rattle.sd_driver.specs.Meaning.{Meaning, IsHonest}
 
 -- No call changes whether the device is honest. Where a fault of the device is answered, its failures rose or
 -- stand at their greatest; else they are as they were. Where it is answered that the device has no room, it told

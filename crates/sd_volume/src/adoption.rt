@@ -60,6 +60,8 @@ pub fn adopt<D: Driver>(
     ensures same { IsHonest (D.meaning driver.old)
         → IfErr result (λ fault. fault ≢ AdoptFault.Device
         → SameShelf (D.meaning driver.old).shelf (D.meaning driver.new).shelf) }
+    ensures others { IsHonest (D.meaning driver.old) → (other : List ℕ) → other ≢ name.now
+        → (D.meaning driver.new).shelf.volume other ≡ (D.meaning driver.old).shelf.volume other }
     ensures keeps { IsHonest (D.meaning driver.old)
         → (held : Held) → (D.meaning driver.old).shelf.volume name.now ≡ Some held
         → (label : SpecLabel) (blocks : List Block) (tail : List ℕ)

@@ -1,7 +1,8 @@
 // A block more on a volume.
 ghost use Rattle.std.specs.Prelude.{◌≡◌, ◌≢◌, ◌+◌, ◌≤◌, ◌<◌, ◌⊎◌, List, ℕ, length, OnOk, OnErr, Some};
 ghost use Rattle.sd_base.specs.Limits.{block_header, least_block, least_body, most_body, most_volume};
-ghost use Rattle.sd_driver.specs.Meaning.{IsHonest, Rose, Unchanged};
+ghost use Rattle.sd_base.specs.Count.{Rose};
+ghost use Rattle.sd_driver.specs.Meaning.{IsHonest, Unchanged};
 ghost use Rattle.sd_driver.specs.Shelf.{StillLasts};
 ghost use Rattle.sd_volume.specs.declared.volume.VolumeStatus.TheVariants.{Append, Full, Error};
 ghost use Rattle.sd_volume.specs.Append.{IfPlaced, IfNotPlaced, end_with, AddsBlock, KeepsBlocks};

@@ -5,7 +5,7 @@ ghost use Rattle.sd_driver.specs.Meaning.{IsHonest};
 ghost use Rattle.sd_driver.specs.Shelf.{Held, BeginsWith};
 ghost use Rattle.sd_label.specs.Label.{IsVolumeLabel};
 ghost use Rattle.sd_label.specs.declared.label.VolumeLabel.{VolumeLabel as SpecLabel};
-ghost use Rattle.sd_volume.specs.Adopt.{IsVolumeOf, HasBlockOfThisRun, GoesUpTo, StandsAt, IsLabelled};
+ghost use Rattle.sd_volume.specs.Adopt.{IsVolumeOf, HasBlockOfThisRun, GoesUpTo, BlockStandsAt, IsLabelled};
 ghost use Rattle.sd_volume.specs.Device.{OnlyReads};
 ghost use Rattle.sd_volume.specs.Image.{NoBlockNext, no_session, label_block};
 ghost use Rattle.sd_volume.specs.Reader.{Shows, IsBlockOf};
@@ -172,7 +172,7 @@ fn numbered_block<D: Driver>(
 
     ensures there { IsHonest (D.meaning driver.old) → Shows reader.old (D.meaning driver.old).shelf
         → (held : Held) → (D.meaning driver.old).shelf.volume reader.old.name ≡ Some held
-        → IfOk result (λ found. IfSome found (StandsAt at number held.bytes)) }
+        → IfOk result (λ found. IfSome found (BlockStandsAt at number held.bytes)) }
     ensures none { IsHonest (D.meaning driver.old) → Shows reader.old (D.meaning driver.old).shelf
         → (held : Held) → (D.meaning driver.old).shelf.volume reader.old.name ≡ Some held
         → size ≡ length held.bytes

@@ -1,6 +1,6 @@
 // The fields of a line, read one after another. After an Err no more is read.
 ghost use Rattle.std.specs.Prelude.{◌≡◌, ◌≢◌, ◌≤◌, ◌↔◌, [], ◌∷◌, Some, None, IfOk, IsTrue, MatchOption, MatchResult};
-ghost use Rattle.sd_words.specs.Fields.{fields_of, joined};
+ghost use Rattle.sd_words.specs.Fields.{Fields, fields_of, joined};
 ghost use Rattle.sd_words.specs.Reading.{Reads, ReadsAll, IsPlain, word_at, number_in, number_at, only_number};
 
 use sd_base::Number;
@@ -47,6 +47,17 @@ impl<'a> Words<'a> {
                 self.rest = None;
                 Some(rest)
             }
+        }
+    }
+
+    /// Reads the next field where it is `word`.
+    pub fn known(&mut self, word: &str) -> Result<(), BadField>
+        ensures { MatchResult result (λ _. self.old ≡ word.now ∷ self.new)
+            (λ _. (rest : Fields) → self.old ≡ word.now ∷ rest → ⊥) }
+    {
+        match self.next() {
+            Some(field) if field == word => Ok(()),
+            _ => Err(BadField),
         }
     }
 

@@ -17,7 +17,7 @@ use Rattle.sd_core.specs.Moves.{Moves}
 use Rattle.sd_core.specs.Kept.{ClosedStay}
 use Rattle.sd_core.proofs.StepLemmas.{moves_steps}
 use Rattle.sd_core.proofs.KeptLemmas.{closed_stay}
-use Rattle.sdtool.specs.declared.drain.Progress.{Progress}
+use Rattle.sdtool.specs.declared.drain.Headway.{Headway}
 use Rattle.sdtool.specs.Rounds.{AllMove, Drains, IsRound, Moved, Plays, PlaysOn, PlaysRound, PlaysRounds, RunsOn, Tells, counted, has_moved, placed_in, placing}
 
 pub plays_append : (a b c : WorldView) (es fs : List Event) (rs ss : List Reply) → Plays a es rs b → Plays b fs ss c → Plays a (es ++ fs) (rs ++ ss) c
@@ -32,14 +32,14 @@ counted_sum m n = omega arith
 pub placed_in-append : (rs ss : List Reply) → placed_in (rs ++ ss) ≡ placed_in rs + placed_in ss
 placed_in-append rs ss = sum_by-append _ rs ss
 
-tells_and : (x y r : Progress) (rs ss : List Reply) → Tells x rs → Tells y ss → r.moved ≡ (x.moved || y.moved) → r.placed ≡ counted (x.placed + y.placed) → Tells r (rs ++ ss)
+tells_and : (x y r : Headway) (rs ss : List Reply) → Tells x rs → Tells y ss → r.moved ≡ (x.moved || y.moved) → r.placed ≡ counted (x.placed + y.placed) → Tells r (rs ++ ss)
 tells_and x y r rs ss p q moved placed = record {
   moved = (let e = list_any-append has_moved rs ss in let a = p.moved in let b = q.moved in cc);
   placed = (let e = placed_in-append rs ss in let a = p.placed in let b = q.placed in let n = counted_sum (placed_in rs) (placed_in ss) in cc);
 }
 
 -- steps of one kind, and steps of another behind them
-pub on_and : (J K L : List Event → List Reply → Type 0) (a b c : WorldView) (x y r : Progress)
+pub on_and : (J K L : List Event → List Reply → Type 0) (a b c : WorldView) (x y r : Headway)
     → PlaysOn J a x b → PlaysOn K b y c
     → r.moved ≡ (x.moved || y.moved) → r.placed ≡ counted (x.placed + y.placed)
     → ((es fs : List Event) (rs ss : List Reply) → J es rs → K fs ss → L (es ++ fs) (rs ++ ss))
@@ -56,7 +56,7 @@ on_and J K L a b c x y r p q moved placed kinds = record {
 abbrev pub Are : List Event → List Reply → List Event → List Reply → Type 0
 Are es rs events replies = (events ≡ es) × (replies ≡ rs)
 
-pub on_step : (a b : WorldView) (event : Event) (reply : Reply) (x : Progress) → Moves a event reply b → Tells x (reply ∷ []) → PlaysOn (Are (event ∷ []) (reply ∷ [])) a x b
+pub on_step : (a b : WorldView) (event : Event) (reply : Reply) (x : Headway) → Moves a event reply b → Tells x (reply ∷ []) → PlaysOn (Are (event ∷ []) (reply ∷ [])) a x b
 on_step a b event reply x moves tells = record {
   events = event ∷ [];
   replies = reply ∷ [];
@@ -66,7 +66,7 @@ on_step a b event reply x moves tells = record {
 }
 
 -- the same steps, as steps of another kind
-pub on_kind : (J K : List Event → List Reply → Type 0) (a b : WorldView) (x : Progress) → PlaysOn J a x b → ((es : List Event) (rs : List Reply) → J es rs → K es rs) → PlaysOn K a x b
+pub on_kind : (J K : List Event → List Reply → Type 0) (a b : WorldView) (x : Headway) → PlaysOn J a x b → ((es : List Event) (rs : List Reply) → J es rs → K es rs) → PlaysOn K a x b
 on_kind J K a b x p kinds = record {
   events = p.events;
   replies = p.replies;
@@ -140,20 +140,20 @@ steps_of a b (rs ∷ rounds) p =
     }
 
 -- So many rounds are played, something moved in each, and what came of them is counted.
-pub record Played (old : WorldView) (count : ℕ) (all : Progress) (world : WorldView) : Type 0 where
+pub record Played (old : WorldView) (count : ℕ) (all : Headway) (world : WorldView) : Type 0 where
   pub rounds : List (List Reply)
   pub plays : PlaysRounds old rounds world
   pub move : AllMove rounds
   pub count_is : length rounds ≡ count
   pub placed_is : all.placed ≡ counted (sum_by placed_in rounds)
 
-pub played_none : (w : WorldView) (all : Progress) → Tells all [] → Played w 0 all w
+pub played_none : (w : WorldView) (all : Headway) → Tells all [] → Played w 0 all w
 played_none w all tells = record { rounds = []; plays = refl; move = All-nil _; count_is = refl; placed_is = tells.placed }
 
 sum_last : (rounds : List (List Reply)) (rs : List Reply) → sum_by placed_in (rounds ++ rs ∷ []) ≡ sum_by placed_in rounds + placed_in rs
 sum_last rounds rs = omega (arith, sum_by-append placed_in rounds (rs ∷ []))
 
-placed_more : (old world new : WorldView) (count : ℕ) (all round sum : Progress) → (p : Played old count all world) → (q : PlaysOn (IsRound world) world round new)
+placed_more : (old world new : WorldView) (count : ℕ) (all round sum : Headway) → (p : Played old count all world) → (q : PlaysOn (IsRound world) world round new)
     → sum.placed ≡ counted (all.placed + round.placed) → sum.placed ≡ counted (sum_by placed_in (p.rounds ++ q.replies ∷ []))
 placed_more old world new count all round sum p q placed =
     let a = p.placed_is in
@@ -162,11 +162,11 @@ placed_more old world new count all round sum p q placed =
     let e = sum_last p.rounds q.replies in
     cc
 
-round_of : (world new : WorldView) (round : Progress) → (q : PlaysOn (IsRound world) world round new) → PlaysRound world q.replies new
+round_of : (world new : WorldView) (round : Headway) → (q : PlaysOn (IsRound world) world round new) → PlaysRound world q.replies new
 round_of world new round q = record { events = q.events; is_round = q.is_kind; plays = q.plays }
 
 -- a round more, in which something moved
-pub played_more : (old world new : WorldView) (count : ℕ) (all round sum : Progress) → Played old count all world → PlaysOn (IsRound world) world round new
+pub played_more : (old world new : WorldView) (count : ℕ) (all round sum : Headway) → Played old count all world → PlaysOn (IsRound world) world round new
     → round.moved ≡ true → sum.placed ≡ counted (all.placed + round.placed) → Played old (count + 1) sum new
 played_more old world new count all round sum p q moves placed = record {
   rounds = p.rounds ++ q.replies ∷ [];
@@ -177,7 +177,7 @@ played_more old world new count all round sum p q moves placed = record {
 }
 
 -- the last one, in which nothing did
-pub drained : (old world new : WorldView) (count : ℕ) (all round sum : Progress) → Played old count all world → PlaysOn (IsRound world) world round new
+pub drained : (old world new : WorldView) (count : ℕ) (all round sum : Headway) → Played old count all world → PlaysOn (IsRound world) world round new
     → round.moved ≡ false → sum.placed ≡ counted (all.placed + round.placed) → Drains old sum.placed new
 drained old world new count all round sum p q rests placed = record {
   rounds = p.rounds ++ q.replies ∷ [];
@@ -187,7 +187,7 @@ drained old world new count all round sum p q rests placed = record {
 }
 
 -- as many as can be counted
-pub counted_out : (old world : WorldView) (all : Progress) → Played old (2 ^ 64 - 1) all world → Drains old all.placed world
+pub counted_out : (old world : WorldView) (all : Headway) → Played old (2 ^ 64 - 1) all world → Drains old all.placed world
 counted_out old world all p = record { rounds = p.rounds; plays = p.plays; ends = inr (p.move, p.count_is); placed_is = p.placed_is }
 
 -- what a drain plays is a run of a machine that the world matches

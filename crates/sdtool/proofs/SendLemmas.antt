@@ -6,7 +6,7 @@ use Rattle.std.proofs.lemmas.List.Elements.{filter-append}
 use Rattle.sd_core.specs.declared.event.Event.TheVariants.{Spool, Despool}
 use Rattle.sd_core.specs.declared.status.Status.{Status}
 use Rattle.sd_core.specs.World.{WorldView}
-use Rattle.sdtool.specs.declared.drain.Progress.{Progress}
+use Rattle.sdtool.specs.declared.drain.Headway.{Headway}
 use Rattle.sdtool.specs.Rounds.{AreSends, AtEndBelow, PlaysOn, Tells, counted, is_running, running, sends, status_of}
 use Rattle.sdtool.proofs.RoundLemmas.{on_and, on_kind}
 use Rattle.sdtool.proofs.StatusLemmas.{sends_keep}
@@ -33,7 +33,7 @@ running_below w number low =
 
 -- The sessions with a ticket below the number are done: each ticket was given, the steps are played, and no
 -- status has changed.
-pub record SentBelow (old : WorldView) (number : ℕ) (sent : Progress) (world : WorldView) : Type 0 where
+pub record SentBelow (old : WorldView) (number : ℕ) (sent : Headway) (world : WorldView) : Type 0 where
   pub given : (ticket : ℕ) → 1 ≤ ticket → ticket < number → IsSome (status_of old ticket)
   pub same : (ticket : ℕ) → status_of world ticket ≡ status_of old ticket
   pub plays : PlaysOn (AreSends (running old (number - 1))) old sent world
@@ -46,7 +46,7 @@ running_none w (suc n) rest =
     ∙ ap (λ l. l ++ []) (running_none w n (λ ticket low high. rest ticket low (omega (arith, high))))
 
 -- those that are at their end are done
-pub sent_none : (w : WorldView) (first : ℕ) (sent : Progress) → AtEndBelow w first → Tells sent [] → SentBelow w first sent w
+pub sent_none : (w : WorldView) (first : ℕ) (sent : Headway) → AtEndBelow w first → Tells sent [] → SentBelow w first sent w
 sent_none w first sent below tells =
     let none : running w (first - 1) ≡ [] =
     running_none w (first - 1) (λ ticket low high. (below.at_end ticket low (omega (arith, below.least, high))).1) in
@@ -63,7 +63,7 @@ given_more w number status here below ticket low high =
     below_more P number (λ t less least. below t least less) (λ least. rw here refl) ticket high low
 
 -- one session more, which is on its way
-pub sent_more : (old world new : WorldView) (number : ℕ) (status : Status) (sent one all : Progress) → 1 ≤ number
+pub sent_more : (old world new : WorldView) (number : ℕ) (status : Status) (sent one all : Headway) → 1 ≤ number
     → status_of old number ≡ Some status → is_running (Some status) ≡ true
     → SentBelow old number sent world → PlaysOn (AreSends (number ∷ [])) world one new
     → all.moved ≡ (sent.moved || one.moved) → all.placed ≡ counted (sent.placed + one.placed) → SentBelow old (number + 1) all new
@@ -84,7 +84,7 @@ sent_more old world new number status sent one all low here runs below sends_it 
     }
 
 -- one more, which is not
-pub sent_same : (old world : WorldView) (number : ℕ) (status : Status) (sent : Progress) → 1 ≤ number
+pub sent_same : (old world : WorldView) (number : ℕ) (status : Status) (sent : Headway) → 1 ≤ number
     → status_of old number ≡ Some status → is_running (Some status) ≡ false
     → SentBelow old number sent world → SentBelow old (number + 1) sent world
 sent_same old world number status sent low here rests below =

@@ -13,7 +13,7 @@ use Rattle.sd_core.specs.Step.{Run}
 use Rattle.sd_core.specs.World.{WorldView, entry_of}
 use Rattle.sd_core.specs.Matches.{Matches}
 use Rattle.sd_core.specs.Moves.{Moves}
-use Rattle.sdtool.specs.declared.drain.Progress.{Progress}
+use Rattle.sdtool.specs.declared.drain.Headway.{Headway}
 
 -- the events happen to the world one after another, with these replies
 abbrev pub Plays : WorldView → List Event → List Reply → WorldView → Type 0
@@ -52,12 +52,12 @@ abbrev pub counted : ℕ → ℕ
 counted n = min n (2 ^ 64 - 1)
 
 -- what came of the steps with these replies
-pub record Tells (progress : Progress) (replies : List Reply) : Type 0 where
+pub record Tells (progress : Headway) (replies : List Reply) : Type 0 where
   pub moved : progress.moved ≡ moved_in replies
   pub placed : progress.placed ≡ counted (placed_in replies)
 
 -- Steps of this kind are played, and what came of them is told.
-pub record PlaysOn (kind : List Event → List Reply → Type 0) (old : WorldView) (progress : Progress)
+pub record PlaysOn (kind : List Event → List Reply → Type 0) (old : WorldView) (progress : Headway)
     (new : WorldView) : Type 0 where
   pub events : List Event
   pub replies : List Reply

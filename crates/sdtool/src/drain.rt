@@ -14,19 +14,19 @@ const THE_DRIVE: u32 = 1;
 
 /// What came of some steps.
 #[derive(Clone, Copy, Debug, PartialEq, Eq)]
-struct Progress {
+struct Headway {
     /// Whether something moved.
     moved: bool,
     /// The blocks that were placed.
     placed: u64,
 }
 
-impl Progress {
+impl Headway {
     /// No step yet.
     fn new() -> Self
         ensures { Tells result [] }
     {
-        Progress {
+        Headway {
             moved: false,
             placed: 0,
         }
@@ -37,7 +37,7 @@ impl Progress {
         ensures { Tells result (reply.now ∷ []) }
     {
         match reply {
-            Reply::Placed { .. } => Progress {
+            Reply::Placed { .. } => Headway {
                 moved: true,
                 placed: 1,
             },
@@ -46,20 +46,20 @@ impl Progress {
             | Reply::InHand { .. }
             | Reply::Mounted { .. }
             | Reply::VolumeFull
-            | Reply::VolumeError => Progress {
+            | Reply::VolumeError => Headway {
                 moved: true,
                 placed: 0,
             },
-            _ => Progress::new(),
+            _ => Headway::new(),
         }
     }
 
     /// What came of these steps and of the later ones.
-    fn and(self, later: Progress) -> Self
+    fn and(self, later: Headway) -> Self
         ensures moved { result.moved ≡ (self.moved || later.moved) }
         ensures placed { result.placed ≡ counted (self.placed + later.placed) }
     {
-        Progress {
+        Headway {
             moved: self.moved || later.moved,
             placed: self.placed.saturating_add(later.placed),
         }
@@ -72,7 +72,7 @@ pub fn drain(world: &mut ScriptWorld) -> u64
     ensures follows { (m : Machine) → Matches world.old m → RunsOn m result world.new }
     ensures kept { (m : Machine) → Matches world.old m → ClosedStay world.old world.new }
 {
-    let mut all = Progress::new();
+    let mut all = Headway::new();
     for _played in 0..u64::MAX {
         let round = play_round(world);
         all = all.and(round);
@@ -85,7 +85,7 @@ pub fn drain(world: &mut ScriptWorld) -> u64
 
 /// One round: each session spools and despools, then the drive takes, places and syncs. What is refused in
 /// it is passed over.
-fn play_round(world: &mut ScriptWorld) -> Progress
+fn play_round(world: &mut ScriptWorld) -> Headway
     ensures { PlaysOn (IsRound world.old) world.old result world.new }
 {
     let sent = send_all(world);
@@ -94,11 +94,11 @@ fn play_round(world: &mut ScriptWorld) -> Progress
 
 /// One step to the spool and one to the queue for each session that is on its way, by rising ticket. Those
 /// that came to their end before the first of them are not asked again.
-fn send_all(world: &mut ScriptWorld) -> Progress
+fn send_all(world: &mut ScriptWorld) -> Headway
     ensures { PlaysOn (SendAll world.old) world.old result world.new }
 {
     let first = world.first_running();
-    let mut sent = Progress::new();
+    let mut sent = Headway::new();
     for number in first..MOST_NUMBER + 1 {
         let ticket = Ticket::new(number).unwrap();
         let Some(status) = world.get().status(ticket) else {
@@ -112,39 +112,39 @@ fn send_all(world: &mut ScriptWorld) -> Progress
 }
 
 /// One step to the spool and one to the queue.
-fn send(world: &mut ScriptWorld, ticket: Ticket) -> Progress
+fn send(world: &mut ScriptWorld, ticket: Ticket) -> Headway
     ensures { PlaysOn (AreSends (ticket ∷ [])) world.old result world.new }
 {
     let spooled = world.step(Event::Spool { ticket });
     let sent = world.step(Event::Despool { ticket });
-    Progress::of(&spooled).and(Progress::of(&sent))
+    Headway::of(&spooled).and(Headway::of(&sent))
 }
 
 /// One step of the drive's each kind.
-fn turn(world: &mut ScriptWorld, drive: DriveNo) -> Progress
+fn turn(world: &mut ScriptWorld, drive: DriveNo) -> Headway
     ensures { PlaysOn (IsTurn drive) world.old result world.new }
 {
     let took = world.step(Event::Take { drive });
     let placed = place(world, drive);
     let synced = world.step(Event::Sync { drive });
-    Progress::of(&took).and(placed).and(Progress::of(&synced))
+    Headway::of(&took).and(placed).and(Headway::of(&synced))
 }
 
 /// Places the body in the drive's hand. Where a volume is needed one is sought, and where that mounted
 /// one the body is placed again.
-fn place(world: &mut ScriptWorld, drive: DriveNo) -> Progress
+fn place(world: &mut ScriptWorld, drive: DriveNo) -> Headway
     ensures { PlaysOn (IsPlacing drive) world.old result world.new }
 {
     let placed = world.step(Event::Place { drive });
-    let first = Progress::of(&placed);
+    let first = Headway::of(&placed);
     let Reply::NeedVolume = placed else {
         return first;
     };
     let sought = world.step(Event::Seek { drive });
-    let both = first.and(Progress::of(&sought));
+    let both = first.and(Headway::of(&sought));
     let Reply::Mounted { .. } = sought else {
         return both;
     };
     let again = world.step(Event::Place { drive });
-    both.and(Progress::of(&again))
+    both.and(Headway::of(&again))
 }

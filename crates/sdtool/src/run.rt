@@ -14,7 +14,7 @@ use crate::settings::{Settings, Values};
 use crate::sink::RecordLines;
 use sd_base::{Bytes, DriveNo, Items, Rec, Refusal, SessionKey, Ticket, VolName};
 use sd_core::{Event, ReadEnd, ReadFault, Reply, Span, Status, World, WorldConf};
-use sd_script::{Line, read_line};
+use sd_script::{ConsoleCmd, Line, read_line};
 use std::alloc::{AllocError, Global};
 use std::io::{BufRead, Write};
 
@@ -132,7 +132,7 @@ impl<W: Write + Drop> Script<W> {
                 stream,
                 count,
             } => self.append(ticket, index, stream, filled(self.alloc, count)),
-            Line::Mount { drive, volume } => self.mount(drive, volume),
+            Line::Console(command) => self.operate(command),
             Line::Close(ticket) => self.close(ticket),
             Line::Read(ticket) => self.read(ticket),
             Line::Drain => self.drain(),
@@ -140,11 +140,11 @@ impl<W: Write + Drop> Script<W> {
         }
     }
 
-    /// The lines that are one step, and print its reply as it is.
-    fn step_as(&mut self, line: Line<'_>) {
+    /// The lines that a console has too.
+    fn operate(&mut self, command: ConsoleCmd) {
         let moment = self.moment;
-        match line {
-            Line::Label {
+        match command {
+            ConsoleCmd::Label {
                 drive,
                 volume,
                 pool,
@@ -156,6 +156,22 @@ impl<W: Write + Drop> Script<W> {
                 media,
                 moment,
             }),
+            ConsoleCmd::Mount { drive, volume } => self.mount(drive, volume),
+            ConsoleCmd::Cancel(ticket) => self.step(Event::Cancel { ticket }),
+            // The world has no such steps yet.
+            ConsoleCmd::Adopt { .. }
+            | ConsoleCmd::Unmount(_)
+            | ConsoleCmd::Retire(_)
+            | ConsoleCmd::JobMedia(_)
+            | ConsoleCmd::Status
+            | ConsoleCmd::Requests => self.refuse(Refusal::BadCommand),
+        }
+    }
+
+    /// The lines that are one step, and print its reply as it is.
+    fn step_as(&mut self, line: Line<'_>) {
+        let moment = self.moment;
+        match line {
             Line::Open { job, pool, media } => self.step(Event::Open {
                 job,
                 pool,
@@ -163,7 +179,6 @@ impl<W: Write + Drop> Script<W> {
                 moment,
             }),
             Line::End(ticket) => self.step(Event::End { ticket, moment }),
-            Line::Cancel(ticket) => self.step(Event::Cancel { ticket }),
             Line::Spool(ticket) => self.step(Event::Spool { ticket }),
             Line::Despool(ticket) => self.step(Event::Despool { ticket }),
             Line::Seek(drive) => self.step(Event::Seek { drive }),

@@ -1,5 +1,6 @@
 // A line that was read, as plain parts that a table can hold.
-use sd_script::{Line, Setting};
+use sd_base::VolName;
+use sd_script::{ConsoleCmd, Line, Setting};
 use std::str;
 
 /// What a line does, its numbers in their order and 0 behind them, and its words or its text.
@@ -19,7 +20,19 @@ pub fn parts_of<'a>(line: &'a Line<'_>) -> Parts<'a> {
         Line::Set(Setting::Block(size)) => plain("sets the block limit", *size as u64),
         Line::Set(Setting::Time(time)) => plain("sets the time", u64::from(*time)),
         Line::At(moment) => plain("moment", u64::try_from(*moment).unwrap_or(u64::MAX)),
-        Line::Label {
+        Line::Console(command) => command_parts(command),
+        Line::Open { job, pool, media } => Parts {
+            does: "opens",
+            numbers: [u64::from(job.get()), 0, 0, 0],
+            words: [pool.as_str(), media.as_str(), ""],
+        },
+        other => record_parts(other),
+    }
+}
+
+fn command_parts(command: &ConsoleCmd) -> Parts<'_> {
+    match command {
+        ConsoleCmd::Label {
             drive,
             volume,
             pool,
@@ -29,17 +42,22 @@ pub fn parts_of<'a>(line: &'a Line<'_>) -> Parts<'a> {
             numbers: [u64::from(drive.get()), 0, 0, 0],
             words: [volume.as_str(), pool.as_str(), media.as_str()],
         },
-        Line::Mount { drive, volume } => Parts {
-            does: "mounts",
-            numbers: [u64::from(drive.get()), 0, 0, 0],
-            words: [volume.as_str(), "", ""],
-        },
-        Line::Open { job, pool, media } => Parts {
-            does: "opens",
-            numbers: [u64::from(job.get()), 0, 0, 0],
-            words: [pool.as_str(), media.as_str(), ""],
-        },
-        other => record_parts(other),
+        ConsoleCmd::Adopt { drive, volume } => on_volume("adopts", drive.get(), volume),
+        ConsoleCmd::Mount { drive, volume } => on_volume("mounts", drive.get(), volume),
+        ConsoleCmd::Unmount(drive) => plain("unmounts", u64::from(drive.get())),
+        ConsoleCmd::Retire(drive) => plain("retires", u64::from(drive.get())),
+        ConsoleCmd::Cancel(ticket) => plain("is cancelled", u64::from(ticket.get())),
+        ConsoleCmd::JobMedia(ticket) => plain("has spans", u64::from(ticket.get())),
+        ConsoleCmd::Status => plain("tells the status", 0),
+        ConsoleCmd::Requests => plain("tells the requests", 0),
+    }
+}
+
+fn on_volume<'a>(does: &'a str, drive: u32, volume: &'a VolName) -> Parts<'a> {
+    Parts {
+        does,
+        numbers: [u64::from(drive), 0, 0, 0],
+        words: [volume.as_str(), "", ""],
     }
 }
 
@@ -82,7 +100,6 @@ fn record_parts<'a>(line: &'a Line<'_>) -> Parts<'a> {
 fn step_parts<'a>(line: &Line<'_>) -> Parts<'a> {
     match line {
         Line::End(ticket) => plain("ends", u64::from(ticket.get())),
-        Line::Cancel(ticket) => plain("is cancelled", u64::from(ticket.get())),
         Line::Spool(ticket) => plain("spools", u64::from(ticket.get())),
         Line::Despool(ticket) => plain("despools", u64::from(ticket.get())),
         Line::Close(ticket) => plain("closes", u64::from(ticket.get())),

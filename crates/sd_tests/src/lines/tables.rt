@@ -9,7 +9,7 @@ pub struct Row {
     pub read: Parts<'static>,
 }
 
-pub static ROWS: [Row; 41] = [
+pub static ROWS: [Row; 49] = [
     // Each form.
     Row {
         line: "",
@@ -171,6 +171,54 @@ pub static ROWS: [Row; 41] = [
             words: ["", "", ""],
         },
     },
+    Row {
+        line: "adopt 2 Vol-0001",
+        read: Parts {
+            does: "adopts",
+            numbers: [2, 0, 0, 0],
+            words: ["Vol-0001", "", ""],
+        },
+    },
+    Row {
+        line: "unmount 4",
+        read: Parts {
+            does: "unmounts",
+            numbers: [4, 0, 0, 0],
+            words: ["", "", ""],
+        },
+    },
+    Row {
+        line: "retire 6",
+        read: Parts {
+            does: "retires",
+            numbers: [6, 0, 0, 0],
+            words: ["", "", ""],
+        },
+    },
+    Row {
+        line: "jobmedia 16",
+        read: Parts {
+            does: "has spans",
+            numbers: [16, 0, 0, 0],
+            words: ["", "", ""],
+        },
+    },
+    Row {
+        line: "status",
+        read: Parts {
+            does: "tells the status",
+            numbers: [0, 0, 0, 0],
+            words: ["", "", ""],
+        },
+    },
+    Row {
+        line: "requests",
+        read: Parts {
+            does: "tells the requests",
+            numbers: [0, 0, 0, 0],
+            words: ["", "", ""],
+        },
+    },
     // Numbers at their limits.
     Row {
         line: "block 1024",
@@ -284,6 +332,22 @@ pub static ROWS: [Row; 41] = [
             words: ["", "", ""],
         },
     },
+    Row {
+        line: "retire 8",
+        read: Parts {
+            does: "retires",
+            numbers: [8, 0, 0, 0],
+            words: ["", "", ""],
+        },
+    },
+    Row {
+        line: "jobmedia 2147483647",
+        read: Parts {
+            does: "has spans",
+            numbers: [2_147_483_647, 0, 0, 0],
+            words: ["", "", ""],
+        },
+    },
     // The text is all behind the fourth blank.
     Row {
         line: "rec 1 1 2",
@@ -350,6 +414,7 @@ pub static REFUSED: [(&str, LineFault); 8] = [
         "block 0\nblock 1023\nblock 1048577\ntime 0\ntime 2147483648
 at 9223372036854775808\nat 18446744073709551616\nat -1\nat -0
 seek 0\nseek 9\nend 0\nend 2147483648\nend 4294967297\nend 18446744073709551617
+adopt 0 a\nadopt 9 a\nunmount 0\nunmount 9\nretire 9\ncancel 0\njobmedia 0\njobmedia 2147483648
 label 0 a b c\nlabel 9 a b c\nmount 9 a\nopen 0 a b\nopen 2147483648 a b
 rec 0 1 1 a\nrec 1 0 1 a\nrec 1 1 0 a\nrec 1 1 2147483648 a
 fill 0 1 1 1\nfill 1 2147483648 1 1\nfill 1 1 1 1000001\nfill 1 1 1 -1",
@@ -366,22 +431,22 @@ at 00\nat +0\nend 0000000001\nend 1_0\nend 1,000\nfill 1 1 1 00\nfill 1 1 1\nfil
     (
         " \n  \n seek 1\nseek  1\nseek 1 \nseek\nseek \nseek 1 2\nseek\t1\ndrain \ndrain 1
 block\ntime 1 1\nat\nat 1 \nlabel 1 a b\nlabel 1 a b \nlabel 1 a b c \nlabel 1 a b c d\nlabel 1  b c
-mount 1\nmount 1 \nmount 1 a b\nopen 1 a\nopen 1 a \nopen 1 a b c
+mount 1\nmount 1 \nmount 1 a b\nadopt 1\nadopt 1 \nadopt 1 a b\nunmount\nunmount 1 a\njobmedia\nstatus \nstatus 1\nrequests 1
+open 1 a\nopen 1 a \nopen 1 a b c
 rec\nrec \nrec 1 1\nrec 1 1 \nrec  1 1 1 a\nfill 1 1 1 1 \nfill 1 1 1 1 1",
         LineFault::BadCommand,
     ),
     // Words that are no command.
     (
         "Seek 1\nsee 1\nseeks 1\nvolume 2200\nqueue 8\ndrive File 4\ncapacity 1 2200
-fail 1 append 4 after\nadopt 1 Vol-0001\nunmount 1\nretire 1\njobmedia 1\nagain 1000 1\nstatus
-requests\nrestart 2000\npurge 1 Vol-0001\nhost backup1\nspool 0\n\r\n\0",
+fail 1 append 4 after\nagain 1000 1\nrestart 2000\npurge 1 Vol-0001\nhost backup1\nspool 0\n\r\n\0",
         LineFault::BadCommand,
     ),
     // Words that are no name, the last one 128 characters, in lines that have a form but for them.
     (
         "label 1 a/b Default File\nlabel 1 . Default File\nlabel 1 Vol-0001 De/fault File
 label 1 Vol-0001 Default ..\nlabel 1 Vol-0001 Default File\r\nmount 1 a,b\nmount 1 ..
-mount 1 a\0\nopen 7 . File\nopen 7 Default F\tile",
+mount 1 a\0\nadopt 1 a/b\nadopt 8 .\nopen 7 . File\nopen 7 Default F\tile",
         LineFault::BadName,
     ),
     (

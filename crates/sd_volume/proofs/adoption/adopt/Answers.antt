@@ -1,4 +1,4 @@
-use Rattle.std.proofs.Common.{sym, ap, subst, arith}
+use Rattle.std.proofs.Common.{sym, ap, ◌∙◌, subst, arith}
 use Rattle.std.specs.Prelude.{IsTrue}
 use Rattle.std.proofs.lemmas.Result.{err_from_is_err_and}
 use Rattle.sd_driver.proofs.Lasting.{StillLasts-trans, StillLastsBelow-of, StillLastsBelow-lower, StillLastsBelow-trans}
@@ -18,6 +18,9 @@ returns-in_err-volume-clause-refuses g c = λ honest fault due.
     let shelf = (g.D.Driver.meaning c.args.driver.now).shelf in
     let shows = shows_nothing c.in_ok-reader.reader shelf c.in_ok-reader.ensures.bytes in
     rw (p.1, p.2) (refuses_due c.in_err-volume.field-0.0 fault c.args.name.now c.args.media.now c.args.start_time shelf (c.in_err-volume.ensures.due honest shows) due)
+
+pub returns-in_err-volume-clause-others : goal.returns-in_err-volume-clause-others
+returns-in_err-volume-clause-others g c = λ honest other apart. c.in_err-volume.ensures.device.same honest other
 
 pub returns-in_err-volume-clause-keeps : goal.returns-in_err-volume-clause-keeps
 returns-in_err-volume-clause-keeps g c = λ honest held there label blocks tail is. KeepsUpTo-same (volume_end label blocks) c.args.name.now _ _ (c.in_err-volume.ensures.device.same honest)
@@ -40,6 +43,11 @@ returns-in_err-cut_back-clause-refused_last g c =
     let shelf_1 = (g.D.Driver.meaning c.survey.new.driver).shelf in
     let shelf_2 = (g.D.Driver.meaning c.cut_back.new.driver).shelf in
     rw (p.1, p.2) (λ other. StillLasts-trans shelf_0 shelf_1 shelf_2 c.in_ok-volume.ensures.device.lasts (c.in_err-cut_back.ensures.refused_last other))
+
+pub returns-in_err-cut_back-clause-others : goal.returns-in_err-cut_back-clause-others
+returns-in_err-cut_back-clause-others g c = λ honest other apart.
+    let honest_1 = subst IsTrue (sym c.in_ok-volume.ensures.device.counted.honest) honest in
+    (c.in_err-cut_back.ensures.keeps honest_1).others other apart ∙ c.in_ok-volume.ensures.device.same honest other
 
 pub returns-in_err-cut_back-clause-keeps : goal.returns-in_err-cut_back-clause-keeps
 returns-in_err-cut_back-clause-keeps g c = λ honest held there label blocks tail is.
@@ -99,6 +107,11 @@ returns-clause-refuses g c = λ honest fault due.
     let shelf_0 = (g.D.Driver.meaning c.args.driver.now).shelf in
     let found = c.in_ok-volume.ensures.found honest (shows_nothing c.in_ok-reader.reader shelf_0 c.in_ok-reader.ensures.bytes) in
     not_due fault c.args.name.now c.args.media.now c.args.start_time shelf_0 found.0 c.in_ok-volume.volume found.1 found.2 due
+
+pub returns-clause-others : goal.returns-clause-others
+returns-clause-others g c = λ honest other apart.
+    let honest_1 = subst IsTrue (sym c.in_ok-volume.ensures.device.counted.honest) honest in
+    (c.in_ok-cut_back.ensures.keeps honest_1).others other apart ∙ c.in_ok-volume.ensures.device.same honest other
 
 pub returns-clause-keeps : goal.returns-clause-keeps
 returns-clause-keeps g c = λ honest held there label blocks tail is.

@@ -1,5 +1,5 @@
 use Rattle.std.proofs.Common.{◌≡◌, ℕ, drop, ap, ◌∙◌, subst, arith, Some}
-use Rattle.sd_volume.specs.Adopt.{StandsAt}
+use Rattle.sd_volume.specs.Adopt.{BlockStandsAt}
 use Rattle.sd_volume.proofs.ImageLemmas.{length-image}
 use Rattle.sd_volume.proofs.AdoptLemmas.{one_block_begins, shown_stands}
 use Rattle.sd_volume.proofs.survey.numbered_block.Goals as goal
@@ -28,5 +28,5 @@ returns-clause-there g c = λ honest shows held there.
     let there_still : volume c.next_block.new.reader.name ≡ Some held = ap volume ensures.name ∙ (ensures.device.same honest _ ∙ there) in
     let block = rw c.in-Some.is at ensures.block in
     let shown = (rw c.in-Some.is at (ensures.there honest shows)) held there_still in
-    let P : ℕ → Type 0 = λ n. StandsAt c.args.at n held.bytes c.in-Some.head in
+    let P : ℕ → Type 0 = λ n. BlockStandsAt c.args.at n held.bytes c.in-Some.head in
     subst P c.if-head-number.false (shown_stands held.bytes c.next_block.new.reader.shown c.args.at c.in-Some.head shown block)

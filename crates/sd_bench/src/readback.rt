@@ -1,0 +1,144 @@
+// Reading a session back from a volume in memory, beside what it can't do without: a checksum of each block, and
+// one copy of each byte.
+ghost use Rattle.std.specs.Prelude.{◌≡◌, Some, None};
+
+use crate::packing::packed;
+use crate::rate::{Length, print_rate};
+use crate::volumes::label;
+use anyhow::{Context, Result, bail};
+use sd_base::{Bytes, LEAST_BODY, MOST_BODY, MOST_VOLUME, Rec, SessionKey};
+use sd_crc::crc32;
+use sd_driver::Driver;
+use sd_memdrive::MemDrive;
+use sd_pack::Body;
+use sd_readback::read_session;
+use sd_span::Span;
+use sd_volume::{Appended, Volume, VolumeStatus, append_block, label_new};
+use std::rt::Clock;
+use std::time::Instant;
+
+const KEY: SessionKey = SessionKey { time: 1000, id: 1 };
+
+/// The bytes of a record.
+const RECORD: usize = 64_000;
+
+/// Packs a session onto a volume of some 16 MB, and reads it back, again and again.
+pub fn run<R: Print + Clock + AllocGlobal>(rt: &R, length: Length) -> Result<()> {
+    let (count, rounds) = match length {
+        Length::Once => (2, 1),
+        Length::Timed => (250, 25),
+    };
+    let bytes = Bytes::from_vec(vec![in rt.alloc(); 0x5au8; RECORD]?);
+    let rec = Context::context(Rec::new(1, 2, bytes), "a record")?;
+    let bodies = packed(rt, &rec, count)?;
+    let mut drive = MemDrive::new(rt.alloc(), MOST_VOLUME, &[])?;
+    let label = Context::context(label(), "a label")?;
+    let Ok(mut volume) = label_new(rt.alloc(), &mut drive, &label) else {
+        bail!("no volume was made");
+    };
+    let start = volume.end();
+    if !store(rt, &mut drive, &mut volume, &bodies) {
+        bail!("a block wasn't added");
+    }
+    let span = Span {
+        volume: label.name.copy(),
+        vol_index: 1,
+        first: 1,
+        last: 1,
+        start,
+        end: volume.end(),
+    };
+    alone(rt, length, &bodies, rounds)?;
+    let start = Instant::now(rt)?;
+    let mut records = 0u64;
+    for _ in 0..rounds {
+        let mut sink = Vec::new(rt.alloc());
+        let read = read_session(
+            rt.alloc(),
+            &mut drive,
+            KEY,
+            std::slice::from_ref(&span),
+            &mut sink,
+        );
+        let Ok(end) = read else {
+            bail!("the session isn't read");
+        };
+        records = end.records;
+    }
+    print_rate(
+        rt,
+        length,
+        "read a session back",
+        start,
+        RECORD.wrapping_mul(count),
+        rounds,
+    )?;
+    let all = records == count as u64;
+    println!(rt; "a session's records are read back: {all}")?;
+    Ok(())
+}
+
+// The checksums of the blocks and one copy of the bodies, as often.
+fn alone<R: Print + Clock + AllocGlobal>(
+    rt: &R,
+    length: Length,
+    bodies: &[Body],
+    rounds: usize,
+) -> Result<()> {
+    let whole = RECORD.wrapping_mul(bodies.len());
+    let start = Instant::now(rt)?;
+    let mut sum = 0;
+    for _ in 0..rounds {
+        for body in bodies {
+            sum ^= crc32(body.bytes.as_slice());
+        }
+    }
+    print_rate(rt, length, "checksums of its bodies", start, whole, rounds)?;
+    let start = Instant::now(rt)?;
+    for _ in 0..rounds {
+        for body in bodies {
+            let _copy = body.bytes.as_slice().to_vec(rt.alloc())?;
+        }
+    }
+    print_rate(rt, length, "copy of its bodies", start, whole, rounds)?;
+    println!(rt; "checksums of a session's bodies: {sum:08x}")?;
+    Ok(())
+}
+
+// Whether all bodies were added as blocks.
+fn store<D: Driver, R: AllocGlobal>(
+    rt: &R,
+    drive: &mut D,
+    volume: &mut Volume,
+    bodies: &[Body],
+) -> bool
+    requires { (D.meaning drive.old).loaded ≡ None }
+    ensures { (D.meaning drive.new).loaded ≡ None }
+{
+    if drive.load(volume.name()).is_err() {
+        return false;
+    }
+    let mut image = Vec::new(rt.alloc());
+    let mut all = true;
+    for body in bodies {
+        all = all && add(drive, volume, &mut image, body.bytes.as_slice());
+    }
+    drive.unload();
+    all
+}
+
+// Whether one block more was added.
+fn add<D: Driver>(drive: &mut D, volume: &mut Volume, image: &mut Vec<u8>, body: &[u8]) -> bool
+    requires { (D.meaning drive.old).loaded ≡ Some volume.old.name }
+    ensures loaded { (D.meaning drive.new).loaded ≡ (D.meaning drive.old).loaded }
+    ensures name { volume.new.name ≡ volume.old.name }
+{
+    let VolumeStatus::Append = volume.status() else {
+        return false;
+    };
+    if body.len() < LEAST_BODY || body.len() > MOST_BODY {
+        return false;
+    }
+    let appended = append_block(drive, volume, image, KEY, body, MOST_VOLUME);
+    matches!(&appended, Appended::At { .. })
+}

@@ -1,0 +1,20 @@
+// Lines of a console that are read, and others that are refused.
+mod player;
+
+use player::{READ, REFUSED, is_read_so, refusal_of};
+use std::test::Fail;
+
+#[test]
+fn lines_are_read(rt: HostRuntime) {
+    for row in READ {
+        assert!(rt; is_read_so(row), "{}", row.0);
+    }
+}
+
+#[test]
+fn lines_are_refused(rt: HostRuntime) -> Result<(), Fail> {
+    for (line, number) in REFUSED {
+        assert_eq!(rt; refusal_of(line), number, "{line}");
+    }
+    Ok(())
+}

@@ -1,0 +1,42 @@
+-- What a load finds.
+use Rattle.std.proofs.Common.{◌≡◌, ◌≢◌, ℕ, List, Option, Some, None, refl, ap, sym, ◌∙◌, subst, slice_get}
+use Rattle.std.specs.List.{AllByRecursion}
+use Rattle.sd_base.specs.declared.refusal.Refusal.TheVariants.{VolumeNotOnShelf}
+use Rattle.sd_driver.specs.declared.driver.DriverFault.{DriverFault}
+use Rattle.sd_driver.specs.declared.driver.DriverFault.TheVariants.{NotThere, Exists, NoRoom, Device, Memory}
+use Rattle.sd_driver.specs.Meaning.{Meaning}
+use Rattle.sd_driver.specs.Shelf.{Shelf}
+use Rattle.sd_journal.specs.Journal.{Entry}
+use Rattle.sd_journal.specs.declared.mark.Mark.TheVariants.{Unsynced}
+use Rattle.sd_volume.specs.Volume.{VolumeView}
+use Rattle.sd_drive.specs.View.{name_loaded}
+use Rattle.sd_drive.specs.Shelf.{Fits, Kept}
+use Rattle.sd_drive.specs.Moves.{load_refusal}
+use Rattle.sd_drive.proofs.Places.{name_at}
+use Rattle.sd_drive.proofs.SyncLemmas.{none_loaded}
+
+-- with nothing loaded, nothing is unsynced
+pub none_when : (device : Meaning) (vs : List VolumeView) (l : Option ℕ) (js : List Entry) → l ≡ None → Kept device vs l js → AllByRecursion (λ e. e.mark ≢ Unsynced) js
+none_when device vs l js none k =
+    let P : Option ℕ → Type 0 = λ o. Kept device vs o js in
+    none_loaded device vs js (subst P none k)
+
+-- the loaded volume is the one at that place
+pub loaded_there : (vs : List VolumeView) (at : ℕ) (name : List ℕ) (loaded : Option (List ℕ)) → (v : VolumeView) × (slice_get vs at ≡ Some v) × (v.name ≡ name) → loaded ≡ Some name → loaded ≡ name_loaded vs (Some at)
+loaded_there vs at name loaded there is = is ∙ ap (λ n. Some n) (sym there.2) ∙ sym (name_at vs at there.0 there.1)
+
+-- only one answer of the device is that refusal
+pub is_not_there : (fault : DriverFault) → load_refusal fault ≡ VolumeNotOnShelf → fault ≡ NotThere
+is_not_there NotThere e = refl
+is_not_there Exists e = cc
+is_not_there NoRoom e = cc
+is_not_there Device e = cc
+is_not_there Memory e = cc
+
+-- a volume of the drive stands on the shelf
+pub on_shelf : (shelf : Shelf) (vs : List VolumeView) (js : List Entry) (at : ℕ) (name : List ℕ) → Fits shelf vs js → (v : VolumeView) × (slice_get vs at ≡ Some v) × (v.name ≡ name) → shelf.volume name ≢ None
+on_shelf shelf vs js at name fits there none =
+    let s = fits.stand at there.0 there.1 in
+    let is = s.stands.there in
+    let same = ap shelf.volume there.2 in
+    absurd (cc (sym is ∙ same ∙ none))

@@ -1,0 +1,287 @@
+-- What a sync keeps, and what taking the loaded volume out does.
+use Rattle.std.proofs.Common.{◌≡◌, ◌≢◌, ◌⊎◌, inl, inr, ℕ, ◌+◌, ◌<◌, Bool, true, false, ◌&&◌, ◌||◌, if◌then◌else◌, List, [], ◌∷◌, length, get_or, take, refl, ap, sym, subst, Option, Some, None, ◌∙◌, arith, slice_get, slice_set}
+use Rattle.std.proofs.lemmas.Option.{slice_get_read}
+use Rattle.std.proofs.Math.Seq.{take-length}
+use Rattle.std.specs.Prelude.{IsTrue, IfSome}
+use Rattle.std.specs.List.{AllByRecursion}
+use Rattle.std.specs.Str.{bytes_eq}
+use Rattle.std.proofs.lemmas.Slice.Eq.{bytes_eq-Decides}
+use Rattle.sd_driver.specs.Meaning.{Meaning, IsHonest}
+use Rattle.sd_driver.specs.Shelf.{Shelf, Held, SameShelf, Passes, StillLasts, Syncs, MaySync, stable_bytes}
+use Rattle.sd_driver.proofs.Lasting.{Lasts-begin, BeginsWith-own_take, BeginsWith-trans, BeginsWith-same}
+use Rattle.sd_driver.proofs.Names.{name_cases}
+use Rattle.sd_journal.specs.Journal.{Entry, placements, settled, settled_one, awaits_sync, any_awaits_sync, is_unsynced}
+use Rattle.sd_journal.specs.declared.mark.Mark.{Mark}
+use Rattle.sd_journal.specs.declared.mark.Mark.TheVariants as mark
+use Rattle.sd_lane.specs.declared.piece.Piece.{Piece}
+use Rattle.sd_volume.specs.declared.volume.VolumeStatus.TheVariants as status
+use Rattle.sd_volume.specs.Volume.{VolumeView}
+use Rattle.sd_drive.specs.View.{DriveIs, name_loaded}
+use Rattle.sd_drive.specs.Shelf.{IsPlaced, IsSafe, IsHeld, LiesOn, IsOnLoaded, Kept, KeepsPieces}
+use Rattle.sd_drive.specs.Moves.{awaits_on, settled_on}
+use Rattle.sd_drive.proofs.Places.{some_is, names_set, differ_same, loaded_at}
+use Rattle.sd_drive.proofs.Stays.{SameBytes, same_bytes, moved_same, moved_shut, fits_stay, blocks_stay}
+use Rattle.sd_drive.proofs.Kept.{still, all_as, all_map, lies_set, all_moved_set, all_moved_same, blocks_of, blocks_by, items_by, placements_settled}
+
+-- ---- bytes stay
+
+loaded_cases : (l : Option (List ℕ)) (n : List ℕ) → (l ≡ Some n) ⊎ (l ≢ Some n)
+loaded_cases None n = inr (λ e. absurd (cc e))
+loaded_cases (Some m) n = elim (name_cases m n) [ inl e ↦ inl (ap (λ x. Some x) e) | inr o ↦ inr (λ e. o (some_is e)) ]
+
+pub sync_bytes : (loaded : Option (List ℕ)) (old new : Shelf) → Syncs loaded old new → (name : List ℕ) → SameBytes old new name
+sync_bytes loaded old new syncs name = λ held there. elim (loaded_cases loaded name) [
+  | inl e ↦ (let h = syncs.here name held e there in (h.0, h.2, ap (λ (x : Held). x.bytes) h.1))
+  | inr o ↦ (held, syncs.others name o ∙ there, refl)
+]
+
+pub may_sync_bytes : (loaded : Option (List ℕ)) (old new : Shelf) → MaySync loaded old new → (name : List ℕ) → SameBytes old new name
+may_sync_bytes loaded old new syncs name = λ held there. elim (loaded_cases loaded name) [
+  | inl e ↦ (let h = syncs.here name held e there in (h.0, h.2, h.1.0))
+  | inr o ↦ (held, syncs.others name o ∙ there, refl)
+]
+
+pub then_same : (old mid new : Shelf) (name : List ℕ) → SameBytes old mid name → SameShelf mid new → SameBytes old new name
+then_same old mid new name bytes same = λ held there. (let h = bytes held there in (h.0, same name ∙ h.1, h.2))
+
+-- ---- marks
+
+settled_mark : (mark : Mark) (e : Entry) (b : Bool) → b ≡ true → (if b then record e { mark = mark } else e) ≡ record e { mark = mark }
+settled_mark mark e true is = refl
+settled_mark mark e false is = cc
+
+settled_other : (mark : Mark) (e : Entry) (b : Bool) → b ≡ false → (if b then record e { mark = mark } else e) ≡ e
+settled_other mark e true is = cc
+settled_other mark e false is = refl
+
+-- an entry that awaits a sync of a volume lies on it
+on_volume : (name : List ℕ) (e : Entry) → awaits_sync name e ≡ true → e.placement.volume ≡ name
+on_volume name e awaits = (bytes_eq-Decides e.placement.volume name).0 (second (is_unsynced e.mark) (bytes_eq e.placement.volume name) awaits)
+  where
+    second : (a b : Bool) → (a && b) ≡ true → b ≡ true
+    second true b h = h
+    second false b h = cc
+
+-- one that isn't synced and lies on it awaits that
+awaits_there : (name : List ℕ) (e : Entry) → e.mark ≡ mark.Unsynced → e.placement.volume ≡ name → awaits_sync name e ≡ true
+awaits_there name e unsynced on =
+    ap (λ m. is_unsynced m && bytes_eq e.placement.volume name) unsynced ∙ (bytes_eq-Decides e.placement.volume name).1 on
+
+-- with no entry that awaits it a sync settles nothing
+pub settled_none : (mark : Mark) (name : List ℕ) (es : List Entry) → any_awaits_sync name es ≡ false → settled mark name es ≡ es
+settled_none mark name [] quiet = refl
+settled_none mark name (e ∷ es) quiet =
+    let h = settled_other mark e (awaits_sync name e) (first (awaits_sync name e) (any_awaits_sync name es) quiet) in
+    let t = settled_none mark name es (second (awaits_sync name e) (any_awaits_sync name es) quiet) in
+    ap (λ x. x ∷ settled mark name es) h ∙ ap (λ l. e ∷ l) t
+  where
+    first : (a b : Bool) → (a || b) ≡ false → a ≡ false
+    first true b h = cc
+    first false b h = refl
+
+    second : (a b : Bool) → (a || b) ≡ false → b ≡ false
+    second true b h = cc
+    second false b h = h
+
+-- where no entry awaits a sync of the loaded volume, none is unsynced
+pub none_unsynced : (loaded : Option (List ℕ)) (es : List Entry) → awaits_on loaded es ≡ false → AllByRecursion (IsOnLoaded loaded) es → AllByRecursion (λ e. e.mark ≢ mark.Unsynced) es
+none_unsynced None [] quiet on = on
+none_unsynced None (e ∷ es) quiet on = (λ u. absurd (cc (on.0 u)), none_unsynced None es refl on.1)
+none_unsynced (Some name) [] quiet on = on
+none_unsynced (Some name) (e ∷ es) quiet on = (
+  λ u. (let t = awaits_there name e u (sym (some_is (on.0 u))) in let f = first (awaits_sync name e) (any_awaits_sync name es) quiet in cc),
+  none_unsynced (Some name) es (second (awaits_sync name e) (any_awaits_sync name es) quiet) on.1,
+)
+  where
+    first : (a b : Bool) → (a || b) ≡ false → a ≡ false
+    first true b h = cc
+    first false b h = refl
+
+    second : (a b : Bool) → (a || b) ≡ false → b ≡ false
+    second true b h = cc
+    second false b h = h
+
+on_any : (loaded : Option (List ℕ)) (es : List Entry) → AllByRecursion (λ (e : Entry). e.mark ≢ mark.Unsynced) es → AllByRecursion (IsOnLoaded loaded) es
+on_any loaded es none = all_as (λ (e : Entry). e.mark ≢ mark.Unsynced) (IsOnLoaded loaded) es (λ e n u. absurd (n u)) none
+
+settled_case : (mark : Mark) (name : List ℕ) (P : Entry → Type 0) (e : Entry) → (awaits_sync name e ≡ true → P (record e { mark = mark })) → (awaits_sync name e ≡ false → P e) → P (settled_one mark name e)
+settled_case mark name P e hit other = from (awaits_sync name e) refl
+  where
+    from : (b : Bool) → awaits_sync name e ≡ b → P (settled_one mark name e)
+    from true is = subst P (sym (settled_mark mark e (awaits_sync name e) is)) (hit is)
+    from false is = subst P (sym (settled_other mark e (awaits_sync name e) is)) (other is)
+
+-- none is unsynced once a sync of the volume is over on which all of them lie
+settled_all : (m : Mark) (name : List ℕ) (es : List Entry) → m ≢ mark.Unsynced → AllByRecursion (IsOnLoaded (Some name)) es → AllByRecursion (λ e. e.mark ≢ mark.Unsynced) (settled m name es)
+settled_all m name es other on = all_map (IsOnLoaded (Some name)) (λ e. e.mark ≢ mark.Unsynced) (settled_one m name) es
+    (λ e o. settled_case m name (λ x. x.mark ≢ mark.Unsynced) e (λ awaits. other) (λ quiet u. (let t = awaits_there name e u (sym (some_is (o u))) in cc))) on
+
+settled_lie : (m : Mark) (name : List ℕ) (vs : List VolumeView) (es : List Entry) → AllByRecursion (LiesOn vs) es → AllByRecursion (LiesOn vs) (settled m name es)
+settled_lie m name vs es lie = all_map (LiesOn vs) (LiesOn vs) (settled_one m name) es
+    (λ e l. settled_case m name (LiesOn vs) e (λ awaits. record { at = l.at; volume = l.volume; there = l.there; name_is = l.name_is; within = l.within }) (λ quiet. l)) lie
+
+-- an entry that is settled as lost is held as before
+lost_held : (shelf : Shelf) (name : List ℕ) (es : List Entry) → AllByRecursion (IsHeld shelf) es → AllByRecursion (IsHeld shelf) (settled mark.Lost name es)
+lost_held shelf name es held = all_map (IsHeld shelf) (IsHeld shelf) (settled_one mark.Lost name) es
+    (λ e h. settled_case mark.Lost name (IsHeld shelf) e (λ awaits. (h.0, λ u. absurd (cc u))) (λ quiet. h)) held
+
+-- the name of what is loaded
+pub loaded_name_is : (vs : List VolumeView) (l : Option ℕ) (at : ℕ) (v : VolumeView) → l ≡ Some at → slice_get vs at ≡ Some v → name_loaded vs l ≡ Some v.name
+loaded_name_is vs l at v is there = ap (name_loaded vs) is ∙ loaded_at vs at v there
+
+pub settled_is : (m : Mark) (vs : List VolumeView) (l : Option ℕ) (js : List Entry) (at : ℕ) (v : VolumeView) → l ≡ Some at → slice_get vs at ≡ Some v → settled_on m (name_loaded vs l) js ≡ settled m v.name js
+settled_is m vs l js at v is there = ap (λ o. settled_on m o js) (loaded_name_is vs l at v is there)
+
+pub awaits_is : (vs : List VolumeView) (l : Option ℕ) (js : List Entry) (at : ℕ) (v : VolumeView) → l ≡ Some at → slice_get vs at ≡ Some v → awaits_on (name_loaded vs l) js ≡ any_awaits_sync v.name js
+awaits_is vs l js at v is there = ap (λ o. awaits_on o js) (loaded_name_is vs l at v is there)
+
+-- the loaded volume, which stands at its place
+pub loaded_read : (vs : List VolumeView) (l : Option ℕ) (at : ℕ) (v : VolumeView) → IfSome l (λ n. n < length vs) → l ≡ Some at → v ≡ get_or vs at v → slice_get vs at ≡ Some v
+loaded_read vs l at v within is read =
+    let P : Option ℕ → Type 0 = λ o. IfSome o (λ n. n < length vs) in
+    slice_get_read vs (length vs) at v refl (subst P is within) read
+
+-- ---- a sync that succeeded
+
+-- all of the loaded volume is stable, and lasts from now on
+safe_now : (old new : Shelf) (loaded : Option (List ℕ)) (name : List ℕ) (e : Entry) → Passes old new → loaded ≡ Some name → Syncs loaded old new → e.placement.volume ≡ name → IsPlaced old e.placement → IsSafe new e.placement
+safe_now old new loaded name e passes is syncs on placed =
+    let p = e.placement in
+    let h = syncs.here p.volume placed.held (is ∙ ap (λ n. Some n) (sym on)) placed.there in
+    let bytes : h.0.bytes ≡ placed.held.bytes = ap (λ (x : Held). x.bytes) h.1 in
+    let stable : h.0.stable ≡ length placed.held.bytes = ap (λ (x : Held). x.stable) h.1 in
+    let whole : stable_bytes (new.volume p.volume) ≡ h.0.bytes =
+    ap stable_bytes h.2 ∙ ap (λ n. take n h.0.bytes) (stable ∙ sym (ap length bytes)) ∙ take-length h.0.bytes in
+    record {
+      held = h.0;
+      there = h.2;
+      stable = (let w = placed.within in omega arith);
+      since = new.moment;
+      lasts = Lasts-begin p.volume (take (p.start + p.length) h.0.bytes) old new passes
+          (BeginsWith-trans (stable_bytes (new.volume p.volume)) h.0.bytes (take (p.start + p.length) h.0.bytes) (BeginsWith-same _ _ whole) (BeginsWith-own_take h.0.bytes (p.start + p.length)));
+    }
+
+-- what is held of entries that a sync settles: P of those before it, on the new shelf
+synced_held : (old new : Shelf) (loaded : Option (List ℕ)) (name : List ℕ) (es : List Entry) → Passes old new → loaded ≡ Some name → Syncs loaded old new
+    → AllByRecursion (IsHeld old) es → AllByRecursion (IsHeld new) es → AllByRecursion (IsHeld new) (settled mark.Synced name es)
+synced_held old new loaded name [] passes is syncs before held = held
+synced_held old new loaded name (e ∷ es) passes is syncs before held = (
+  settled_case mark.Synced name (IsHeld new) e (λ awaits. (held.0.0, λ s. safe_now old new loaded name e passes is syncs (on_volume name e awaits) before.0.0)) (λ quiet. held.0),
+  synced_held old new loaded name es passes is syncs before.1 held.1,
+)
+
+pub kept_synced : (old new : Meaning) (vs : List VolumeView) (l : Option ℕ) (js js' : List Entry) (at : ℕ) (v : VolumeView)
+    → Kept old vs l js → l ≡ Some at → slice_get vs at ≡ Some v → js' ≡ settled mark.Synced v.name js
+    → new.honest ≡ old.honest → new.loaded ≡ old.loaded → Passes old.shelf new.shelf → StillLasts old.shelf new.shelf
+    → (IsHonest old → Syncs old.loaded old.shelf new.shelf)
+    → Kept new vs l js'
+kept_synced old new vs l js js' at v k is there journal honest loaded passes later syncs =
+    let on = loaded_name_is vs l at v is there in
+    let P : List Entry → Type 0 = λ x. Kept new vs l x in
+    subst P (sym journal) (record {
+      tied = loaded ∙ k.tied;
+      one_of = k.one_of;
+      differ = k.differ;
+      lie = settled_lie mark.Synced v.name vs js k.lie;
+      unsynced = on_any (name_loaded vs l) (settled mark.Synced v.name js) (settled_all mark.Synced v.name js (λ e. cc) (subst (λ o. AllByRecursion (IsOnLoaded o) js) on k.unsynced));
+      fits = λ h. (
+          let o = still old new honest h in
+          let f = k.fits o in
+          let s = fits_stay old.shelf new.shelf vs vs js (all_moved_same old.shelf new.shelf vs js f (λ place w here. sync_bytes old.loaded old.shelf new.shelf (syncs o) w.name)) later k.lie f in
+          record { stand = s.stand; hold = synced_held old.shelf new.shelf old.loaded v.name js passes (k.tied ∙ on) (syncs o) f.hold s.hold });
+    })
+
+-- ---- one that failed, after which the volume is out
+
+pub kept_failed_sync : (old mid new : Meaning) (vs : List VolumeView) (l : Option ℕ) (js js' : List Entry) (at : ℕ) (v w : VolumeView)
+    → Kept old vs l js → l ≡ Some at → slice_get vs at ≡ Some v → w ≡ record v { status = status.Error } → js' ≡ settled mark.Lost v.name js
+    → mid.honest ≡ old.honest → new.honest ≡ mid.honest → new.loaded ≡ None → StillLasts old.shelf mid.shelf → StillLasts mid.shelf new.shelf
+    → (IsHonest old → MaySync old.loaded old.shelf mid.shelf) → (IsHonest mid → SameShelf mid.shelf new.shelf)
+    → Kept new (slice_set vs at w) None js'
+kept_failed_sync old mid new vs l js js' at v w k on_it there is journal honest honest' loaded later later' syncs same =
+    let on = loaded_name_is vs l at v on_it there in
+    let vs' = slice_set vs at w in
+    let name : w.name ≡ v.name = ap (λ (x : VolumeView). x.name) is in
+    let end : w.end ≡ v.end = ap (λ (x : VolumeView). x.end) is in
+    let P : List Entry → Type 0 = λ x. Kept new vs' None x in
+    subst P (sym journal) (record {
+      tied = loaded;
+      one_of = tt;
+      differ = differ_same vs vs' (names_set vs at v w there name) k.differ;
+      lie = all_as (LiesOn vs) (LiesOn vs') (settled mark.Lost v.name js) (λ e lies. lies_set vs at v w e there name (omega arith) lies) (settled_lie mark.Lost v.name vs js k.lie);
+      unsynced = on_any None (settled mark.Lost v.name js) (settled_all mark.Lost v.name js (λ e. cc) (subst (λ o. AllByRecursion (IsOnLoaded o) js) on k.unsynced));
+      fits = λ h. (
+          let m = still mid new honest' h in
+          let o = still old mid honest m in
+          let f = k.fits o in
+          let bytes : (n : List ℕ) → SameBytes old.shelf new.shelf n = λ n. then_same old.shelf mid.shelf new.shelf n (may_sync_bytes old.loaded old.shelf mid.shelf (syncs o) n) (same m) in
+          let s = fits_stay old.shelf new.shelf vs vs' js
+          (all_moved_set old.shelf new.shelf vs js at v w k.differ f there (moved_shut old.shelf new.shelf v w status.Error is (λ e. cc) (moved_same old.shelf new.shelf v (bytes v.name) (f.stand at v there))) (λ other apart. bytes other))
+          (λ since n b lasts. later' since n b (later since n b lasts)) k.lie f in
+          record { stand = s.stand; hold = lost_held new.shelf v.name js s.hold });
+    })
+
+-- the pieces, while bytes stay and marks alone change
+pub pieces_marked : (old new : Meaning) (vs : List VolumeView) (l : Option ℕ) (js js' : List Entry) (hand : Option Piece)
+    → Kept old vs l js → placements js' ≡ placements js → new.honest ≡ old.honest → (IsHonest old → (n : List ℕ) → SameBytes old.shelf new.shelf n)
+    → KeepsPieces old new js js' hand hand
+pieces_marked old new vs l js js' hand k marks honest bytes = record {
+  honest = honest;
+  items = items_by js js' hand marks;
+  blocks = λ o. blocks_by new.shelf js js' hand marks ∙ blocks_of old.shelf new.shelf js hand
+      (blocks_stay old.shelf new.shelf vs vs js (all_moved_same old.shelf new.shelf vs js (k.fits o) (λ place w here. bytes o w.name)) k.lie (k.fits o).hold);
+}
+
+-- ---- what is loaded is another, and nothing is unsynced
+
+pub kept_loading : (old new : Meaning) (vs : List VolumeView) (l l' : Option ℕ) (js : List Entry)
+    → Kept old vs l js → AllByRecursion (λ e. e.mark ≢ mark.Unsynced) js → new.loaded ≡ name_loaded vs l' → IfSome l' (λ at. at < length vs)
+    → new.honest ≡ old.honest → StillLasts old.shelf new.shelf → (IsHonest old → SameShelf old.shelf new.shelf) → Kept new vs l' js
+kept_loading old new vs l l' js k none loaded within honest later same = record {
+  tied = loaded;
+  one_of = within;
+  differ = k.differ;
+  lie = k.lie;
+  unsynced = on_any (name_loaded vs l') js none;
+  fits = λ h. (
+      let o = still old new honest h in
+      let f = k.fits o in
+      fits_stay old.shelf new.shelf vs vs js (all_moved_same old.shelf new.shelf vs js f (λ place w here. same_bytes old.shelf new.shelf w.name (same o w.name))) later k.lie f);
+}
+
+-- with nothing loaded, nothing is unsynced
+pub none_loaded : (device : Meaning) (vs : List VolumeView) (js : List Entry) → Kept device vs None js → AllByRecursion (λ e. e.mark ≢ mark.Unsynced) js
+none_loaded device vs js k = none_unsynced None js refl k.unsynced
+
+-- a drive with another list for its journal
+pub with_journal : {D : Type 0} (d : DriveIs D) (js : List Entry) → js ≡ d.journal → d ≡ record d { journal = js }
+with_journal d js same = ap (λ j. record d { journal = j }) (sym same)
+
+-- a drive whose device and journal are others
+pub journal_is : {D : Type 0} (d : DriveIs D) (device : D) (js js' : List Entry) → js' ≡ js → ◌≡◌ {A = DriveIs D} (record d { device = device; journal = js' }) (record d { device = device; journal = js })
+journal_is d device js js' same = ap (λ j. record d { device = device; journal = j }) same
+
+-- a drive after a sync that failed
+pub failed_is : {D : Type 0} (d : DriveIs D) (device : D) (js js' : List Entry) (at : ℕ) (w w' : VolumeView) → w' ≡ w → js' ≡ js
+    → ◌≡◌ {A = DriveIs D} (record d { device = device; volumes = slice_set d.volumes at w'; loaded = None; journal = js' }) (record d { device = device; volumes = slice_set d.volumes at w; loaded = None; journal = js })
+failed_is d device js js' at w w' volume journal =
+    ap (λ x. record d { device = device; volumes = slice_set d.volumes at x; loaded = None; journal = js' }) volume
+    ∙ ap (λ j. record d { device = device; volumes = slice_set d.volumes at w; loaded = None; journal = j }) journal
+
+pub marked_by : (m : Mark) (name : List ℕ) (js js' : List Entry) → js' ≡ settled m name js → placements js' ≡ placements js
+marked_by m name js js' is = ap placements is ∙ placements_settled m name js
+
+pub true_false : {P : Type 0} → true ≡ false → P
+true_false e = absurd (cc e)
+
+pub pieces_trans : (a b c : Meaning) (js js' js'' : List Entry) (hand hand' hand'' : Option Piece) → KeepsPieces a b js js' hand hand' → KeepsPieces b c js' js'' hand' hand'' → KeepsPieces a c js js'' hand hand''
+pieces_trans a b c js js' js'' hand hand' hand'' one two = record {
+  honest = two.honest ∙ one.honest;
+  items = two.items ∙ one.items;
+  blocks = λ o. two.blocks (subst IsTrue (sym one.honest) o) ∙ one.blocks o;
+}
+
+-- the pieces over calls that change no volume
+pub pieces_same : (old new : Meaning) (vs : List VolumeView) (l : Option ℕ) (js : List Entry) (hand : Option Piece)
+    → Kept old vs l js → new.honest ≡ old.honest → (IsHonest old → SameShelf old.shelf new.shelf) → KeepsPieces old new js js hand hand
+pieces_same old new vs l js hand k honest same = pieces_marked old new vs l js js hand k refl honest (λ o n. same_bytes old.shelf new.shelf n (same o n))

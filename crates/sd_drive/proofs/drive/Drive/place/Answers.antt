@@ -1,0 +1,50 @@
+use Rattle.std.proofs.Common.{rules, refl}
+use Rattle.std.proofs.lemmas.Option.{slice_get_read}
+use Rattle.sd_volume.proofs.DeviceLemmas.{Counted-as}
+use Rattle.sd_drive.proofs.PlaceLemmas.{kept_placing, pieces_placing, places_of, takes_here, limit_allows, limit_allowed}
+use Rattle.sd_drive.proofs.drive.Drive.place.Goals as goal
+
+pub invariant_of-self : goal.invariant_of-self
+invariant_of-self g c =
+    let e = c.place_on-placed.ensures in
+    let vs = c.self.inside.volumes.items in
+    let v = c.index_mut.result.now in
+    let there = slice_get_read vs _ _ v refl (rw c.deref.ensures.value at c.in-Some-open_place.ensures.within) c.index_mut.ensures.value in
+    let takes = takes_here vs c.self.inside.loaded c.self.inside.pool _ v (rw c.deref.ensures.value at c.in-Some-open_place.ensures.open) there in
+    record {
+      kept = kept_placing c.place_on-placed.result (g.D.Driver.meaning c.self.inside.driver) (g.D.Driver.meaning c.place_on-placed.new.driver) vs c.self.inside.loaded c.self.inside.journal.entries c.place_on-placed.new.journal.entries
+          c.in-Some-open_place.at v c.place_on-placed.new.volume c.in-Some.piece c.self.inside.limits.volume c.self.invariant.kept takes.loaded_is there takes.status_is e.on e.counted.honest e.loaded e.later e.at e.others;
+      limit = c.self.invariant.limit;
+    }
+
+pub returns-clause-places : goal.returns-clause-places
+returns-clause-places g c =
+    let e = c.place_on-placed.ensures in
+    let vs = c.self.inside.volumes.items in
+    let v = c.index_mut.result.now in
+    let there = slice_get_read vs _ _ v refl (rw c.deref.ensures.value at c.in-Some-open_place.ensures.within) c.index_mut.ensures.value in
+    let takes = takes_here vs c.self.inside.loaded c.self.inside.pool _ v (rw c.deref.ensures.value at c.in-Some-open_place.ensures.open) there in
+    rw (← c.self.view_is) (places_of c.place_on-placed.result _ _ c.in-Some-open_place.at v c.place_on-placed.new.volume c.in-Some.piece c.in-Some.is takes e.on (let h = c.empty_after.ensures in search rules))
+
+pub returns-clause-counted : goal.returns-clause-counted
+returns-clause-counted g c =
+    let e = c.place_on-placed.ensures in
+    let vs = c.self.inside.volumes.items in
+    let v = c.index_mut.result.now in
+    let there = slice_get_read vs _ _ v refl (rw c.deref.ensures.value at c.in-Some-open_place.ensures.within) c.index_mut.ensures.value in
+    let takes = takes_here vs c.self.inside.loaded c.self.inside.pool _ v (rw c.deref.ensures.value at c.in-Some-open_place.ensures.open) there in
+    rw (← c.self.view_is) (Counted-as _ _ _ _ (g.D.Driver.meaning c.self.inside.driver) (g.D.Driver.meaning c.place_on-placed.new.driver) (λ f. f) (λ f. f)
+    (λ n. (n.0, limit_allows _ c.in-Some.piece _ v c.in-Some.is takes n.1)) (λ n. (n.0, limit_allowed _ c.in-Some.piece _ v c.in-Some.is takes n.1)) e.counted)
+
+pub returns-clause-keeps : goal.returns-clause-keeps
+returns-clause-keeps g c =
+    let e = c.place_on-placed.ensures in
+    let vs = c.self.inside.volumes.items in
+    let v = c.index_mut.result.now in
+    let there = slice_get_read vs _ _ v refl (rw c.deref.ensures.value at c.in-Some-open_place.ensures.within) c.index_mut.ensures.value in
+    let takes = takes_here vs c.self.inside.loaded c.self.inside.pool _ v (rw c.deref.ensures.value at c.in-Some-open_place.ensures.open) there in
+    rw (← c.self.view_is) (pieces_placing c.place_on-placed.result (g.D.Driver.meaning c.self.inside.driver) (g.D.Driver.meaning c.place_on-placed.new.driver) vs c.self.inside.loaded c.self.inside.journal.entries c.place_on-placed.new.journal.entries
+    c.self.inside.hand c.empty_after.new.hand c.in-Some-open_place.at v c.place_on-placed.new.volume c.in-Some.piece c.self.inside.limits.volume c.self.invariant.kept takes.loaded_is there takes.status_is c.in-Some.is c.empty_after.ensures e.on e.counted.honest e.at e.others)
+
+pub returns-clause-later : goal.returns-clause-later
+returns-clause-later g c = rw (← c.self.view_is) c.place_on-placed.ensures.later

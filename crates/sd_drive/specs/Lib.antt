@@ -1,0 +1,5 @@
+pub mod Moves
+pub mod Placing
+pub mod Receipt
+pub mod Shelf
+pub mod View

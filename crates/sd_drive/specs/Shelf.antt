@@ -1,0 +1,102 @@
+-- What a drive's journal says of the shelf of its device, and what a drive keeps of that.
+use Rattle.std.specs.Prelude.{◌≡◌, ℕ, ◌+◌, ◌<◌, ◌≤◌, List, [], ◌++◌, length, map, take, drop, Option, None, Some, IfSome, slice_get}
+use Rattle.std.specs.List.{AllByRecursion}
+use Rattle.std.specs.Option.{option_to_list}
+use Rattle.sd_base.specs.Limits.{block_header, most_block}
+use Rattle.sd_block.specs.Image.{IsBlockImage}
+use Rattle.sd_driver.specs.Meaning.{Meaning, IsHonest}
+use Rattle.sd_driver.specs.Shelf.{Shelf, Held, Lasts}
+use Rattle.sd_journal.specs.Journal.{Entry, placements}
+use Rattle.sd_journal.specs.declared.mark.Mark.TheVariants.{Unsynced, Synced}
+use Rattle.sd_label.specs.declared.label.VolumeLabel.{VolumeLabel}
+use Rattle.sd_lane.specs.declared.piece.Piece.{Piece}
+use Rattle.sd_span.specs.declared.placement.Placement.{Placement}
+use Rattle.sd_volume.specs.Image.{Block}
+use Rattle.sd_volume.specs.Volume.{VolumeView, StandsOn}
+use Rattle.sd_drive.specs.View.{names, name_loaded, items, block_of_piece}
+
+-- the bytes of a volume at a place, none where there is no volume
+abbrev pub bytes_at : Option Held → ℕ → ℕ → List ℕ
+bytes_at None start count = []
+bytes_at (Some held) start count = take count (drop start held.bytes)
+
+-- the bytes that stand at a placement
+abbrev pub image_at : Shelf → Placement → List ℕ
+image_at shelf p = bytes_at (shelf.volume p.volume) p.start p.length
+
+-- the block that stands at a placement: its body is read off the shelf
+abbrev pub block_at : Shelf → Placement → Block
+block_at shelf p = record { key = p.key; body = drop block_header (image_at shelf p) }
+
+-- the blocks at the journal's placements and then the one of the piece in the hand, in the order of the pieces given
+abbrev pub blocks : Shelf → List Entry → Option Piece → List Block
+blocks shelf journal hand =
+    map (block_at shelf) (placements journal) ++ map block_of_piece (option_to_list hand)
+
+-- the placement lies within its volume, and there stands the image of a block of its session
+pub record IsPlaced (shelf : Shelf) (p : Placement) : Type 0 where
+  pub held : Held
+  pub there : shelf.volume p.volume ≡ Some held
+  pub within : p.start + p.length ≤ length held.bytes
+  pub number : ℕ
+  pub image : IsBlockImage most_block (image_at shelf p) p.key number (block_at shelf p).body
+
+-- the placement ends at or below the stable length of its volume, and since some moment every stop leaves the volume
+-- up to that end
+pub record IsSafe (shelf : Shelf) (p : Placement) : Type 0 where
+  pub held : Held
+  pub there : shelf.volume p.volume ≡ Some held
+  pub stable : p.start + p.length ≤ held.stable
+  pub since : ℕ
+  pub lasts : Lasts since p.volume (take (p.start + p.length) held.bytes) shelf
+
+-- what the shelf holds of an entry of the journal
+abbrev pub IsHeld : Shelf → Entry → Type 0
+IsHeld shelf e = IsPlaced shelf e.placement × (e.mark ≡ Synced → IsSafe shelf e.placement)
+
+-- the volume stands on the shelf: its label block, its blocks, and a tail only where it takes no more
+pub record Stands (shelf : Shelf) (v : VolumeView) : Type 0 where
+  pub label : VolumeLabel
+  pub blocks : List Block
+  pub tail : List ℕ
+  pub stands : StandsOn v shelf label blocks tail
+
+-- every volume of the drive stands on the shelf, and every entry of its journal is held there
+pub record Fits (shelf : Shelf) (volumes : List VolumeView) (journal : List Entry) : Type 0 where
+  pub stand : (at : ℕ) (v : VolumeView) → slice_get volumes at ≡ Some v → Stands shelf v
+  pub hold : AllByRecursion (IsHeld shelf) journal
+
+-- the entry's block lies on one of the volumes, before its end
+pub record LiesOn (volumes : List VolumeView) (e : Entry) : Type 0 where
+  pub at : ℕ
+  pub volume : VolumeView
+  pub there : slice_get volumes at ≡ Some volume
+  pub name_is : e.placement.volume ≡ volume.name
+  pub within : e.placement.start + e.placement.length ≤ volume.end
+
+-- where the entry isn't synced yet, its volume is the loaded one
+abbrev pub IsOnLoaded : Option (List ℕ) → Entry → Type 0
+IsOnLoaded loaded e = e.mark ≡ Unsynced → loaded ≡ Some e.placement.volume
+
+-- no two volumes have one name
+abbrev pub NamesDiffer : List VolumeView → Type 0
+NamesDiffer volumes = (at other : ℕ) (name : List ℕ)
+    → slice_get (names volumes) at ≡ Some name → slice_get (names volumes) other ≡ Some name → at ≡ other
+
+-- What a drive keeps, whatever its calls answer. Always: the device has that volume loaded which the drive says, one of
+-- its own; no two volumes have one name; every block of the journal lies on one of them, and those not synced yet on
+-- the loaded one. While the device is honest: what the drive says of volumes and blocks stands on the shelf.
+pub record Kept (device : Meaning) (volumes : List VolumeView) (loaded : Option ℕ) (journal : List Entry) : Type 0 where
+  pub tied : device.loaded ≡ name_loaded volumes loaded
+  pub one_of : IfSome loaded (λ at. at < length volumes)
+  pub differ : NamesDiffer volumes
+  pub lie : AllByRecursion (LiesOn volumes) journal
+  pub unsynced : AllByRecursion (IsOnLoaded (name_loaded volumes loaded)) journal
+  pub fits : IsHonest device → Fits device.shelf volumes journal
+
+-- what a call keeps: whether the device is honest, the pieces given so far, and, while it is honest, their blocks
+pub record KeepsPieces (old new : Meaning)
+    (journal journal' : List Entry) (hand hand' : Option Piece) : Type 0 where
+  pub honest : new.honest ≡ old.honest
+  pub items : items journal' hand' ≡ items journal hand
+  pub blocks : IsHonest old → blocks new.shelf journal' hand' ≡ blocks old.shelf journal hand

@@ -1,0 +1,8 @@
+//! Drives, tested: histories of a drive's calls on a device of any kind, told as text, beside those of a plain model.
+#![tactic(auto)]
+
+mod bench;
+#[cfg(test)]
+mod tests;
+
+pub use bench::{LIMIT, Step, drive_on, play};

@@ -1,0 +1,4 @@
+pub mod EntryLemmas
+pub mod NotedLemmas
+pub mod KeyLemmas
+pub mod ShareLemmas

@@ -1,0 +1,64 @@
+-- What a journal keeps of each session, so that no question about a session looks at other sessions' entries.
+use Rattle.std.specs.Prelude.{◌≡◌, ◌+◌, List, [], true, false, ◌||◌, if◌then◌else◌, Option, None, Some, IsTrue}
+use Rattle.std.specs.HashMap.{get_by}
+use Rattle.std.specs.Option.{MatchOption, IsSomeAnd}
+use Rattle.sd_base.specs.Key.{is_key}
+use Rattle.sd_base.specs.declared.number.SessionKey.{SessionKey}
+use Rattle.sd_span.specs.Spans.{placements_of, stretches, grown}
+use Rattle.sd_span.specs.declared.placement.Placement.{Placement}
+use Rattle.sd_journal.specs.declared.mark.Mark.{Mark}
+use Rattle.sd_journal.specs.declared.shares.Shares.{Shares}
+use Rattle.sd_journal.specs.Journal.{Entry, placements, is_synced, is_lost, placed_of, counts_of, fails}
+use Rattle.sd_journal.specs.ShareView.{ShareView}
+
+-- what is kept of the session, if anything is
+abbrev pub share_of : Shares → SessionKey → Option ShareView
+share_of shares key = get_by (is_key key) shares.sessions
+
+-- just what is kept of this session changes
+abbrev pub ChangesAt : SessionKey → (Option ShareView → Option ShareView) → Shares → Shares → Type 0
+ChangesAt key change old new =
+    (other : SessionKey) → share_of new other ≡ (if is_key key other then change (share_of old other) else share_of old other)
+
+-- what is kept is as before, of every session
+abbrev pub SameShares : Shares → Shares → Type 0
+SameShares old new = (key : SessionKey) → share_of new key ≡ share_of old key
+
+-- with room for one stretch more
+abbrev pub readied : Option ShareView → Option ShareView
+readied None = Some (record { stretches = []; counts = record { placed = 0; synced = 0 }; fails = false; ready = true })
+readied (Some s) = Some (record s { ready = true })
+
+-- with one placement more
+abbrev pub with_placement : Placement → Option ShareView → Option ShareView
+with_placement p None = None
+with_placement p (Some s) = Some (record {
+  stretches = grown s.stretches p;
+  counts = record { placed = s.counts.placed + 1; synced = s.counts.synced };
+  fails = s.fails;
+  ready = false;
+})
+
+-- with one entry that has this mark now and wasn't synced before
+abbrev pub with_mark : Mark → Option ShareView → Option ShareView
+with_mark mark None = None
+with_mark mark (Some s) = Some (record {
+  stretches = s.stretches;
+  counts = record { placed = s.counts.placed; synced = s.counts.synced + (if is_synced mark then 1 else 0) };
+  fails = s.fails || is_lost mark;
+  ready = s.ready;
+})
+
+-- there is room for one stretch more of the session
+abbrev pub HasRoom : Option ShareView → Type 0
+HasRoom share = IsSomeAnd share (λ s. IsTrue s.ready)
+
+-- what is kept of a session is what the entries say of it
+pub record IsShareOf (key : SessionKey) (entries : List Entry) (s : ShareView) : Type 0 where
+  pub stretches : s.stretches ≡ stretches (placements_of key (placements entries))
+  pub counts : s.counts ≡ counts_of key entries
+  pub fails : s.fails ≡ fails key entries
+
+-- so it is of every session; of one that has no entry nothing need be kept
+abbrev pub AreSharesOf : List Entry → Shares → Type 0
+AreSharesOf entries shares = (key : SessionKey) → MatchOption (share_of shares key) (placed_of key entries ≡ 0) (IsShareOf key entries)

@@ -1,0 +1,22 @@
+// What holds of entries, whatever journal has them.
+ghost use Rattle.sd_journal.specs.Laws.{NotingAppends, SettlingMarks, SyncsFail, SyncedWithinPlaced};
+
+/// What a placement that is noted changes.
+pub fn noting_appends()
+    ensures { (entries : _) (p : _) → NotingAppends entries p }
+{}
+
+/// What the end of a sync changes, whether it succeeded or failed.
+pub fn settling_marks()
+    ensures { (mark : _) (volume : _) (entries : _) → SettlingMarks mark volume entries }
+{}
+
+/// Which sessions fail by a sync that is over.
+pub fn syncs_fail()
+    ensures { (volume : _) (entries : _) → SyncsFail volume entries }
+{}
+
+/// No session has more synced than placed, and as many exactly where each of its entries is synced.
+pub fn synced_within_placed()
+    ensures { (key : _) (entries : _) → SyncedWithinPlaced key entries }
+{}

@@ -1,0 +1,11 @@
+pub mod BlockLemmas
+pub mod DeviceLemmas
+pub mod FaultLemmas
+pub mod FirstFaultLemmas
+pub mod FrontLemmas
+pub mod HandsOverLemmas
+pub mod ListLemmas
+pub mod PartLemmas
+pub mod ReaderLemmas
+pub mod ReadingLemmas
+pub mod SpanLemmas

@@ -1,0 +1,5 @@
+pub mod Reading
+pub mod Faults
+pub mod HandsOver
+pub mod Reader
+pub mod Device

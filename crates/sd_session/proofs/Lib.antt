@@ -1,0 +1,4 @@
+pub mod CountLemmas
+pub mod PackedLemmas
+pub mod PartLemmas
+pub mod SessionLemmas

@@ -1,0 +1,18 @@
+//! One session: its records are cut into bodies, which go through its spool, if it has one, to the queue before its
+//! drive (as: Bacula Developer's Guide, storage daemon; Main manual, data spooling).
+#![tactic(auto)]
+
+mod answer;
+mod dropping;
+mod opening;
+mod sending;
+mod session;
+mod spooling;
+mod status;
+#[cfg(test)]
+mod tests;
+
+pub use answer::{Despooled, Spooling};
+pub use opening::{NotOpened, Opening};
+pub use session::Session;
+pub use status::Status;
