@@ -2,7 +2,8 @@
 //!
 //! Without an argument each job runs once, on little, and says what it made; so the gate sees that
 //! the jobs work. With the argument `times` they run long enough to be timed, and say their rates. With
-//! `files FOLDER COUNT` it only writes so many blocks to a file in the folder, to be timed from outside.
+//! `files FOLDER COUNT` it only writes so many blocks to a file in the folder, and with `spool FOLDER COUNT` so
+//! many bodies to a spool there and back, to be timed from outside.
 #![tactic(auto)]
 
 mod blocks;
@@ -10,6 +11,7 @@ mod checksum;
 mod packing;
 mod rate;
 mod readback;
+mod spools;
 mod volumes;
 
 use anyhow::{Result, bail};
@@ -22,11 +24,15 @@ fn main(rt: HostRuntime) -> Result<()> {
     let mut arguments = env::args(&rt)?.skip(1);
     let mut length = Length::Once;
     if let Some(first) = arguments.next() {
-        if first.as_str() == "files" {
+        if first.as_str() == "files" || first.as_str() == "spool" {
             let (Some(folder), Some(count)) = (arguments.next(), arguments.next()) else {
-                bail!("usage: files FOLDER COUNT");
+                bail!("usage: files FOLDER COUNT, or spool FOLDER COUNT");
             };
-            return files(rt, folder.as_str(), count.as_str().parse::<u64>()?);
+            let count = count.as_str().parse::<u64>()?;
+            if first.as_str() == "spool" {
+                return spools::run(rt, folder.as_str(), count);
+            }
+            return files(rt, folder.as_str(), count);
         }
         if first.as_str() == "times" {
             length = Length::Timed;

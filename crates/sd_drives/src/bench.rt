@@ -2,6 +2,7 @@
 ghost use Rattle.std.specs.Prelude.{◌≡◌, None};
 
 use sd_base::{Bytes, LEAST_BODY, MOST_BODY, MediaName, PoolName, Rec, SessionKey, VolName};
+use sd_desk::next_volume;
 use sd_drive::{Drive, Limits, Placed};
 use sd_driver::Driver;
 use sd_lane::Piece;
@@ -35,6 +36,8 @@ pub enum Step {
     Read(u32),
     /// Tells whether there is a receipt for so many blocks of a session.
     Receipt(u32, u64),
+    /// Tells the next volume of a pool.
+    Next(&'static str),
 }
 
 /// A drive of media type `File` on a device, in the run that began at 1000.
@@ -91,6 +94,7 @@ fn take_step<D: Driver>(
         Step::Spans(id) => spans(drive, id, text),
         Step::Read(id) => read(alloc, drive, id, text),
         Step::Receipt(id, blocks) => receipt(drive, id, blocks, text),
+        Step::Next(pool) => next(drive, pool, text),
     }
 }
 
@@ -216,6 +220,16 @@ fn receipt<D: Driver>(
     match drive.receipt(key_of(id), blocks)? {
         None => text.push_str("none"),
         Some(receipt) => write!(text, "{}*{}", receipt.blocks(), receipt.spans().len()),
+    }
+}
+
+fn next<D: Driver>(drive: &Drive<D>, pool: &str, text: &mut String) -> Result<(), AllocError> {
+    let Ok(pool) = PoolName::parse(pool) else {
+        return text.push('?');
+    };
+    match next_volume(drive.volumes(), &pool) {
+        Some(name) => text.push_str(name.as_str()),
+        None => text.push_str("none"),
     }
 }
 

@@ -201,3 +201,28 @@ fn reads_back(rt: HostRuntime) -> Result<(), TestFail> {
     );
     Ok(())
 }
+
+const NEXT: [Step; 13] = [
+    Step::Label("Vol-0001", "Default", "File"),
+    Step::Label("Vol-0002", "Default", "File"),
+    Step::Label("Vol-0003", "Other", "File"),
+    Step::Next("Default"),
+    Step::Next("Other"),
+    Step::Next("Third"),
+    Step::Serve(1, "Default"),
+    Step::Mount("Vol-0001"),
+    Step::Give(1, LONG_BODY, 1, 1),
+    Step::Place,
+    Step::Give(1, LONG_BODY, 1, 1),
+    Step::Place,
+    Step::Next("Default"),
+];
+
+#[test]
+fn next_volume_of_a_pool(rt: HostRuntime) -> Result<(), TestFail> {
+    assert_eq!(rt;
+        history(rt.alloc(), &NEXT, &[])?.as_str(),
+        ". . . Vol-0001 Vol-0003 none . . . 82+161 . full Vol-0002 | 0"
+    );
+    Ok(())
+}

@@ -7,6 +7,7 @@
 #![tactic(auto)]
 
 mod devices;
+mod jobs;
 mod packets;
 mod session;
 mod stations;
@@ -21,6 +22,7 @@ fn main(rt: HostRuntime) -> Result<()> {
     devices::run(&rt)?;
     volumes::run(&rt)?;
     stations::run(&rt)?;
+    jobs::run(&rt)?;
     worlds::run(&rt)?;
     Ok(())
 }
