@@ -1,5 +1,6 @@
 pub mod FindLemmas
 pub mod Kept
+pub mod LaidLemmas
 pub mod LoadLemmas
 pub mod PlaceLemmas
 pub mod Places

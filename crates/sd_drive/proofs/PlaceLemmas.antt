@@ -24,31 +24,10 @@ use Rattle.sd_drive.specs.Moves.{TakesOn, IsWithin, PlacesOn, Places, LimitAllow
 use Rattle.sd_drive.specs.Placing.{PlacesAt}
 use Rattle.sd_drive.proofs.Places.{some_is, get_set_here, length_set, names_set, differ_same, loaded_same, loaded_at}
 use Rattle.sd_drive.proofs.Stays.{same_bytes, moved_kept, moved_added, fits_stay, blocks_stay, front_of}
+use Rattle.sd_drive.proofs.LaidLemmas.{blocks_on_by, none_more, laid_kept, laid_added, all_laid_by, all_laid_set}
 use Rattle.sd_drive.proofs.Kept.{still, all_more, all_as, lies_set, all_moved_set, within_some, blocks_of}
 
 -- ---- a block that was not placed
-
-pub kept_not_placed : (old new : Meaning) (vs : List VolumeView) (js : List Entry) (at : ℕ) (v w : VolumeView)
-    → Kept old vs (Some at) js → slice_get vs at ≡ Some v → w.name ≡ v.name → w.end ≡ v.end
-    → new.honest ≡ old.honest → new.loaded ≡ old.loaded → StillLasts old.shelf new.shelf
-    → (IsHonest old → KeepsBlocks v old.shelf w new.shelf)
-    → (IsHonest old → (other : List ℕ) → other ≢ v.name → new.shelf.volume other ≡ old.shelf.volume other)
-    → Kept new (slice_set vs at w) (Some at) js
-kept_not_placed old new vs js at v w k there name end honest loaded later keeps others =
-    let same = names_set vs at v w there name in
-    record {
-      tied = loaded ∙ k.tied ∙ sym (loaded_same vs (slice_set vs at w) (Some at) same);
-      one_of = within_some vs (slice_set vs at w) (Some at) (length_set vs at w) k.one_of;
-      differ = differ_same vs (slice_set vs at w) same k.differ;
-      lie = all_as (LiesOn vs) (LiesOn (slice_set vs at w)) js (λ e lies. lies_set vs at v w e there name (omega arith) lies) k.lie;
-      unsynced = subst (λ l. AllByRecursion (IsOnLoaded l) js) (sym (loaded_same vs (slice_set vs at w) (Some at) same)) k.unsynced;
-      fits = λ h. (
-          let o = still old new honest h in
-          let f = k.fits o in
-          fits_stay old.shelf new.shelf vs (slice_set vs at w) js
-          (all_moved_set old.shelf new.shelf vs js at v w k.differ f there (moved_kept old.shelf new.shelf v w (keeps o) name (f.stand at v there)) (λ other apart. same_bytes old.shelf new.shelf other (others o other apart)))
-          later k.lie f);
-    }
 
 pub blocks_not_placed : (old new : Meaning) (vs : List VolumeView) (js : List Entry) (at : ℕ) (v w : VolumeView) (hand : Option Piece)
     → Kept old vs (Some at) js → slice_get vs at ≡ Some v → w.name ≡ v.name
@@ -60,6 +39,35 @@ blocks_not_placed old new vs js at v w hand k there name keeps others o =
     blocks_of old.shelf new.shelf js hand (blocks_stay old.shelf new.shelf vs (slice_set vs at w) js
     (all_moved_set old.shelf new.shelf vs js at v w k.differ f there (moved_kept old.shelf new.shelf v w (keeps o) name (f.stand at v there)) (λ other apart. same_bytes old.shelf new.shelf other (others o other apart)))
     k.lie f.hold)
+
+pub kept_not_placed : (old new : Meaning) (vs : List VolumeView) (js : List Entry) (at : ℕ) (v w : VolumeView)
+    → Kept old vs (Some at) js → slice_get vs at ≡ Some v → w.name ≡ v.name → w.end ≡ v.end
+    → new.honest ≡ old.honest → new.loaded ≡ old.loaded → StillLasts old.shelf new.shelf → old.shelf.moment ≤ new.shelf.moment
+    → (IsHonest old → KeepsBlocks v old.shelf w new.shelf)
+    → (IsHonest old → (other : List ℕ) → other ≢ v.name → new.shelf.volume other ≡ old.shelf.volume other)
+    → Kept new (slice_set vs at w) (Some at) js
+kept_not_placed old new vs js at v w k there name end honest loaded later moment keeps others =
+    let same = names_set vs at v w there name in
+    record {
+      tied = loaded ∙ k.tied ∙ sym (loaded_same vs (slice_set vs at w) (Some at) same);
+      one_of = within_some vs (slice_set vs at w) (Some at) (length_set vs at w) k.one_of;
+      differ = differ_same vs (slice_set vs at w) same k.differ;
+      lie = all_as (LiesOn vs) (LiesOn (slice_set vs at w)) js (λ e lies. lies_set vs at v w e there name (omega arith) lies) k.lie;
+      unsynced = subst (λ l. AllByRecursion (IsOnLoaded l) js) (sym (loaded_same vs (slice_set vs at w) (Some at) same)) k.unsynced;
+      laid = λ h. (
+          let o = still old new honest h in
+          let same = blocks_not_placed old new vs js at v w None k there name keeps others o in
+          let all : map (block_at new.shelf) (placements js) ≡ map (block_at old.shelf) (placements js) =
+          sym (append-nil (map (block_at new.shelf) (placements js))) ∙ same ∙ append-nil (map (block_at old.shelf) (placements js)) in
+          all_laid_set old.shelf new.shelf vs (placements js) (placements js) at v w k.differ there (λ other apart. same_bytes old.shelf new.shelf other (others o other apart)) (λ other apart. refl)
+          (laid_kept old.shelf new.shelf (placements js) v w name (blocks_on_by (block_at new.shelf) (block_at old.shelf) v.name (placements js) all) (keeps o) (k.laid o at v there)) (k.laid o));
+      fits = λ h. (
+          let o = still old new honest h in
+          let f = k.fits o in
+          fits_stay old.shelf new.shelf vs (slice_set vs at w) js
+          (all_moved_set old.shelf new.shelf vs js at v w k.differ f there (moved_kept old.shelf new.shelf v w (keeps o) name (f.stand at v there)) (λ other apart. same_bytes old.shelf new.shelf other (others o other apart)))
+          later moment k.lie f);
+    }
 
 -- ---- a block that was placed
 
@@ -93,11 +101,11 @@ placed_there old new v w piece p takes s adds name is =
 
 pub kept_placed : (old new : Meaning) (vs : List VolumeView) (js js' : List Entry) (at : ℕ) (v w : VolumeView) (piece : Piece) (p : Placement)
     → Kept old vs (Some at) js → slice_get vs at ≡ Some v → v.status ≡ status.Append → w ≡ with_block piece v → p ≡ next_placement piece v → js' ≡ js ++ noted p ∷ []
-    → new.honest ≡ old.honest → new.loaded ≡ old.loaded → StillLasts old.shelf new.shelf
+    → new.honest ≡ old.honest → new.loaded ≡ old.loaded → StillLasts old.shelf new.shelf → old.shelf.moment ≤ new.shelf.moment
     → (IsHonest old → AddsBlock (block_of_piece piece) v old.shelf w new.shelf)
     → (IsHonest old → (other : List ℕ) → other ≢ v.name → new.shelf.volume other ≡ old.shelf.volume other)
     → Kept new (slice_set vs at w) (Some at) js'
-kept_placed old new vs js js' at v w piece p k there takes is place journal honest loaded later adds others =
+kept_placed old new vs js js' at v w piece p k there takes is place journal honest loaded later moment adds others =
     let name : w.name ≡ v.name = ap (λ (x : VolumeView). x.name) is in
     let end : w.end ≡ v.end + block_length piece = ap (λ (x : VolumeView). x.end) is in
     let same = names_set vs at v w there name in
@@ -118,11 +126,21 @@ kept_placed old new vs js js' at v w piece p k there takes is place journal hone
       differ = differ_same vs vs' same k.differ;
       lie = all_more (LiesOn vs') js (noted p) (all_as (LiesOn vs) (LiesOn vs') js (λ e l. lies_set vs at v w e there name (omega arith) l) k.lie) lies;
       unsynced = all_more (IsOnLoaded (name_loaded vs' (Some at))) js (noted p) (subst (λ l. AllByRecursion (IsOnLoaded l) js) (sym (loaded_same vs vs' (Some at) same)) k.unsynced) (λ e. on ∙ ap (λ n. Some n) (sym volume));
+      laid = λ h. (
+          let o = still old new honest h in
+          let f = k.fits o in
+          let moved = all_moved_set old.shelf new.shelf vs js at v w k.differ f there (moved_added old.shelf new.shelf v w (block_of_piece piece) (adds o) name takes (f.stand at v there)) (λ other apart. same_bytes old.shelf new.shelf other (others o other apart)) in
+          let stay = blocks_stay old.shelf new.shelf vs vs' js moved k.lie f.hold in
+          let last = placed_there old.shelf new.shelf v w piece p takes (f.stand at v there) (adds o) name place in
+          let more : placements (js ++ noted p ∷ []) ≡ placements js ++ p ∷ [] = map-append (λ (e : Entry). e.placement) js (noted p ∷ []) in
+          all_laid_by new.shelf vs' (placements js ++ p ∷ []) (placements (js ++ noted p ∷ [])) more
+          (all_laid_set old.shelf new.shelf vs (placements js) (placements js ++ p ∷ []) at v w k.differ there (λ other apart. same_bytes old.shelf new.shelf other (others o other apart)) (λ other apart. none_more other p (placements js) (λ e. apart (sym e ∙ volume)))
+          (laid_added old.shelf new.shelf (placements js) v w piece p takes name place (adds o) (blocks_on_by (block_at new.shelf) (block_at old.shelf) v.name (placements js) stay) last.1 (k.laid o at v there)) (k.laid o)));
       fits = λ h. (
           let o = still old new honest h in
           let f = k.fits o in
           let moved = all_moved_set old.shelf new.shelf vs js at v w k.differ f there (moved_added old.shelf new.shelf v w (block_of_piece piece) (adds o) name takes (f.stand at v there)) (λ other apart. same_bytes old.shelf new.shelf other (others o other apart)) in
-          let stay = fits_stay old.shelf new.shelf vs vs' js moved later k.lie f in
+          let stay = fits_stay old.shelf new.shelf vs vs' js moved later moment k.lie f in
           let last = placed_there old.shelf new.shelf v w piece p takes (f.stand at v there) (adds o) name place in
           record { stand = stay.stand; hold = all_more (IsHeld new.shelf) js (noted p) stay.hold (last.0, λ e. absurd cc) });
     })
@@ -152,11 +170,11 @@ items_placed js js' v piece p place journal =
 
 pub kept_placing : {E : Type 0} (result : Result Placed E) (old new : Meaning) (vs : List VolumeView) (l : Option ℕ) (js js' : List Entry) (at : ℕ) (v w : VolumeView) (piece : Piece) (limit : ℕ)
     → Kept old vs l js → l ≡ Some at → slice_get vs at ≡ Some v → v.status ≡ status.Append → PlacesOn result limit piece v w js js'
-    → new.honest ≡ old.honest → new.loaded ≡ old.loaded → StillLasts old.shelf new.shelf
+    → new.honest ≡ old.honest → new.loaded ≡ old.loaded → StillLasts old.shelf new.shelf → old.shelf.moment ≤ new.shelf.moment
     → (IsHonest old → PlacesAt result piece v old.shelf w new.shelf)
     → (IsHonest old → (other : List ℕ) → other ≢ v.name → new.shelf.volume other ≡ old.shelf.volume other)
     → Kept new (slice_set vs at w) l js'
-kept_placing {E} result old new vs l js js' at v w piece limit k is there takes on honest loaded later stands others =
+kept_placing {E} result old new vs l js js' at v w piece limit k is there takes on honest loaded later moment stands others =
     let P : Option ℕ → Type 0 = λ x. Kept old vs x js in
     let Q : Option ℕ → Type 0 = λ x. Kept new (slice_set vs at w) x js' in
     subst Q (sym is) (from result on stands (subst P is k))
@@ -164,10 +182,10 @@ kept_placing {E} result old new vs l js js' at v w piece limit k is there takes 
     not_placed : (s : VolumeStatus) → Kept old vs (Some at) js → w ≡ record v { status = s } → js' ≡ js → (IsHonest old → KeepsBlocks v old.shelf w new.shelf) → Kept new (slice_set vs at w) (Some at) js'
     not_placed s kept e same keeps =
         let R : List Entry → Type 0 = λ x. Kept new (slice_set vs at w) (Some at) x in
-        subst R (sym same) (kept_not_placed old new vs js at v w kept there (ap (λ (x : VolumeView). x.name) e) (ap (λ (x : VolumeView). x.end) e) honest loaded later keeps others)
+        subst R (sym same) (kept_not_placed old new vs js at v w kept there (ap (λ (x : VolumeView). x.name) e) (ap (λ (x : VolumeView). x.end) e) honest loaded later moment keeps others)
 
     from : (r : Result Placed E) → PlacesOn r limit piece v w js js' → (IsHonest old → PlacesAt r piece v old.shelf w new.shelf) → Kept old vs (Some at) js → Kept new (slice_set vs at w) (Some at) js'
-    from (Ok (At p)) o s kept = kept_placed old new vs js js' at v w piece p kept there takes o.2 o.1 o.3 honest loaded later s others
+    from (Ok (At p)) o s kept = kept_placed old new vs js js' at v w piece p kept there takes o.2 o.1 o.3 honest loaded later moment s others
     from (Ok NeedVolume) o s kept = absurd o
     from (Ok VolumeFull) o s kept = not_placed status.Full kept o.0 o.1 s
     from (Ok VolumeError) o s kept = not_placed status.Error kept o.1 o.2 s

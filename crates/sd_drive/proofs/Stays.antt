@@ -236,8 +236,8 @@ still_there vs old new e lies later since bytes lasts =
     subst Q (sym lies.name_is) (later lies.at lies.volume lies.there since bytes (subst P lies.name_is lasts))
 
 -- what lasted of a volume up to the end of a block lasts
-pub safe_stays : (old new : Shelf) (vs vs' : List VolumeView) (e : Entry) → AllMoved old new vs vs' → LiesOn vs e → IsPlaced old e.placement → StillOn vs old new → IsSafe old e.placement → IsSafe new e.placement
-safe_stays old new vs vs' e moved lies is later safe =
+pub safe_stays : (old new : Shelf) (vs vs' : List VolumeView) (e : Entry) → AllMoved old new vs vs' → LiesOn vs e → IsPlaced old e.placement → StillOn vs old new → old.moment ≤ new.moment → IsSafe old e.placement → IsSafe new e.placement
+safe_stays old new vs vs' e moved lies is later moment safe =
     let p = e.placement in
     let s = seen_after old new vs vs' e moved lies is in
     let same : take (p.start + p.length) s.after.bytes ≡ take (p.start + p.length) safe.held.bytes = s.front safe.held safe.there in
@@ -250,15 +250,16 @@ safe_stays old new vs vs' e moved lies is later safe =
       there = s.there;
       stable = (let w = s.within in omega (arith, length-take (p.start + p.length) s.after.bytes, length-take s.after.stable s.after.bytes));
       since = safe.since;
+      past = omega (arith, safe.past, moment);
       lasts = lasts;
     }
 
-pub held_stays : (old new : Shelf) (vs vs' : List VolumeView) (e : Entry) → AllMoved old new vs vs' → StillOn vs old new → LiesOn vs e → IsHeld old e → IsHeld new e
-held_stays old new vs vs' e moved later lies held = (is_placed_stays old new vs vs' e moved lies held.0, λ synced. safe_stays old new vs vs' e moved lies held.0 later (held.1 synced))
+pub held_stays : (old new : Shelf) (vs vs' : List VolumeView) (e : Entry) → AllMoved old new vs vs' → StillOn vs old new → old.moment ≤ new.moment → LiesOn vs e → IsHeld old e → IsHeld new e
+held_stays old new vs vs' e moved later moment lies held = (is_placed_stays old new vs vs' e moved lies held.0, λ synced. safe_stays old new vs vs' e moved lies held.0 later moment (held.1 synced))
 
-pub all_stay : (old new : Shelf) (vs vs' : List VolumeView) (js : List Entry) → AllMoved old new vs vs' → StillOn vs old new → AllByRecursion (LiesOn vs) js → AllByRecursion (IsHeld old) js → AllByRecursion (IsHeld new) js
-all_stay old new vs vs' [] moved later lie hold = hold
-all_stay old new vs vs' (e ∷ es) moved later lie hold = (held_stays old new vs vs' e moved later lie.0 hold.0, all_stay old new vs vs' es moved later lie.1 hold.1)
+pub all_stay : (old new : Shelf) (vs vs' : List VolumeView) (js : List Entry) → AllMoved old new vs vs' → StillOn vs old new → old.moment ≤ new.moment → AllByRecursion (LiesOn vs) js → AllByRecursion (IsHeld old) js → AllByRecursion (IsHeld new) js
+all_stay old new vs vs' [] moved later moment lie hold = hold
+all_stay old new vs vs' (e ∷ es) moved later moment lie hold = (held_stays old new vs vs' e moved later moment lie.0 hold.0, all_stay old new vs vs' es moved later moment lie.1 hold.1)
 
 pub blocks_stay : (old new : Shelf) (vs vs' : List VolumeView) (js : List Entry) → AllMoved old new vs vs' → AllByRecursion (LiesOn vs) js → AllByRecursion (IsHeld old) js
     → map (block_at new) (placements js) ≡ map (block_at old) (placements js)
@@ -268,11 +269,11 @@ blocks_stay old new vs vs' (e ∷ es) moved lie hold =
     let t = blocks_stay old new vs vs' es moved lie.1 hold.1 in
     ap (λ l. l ∷ map (block_at new) (placements es)) h ∙ ap (λ l. block_at old e.placement ∷ l) t
 
-pub fits_stay : (old new : Shelf) (vs vs' : List VolumeView) (js : List Entry) → AllMoved old new vs vs' → StillLasts old new → AllByRecursion (LiesOn vs) js → Fits old vs js → Fits new vs' js
-fits_stay old new vs vs' js moved later lie fits = record {
+pub fits_stay : (old new : Shelf) (vs vs' : List VolumeView) (js : List Entry) → AllMoved old new vs vs' → StillLasts old new → old.moment ≤ new.moment → AllByRecursion (LiesOn vs) js → Fits old vs js → Fits new vs' js
+fits_stay old new vs vs' js moved later moment lie fits = record {
   stand = λ at w there. (
       let v = moved.back at w there in
       let m = moved.each at v.0 v.1 in
       subst (Stands new) (some_is (sym m.1 ∙ there)) m.2.stands);
-  hold = all_stay old new vs vs' js moved (still_on vs old new later) lie fits.hold;
+  hold = all_stay old new vs vs' js moved (still_on vs old new later) moment lie fits.hold;
 }

@@ -1,5 +1,5 @@
 -- What a sync keeps, and what taking the loaded volume out does.
-use Rattle.std.proofs.Common.{◌≡◌, ◌≢◌, ◌⊎◌, inl, inr, ℕ, ◌+◌, ◌<◌, Bool, true, false, ◌&&◌, ◌||◌, if◌then◌else◌, List, [], ◌∷◌, length, get_or, take, refl, ap, sym, subst, Option, Some, None, ◌∙◌, arith, slice_get, slice_set}
+use Rattle.std.proofs.Common.{◌≡◌, ◌≢◌, ◌⊎◌, inl, inr, ℕ, ◌+◌, ◌≤◌, ◌<◌, Bool, true, false, ◌&&◌, ◌||◌, if◌then◌else◌, List, [], ◌∷◌, length, get_or, take, refl, ap, sym, subst, Option, Some, None, ◌∙◌, arith, slice_get, slice_set}
 use Rattle.std.proofs.lemmas.Option.{slice_get_read}
 use Rattle.std.proofs.Math.Seq.{take-length}
 use Rattle.std.specs.Prelude.{IsTrue, IfSome}
@@ -8,7 +8,7 @@ use Rattle.std.specs.Str.{bytes_eq}
 use Rattle.std.proofs.lemmas.Slice.Eq.{bytes_eq-Decides}
 use Rattle.sd_driver.specs.Meaning.{Meaning, IsHonest}
 use Rattle.sd_driver.specs.Shelf.{Shelf, Held, SameShelf, Passes, StillLasts, Syncs, MaySync, stable_bytes}
-use Rattle.sd_driver.proofs.Lasting.{Lasts-begin, BeginsWith-own_take, BeginsWith-trans, BeginsWith-same}
+use Rattle.sd_driver.proofs.Lasting.{Passes-later, Lasts-begin, BeginsWith-own_take, BeginsWith-trans, BeginsWith-same}
 use Rattle.sd_driver.proofs.Names.{name_cases}
 use Rattle.sd_journal.specs.Journal.{Entry, placements, settled, settled_one, awaits_sync, any_awaits_sync, is_unsynced}
 use Rattle.sd_journal.specs.declared.mark.Mark.{Mark}
@@ -21,6 +21,7 @@ use Rattle.sd_drive.specs.Shelf.{IsPlaced, IsSafe, IsHeld, LiesOn, IsOnLoaded, K
 use Rattle.sd_drive.specs.Moves.{awaits_on, settled_on}
 use Rattle.sd_drive.proofs.Places.{some_is, names_set, differ_same, loaded_at}
 use Rattle.sd_drive.proofs.Stays.{SameBytes, same_bytes, moved_same, moved_shut, fits_stay, blocks_stay}
+use Rattle.sd_drive.proofs.LaidLemmas.{laid_same, laid_shut, all_laid_same, all_laid_by, all_laid_set}
 use Rattle.sd_drive.proofs.Kept.{still, all_as, all_map, lies_set, all_moved_set, all_moved_same, blocks_of, blocks_by, items_by, placements_settled}
 
 -- ---- bytes stay
@@ -157,6 +158,7 @@ safe_now old new loaded name e passes is syncs on placed =
       there = h.2;
       stable = (let w = placed.within in omega arith);
       since = new.moment;
+      past = omega arith;
       lasts = Lasts-begin p.volume (take (p.start + p.length) h.0.bytes) old new passes
           (BeginsWith-trans (stable_bytes (new.volume p.volume)) h.0.bytes (take (p.start + p.length) h.0.bytes) (BeginsWith-same _ _ whole) (BeginsWith-own_take h.0.bytes (p.start + p.length)));
     }
@@ -184,10 +186,14 @@ kept_synced old new vs l js js' at v k is there journal honest loaded passes lat
       differ = k.differ;
       lie = settled_lie mark.Synced v.name vs js k.lie;
       unsynced = on_any (name_loaded vs l) (settled mark.Synced v.name js) (settled_all mark.Synced v.name js (λ e. cc) (subst (λ o. AllByRecursion (IsOnLoaded o) js) on k.unsynced));
+      laid = λ h. (
+          let o = still old new honest h in
+          all_laid_by new.shelf vs (placements js) (placements (settled mark.Synced v.name js)) (placements_settled mark.Synced v.name js)
+          (all_laid_same old.shelf new.shelf vs (placements js) (λ place w here. sync_bytes old.loaded old.shelf new.shelf (syncs o) w.name) (k.laid o)));
       fits = λ h. (
           let o = still old new honest h in
           let f = k.fits o in
-          let s = fits_stay old.shelf new.shelf vs vs js (all_moved_same old.shelf new.shelf vs js f (λ place w here. sync_bytes old.loaded old.shelf new.shelf (syncs o) w.name)) later k.lie f in
+          let s = fits_stay old.shelf new.shelf vs vs js (all_moved_same old.shelf new.shelf vs js f (λ place w here. sync_bytes old.loaded old.shelf new.shelf (syncs o) w.name)) later (Passes-later old.shelf new.shelf passes) k.lie f in
           record { stand = s.stand; hold = synced_held old.shelf new.shelf old.loaded v.name js passes (k.tied ∙ on) (syncs o) f.hold s.hold });
     })
 
@@ -195,10 +201,10 @@ kept_synced old new vs l js js' at v k is there journal honest loaded passes lat
 
 pub kept_failed_sync : (old mid new : Meaning) (vs : List VolumeView) (l : Option ℕ) (js js' : List Entry) (at : ℕ) (v w : VolumeView)
     → Kept old vs l js → l ≡ Some at → slice_get vs at ≡ Some v → w ≡ record v { status = status.Error } → js' ≡ settled mark.Lost v.name js
-    → mid.honest ≡ old.honest → new.honest ≡ mid.honest → new.loaded ≡ None → StillLasts old.shelf mid.shelf → StillLasts mid.shelf new.shelf
+    → mid.honest ≡ old.honest → new.honest ≡ mid.honest → new.loaded ≡ None → StillLasts old.shelf mid.shelf → StillLasts mid.shelf new.shelf → old.shelf.moment ≤ new.shelf.moment
     → (IsHonest old → MaySync old.loaded old.shelf mid.shelf) → (IsHonest mid → SameShelf mid.shelf new.shelf)
     → Kept new (slice_set vs at w) None js'
-kept_failed_sync old mid new vs l js js' at v w k on_it there is journal honest honest' loaded later later' syncs same =
+kept_failed_sync old mid new vs l js js' at v w k on_it there is journal honest honest' loaded later later' moment syncs same =
     let on = loaded_name_is vs l at v on_it there in
     let vs' = slice_set vs at w in
     let name : w.name ≡ v.name = ap (λ (x : VolumeView). x.name) is in
@@ -210,6 +216,13 @@ kept_failed_sync old mid new vs l js js' at v w k on_it there is journal honest 
       differ = differ_same vs vs' (names_set vs at v w there name) k.differ;
       lie = all_as (LiesOn vs) (LiesOn vs') (settled mark.Lost v.name js) (λ e lies. lies_set vs at v w e there name (omega arith) lies) (settled_lie mark.Lost v.name vs js k.lie);
       unsynced = on_any None (settled mark.Lost v.name js) (settled_all mark.Lost v.name js (λ e. cc) (subst (λ o. AllByRecursion (IsOnLoaded o) js) on k.unsynced));
+      laid = λ h. (
+          let m = still mid new honest' h in
+          let o = still old mid honest m in
+          let bytes : (n : List ℕ) → SameBytes old.shelf new.shelf n = λ n. then_same old.shelf mid.shelf new.shelf n (may_sync_bytes old.loaded old.shelf mid.shelf (syncs o) n) (same m) in
+          all_laid_by new.shelf vs' (placements js) (placements (settled mark.Lost v.name js)) (placements_settled mark.Lost v.name js)
+          (all_laid_set old.shelf new.shelf vs (placements js) (placements js) at v w k.differ there (λ other apart. bytes other) (λ other apart. refl)
+          (laid_shut new.shelf (placements js) v w status.Error is (λ e. cc) (laid_same old.shelf new.shelf (placements js) v (bytes v.name) (k.laid o at v there))) (k.laid o)));
       fits = λ h. (
           let m = still mid new honest' h in
           let o = still old mid honest m in
@@ -217,7 +230,7 @@ kept_failed_sync old mid new vs l js js' at v w k on_it there is journal honest 
           let bytes : (n : List ℕ) → SameBytes old.shelf new.shelf n = λ n. then_same old.shelf mid.shelf new.shelf n (may_sync_bytes old.loaded old.shelf mid.shelf (syncs o) n) (same m) in
           let s = fits_stay old.shelf new.shelf vs vs' js
           (all_moved_set old.shelf new.shelf vs js at v w k.differ f there (moved_shut old.shelf new.shelf v w status.Error is (λ e. cc) (moved_same old.shelf new.shelf v (bytes v.name) (f.stand at v there))) (λ other apart. bytes other))
-          (λ since n b lasts. later' since n b (later since n b lasts)) k.lie f in
+          (λ since n b lasts. later' since n b (later since n b lasts)) moment k.lie f in
           record { stand = s.stand; hold = lost_held new.shelf v.name js s.hold });
     })
 
@@ -236,17 +249,20 @@ pieces_marked old new vs l js js' hand k marks honest bytes = record {
 
 pub kept_loading : (old new : Meaning) (vs : List VolumeView) (l l' : Option ℕ) (js : List Entry)
     → Kept old vs l js → AllByRecursion (λ e. e.mark ≢ mark.Unsynced) js → new.loaded ≡ name_loaded vs l' → IfSome l' (λ at. at < length vs)
-    → new.honest ≡ old.honest → StillLasts old.shelf new.shelf → (IsHonest old → SameShelf old.shelf new.shelf) → Kept new vs l' js
-kept_loading old new vs l l' js k none loaded within honest later same = record {
+    → new.honest ≡ old.honest → StillLasts old.shelf new.shelf → old.shelf.moment ≤ new.shelf.moment → (IsHonest old → SameShelf old.shelf new.shelf) → Kept new vs l' js
+kept_loading old new vs l l' js k none loaded within honest later moment same = record {
   tied = loaded;
   one_of = within;
   differ = k.differ;
   lie = k.lie;
   unsynced = on_any (name_loaded vs l') js none;
+  laid = λ h. (
+      let o = still old new honest h in
+      all_laid_same old.shelf new.shelf vs (placements js) (λ place w here. same_bytes old.shelf new.shelf w.name (same o w.name)) (k.laid o));
   fits = λ h. (
       let o = still old new honest h in
       let f = k.fits o in
-      fits_stay old.shelf new.shelf vs vs js (all_moved_same old.shelf new.shelf vs js f (λ place w here. same_bytes old.shelf new.shelf w.name (same o w.name))) later k.lie f);
+      fits_stay old.shelf new.shelf vs vs js (all_moved_same old.shelf new.shelf vs js f (λ place w here. same_bytes old.shelf new.shelf w.name (same o w.name))) later moment k.lie f);
 }
 
 -- with nothing loaded, nothing is unsynced

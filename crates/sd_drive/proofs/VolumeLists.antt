@@ -1,10 +1,10 @@
 -- A drive with one volume more, and one whose device was called without a change to the drive's volumes.
-use Rattle.std.proofs.Common.{◌≡◌, ◌≢◌, inl, inr, ℕ, ◌<◌, List, [], ◌∷◌, ◌++◌, length, refl, ap, sym, subst, Option, Some, None, ◌∙◌, slice_get}
+use Rattle.std.proofs.Common.{◌≡◌, ◌≢◌, inl, inr, ℕ, ◌≤◌, ◌<◌, List, [], ◌∷◌, ◌++◌, length, refl, ap, sym, subst, Option, Some, None, ◌∙◌, slice_get}
 use Rattle.std.specs.Prelude.{IfSome}
 use Rattle.std.specs.List.{AllByRecursion}
 use Rattle.sd_driver.specs.Meaning.{Meaning, IsHonest}
 use Rattle.sd_driver.specs.Shelf.{Shelf, StillLasts, StillLastsBelow, MayCreate}
-use Rattle.sd_journal.specs.Journal.{Entry}
+use Rattle.sd_journal.specs.Journal.{Entry, placements}
 use Rattle.sd_journal.specs.declared.mark.Mark.TheVariants.{Unsynced}
 use Rattle.sd_lane.specs.declared.piece.Piece.{Piece}
 use Rattle.sd_driver.proofs.Names.{name_cases}
@@ -14,6 +14,7 @@ use Rattle.sd_drive.specs.View.{names, name_loaded}
 use Rattle.sd_drive.specs.Shelf.{Stands, LiesOn, IsOnLoaded, Kept, KeepsPieces}
 use Rattle.sd_drive.proofs.Places.{some_is, get_front, get_more, name_at, differ_more}
 use Rattle.sd_drive.proofs.Stays.{SameBytes, same_bytes, all_stay, fits_stay, blocks_stay, StillOn}
+use Rattle.sd_drive.proofs.LaidLemmas.{none_on, laid_first, all_laid_same, all_laid_more}
 use Rattle.sd_drive.proofs.Kept.{still, all_as, all_moved_same, blocks_of}
 use Rattle.sd_drive.proofs.LoadLemmas.{none_when}
 
@@ -45,9 +46,9 @@ lies_front vs v e lies = record { at = lies.at; volume = lies.volume; there = ge
 
 -- with none loaded, and one volume more
 pub kept_more : (old new : Meaning) (vs vs' : List VolumeView) (l : Option ℕ) (js : List Entry) (v : VolumeView)
-    → Kept old vs l js → l ≡ None → vs' ≡ vs ++ v ∷ [] → IsFresh vs v.name → new.honest ≡ old.honest → new.loaded ≡ None
+    → Kept old vs l js → l ≡ None → vs' ≡ vs ++ v ∷ [] → IsFresh vs v.name → new.honest ≡ old.honest → new.loaded ≡ None → old.shelf.moment ≤ new.shelf.moment
     → (IsHonest old → StillOn vs old.shelf new.shelf) → (IsHonest old → SameOn vs old.shelf new.shelf) → (IsHonest old → Stands new.shelf v) → Kept new vs' l js
-kept_more old new vs vs' l js v k none all fresh honest loaded later same stands =
+kept_more old new vs vs' l js v k none all fresh honest loaded moment later same stands =
     let P : List VolumeView → Type 0 = λ x. Kept new x l js in
     let Q : Option ℕ → Type 0 = λ o. IfSome o (λ at. at < length (vs ++ v ∷ [])) in
     let R : Option ℕ → Type 0 = λ o. AllByRecursion (IsOnLoaded (name_loaded (vs ++ v ∷ []) o)) js in
@@ -58,6 +59,10 @@ kept_more old new vs vs' l js v k none all fresh honest loaded later same stands
       differ = differ_more vs v fresh k.differ;
       lie = all_as (LiesOn vs) (LiesOn (vs ++ v ∷ [])) js (λ e lies. lies_front vs v e lies) k.lie;
       unsynced = subst R (sym none) (all_as (λ e. e.mark ≢ Unsynced) (IsOnLoaded None) js (λ e n u. absurd (n u)) none_un);
+      laid = λ h. (
+          let o = still old new honest h in
+          all_laid_more new.shelf vs (placements js) v (laid_first new.shelf (placements js) v (none_on vs js v.name fresh k.lie) (stands o))
+          (all_laid_same old.shelf new.shelf vs (placements js) (same o) (k.laid o)));
       fits = λ h. (
           let o = still old new honest h in
           let f = k.fits o in
@@ -67,27 +72,28 @@ kept_more old new vs vs' l js v k none all fresh honest loaded later same stands
               | inl front ↦ (let m = moved.each at w front in subst (Stands new.shelf) (some_is (sym m.1 ∙ front)) m.2.stands)
               | inr last ↦ subst (Stands new.shelf) (sym last.value) (stands o)
             ];
-            hold = all_stay old.shelf new.shelf vs vs js moved (later o) k.lie f.hold;
+            hold = all_stay old.shelf new.shelf vs vs js moved (later o) moment k.lie f.hold;
           });
     })
 
 -- with none loaded, and the same volumes
 pub kept_called : (old new : Meaning) (vs : List VolumeView) (l : Option ℕ) (js : List Entry)
-    → Kept old vs l js → l ≡ None → new.honest ≡ old.honest → new.loaded ≡ None
+    → Kept old vs l js → l ≡ None → new.honest ≡ old.honest → new.loaded ≡ None → old.shelf.moment ≤ new.shelf.moment
     → (IsHonest old → StillOn vs old.shelf new.shelf) → (IsHonest old → SameOn vs old.shelf new.shelf) → Kept new vs l js
-kept_called old new vs l js k none honest loaded later same = record {
+kept_called old new vs l js k none honest loaded moment later same = record {
   tied = loaded ∙ sym (ap (name_loaded vs) none);
   one_of = k.one_of;
   differ = k.differ;
   lie = k.lie;
   unsynced = k.unsynced;
+  laid = λ h. (let o = still old new honest h in all_laid_same old.shelf new.shelf vs (placements js) (same o) (k.laid o));
   fits = λ h. (
       let o = still old new honest h in
       let f = k.fits o in
       let moved = all_moved_same old.shelf new.shelf vs js f (same o) in
       record {
         stand = λ at w there. (let m = moved.each at w there in subst (Stands new.shelf) (some_is (sym m.1 ∙ there)) m.2.stands);
-        hold = all_stay old.shelf new.shelf vs vs js moved (later o) k.lie f.hold;
+        hold = all_stay old.shelf new.shelf vs vs js moved (later o) moment k.lie f.hold;
       });
 }
 
@@ -108,10 +114,13 @@ kept_read fault old new vs l js k reads = record {
   differ = k.differ;
   lie = k.lie;
   unsynced = k.unsynced;
+  laid = λ h. (
+      let o = still old new reads.counted.honest h in
+      all_laid_same old.shelf new.shelf vs (placements js) (λ at v there. same_bytes old.shelf new.shelf v.name (reads.same o v.name)) (k.laid o));
   fits = λ h. (
       let o = still old new reads.counted.honest h in
       let f = k.fits o in
-      fits_stay old.shelf new.shelf vs vs js (all_moved_same old.shelf new.shelf vs js f (λ at v there. same_bytes old.shelf new.shelf v.name (reads.same o v.name))) reads.lasts k.lie f);
+      fits_stay old.shelf new.shelf vs vs js (all_moved_same old.shelf new.shelf vs js f (λ at v there. same_bytes old.shelf new.shelf v.name (reads.same o v.name))) reads.lasts reads.counted.moment k.lie f);
 }
 
 pub pieces_read : (fault : Type 0) (old new : Meaning) (vs : List VolumeView) (l : Option ℕ) (js : List Entry) (hand : Option Piece) → Kept old vs l js → OnlyReads fault old new → KeepsPieces old new js js hand hand

@@ -1,6 +1,7 @@
 -- What a drive's journal says of the shelf of its device, and what a drive keeps of that.
-use Rattle.std.specs.Prelude.{◌≡◌, ℕ, ◌+◌, ◌<◌, ◌≤◌, List, [], ◌++◌, length, map, take, drop, Option, None, Some, IfSome, slice_get}
+use Rattle.std.specs.Prelude.{◌≡◌, ℕ, ◌+◌, ◌<◌, ◌≤◌, List, [], ◌∷◌, ◌++◌, length, map, take, drop, if◌then◌else◌, Option, None, Some, IfSome, slice_get}
 use Rattle.std.specs.List.{AllByRecursion}
+use Rattle.std.specs.Str.{bytes_eq}
 use Rattle.std.specs.Option.{option_to_list}
 use Rattle.sd_base.specs.Limits.{block_header, most_block}
 use Rattle.sd_block.specs.Image.{IsBlockImage}
@@ -11,7 +12,7 @@ use Rattle.sd_journal.specs.declared.mark.Mark.TheVariants.{Unsynced, Synced}
 use Rattle.sd_label.specs.declared.label.VolumeLabel.{VolumeLabel}
 use Rattle.sd_lane.specs.declared.piece.Piece.{Piece}
 use Rattle.sd_span.specs.declared.placement.Placement.{Placement}
-use Rattle.sd_volume.specs.Image.{Block}
+use Rattle.sd_volume.specs.Image.{Block, volume_end}
 use Rattle.sd_volume.specs.Volume.{VolumeView, StandsOn}
 use Rattle.sd_drive.specs.View.{names, name_loaded, items, block_of_piece}
 
@@ -41,13 +42,14 @@ pub record IsPlaced (shelf : Shelf) (p : Placement) : Type 0 where
   pub number : ℕ
   pub image : IsBlockImage most_block (image_at shelf p) p.key number (block_at shelf p).body
 
--- the placement ends at or below the stable length of its volume, and since some moment every stop leaves the volume
--- up to that end
+-- the placement ends at or below the stable length of its volume, and since some moment, now or earlier, every stop
+-- leaves the volume up to that end
 pub record IsSafe (shelf : Shelf) (p : Placement) : Type 0 where
   pub held : Held
   pub there : shelf.volume p.volume ≡ Some held
   pub stable : p.start + p.length ≤ held.stable
   pub since : ℕ
+  pub past : since ≤ shelf.moment
   pub lasts : Lasts since p.volume (take (p.start + p.length) held.bytes) shelf
 
 -- what the shelf holds of an entry of the journal
@@ -60,6 +62,39 @@ pub record Stands (shelf : Shelf) (v : VolumeView) : Type 0 where
   pub blocks : List Block
   pub tail : List ℕ
   pub stands : StandsOn v shelf label blocks tail
+
+-- the placements on one volume, in order
+abbrev pub placements_on : List ℕ → List Placement → List Placement
+placements_on name [] = []
+placements_on name (p ∷ ps) = if bytes_eq p.volume name then p ∷ placements_on name ps else placements_on name ps
+
+-- the blocks at the placements on one volume, in order
+abbrev pub blocks_on : Shelf → List ℕ → List Placement → List Block
+blocks_on shelf name ps = map (block_at shelf) (placements_on name ps)
+
+-- The placements are those of these blocks behind the earlier ones of a volume: each reaches from where the blocks
+-- before it end to where its own does.
+abbrev pub LieBehind : VolumeLabel → List Block → List Placement → List Block → Type 0
+LieBehind label earlier [] [] = Unit {0}
+LieBehind label earlier [] (b ∷ bs) = ⊥
+LieBehind label earlier (p ∷ ps) [] = ⊥
+LieBehind label earlier (p ∷ ps) (b ∷ bs) =
+    (p.start ≡ volume_end label earlier)
+    × (p.start + p.length ≡ volume_end label (earlier ++ b ∷ []))
+    × LieBehind label (earlier ++ b ∷ []) ps bs
+
+-- The blocks of the volume on the shelf are those that it had when it came to the drive and then those at the placements
+-- on it, in their order and no others; and each placement is where its block begins and ends.
+pub record IsLaidOut (shelf : Shelf) (ps : List Placement) (v : VolumeView) : Type 0 where
+  pub label : VolumeLabel
+  pub earlier : List Block
+  pub tail : List ℕ
+  pub stands : StandsOn v shelf label (earlier ++ blocks_on shelf v.name ps) tail
+  pub lie : LieBehind label earlier (placements_on v.name ps) (blocks_on shelf v.name ps)
+
+-- so is every volume of the drive
+abbrev pub AreLaidOut : Shelf → List Placement → List VolumeView → Type 0
+AreLaidOut shelf ps volumes = (at : ℕ) (v : VolumeView) → slice_get volumes at ≡ Some v → IsLaidOut shelf ps v
 
 -- every volume of the drive stands on the shelf, and every entry of its journal is held there
 pub record Fits (shelf : Shelf) (volumes : List VolumeView) (journal : List Entry) : Type 0 where
@@ -85,13 +120,15 @@ NamesDiffer volumes = (at other : ℕ) (name : List ℕ)
 
 -- What a drive keeps, whatever its calls answer. Always: the device has that volume loaded which the drive says, one of
 -- its own; no two volumes have one name; every block of the journal lies on one of them, and those not synced yet on
--- the loaded one. While the device is honest: what the drive says of volumes and blocks stands on the shelf.
+-- the loaded one. While the device is honest: what the drive says of volumes and blocks stands on the shelf, and since
+-- a volume came to it, the blocks of the journal alone were added there, in its order.
 pub record Kept (device : Meaning) (volumes : List VolumeView) (loaded : Option ℕ) (journal : List Entry) : Type 0 where
   pub tied : device.loaded ≡ name_loaded volumes loaded
   pub one_of : IfSome loaded (λ at. at < length volumes)
   pub differ : NamesDiffer volumes
   pub lie : AllByRecursion (LiesOn volumes) journal
   pub unsynced : AllByRecursion (IsOnLoaded (name_loaded volumes loaded)) journal
+  pub laid : IsHonest device → AreLaidOut device.shelf (placements journal) volumes
   pub fits : IsHonest device → Fits device.shelf volumes journal
 
 -- what a call keeps: whether the device is honest, the pieces given so far, and, while it is honest, their blocks

@@ -92,6 +92,8 @@ impl<D: Driver> Drive<D> {
         }) }
         ensures honest { IfOk result
             (λ drive. (D.meaning drive.device).honest ≡ (D.meaning driver).honest) }
+        ensures moment { IfOk result (λ drive.
+            (D.meaning driver).shelf.moment ≤ (D.meaning drive.device).shelf.moment) }
         ensures later { IfOk result
             (λ drive. StillLasts (D.meaning driver).shelf (D.meaning drive.device).shelf) }
         ensures err { IfErr result (λ kept. kept.driver ≡ driver) }
@@ -181,14 +183,28 @@ impl<D: Driver> Drive<D> {
         self.hand.as_ref()
     }
 
+    /// Makes room for a session's first placement; nothing else changes.
+    pub fn ready(&mut self, key: SessionKey) -> Result<(), AllocError>
+        ensures { self.new ≡ self.old }
+    {
+        self.journal.ready(key)
+    }
+
+    /// The pool of the session that was reserved at the drive last is this one. Takes no memory.
+    pub fn set_pool(&mut self, pool: &PoolName)
+        ensures { self.new ≡ record self.old { pool = Some pool.now } }
+    {
+        self.pool = Some(pool.copy());
+    }
+
     /// Notes a session that was reserved at the drive: its pool is the drive's from then on, and there is room for
     /// its first placement.
     pub fn serve(&mut self, key: SessionKey, pool: &PoolName) -> Result<(), AllocError>
         ensures ok { OnOk result (self.new ≡ record self.old { pool = Some pool.now }) }
         ensures err { OnErr result (self.new ≡ self.old) }
     {
-        self.journal.ready(key)?;
-        self.pool = Some(pool.copy());
+        self.ready(key)?;
+        self.set_pool(pool);
         Ok(())
     }
 

@@ -88,6 +88,7 @@ pub OnlyReads-refl : (meaning : Meaning) → OnlyReads ⊥ meaning meaning
 OnlyReads-refl meaning = record {
   counted = record {
     honest = refl;
+    moment = omega arith;
     failures = omega arith;
     failed = λ n. absurd n;
     no_failure = λ never. refl;

@@ -8,8 +8,8 @@ use Rattle.sd_driver.specs.declared.driver.DriverFault.TheVariants.{NotThere, Ex
 use Rattle.sd_driver.specs.Shelf.{Shelf, Held, stable_bytes, SameShelf, Passes, KeepsStable, Creates, Appends, Syncs, MaySync, Truncates, MayTruncate}
 use Rattle.sd_base.specs.Count.{Rose}
 use Rattle.sd_driver.specs.Meaning.{Meaning, IsHonest, CountsFailures, SameCounts, told_after}
-use Rattle.sd_driver.proofs.Lasting.{still_lasts, StillLasts-trans, Lasts-begin, BeginsWith-same}
-use Rattle.sd_volume.specs.Device.{Counted, OnlyReads, Writes, OthersStay, CutsLoaded, KeepsLoaded}
+use Rattle.sd_driver.proofs.Lasting.{still_lasts, StillLasts-trans, Lasts-begin, BeginsWith-same, Passes-later}
+use Rattle.sd_volume.specs.Device.{Counted, OnlyReads, Writes, CutsLoaded, KeepsLoaded}
 use Rattle.sd_volume.specs.Fault.{adopt_fault_of}
 use Rattle.sd_volume.specs.declared.fault.AdoptFault.TheVariants as adopt
 use Rattle.sd_volume.specs.Label.{Stores}
@@ -36,9 +36,10 @@ told_rose (Err Device) old new e is = absurd cc
 told_rose (Err Memory) old new e is = absurd cc
 
 -- one call
-pub counted_call : {T : Type 0} (result : Result T DriverFault) (old new : Meaning) → CountsFailures result old new → Counted (IsErrOf result Device) (IsErrOf result NoRoom) old new
-counted_call result old new counts = record {
+pub counted_call : {T : Type 0} (result : Result T DriverFault) (old new : Meaning) → CountsFailures result old new → Passes old.shelf new.shelf → Counted (IsErrOf result Device) (IsErrOf result NoRoom) old new
+counted_call result old new counts passes = record {
   honest = counts.honest;
+  moment = Passes-later old.shelf new.shelf passes;
   failures = counts.failures;
   failed = counts.device.0;
   no_failure = λ none. not_rose old.failures new.failures counts.failures (λ rose. none (counts.device.1 rose));
@@ -51,6 +52,7 @@ pub Counted-as : (fault fault' no_room no_room' : Type 0) (old new : Meaning) �
     → Counted fault no_room old new → Counted fault' no_room' old new
 Counted-as fault fault' no_room no_room' old new to from full_to full_from counted = record {
   honest = counted.honest;
+  moment = counted.moment;
   failures = counted.failures;
   failed = λ f. counted.failed (from f);
   no_failure = λ none. counted.no_failure (λ f. none (to f));
@@ -67,9 +69,10 @@ SameCounts-of fault no_room old new no_fault not_full counted = record {
 }
 
 -- a call behind others that counted nothing
-pub Counted-behind : (fault no_room : Type 0) (a b c : Meaning) → SameCounts a b → Counted fault no_room b c → Counted fault no_room a c
-Counted-behind fault no_room a b c first then = record {
+pub Counted-behind : (fault no_room : Type 0) (a b c : Meaning) → SameCounts a b → a.shelf.moment ≤ b.shelf.moment → Counted fault no_room b c → Counted fault no_room a c
+Counted-behind fault no_room a b c first moment then = record {
   honest = then.honest ∙ first.honest;
+  moment = omega (arith, moment, then.moment);
   failures = omega (arith, first.failures, then.failures);
   failed = λ f. subst (λ n. Rose n c.failures) first.failures (then.failed f);
   no_failure = λ none. then.no_failure none ∙ first.failures;
@@ -84,7 +87,7 @@ pub only_reads_call : {T : Type 0} (result : Result T DriverFault) (old new : Me
     → Passes old.shelf new.shelf → KeepsStable old.shelf new.shelf → new.loaded ≡ old.loaded → (IsHonest old → SameShelf old.shelf new.shelf)
     → OnlyReads (IsErrOf result Device) old new
 only_reads_call result old new counts room passes stable loaded same = record {
-  counted = Counted-as _ _ _ ⊥ old new (λ f. f) (λ f. f) room (λ n. absurd n) (counted_call result old new counts);
+  counted = Counted-as _ _ _ ⊥ old new (λ f. f) (λ f. f) room (λ n. absurd n) (counted_call result old new counts passes);
   loaded = loaded;
   lasts = still_lasts old.shelf new.shelf passes stable;
   same = same;
@@ -101,7 +104,7 @@ OnlyReads-as fault fault' old new to from reads = record {
 -- a call behind one that was answered
 pub OnlyReads-trans : (first fault : Type 0) (a b c : Meaning) → ¬ first → OnlyReads first a b → OnlyReads fault b c → OnlyReads fault a c
 OnlyReads-trans first fault a b c answered one then = record {
-  counted = Counted-behind fault ⊥ a b c (SameCounts-of first ⊥ a b answered (λ n. n) one.counted) then.counted;
+  counted = Counted-behind fault ⊥ a b c (SameCounts-of first ⊥ a b answered (λ n. n) one.counted) one.counted.moment then.counted;
   loaded = then.loaded ∙ one.loaded;
   lasts = StillLasts-trans a.shelf b.shelf c.shelf one.lasts then.lasts;
   same = λ honest name. then.same (subst IsTrue (sym one.counted.honest) honest) name ∙ one.same honest name;

@@ -1,5 +1,5 @@
 -- Blocks one behind the other on a volume: where they are parted, that their bytes tell them, and one block more.
-use Rattle.std.proofs.Common.{◌≡◌, ℕ, suc, ◌+◌, ◌*◌, ◌≤◌, List, [], ◌∷◌, ◌++◌, length, take, drop, refl, ap, ap₂, sym, ◌∙◌, subst, arith, add-zero}
+use Rattle.std.proofs.Common.{◌≡◌, ℕ, suc, ◌+◌, ◌≤◌, List, [], ◌∷◌, ◌++◌, length, take, drop, refl, ap, ap₂, sym, ◌∙◌, subst, arith, add-zero}
 use Rattle.std.proofs.lemmas.List.{append_assoc, append-nil, length-append, take_at, drop_at, take-append-drop}
 use Rattle.sd_base.specs.declared.number.SessionKey.{SessionKey}
 use Rattle.sd_block.specs.Image.{block_image, IsBlockImage, IsImage}
@@ -7,7 +7,6 @@ use Rattle.sd_block.proofs.ImageLemmas.{length-block_image, one_block, one_image
 use Rattle.sd_driver.specs.Shelf.{BeginsWith}
 use Rattle.sd_label.specs.declared.label.VolumeLabel.{VolumeLabel}
 use Rattle.sd_label.specs.Label.{IsVolumeLabel, volume_label_bytes}
-use Rattle.sd_label.proofs.CuttingLemmas.{front_nil}
 use Rattle.sd_label.proofs.LabelLemmas.{length-volume_label_bytes, length-volume_label_bytes-le, volume_labels_apart}
 use Rattle.sd_base.specs.Limits.{most_block}
 use Rattle.sd_volume.specs.Image.{Block, images, AreImages, BeginsWithBlock, NoBlockNext, no_session, label_block, label_and_blocks, volume_end, VolumeImage, WholeImage}

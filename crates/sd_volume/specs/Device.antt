@@ -4,11 +4,12 @@ use Rattle.sd_driver.specs.Shelf.{Shelf, SameShelf, StillLasts, Changes, BeginsW
 use Rattle.sd_base.specs.Count.{Rose}
 use Rattle.sd_driver.specs.Meaning.{Meaning, IsHonest}
 
--- No call changes whether the device is honest. Where a fault of the device is answered, its failures rose or
--- stand at their greatest; else they are as they were. Where it is answered that the device has no room, it told
--- so: `told` rose or stands at its greatest; else that is as it was.
+-- No call changes whether the device is honest, and its moment doesn't fall. Where a fault of the device is answered,
+-- its failures rose or stand at their greatest; else they are as they were. Where it is answered that the device has
+-- no room, it told so: `told` rose or stands at its greatest; else that is as it was.
 pub record Counted (fault no_room : Type 0) (old new : Meaning) : Type 0 where
   pub honest : new.honest ≡ old.honest
+  pub moment : old.shelf.moment ≤ new.shelf.moment
   pub failures : old.failures ≤ new.failures
   pub failed : fault → Rose old.failures new.failures
   pub no_failure : ¬ fault → new.failures ≡ old.failures

@@ -27,7 +27,7 @@ pub returns-in_default-fault-clause-counted : goal.returns-in_default-fault-clau
 returns-in_default-fault-clause-counted g c =
     let device = device_fault c.in-Err.fault c.in-Err.ensures.faults.0 c.in-Err.ensures.faults.1 c.in_default-fault.not-NoRoom c.in_default-fault.not-Memory in
     let room : c.append.result ≡ Err NoRoom → ⊥ = λ e. c.in_default-fault.not-NoRoom (err_is (sym c.in-Err.is ∙ e)) in
-    Counted-as _ _ _ _ (g.D.Driver.meaning c.args.driver.now) (g.D.Driver.meaning c.append.new.self) (λ f. refl) (λ f. c.in-Err.is ∙ ap Err device) (λ n. absurd (room n)) (λ n. cc) (counted_call c.append.result _ _ c.append.ensures.counts)
+    Counted-as _ _ _ _ (g.D.Driver.meaning c.args.driver.now) (g.D.Driver.meaning c.append.new.self) (λ f. refl) (λ f. c.in-Err.is ∙ ap Err device) (λ n. absurd (room n)) (λ n. cc) (counted_call c.append.result _ _ c.append.ensures.counts c.append.ensures.passes)
   where
     err_is : {T E : Type 0} {a b : E} → ◌≡◌ {A = Result T E} (Err a) (Err b) → a ≡ b
     err_is e = cc

@@ -17,7 +17,7 @@ invariant_of-self-in-Ok-adopt g c =
     let new = (g.D.Driver.meaning c.adopt.new.driver).shelf in
     record {
       kept = kept_more (g.D.Driver.meaning c.self.inside.driver) (g.D.Driver.meaning c.adopt.new.driver) vs _ c.self.inside.loaded js v
-          c.self.invariant.kept none (let p = c.push_reserved.ensures.items in let r = c.reserve.ensures.items in search rules) own e.counted.honest e.unloaded
+          c.self.invariant.kept none (let p = c.push_reserved.ensures.items in let r = c.reserve.ensures.items in search rules) own e.counted.honest e.unloaded e.counted.moment
           (λ o. on_others vs name 0 old new fresh e.others_last) (λ o. same_but vs name old new fresh (e.others o)) (λ o. (let a = e.adopts o in record { label = a.found.label; blocks = a.found.blocks; tail = []; stands = a.stands }));
       limit = c.self.invariant.limit;
     }
@@ -34,7 +34,7 @@ invariant_of-self-in-Err g c =
     let new = (g.D.Driver.meaning c.adopt.new.driver).shelf in
     record {
       kept = rw c.reserve.ensures.items (kept_called (g.D.Driver.meaning c.self.inside.driver) (g.D.Driver.meaning c.adopt.new.driver) vs c.self.inside.loaded js
-          c.self.invariant.kept none e.counted.honest e.unloaded (λ o. on_others vs name 0 old new fresh e.others_last) (λ o. same_but vs name old new fresh (e.others o)));
+          c.self.invariant.kept none e.counted.honest e.unloaded e.counted.moment (λ o. on_others vs name 0 old new fresh e.others_last) (λ o. same_but vs name old new fresh (e.others o)));
       limit = c.self.invariant.limit;
     }
 

@@ -1,5 +1,5 @@
 use Rattle.std.proofs.Common.{ap, sym, ◌∙◌, Some, Err}
-use Rattle.sd_driver.proofs.Lasting.{still_lasts}
+use Rattle.sd_driver.proofs.Lasting.{Passes-later, still_lasts}
 use Rattle.sd_drive.proofs.Places.{within_get}
 use Rattle.sd_drive.proofs.SyncLemmas.{kept_loading}
 use Rattle.sd_drive.specs.View.{name_loaded}
@@ -15,7 +15,7 @@ invariant_of-self g c =
     let there = rw (← c.self.view_is) at c.requires.there in
     record {
       kept = kept_loading (g.D.Driver.meaning c.self.inside.driver) (g.D.Driver.meaning c.load.new.self) vs c.self.inside.loaded (Some c.args.at) c.self.inside.journal.entries
-          k (none_when _ vs c.self.inside.loaded c.self.inside.journal.entries none k) (loaded_there vs c.args.at c.args.name.now _ there e.loaded) (within_get vs c.args.at there.0 there.1) e.counts.honest (still_lasts _ _ e.passes e.stable) e.same;
+          k (none_when _ vs c.self.inside.loaded c.self.inside.journal.entries none k) (loaded_there vs c.args.at c.args.name.now _ there e.loaded) (within_get vs c.args.at there.0 there.1) e.counts.honest (still_lasts _ _ e.passes e.stable) (Passes-later _ _ e.passes) e.same;
       limit = c.self.invariant.limit;
     }
 
@@ -27,7 +27,7 @@ invariant_of-self-in-Err g c =
     let none = rw (← c.self.view_is) at c.requires.none in
     record {
       kept = kept_loading (g.D.Driver.meaning c.self.inside.driver) (g.D.Driver.meaning c.load.new.self) vs c.self.inside.loaded c.self.inside.loaded c.self.inside.journal.entries
-          k (none_when _ vs c.self.inside.loaded c.self.inside.journal.entries none k) (e.not_loaded ∙ sym (ap (name_loaded vs) none)) k.one_of e.counts.honest (still_lasts _ _ e.passes e.stable) e.same;
+          k (none_when _ vs c.self.inside.loaded c.self.inside.journal.entries none k) (e.not_loaded ∙ sym (ap (name_loaded vs) none)) k.one_of e.counts.honest (still_lasts _ _ e.passes e.stable) (Passes-later _ _ e.passes) e.same;
       limit = c.self.invariant.limit;
     }
 

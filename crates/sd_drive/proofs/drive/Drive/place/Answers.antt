@@ -13,7 +13,7 @@ invariant_of-self g c =
     let takes = takes_here vs c.self.inside.loaded c.self.inside.pool _ v (rw c.deref.ensures.value at c.in-Some-open_place.ensures.open) there in
     record {
       kept = kept_placing c.place_on-placed.result (g.D.Driver.meaning c.self.inside.driver) (g.D.Driver.meaning c.place_on-placed.new.driver) vs c.self.inside.loaded c.self.inside.journal.entries c.place_on-placed.new.journal.entries
-          c.in-Some-open_place.at v c.place_on-placed.new.volume c.in-Some.piece c.self.inside.limits.volume c.self.invariant.kept takes.loaded_is there takes.status_is e.on e.counted.honest e.loaded e.later e.at e.others;
+          c.in-Some-open_place.at v c.place_on-placed.new.volume c.in-Some.piece c.self.inside.limits.volume c.self.invariant.kept takes.loaded_is there takes.status_is e.on e.counted.honest e.loaded e.later e.counted.moment e.at e.others;
       limit = c.self.invariant.limit;
     }
 

@@ -1,9 +1,9 @@
-use Rattle.std.proofs.Common.{rules, ap, sym, subst, ◌∙◌, true, false, ◌≡◌, List, ℕ}
+use Rattle.std.proofs.Common.{rules, arith, ap, sym, subst, ◌∙◌, true, false, ◌≡◌, List, ℕ}
 use Rattle.std.specs.Prelude.{IsSome, IsTrue}
 use Rattle.sd_journal.specs.Journal.{any_awaits_sync, settled}
 use Rattle.sd_journal.specs.declared.mark.Mark.TheVariants.{Synced, Lost}
 use Rattle.sd_journal.proofs.EntryLemmas.{settling}
-use Rattle.sd_driver.proofs.Lasting.{still_lasts}
+use Rattle.sd_driver.proofs.Lasting.{Passes-later, still_lasts}
 use Rattle.sd_drive.proofs.SyncLemmas.{kept_synced, kept_failed_sync, pieces_marked, loaded_read, loaded_name_is, settled_is, awaits_is, settled_none, with_journal, sync_bytes, may_sync_bytes, then_same, journal_is, failed_is, marked_by, true_false}
 use Rattle.sd_drive.specs.View.{DriveIs}
 use Rattle.sd_drive.proofs.Places.{some_is}
@@ -61,7 +61,7 @@ invariant_of-self-in-Err g c =
     let journal : c.sync_failed.new.self.entries ≡ settled Lost v.name js = ap (λ (j : _). j.entries) c.sync_failed.ensures ∙ ap (λ (n : List ℕ). settled Lost n js) c.name-in-Err.ensures ∙ ap (λ (o : _). settled Lost o.name js) (some_is (sym there' ∙ there)) in
     record {
       kept = kept_failed_sync (g.D.Driver.meaning c.self.inside.driver) (g.D.Driver.meaning c.sync.new.self) (g.D.Driver.meaning c.unload.new.self) vs c.self.inside.loaded js c.sync_failed.new.self.entries _ v c.fail.new.self
-          c.self.invariant.kept c.in-Some.is there c.fail.ensures journal e.counts.honest u.counts.honest u.loaded (still_lasts _ _ e.passes e.stable) (still_lasts _ _ u.passes u.stable) e.err u.same;
+          c.self.invariant.kept c.in-Some.is there c.fail.ensures journal e.counts.honest u.counts.honest u.loaded (still_lasts _ _ e.passes e.stable) (still_lasts _ _ u.passes u.stable) (omega (arith, Passes-later _ _ e.passes, Passes-later _ _ u.passes)) e.err u.same;
       limit = c.self.invariant.limit;
     }
 

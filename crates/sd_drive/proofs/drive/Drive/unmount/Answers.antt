@@ -1,5 +1,5 @@
 use Rattle.std.proofs.Common.{None}
-use Rattle.sd_driver.proofs.Lasting.{still_lasts, StillLasts-trans}
+use Rattle.sd_driver.proofs.Lasting.{Passes-later, still_lasts, StillLasts-trans}
 use Rattle.sd_drive.proofs.SyncLemmas.{kept_loading, none_unsynced, pieces_same, pieces_trans}
 use Rattle.sd_drive.proofs.drive.Drive.unmount.Goals as goal
 
@@ -10,7 +10,7 @@ invariant_of-self g c =
     let quiet = rw (← c.self.view_is) at c.in_ok-sync.ensures.none in
     record {
       kept = kept_loading (g.D.Driver.meaning c.self.inside.driver) (g.D.Driver.meaning c.unload.new.self) c.self.inside.volumes.items c.self.inside.loaded None c.self.inside.journal.entries
-          k (none_unsynced _ c.self.inside.journal.entries quiet k.unsynced) u.loaded tt u.counts.honest (still_lasts _ _ u.passes u.stable) u.same;
+          k (none_unsynced _ c.self.inside.journal.entries quiet k.unsynced) u.loaded tt u.counts.honest (still_lasts _ _ u.passes u.stable) (Passes-later _ _ u.passes) u.same;
       limit = c.self.invariant.limit;
     }
 

@@ -1,0 +1,5 @@
+pub mod EndLemmas
+pub mod ReachLemmas
+pub mod HoldLemmas
+pub mod RestoreLemmas
+pub mod StopLemmas
