@@ -2,29 +2,39 @@
 use crate::request::Request;
 use sd_base::{DriveNo, MediaName, PoolName, VolName};
 use std::alloc::{AllocError, Global};
-use std::collections::HashMap;
+use std::collections::BTreeMap;
+use std::marker::Model;
 
 /// What is known beside the drives: at which of them each volume is, and which asked for a volume. A name is
-/// found by its hash, whatever number of names there is; a drive's request is one of eight at most.
+/// found by its place in the order of names, whatever number of them there is; a drive's request is one of eight
+/// at most. In a contract it is a `DeskView`.
 #[derive(Drop)]
 pub struct Desk {
     alloc: Global,
-    claims: HashMap<String, DriveNo>,
+    claims: BTreeMap<String, DriveNo>,
     requests: Vec<Request>,
+}
+
+impl Model for Desk {
+    ghost use Rattle.sd_desk.specs.Desk.{DeskView, claims_of};
+
+    ghost Value = { DeskView };
+
+    ghost view = { λ d. record { claims = claims_of d.claims.entries; requests = d.requests.items } };
 }
 
 impl Desk {
     ghost use Rattle.std.specs.Prelude.{◌≡◌, ◌↔◌, ◌≢◌, ◌++◌, ◌∷◌, [], None, Some, IsNone, IsOk, OnOk, OnErr, IfErr, IsErrOf, filter, not, ◌==◌};
-    ghost use Rattle.sd_desk.specs.Desk.{claimed_by, requests_of, SameClaims, OtherClaimsStay, HasNotAsked};
+    ghost use Rattle.sd_desk.specs.Desk.{claimed_by, SameClaims, OtherClaimsStay, HasNotAsked};
 
     /// A desk that knows of no volume and no request; takes no memory.
     pub fn new(alloc: Global) -> Self
         ensures no_claim { (name : _) → claimed_by result name ≡ None }
-        ensures no_request { requests_of result ≡ [] }
+        ensures no_request { result.requests ≡ [] }
     {
         Desk {
             alloc,
-            claims: HashMap::new(alloc),
+            claims: BTreeMap::new(alloc),
             requests: Vec::new(alloc),
         }
     }
@@ -42,7 +52,7 @@ impl Desk {
         ensures claimed { OnOk result (claimed_by self.new name.now ≡ Some drive) }
         ensures others { OnOk result (OtherClaimsStay name.now self.old self.new) }
         ensures err { OnErr result (SameClaims self.old self.new) }
-        ensures requests { requests_of self.new ≡ requests_of self.old }
+        ensures requests { self.new.requests ≡ self.old.requests }
     {
         let None = self.drive_of(name) else {
             return Err(ClaimFault::AlreadyLabelled);
@@ -60,7 +70,7 @@ impl Desk {
     pub fn release(&mut self, name: &VolName)
         ensures released { claimed_by self.new name.now ≡ None }
         ensures others { OtherClaimsStay name.now self.old self.new }
-        ensures requests { requests_of self.new ≡ requests_of self.old }
+        ensures requests { self.new.requests ≡ self.old.requests }
     {
         self.claims.remove(name.as_str());
     }
@@ -68,12 +78,12 @@ impl Desk {
     /// Notes that a drive needs a volume. A drive has one request at most: asking again changes nothing,
     /// whatever pool it asks for.
     pub fn ask(&mut self, request: Request) -> Result<(), AllocError>
-        ensures again { (HasNotAsked request.drive (requests_of self.old) → ⊥)
-            → requests_of self.new ≡ requests_of self.old }
-        ensures again_ok { (HasNotAsked request.drive (requests_of self.old) → ⊥) → IsOk result }
-        ensures asked { HasNotAsked request.drive (requests_of self.old)
-            → OnOk result (requests_of self.new ≡ requests_of self.old ++ request ∷ []) }
-        ensures err { OnErr result (requests_of self.new ≡ requests_of self.old) }
+        ensures again { (HasNotAsked request.drive self.old.requests → ⊥)
+            → self.new.requests ≡ self.old.requests }
+        ensures again_ok { (HasNotAsked request.drive self.old.requests → ⊥) → IsOk result }
+        ensures asked { HasNotAsked request.drive self.old.requests
+            → OnOk result (self.new.requests ≡ self.old.requests ++ request ∷ []) }
+        ensures err { OnErr result (self.new.requests ≡ self.old.requests) }
         ensures claims { SameClaims self.old self.new }
     {
         if self
@@ -89,7 +99,7 @@ impl Desk {
 
     /// Takes the drive's request away, if it has one; takes no memory.
     pub fn answered(&mut self, drive: DriveNo)
-        ensures requests { requests_of self.new ≡ filter (λ r. not (r.drive == drive)) (requests_of self.old) }
+        ensures requests { self.new.requests ≡ filter (λ r. not (r.drive == drive)) self.old.requests }
         ensures claims { SameClaims self.old self.new }
     {
         self.requests
@@ -98,7 +108,7 @@ impl Desk {
 
     /// The requests, in the order in which they were asked.
     pub fn requests(&self) -> &[Request]
-        ensures { result.now ≡ requests_of self.now }
+        ensures { result.now ≡ self.now.requests }
     {
         &self.requests
     }

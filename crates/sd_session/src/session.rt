@@ -6,7 +6,7 @@ ghost use Rattle.sd_label.specs.Cutting.{Between};
 ghost use Rattle.sd_label.specs.Label.{IsSessionLabel, session_label_bytes};
 ghost use Rattle.sd_pack.specs.Packing.{HasOpen, Packs, bodies_of, all_bytes};
 ghost use Rattle.sd_spool.specs.Job.{state_of};
-ghost use Rattle.sd_session.specs.Session.{IsRunning, NotRunning, MayTake, status_refusal, start_label, due_of, spooled_in, store_refusal, spooled_count, IsWhole, IsSessionView, StartsSession, OpenRefused, TakesRecord, AppendRefused, EndsSession, EndRefused, CancelsSession, FailsSession, ClosesSession, CloseRefused, GivesBack, KeepsStore};
+ghost use Rattle.sd_session.specs.Session.{IsRunning, NotRunning, MayTake, status_refusal, start_label, due_of, spooled_in, store_refusal, spooled_count, IsWhole, IsSessionView, StartsSession, OpenRefused, TakesRecord, AppendRefused, EndsSession, EndRefused, CancelsSession, FailsSession, HasOutstanding, ClosesSession, CloseRefused, GivesBack, KeepsStore};
 ghost use Rattle.sd_session.specs.Spooling.{Spools, SpoolRefused};
 ghost use Rattle.sd_session.specs.Sending.{queue_view, IsDue, goes_on, Despools, DespoolRefused};
 
@@ -412,12 +412,12 @@ impl<S: SpoolStore + Drop> Session<S> {
             || (self.status == Status::Ended && self.packer.waiting() == 0)
     }
 
-    /// Closes a session that has its end label, exactly where all that it packed is sent and synced, and its drive
-    /// didn't lose any of it. Takes no memory.
-    pub fn close(&mut self, progress: &Progress) -> Result<(), Refusal>
-        ensures ok { OnOk result (ClosesSession self.old progress.now self.new) }
-        ensures why { IfErr result (λ why. CloseRefused self.old progress.now why) }
-        ensures err { OnErr result (self.new ≡ self.old) }
+    /// Whether the session may be closed: it has its end label, all that it packed is sent and synced, and its drive
+    /// didn't lose any of it.
+    pub fn may_close(&self, progress: &Progress) -> Result<(), Refusal>
+        ensures ok { OnOk result ((self.now.status ≡ Status.Ended) × (progress.now.failed ≡ false)
+            × (HasOutstanding self.now progress.now → ⊥)) }
+        ensures why { IfErr result (λ why. CloseRefused self.now progress.now why) }
     {
         let Status::Ended = self.status else {
             return Err(refusal_for(self.status));
@@ -428,6 +428,16 @@ impl<S: SpoolStore + Drop> Session<S> {
         if self.has_due() || progress.synced != self.sent {
             return Err(Refusal::NotYet);
         }
+        Ok(())
+    }
+
+    /// Closes a session, exactly where it may be closed. Takes no memory.
+    pub fn close(&mut self, progress: &Progress) -> Result<(), Refusal>
+        ensures ok { OnOk result (ClosesSession self.old progress.now self.new) }
+        ensures why { IfErr result (λ why. CloseRefused self.old progress.now why) }
+        ensures err { OnErr result (self.new ≡ self.old) }
+    {
+        self.may_close(progress)?;
         self.status = Status::Closed;
         Ok(())
     }

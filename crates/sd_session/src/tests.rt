@@ -13,7 +13,7 @@ use whole::{Ran, Shape, run_through};
 
 // A session that doesn't spool, before a queue with room for one piece. The second record goes on over three
 // bodies, two of which are closed then.
-const UNSPOOLED: [(Step, &str); 36] = [
+static UNSPOOLED: [(Step, &str); 36] = [
     (Step::Close(0), "3902"),
     (Step::Despool, "nothing"),
     (Step::Append(2, 1), "3903"),
@@ -54,7 +54,7 @@ const UNSPOOLED: [(Step, &str); 36] = [
 
 // A session that spools up to two full bodies, before a queue with room for two pieces. The first record goes on
 // over five bodies, four of which are closed then.
-const SPOOLED: [(Step, &str); 36] = [
+static SPOOLED: [(Step, &str); 36] = [
     (Step::Spool, "nothing"),
     (Step::Append(1, 4000), "taken 1"),
     (Step::Despool, "not due"),
@@ -94,7 +94,7 @@ const SPOOLED: [(Step, &str); 36] = [
 ];
 
 // What a session answers that was given up with bodies in each of its places.
-const CANCELLED: [(Step, &str); 12] = [
+static CANCELLED: [(Step, &str); 12] = [
     (Step::Append(1, 4000), "taken 1"),
     (Step::Spool, "spooled"),
     (Step::Spool, "spooled"),
@@ -110,7 +110,7 @@ const CANCELLED: [(Step, &str); 12] = [
 ];
 
 // The same of one whose drive lost a block of it.
-const LOST: [(Step, &str); 8] = [
+static LOST: [(Step, &str); 8] = [
     (Step::Append(1, 4000), "taken 1"),
     (Step::Spool, "spooled"),
     (Step::Fail, ""),

@@ -1,0 +1,4 @@
+pub mod Grows
+pub mod Reads
+pub mod Seats
+pub mod Stays

@@ -1,0 +1,9 @@
+//! What is read back of the sessions of a world: of a closed one exactly what it took, of a cancelled one a front of that.
+#![tactic(auto)]
+
+mod laws;
+
+pub use laws::{
+    cancelled_reads, closed_is_found, closed_low_mark, closed_reads, closed_survives, growths_join,
+    journals_grow, moves_keep_seats, placed_is_found, told_spans_read,
+};

@@ -1,0 +1,68 @@
+-- The list machine: sessions that only append to their own lists. It has no blocks, volumes, drives or queues.
+use Rattle.std.specs.Prelude.{ℕ, ◌+◌, ◌==◌, if◌then◌else◌, Option, Some, None, List, [], ◌∷◌, ◌++◌, map}
+use Rattle.std.specs.List.{list_any}
+use Rattle.sd_base.specs.Record.{Record}
+use Rattle.sd_base.specs.declared.number.SessionKey.{SessionKey}
+use Rattle.sd_session.specs.declared.status.Status.{Status}
+use Rattle.sd_session.specs.declared.status.Status.TheVariants.{Active, Ended, Closed, Cancelled, Failed}
+
+-- a session: its key, the records that it took, in order, and its status
+pub record MachineSession : Type 0 where
+  pub key : SessionKey
+  pub records : List Record
+  pub status : Status
+
+-- The machine: the time of its run, its sessions in the order in which they were opened, and the number of
+-- the next one. A session's ticket is its number; numbers rise, and there may be gaps between them.
+pub record Machine : Type 0 where
+  pub time : ℕ
+  pub sessions : List MachineSession
+  pub next : ℕ
+
+-- a machine with no session yet
+abbrev pub empty_machine : ℕ → Machine
+empty_machine time = record { time = time; sessions = []; next = 1 }
+
+-- the session of a ticket
+abbrev pub session_of : ℕ → List MachineSession → Option MachineSession
+session_of ticket [] = None
+session_of ticket (s ∷ ss) = if s.key.id == ticket then Some s else session_of ticket ss
+
+-- the sessions, with this one in the place of the one that has its ticket
+abbrev pub with_session : MachineSession → List MachineSession → List MachineSession
+with_session new [] = []
+with_session new (s ∷ ss) = if s.key.id == new.key.id then new ∷ ss else s ∷ with_session new ss
+
+-- the machine with one session changed
+abbrev pub changed : Machine → MachineSession → Machine
+changed m s = record m { sessions = with_session s m.sessions }
+
+-- the machine with a new session, which has the next number and no record
+abbrev pub opened : Machine → Machine
+opened m = record {
+  time = m.time;
+  sessions = m.sessions ++ record { key = record { time = m.time; id = m.next }; records = []; status = Active } ∷ [];
+  next = m.next + 1;
+}
+
+-- the FileIndex of the last record, 0 where there is none
+abbrev pub last_index : List Record → ℕ
+last_index [] = 0
+last_index (r ∷ []) = r.index
+last_index (r ∷ s ∷ rs) = last_index (s ∷ rs)
+
+-- the status after a fault: who goes on, with an end label or without, has failed
+abbrev pub failed_status : Status → Status
+failed_status Active = Failed
+failed_status Ended = Failed
+failed_status Closed = Closed
+failed_status Cancelled = Cancelled
+failed_status Failed = Failed
+
+-- the session, failed where these tickets have its own
+abbrev pub failed_if : List ℕ → MachineSession → MachineSession
+failed_if failing s = if list_any (λ ticket. ticket == s.key.id) failing then record s { status = failed_status s.status } else s
+
+-- the machine with the sessions of these tickets failed
+abbrev pub with_failed : List ℕ → Machine → Machine
+with_failed failing m = record m { sessions = map (failed_if failing) m.sessions }

@@ -1,0 +1,15 @@
+pub mod Bodies
+pub mod Changes
+pub mod Close
+pub mod Despool
+pub mod DriveSteps
+pub mod Drives
+pub mod Failing
+pub mod Frames
+pub mod Honesty
+pub mod MovesSteps
+pub mod OpenSteps
+pub mod OperatorSteps
+pub mod SessionSteps
+pub mod Sessions
+pub mod TakenStores

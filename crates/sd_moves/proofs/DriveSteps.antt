@@ -1,0 +1,171 @@
+-- What each call of a drive leaves of it: its pieces, its names, and who fails.
+use Rattle.std.proofs.Common.{◌≡◌, ◌⊎◌, ℕ, refl, sym, ap, subst, ◌∙◌, inl, inr, true, false, Bool, Option, Some, None, Result, Ok, Err, List, [], ◌∷◌, ◌++◌, slice_get, slice_set}
+use Rattle.std.specs.Prelude.{◌||◌}
+use Rattle.sd_base.specs.Key.{is_key}
+use Rattle.sd_base.specs.declared.number.SessionKey.{SessionKey}
+use Rattle.sd_drive.specs.Moves.{PlacesPiece, PlacesOn, Syncs, Unmounts, Mounts, FailsToSync, AddsVolume, AddsNone, settled_on, synced_journal}
+use Rattle.sd_drive.specs.View.{DriveIs, items, name_loaded}
+use Rattle.sd_drive.specs.declared.place.Placed.{Placed}
+use Rattle.sd_drive.specs.declared.place.Placed.TheVariants.{At, NeedVolume, VolumeFull, VolumeError, Idle}
+use Rattle.sd_journal.specs.Journal.{Entry, placements, noted, fails, fails_with, items_of}
+use Rattle.sd_journal.specs.declared.mark.Mark.{Mark}
+use Rattle.sd_journal.specs.declared.mark.Mark.TheVariants.{Synced, Lost}
+use Rattle.sd_journal.proofs.EntryLemmas.{noting, other_more, placements_more, settled_placements, failing}
+use Rattle.sd_lane.specs.declared.piece.Piece.{Piece}
+use Rattle.sd_span.specs.Spans.{placements_of}
+use Rattle.sd_span.specs.declared.placement.Placement.{Placement}
+use Rattle.sd_volume.specs.Volume.{VolumeView}
+use Rattle.sd_moves.proofs.Items.{in_hand}
+use Rattle.sd_moves.proofs.Lookups.{get_set-tells, get_push-tells}
+use Rattle.sd_moves.proofs.Seats.{DriveStays, NamesStay, FailsStay}
+
+-- a drive keeps its pieces and names, and no session fails by it
+pub record DriveGoesOn {D : Type 0} (d after : DriveIs D) : Type 0 where
+  pub stays : DriveStays d after
+  pub fails : (key : SessionKey) → FailsStay key d after
+  pub names : NamesStay d after
+
+names_same : {D : Type 0} (d after : DriveIs D) → after.volumes ≡ d.volumes → NamesStay d after
+names_same d after same place v there = (place, v, ap (λ vs. slice_get vs place) (sym same) ∙ there, refl)
+
+names_set : {D : Type 0} (d after : DriveIs D) (at : ℕ) (u u' : VolumeView) → slice_get d.volumes at ≡ Some u → u'.name ≡ u.name
+    → after.volumes ≡ slice_set d.volumes at u' → NamesStay d after
+names_set d after at u u' stood name is place v there =
+    elim (get_set-tells d.volumes at place u' v (ap (λ vs. slice_get vs place) (sym is) ∙ there)) [
+      | inl p ↦ (at, u, stood, ap (λ (x : VolumeView). x.name) p.1 ∙ name)
+      | inr p ↦ (place, v, p.1, refl)
+    ]
+
+-- Placing.
+
+-- the volume has its name, and the journal one entry more of the piece's session, or none
+abbrev pub Notes : Piece → VolumeView → VolumeView → List Entry → List Entry → Type 0
+Notes piece old new journal journal' = (new.name ≡ old.name)
+    × ((journal' ≡ journal) ⊎ ((p : Placement) × (p.key ≡ piece.key) × (journal' ≡ journal ++ noted p ∷ [])))
+
+notes : {E : Type 0} (result : Result Placed E) (limit : ℕ) (piece : Piece) (old new : VolumeView) (journal journal' : List Entry)
+    → PlacesOn result limit piece old new journal journal' → Notes piece old new journal journal'
+notes (Ok (At p)) limit piece old new journal journal' h =
+    (ap (λ (v : VolumeView). v.name) h.2, inr (p, ap (λ (x : Placement). x.key) h.1, h.3))
+notes (Ok NeedVolume) limit piece old new journal journal' h = absurd h
+notes (Ok VolumeFull) limit piece old new journal journal' h = (ap (λ (v : VolumeView). v.name) h.0, inl h.1)
+notes (Ok VolumeError) limit piece old new journal journal' h = (ap (λ (v : VolumeView). v.name) h.1, inl h.2)
+notes (Ok Idle) limit piece old new journal journal' h = absurd h
+notes (Err error) limit piece old new journal journal' h = (ap (λ (v : VolumeView). v.name) h.1, inl h.2)
+
+own_of : (key : SessionKey) (piece : Piece) (hand : Option Piece) (journal : List Entry) (p : Placement) (b : Bool) → hand ≡ Some piece → p.key ≡ piece.key
+    → is_key key p.key ≡ b → (placements_of key (placements (journal ++ noted p ∷ [])) ≡ placements_of key (placements journal))
+    ⊎ ((x : Piece) × (hand ≡ Some x) × (is_key key x.key ≡ true))
+own_of key piece hand journal p true in_hand same own = inr (piece, in_hand, ap (is_key key) (sym same) ∙ own)
+own_of key piece hand journal p false in_hand same other =
+    inl (ap (placements_of key) (placements_more journal (noted p)) ∙ other_more key (placements journal) p other)
+
+pub places : {D E : Type 0} (result : Result Placed E) (d after : DriveIs D) → PlacesPiece result d after
+    → items after.journal after.hand ≡ items d.journal d.hand → DriveGoesOn d after
+places {D} result d after h kept =
+    let told = notes result d.limits.volume h.piece h.volume h.after d.journal after.journal h.on in
+    record {
+      stays = record {
+        media_is = ap (λ (x : DriveIs D). x.media) h.becomes;
+        limits_are = ap (λ (x : DriveIs D). x.limits) h.becomes;
+        items_are = kept;
+        own = λ key. elim told.1 [
+          | inl same ↦ inl (ap (λ es. placements_of key (placements es)) same)
+          | inr p ↦ subst (λ es. (placements_of key (placements es) ≡ placements_of key (placements d.journal)) ⊎ ((x : Piece) × (d.hand ≡ Some x) × (is_key key x.key ≡ true)))
+              (sym p.2) (own_of key h.piece d.hand d.journal p.0 (is_key key p.0.key) h.ready.hand p.1 refl)
+        ];
+      };
+      fails = λ key none. elim told.1 [
+        | inl same ↦ ap (fails key) same ∙ none
+        | inr p ↦ ap (fails key) p.2 ∙ (noting d.journal p.0).fails key ∙ none
+      ];
+      names = names_set d after h.at h.volume h.after h.ready.takes.there told.0 (ap (λ (x : DriveIs D). x.volumes) h.becomes);
+    }
+
+-- Syncs.
+
+settled_on-placements : (mark : Mark) (name : Option (List ℕ)) (es : List Entry) → placements (settled_on mark name es) ≡ placements es
+settled_on-placements mark None es = refl
+settled_on-placements mark (Some name) es = settled_placements mark name es
+
+settled_on-fails : (key : SessionKey) (name : Option (List ℕ)) (es : List Entry) → fails key (settled_on Synced name es) ≡ fails key es
+settled_on-fails key None es = refl
+settled_on-fails key (Some name) es = (failing name es).synced key
+
+-- only marks and what no rule speaks of change
+pub marks : {D : Type 0} (d after : DriveIs D) → after.media ≡ d.media → after.limits ≡ d.limits → after.hand ≡ d.hand
+    → placements after.journal ≡ placements d.journal → DriveStays d after
+marks d after media limits hand placed = record {
+  media_is = media;
+  limits_are = limits;
+  items_are = ap (λ ps. items_of ps ++ in_hand after.hand) placed ∙ ap (items d.journal) hand;
+  own = λ key. inl (ap (placements_of key) placed);
+}
+
+settles : {D : Type 0} (d after : DriveIs D) → after.media ≡ d.media → after.limits ≡ d.limits → after.hand ≡ d.hand → after.volumes ≡ d.volumes
+    → after.journal ≡ synced_journal d → DriveGoesOn d after
+settles d after media limits hand volumes journal =
+    let name = name_loaded d.volumes d.loaded in
+    record {
+      stays = marks d after media limits hand (ap placements journal ∙ settled_on-placements Synced name d.journal);
+      fails = λ key none. ap (fails key) journal ∙ settled_on-fails key name d.journal ∙ none;
+      names = names_same d after volumes;
+    }
+
+pub syncs : {D : Type 0} (d after : DriveIs D) → Syncs d after → DriveGoesOn d after
+syncs {D} d after is = settles d after (ap (λ (x : DriveIs D). x.media) is) (ap (λ (x : DriveIs D). x.limits) is) (ap (λ (x : DriveIs D). x.hand) is)
+    (ap (λ (x : DriveIs D). x.volumes) is) (ap (λ (x : DriveIs D). x.journal) is)
+
+pub unmounts : {D : Type 0} (d after : DriveIs D) → Unmounts d after → DriveGoesOn d after
+unmounts {D} d after is = settles d after (ap (λ (x : DriveIs D). x.media) is) (ap (λ (x : DriveIs D). x.limits) is) (ap (λ (x : DriveIs D). x.hand) is)
+    (ap (λ (x : DriveIs D). x.volumes) is) (ap (λ (x : DriveIs D). x.journal) is)
+
+pub mounts : {D T : Type 0} (place : ℕ) (done : T) (d after : DriveIs D) → Mounts {T = T} place (Ok done) d after → DriveGoesOn d after
+mounts {D} place done d after is = settles d after (ap (λ (x : DriveIs D). x.media) is) (ap (λ (x : DriveIs D). x.limits) is) (ap (λ (x : DriveIs D). x.hand) is)
+    (ap (λ (x : DriveIs D). x.volumes) is) (ap (λ (x : DriveIs D). x.journal) is)
+
+-- A sync that fails.
+
+pub record DriveLoses {D : Type 0} (name : List ℕ) (d after : DriveIs D) : Type 0 where
+  pub stays : DriveStays d after
+  pub fails : (key : SessionKey) → fails key after.journal ≡ (fails key d.journal || fails_with key name d.journal)
+  pub names : NamesStay d after
+
+pub fails_to_sync : {D : Type 0} (d after : DriveIs D) → (h : FailsToSync d after) → DriveLoses h.volume.name d after
+fails_to_sync {D} d after h =
+    let journal = ap (λ (x : DriveIs D). x.journal) h.becomes in
+    record {
+      stays = marks d after (ap (λ (x : DriveIs D). x.media) h.becomes) (ap (λ (x : DriveIs D). x.limits) h.becomes) (ap (λ (x : DriveIs D). x.hand) h.becomes)
+          (ap placements journal ∙ settled_placements Lost h.volume.name d.journal);
+      fails = λ key. ap (fails key) journal ∙ (failing h.volume.name d.journal).failed key;
+      names = names_set d after h.at h.volume _ h.there refl (ap (λ (x : DriveIs D). x.volumes) h.becomes);
+    }
+
+-- Volumes.
+
+pub adds_none : {D : Type 0} (d after : DriveIs D) → AddsNone d after → DriveGoesOn d after
+adds_none {D} d after is =
+    let journal = ap (λ (x : DriveIs D). x.journal) is in
+    record {
+      stays = marks d after (ap (λ (x : DriveIs D). x.media) is) (ap (λ (x : DriveIs D). x.limits) is) (ap (λ (x : DriveIs D). x.hand) is) (ap placements journal);
+      fails = λ key none. ap (fails key) journal ∙ none;
+      names = names_same d after (ap (λ (x : DriveIs D). x.volumes) is);
+    }
+
+-- a volume more: each is the new one, or was there
+pub record DriveAdds {D : Type 0} (name : List ℕ) (d after : DriveIs D) : Type 0 where
+  pub stays : DriveStays d after
+  pub fails : (key : SessionKey) → FailsStay key d after
+  pub names : (place : ℕ) (v : VolumeView) → slice_get after.volumes place ≡ Some v → (slice_get d.volumes place ≡ Some v) ⊎ (v.name ≡ name)
+
+pub adds : {D : Type 0} (v : VolumeView) (d after : DriveIs D) → AddsVolume v d after → DriveAdds v.name d after
+adds {D} v d after is =
+    let journal = ap (λ (x : DriveIs D). x.journal) is in
+    record {
+      stays = marks d after (ap (λ (x : DriveIs D). x.media) is) (ap (λ (x : DriveIs D). x.limits) is) (ap (λ (x : DriveIs D). x.hand) is) (ap placements journal);
+      fails = λ key none. ap (fails key) journal ∙ none;
+      names = λ place u there. elim (get_push-tells d.volumes place v u (ap (λ vs. slice_get vs place) (sym (ap (λ (x : DriveIs D). x.volumes) is)) ∙ there)) [
+        | inl old ↦ inl old
+        | inr new ↦ inr (ap (λ (x : VolumeView). x.name) new)
+      ];
+    }

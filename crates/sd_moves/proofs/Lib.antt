@@ -1,0 +1,14 @@
+pub mod DriveMoves
+pub mod DriveSteps
+pub mod Items
+pub mod Kept
+pub mod KeptMoves
+pub mod LaneSteps
+pub mod Lookups
+pub mod Moves
+pub mod OpenSteps
+pub mod Pairs
+pub mod QueueSteps
+pub mod Seats
+pub mod Views
+pub mod Worlds

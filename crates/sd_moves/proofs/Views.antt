@@ -1,0 +1,141 @@
+-- What a change of one session leaves of it: whose it is and where it sits; and the statuses that go on.
+use Rattle.std.proofs.Common.{◌≡◌, refl, sym, ap, subst, inl, inr, Some, IsSome}
+use Rattle.sd_base.specs.Record.{Record}
+use Rattle.sd_base.specs.declared.refusal.Refusal.{Refusal}
+use Rattle.sd_machine.proofs.Lookups.{not_closed}
+use Rattle.sd_session.specs.declared.answer.Spooling.{Spooling}
+use Rattle.sd_session.specs.declared.answer.Spooling.TheVariants.{Spooled, SpoolFull, Nothing, NoSpool}
+use Rattle.sd_session.specs.declared.status.Status.{Status}
+use Rattle.sd_session.specs.declared.status.Status.TheVariants.{Closed, Cancelled, Failed}
+use Rattle.sd_session.specs.Session.{SessionView, IsRunning, TakesRecord, EndsSession, DropsParts, CancelsSession, FailsSession, GivesBack, store_of}
+use Rattle.sd_session.specs.Spooling.{Spools, SpoolRefused, FailsBySpool}
+use Rattle.sd_session.specs.Sending.{DespoolRefused}
+use Rattle.sd_spool.specs.Job.{StoreState, JobView}
+
+-- a session that failed, is cancelled or closed doesn't go on
+pub failed_not_running : IsRunning Failed → ⊥
+failed_not_running (inl is) = cc
+failed_not_running (inr is) = cc
+
+pub cancelled_not_running : IsRunning Cancelled → ⊥
+cancelled_not_running (inl is) = cc
+cancelled_not_running (inr is) = cc
+
+pub closed_not_running : IsRunning Closed → ⊥
+closed_not_running (inl is) = cc
+closed_not_running (inr is) = cc
+
+-- The session is whose it was, in its lane, and as many pieces were sent of it; it goes on only if it did, and is
+-- closed exactly if it was.
+pub record SessionStays (s t : SessionView) : Type 0 where
+  pub key_is : t.key ≡ s.key
+  pub lane_is : t.lane ≡ s.lane
+  pub sent_is : t.sent ≡ s.sent
+  pub running : IsRunning t.status → IsRunning s.status
+  pub was_closed : t.status ≡ Closed → s.status ≡ Closed
+  pub stays_closed : s.status ≡ Closed → t.status ≡ Closed
+
+-- it has the lane's store, if it had
+abbrev pub StoreStays : SessionView → SessionView → Type 0
+StoreStays s t = IsSome (store_of s) → IsSome (store_of t)
+
+-- both
+pub record StaysWhole (s t : SessionView) : Type 0 where
+  pub stays : SessionStays s t
+  pub store : StoreStays s t
+
+pub same_stays : (s : SessionView) → SessionStays s s
+same_stays s = record { key_is = refl; lane_is = refl; sent_is = refl; running = λ r. r; was_closed = λ c. c; stays_closed = λ c. c }
+
+pub same_whole : (s t : SessionView) → t ≡ s → StaysWhole s t
+same_whole s t is = subst (StaysWhole s) (sym is) (record { stays = same_stays s; store = λ h. h })
+
+pub takes_record : (s t : SessionView) (r : Record) (n : _) → TakesRecord s r n t → StaysWhole s t
+takes_record s t r n h = subst (StaysWhole s) (sym h.is) (record {
+  stays = record { key_is = refl; lane_is = refl; sent_is = refl; running = λ r. r; was_closed = λ c. c; stays_closed = λ c. c };
+  store = λ h. h;
+})
+
+pub ends : (s t : SessionView) (moment : _) → EndsSession s moment t → StaysWhole s t
+ends s t moment h = subst (StaysWhole s) (sym h.is) (record {
+  stays = record {
+    key_is = refl;
+    lane_is = refl;
+    sent_is = refl;
+    running = λ r. inl h.active;
+    was_closed = λ c. absurd (cc c);
+    stays_closed = λ c. absurd (not_closed s.status (inl h.active) c);
+  };
+  store = λ h. h;
+})
+
+-- parts are dropped with a status that doesn't go on and isn't closed
+pub drops : (s t : SessionView) (status : Status) → (IsRunning status → ⊥) → (status ≡ Closed → ⊥) → DropsParts s status t → StaysWhole s t
+drops s t status over open_yet h = subst (StaysWhole s) (sym h.is) (record {
+  stays = record {
+    key_is = refl;
+    lane_is = refl;
+    sent_is = refl;
+    running = λ r. absurd (over r);
+    was_closed = λ c. absurd (open_yet c);
+    stays_closed = λ c. absurd (not_closed s.status h.running c);
+  };
+  store = λ h. h;
+})
+
+pub cancels : (s t : SessionView) → CancelsSession s t → StaysWhole s t
+cancels s t h = drops s t Cancelled cancelled_not_running (λ e. cc e) h
+
+pub fails : (s t : SessionView) → FailsSession s t → StaysWhole s t
+fails s t (inl h) = drops s t Failed failed_not_running (λ e. cc e) h.1
+fails s t (inr h) = same_whole s t h.1
+
+-- the session fails by its spool, whose store it keeps
+pub fails_by_spool : (s t : SessionView) (job : JobView) → FailsBySpool s job t → StaysWhole s t
+fails_by_spool s t job h = subst (StaysWhole s) (sym h.drops.is) (record {
+  stays = record {
+    key_is = refl;
+    lane_is = refl;
+    sent_is = refl;
+    running = λ r. absurd (failed_not_running r);
+    was_closed = λ c. absurd (cc c);
+    stays_closed = λ c. absurd (not_closed s.status h.drops.running c);
+  };
+  store = λ h. refl;
+})
+
+-- a spool is there before and after
+spool_changes : (s t : SessionView) (job' : JobView) → t ≡ record s { spool = Some job'; packer = t.packer } → StaysWhole s t
+spool_changes s t job' is = subst (StaysWhole s) (sym is) (record {
+  stays = record { key_is = refl; lane_is = refl; sent_is = refl; running = λ r. r; was_closed = λ c. c; stays_closed = λ c. c };
+  store = λ h. refl;
+})
+
+pub spools : (answer : Spooling) (s t : SessionView) → Spools answer s t → StaysWhole s t
+spools Spooled s t h = spool_changes s t h.job' h.is
+spools SpoolFull s t h = subst (StaysWhole s) (sym h.is) (record {
+  stays = record { key_is = refl; lane_is = refl; sent_is = refl; running = λ r. r; was_closed = λ c. c; stays_closed = λ c. c };
+  store = λ h. h;
+})
+spools Nothing s t h = same_whole s t h.is
+spools NoSpool s t h = same_whole s t h.is
+
+pub spool_refused : (s t : SessionView) (why : Refusal) → SpoolRefused s why t → StaysWhole s t
+spool_refused s t why (inl h) = same_whole s t h.1
+spool_refused s t why (inr (inl h)) = fails_by_spool s t h.0.job h.2
+spool_refused s t why (inr (inr h)) = same_whole s t h.2
+
+pub despool_refused : (s t : SessionView) (why : Refusal) → DespoolRefused s why t → StaysWhole s t
+despool_refused s t why (inl h) = same_whole s t h.1
+despool_refused s t why (inr (inl h)) = fails_by_spool s t h.0.job h.2
+despool_refused s t why (inr (inr h)) = same_whole s t h.2
+
+-- the session that gives the lane's store back is else as it was
+pub gives_back : (s t : SessionView) (store : StoreState) → GivesBack s store t → SessionStays s t
+gives_back s t store h = subst (SessionStays s) (sym h.is)
+    (record { key_is = refl; lane_is = refl; sent_is = refl; running = λ r. r; was_closed = λ c. c; stays_closed = λ c. c })
+
+-- who failed, or didn't go on, doesn't
+pub failed_over : (s t : SessionView) → FailsSession s t → IsRunning t.status → ⊥
+failed_over s t (inl h) r = failed_not_running (subst IsRunning (ap (λ (x : SessionView). x.status) h.1.is) r)
+failed_over s t (inr h) r = h.0 (subst (λ (x : SessionView). IsRunning x.status) h.1 r)

@@ -1,0 +1,70 @@
+-- What a world keeps of closed sessions, whatever happens to it: their status; and their spans, until their drive is retired.
+use Rattle.std.specs.Prelude.{◌≡◌, ◌⊎◌, ℕ, ◌+◌, Some, None, List, slice_get}
+use Rattle.sd_base.specs.declared.number.SessionKey.{SessionKey}
+use Rattle.sd_driver.specs.Meaning.{Meaning}
+use Rattle.sd_machine.specs.declared.event.Event.{Event}
+use Rattle.sd_machine.specs.declared.reply.Reply.{Reply}
+use Rattle.sd_machine.specs.declared.reply.Reply.TheVariants.{Closed}
+use Rattle.sd_session.specs.declared.status.Status.TheVariants.{Closed as IsClosed}
+use Rattle.sd_span.specs.declared.span.Span.{Span}
+use Rattle.sd_moves.specs.World.{WorldView, WorldSession, BayView, session_at}
+use Rattle.sd_moves.specs.Sessions.{SpansAt}
+use Rattle.sd_moves.specs.Moves.{Moves}
+use Rattle.sd_moves.specs.Rules.{IsWorld}
+
+-- the session of this key is closed
+pub record HasClosed {D : Type 0} (w : WorldView D) (key : SessionKey) : Type 0 where
+  pub e : WorldSession
+  pub there : session_at key.id w.sessions ≡ Some e
+  pub key_is : e.session.key ≡ key
+  pub closed : e.session.status ≡ IsClosed
+
+-- the session of this key is closed, its drive is online, and these are its spans
+pub record IsClosedAt {D : Type 0} (w : WorldView D) (key : SessionKey) (spans : List Span) : Type 0 where
+  pub e : WorldSession
+  pub there : session_at key.id w.sessions ≡ Some e
+  pub key_is : e.session.key ≡ key
+  pub closed : e.session.status ≡ IsClosed
+  pub spans_are : SpansAt w e spans
+
+-- the drive of the session of this key is offline for good
+pub record IsOffline {D : Type 0} (w : WorldView D) (key : SessionKey) : Type 0 where
+  pub e : WorldSession
+  pub there : session_at key.id w.sessions ≡ Some e
+  pub key_is : e.session.key ≡ key
+  pub at : ℕ
+  pub bay : BayView D
+  pub drive_is : e.drive ≡ at + 1
+  pub bay_is : slice_get w.bays at ≡ Some bay
+  pub offline : bay.drive ≡ None
+
+-- closed sessions stay closed
+abbrev pub StatusesStay : {D : Type 0} → WorldView D → WorldView D → Type 0
+StatusesStay old new = (key : SessionKey) → HasClosed old key → HasClosed new key
+
+-- closed sessions keep their spans, unless their drive is retired
+abbrev pub SpansStay : {D : Type 0} → WorldView D → WorldView D → Type 0
+SpansStay old new = (key : SessionKey) (spans : List Span) → IsClosedAt old key spans → IsClosedAt new key spans ⊎ IsOffline new key
+
+-- the session that a reply closed is closed, and has the spans of the reply; no other reply closes one
+abbrev pub ClosedStands : {D : Type 0} → WorldView D → Reply → Type 0
+ClosedStands w (Closed key spans) = IsClosedAt w key spans
+ClosedStands w reply = Unit {0}
+
+-- Laws.
+
+-- a move keeps the rules of worlds
+abbrev pub MovesKeepRules : Type 0 → Type 0
+MovesKeepRules D = (meaning : D → Meaning) (old new : WorldView D) (event : Event) (reply : Reply)
+    → IsWorld old → Moves meaning old event reply new → IsWorld new
+
+-- a move keeps what closed sessions have
+pub record KeepsClosed {D : Type 0} (old : WorldView D) (reply : Reply) (new : WorldView D) : Type 0 where
+  pub statuses : StatusesStay old new
+  pub spans : SpansStay old new
+  pub stands : ClosedStands new reply
+
+-- every move keeps what closed sessions have
+abbrev pub MovesKeepClosed : Type 0 → Type 0
+MovesKeepClosed D = (meaning : D → Meaning) (old new : WorldView D) (event : Event) (reply : Reply)
+    → IsWorld old → Moves meaning old event reply new → KeepsClosed old reply new

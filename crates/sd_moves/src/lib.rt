@@ -1,0 +1,6 @@
+//! What each event does to a world of sessions and drives, whoever runs it, and what stays through every event.
+#![tactic(auto)]
+
+mod laws;
+
+pub use laws::{moves_keep_closed, moves_keep_rules};
