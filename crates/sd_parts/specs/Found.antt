@@ -1,0 +1,11 @@
+-- Where a session of a world stands among the sessions.
+use Rattle.std.specs.Prelude.{◌≡◌, ℕ, Some, List, slice_get, slice_set}
+use Rattle.sd_moves.specs.World.{WorldSession, session_at, with_session}
+
+-- the session of the ticket stands at this place, and with another of its number there it is changed
+pub record IsFoundAt (ticket : ℕ) (sessions : List WorldSession) (at : ℕ) : Type 0 where
+  pub e : WorldSession
+  pub there : slice_get sessions at ≡ Some e
+  pub found : session_at ticket sessions ≡ Some e
+  pub id_is : e.session.key.id ≡ ticket
+  pub changes : (new : WorldSession) → new.session.key.id ≡ ticket → slice_set sessions at new ≡ with_session new sessions

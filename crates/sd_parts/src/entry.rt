@@ -1,0 +1,49 @@
+// A session of a world, and how it is found.
+ghost use Rattle.std.specs.Prelude.{ℕ, IfSome, IfNone, ◌≡◌, None};
+ghost use Rattle.sd_moves.specs.World.{session_at};
+ghost use Rattle.sd_moves.specs.Rules.{NumbersRise};
+ghost use Rattle.sd_parts.specs.Found.{IsFoundAt};
+
+use sd_base::{DriveNo, Ticket};
+use sd_session::Session;
+use sd_spool::SpoolStore;
+use std::marker::Model;
+
+/// A session, and the drive to which it sends. In a contract it is a `WorldSession`.
+#[derive(Drop)]
+pub struct Entry<S: SpoolStore> {
+    pub session: Session<S>,
+    pub drive: DriveNo,
+}
+
+impl<S: SpoolStore> Model for Entry<S> {
+    ghost use Rattle.sd_moves.specs.World.{WorldSession};
+
+    ghost Value = { WorldSession };
+
+    ghost view = { λ e. record { session = e.session; drive = e.drive } };
+}
+
+impl<S: SpoolStore + Drop> Entry<S> {
+    /// The number of the session, which is its ticket.
+    pub fn number(&self) -> u32
+        ensures { result ≡ self.now.session.key.id }
+    {
+        let session = &self.session;
+        session.key().id
+    }
+}
+
+/// Where the session of the ticket is, by halving: whatever the number of sessions, few of them are looked at.
+pub fn find<S: SpoolStore + Drop>(sessions: &[Entry<S>], ticket: Ticket) -> Option<usize>
+    requires rise { (time : ℕ) × (next : ℕ) × NumbersRise time 1 next sessions.now }
+    ensures found { IfSome result (IsFoundAt ticket sessions.now) }
+    ensures unknown { IfNone result (session_at ticket sessions.now ≡ None) }
+{
+    let at = sessions.partition_point(|entry| entry.number() < ticket.get());
+    if at < sessions.len() && sessions[at].number() == ticket.get() {
+        Some(at)
+    } else {
+        None
+    }
+}

@@ -1,0 +1,10 @@
+//! The parts of a world: its sessions, its drives with their lanes and queues, the desk, and the next number.
+#![tactic(auto)]
+
+mod bay;
+mod entry;
+mod parts;
+
+pub use bay::{Bay, LaneSlot};
+pub use entry::{Entry, find};
+pub use parts::Parts;

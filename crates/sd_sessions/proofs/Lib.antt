@@ -1,0 +1,4 @@
+pub mod Changes
+pub mod Closes
+pub mod Frees
+pub mod Seats

@@ -1,0 +1,144 @@
+-- What a step of sending does to a world.
+use Rattle.std.proofs.Common.{◌≡◌, ◌≢◌, ◌≤◌, ◌<◌, ◌+◌, ℕ, Bool, true, refl, sym, ap, subst, ◌∙◌, inr, arith, Option, Some, None, IfOk, Ok, Err, Result, List, length, slice_get, slice_set, get_or}
+use Rattle.std.specs.Prelude.{IsSome}
+use Rattle.std.proofs.lemmas.Option.{get_or_from_slice_get, slice_get_within}
+use Rattle.sd_base.specs.declared.refusal.Refusal.{Refusal}
+use Rattle.sd_drive.specs.View.{DriveIs}
+use Rattle.sd_lane.specs.Queue.{LanesView}
+use Rattle.sd_lane.specs.declared.piece.Piece.{Piece}
+use Rattle.sd_session.specs.Session.{SessionView, IsRunning}
+use Rattle.sd_session.specs.Sending.{Despools, DespoolRefused, queue_view}
+use Rattle.sd_session.specs.declared.answer.Despooled.{Despooled}
+use Rattle.sd_session.specs.declared.answer.Despooled.TheVariants.{Sent, LaneFull, Nothing, NotDue}
+use Rattle.sd_moves.specs.World.{WorldView, WorldSession, BayView, IsOnline}
+use Rattle.sd_moves.specs.Rules.{IsWorld, IsSeated, IsBay}
+use Rattle.sd_moves.specs.Sessions.{SendsStep, DespoolsSession, RefusedWith}
+use Rattle.sd_sessions.proofs.Changes.{IsReadAt, same_set, changes_one, despool_keeps_key}
+
+-- a value that is there
+pub some_of : {A : Type 0} (o : Option A) → IsSome o → (x : A) × (o ≡ Some x)
+some_of None is = absurd (cc is)
+some_of (Some x) is = (x, refl)
+
+-- queues that agree in all are one
+same_queue : (q q' : LanesView) → q'.lanes ≡ q.lanes → q'.capacity ≡ q.capacity → q'.held ≡ q.held → q' ≡ q
+same_queue q q' lanes capacity held =
+    ap (λ n. record q' { lanes = n }) lanes
+    ∙ ap (λ n. record q' { lanes = q.lanes; capacity = n }) capacity
+    ∙ ap (λ h. record q { held = h }) held
+
+-- only a body that is sent changes the queue
+else_same : (answer : Despooled) (old new : SessionView) (sent sent' : ℕ → List Piece) (q q' : LanesView)
+    → Despools answer old (queue_view sent true q.held q.capacity) new (queue_view sent' true q'.held q'.capacity)
+    → q'.lanes ≡ q.lanes → q'.capacity ≡ q.capacity → (answer ≡ Nothing → q' ≡ q) → (answer ≡ NotDue → q' ≡ q) → answer ≢ Sent → q' ≡ q
+else_same Sent old new sent sent' q q' step lanes capacity nothing not_due not = absurd (not refl)
+else_same LaneFull old new sent sent' q q' step lanes capacity nothing not_due not = same_queue q q' lanes capacity (step.is_full.held refl)
+else_same Nothing old new sent sent' q q' step lanes capacity nothing not_due not = nothing refl
+else_same NotDue old new sent sent' q q' step lanes capacity nothing not_due not = not_due refl
+
+-- a session's step by a queue with one owner
+pub sends : (r : Result Despooled Refusal) (old new : SessionView) (sent sent' : ℕ → List Piece) (alone alone' : Bool) (q q' : LanesView)
+    → IfOk r (λ answer. Despools answer old (queue_view sent alone q.held q.capacity) new (queue_view sent' alone' q'.held q'.capacity))
+    → alone ≡ true → alone' ≡ true → q'.lanes ≡ q.lanes → q'.capacity ≡ q.capacity
+    → (r ≡ Ok Nothing → q' ≡ q) → (r ≡ Ok NotDue → q' ≡ q) → IfOk r (λ answer. SendsStep answer old q new q')
+sends (Ok answer) old new sent sent' alone alone' q q' step is is' lanes capacity nothing not_due =
+    let half = subst (λ (b : Bool). Despools answer old (queue_view sent b q.held q.capacity) new (queue_view sent' alone' q'.held q'.capacity)) is step in
+    let whole = subst (λ (b : Bool). Despools answer old (queue_view sent true q.held q.capacity) new (queue_view sent' b q'.held q'.capacity)) is' half in
+    record {
+      sent = sent;
+      sent' = sent';
+      step = whole;
+      lanes = lanes;
+      capacity = capacity;
+      else_same = else_same answer old new sent sent' q q' whole lanes capacity (λ e. nothing (ap Ok e)) (λ e. not_due (ap Ok e));
+    }
+sends (Err why) old new sent sent' alone alone' q q' step is is' lanes capacity nothing not_due = tt
+
+-- who sends goes on
+sends_running : (answer : Despooled) (old new : SessionView) (q q' : LanesView) → SendsStep answer old q new q' → IsRunning old.status
+sends_running Sent old new q q' s = s.step.running
+sends_running LaneFull old new q q' s = s.step.running
+sends_running Nothing old new q q' s = s.step.running
+sends_running NotDue old new q q' s = s.step.running
+
+-- and keeps its number
+sends_key : (answer : Despooled) (old new : SessionView) (q q' : LanesView) → SendsStep answer old q new q' → new.key.id ≡ old.key.id
+sends_key Sent old new q q' s = ap (λ (x : SessionView). x.key.id) s.step.is
+sends_key LaneFull old new q q' s = ap (λ (x : SessionView). x.key.id) s.step.is
+sends_key Nothing old new q q' s = ap (λ (x : SessionView). x.key.id) s.step.is
+sends_key NotDue old new q q' s = ap (λ (x : SessionView). x.key.id) s.step.is
+
+-- A session's seat, at the place of its drive's bay.
+pub record SitsAt {D : Type 0} (w : WorldView D) (e : WorldSession) (place : ℕ) : Type 0 where
+  pub seat : IsSeated w e
+  pub at_is : seat.at ≡ place
+  pub within : place < length w.bays
+
+-- a session of a world has its seat
+pub sits : {D : Type 0} (w : WorldView D) (ticket at place : ℕ) (e : WorldSession)
+    → IsWorld w → IsReadAt ticket w.sessions at e → e.drive ≡ place + 1 → SitsAt w e place
+sits w ticket at place e is f drive =
+    let seat : IsSeated w e = is.seated ticket e f.found in
+    let here : seat.at ≡ place = omega (arith, seat.drive_is, drive) in
+    let there : seat.at < length w.bays = slice_get_within w.bays seat.at seat.bay seat.bay_there in
+    record { seat = seat; at_is = here; within = omega arith }
+
+-- the bay that was read is the one in which it sits
+pub bay_read : {D : Type 0} (w : WorldView D) (e : WorldSession) (place : ℕ) (bay read : BayView D) (s : SitsAt w e place)
+    → read ≡ get_or w.bays place read → bay ≡ read → s.seat.bay ≡ bay
+bay_read w e place bay read s is same =
+    let there : slice_get w.bays place ≡ Some s.seat.bay = subst (λ n. slice_get w.bays n ≡ Some s.seat.bay) s.at_is s.seat.bay_there in
+    sym (same ∙ is ∙ get_or_from_slice_get w.bays place s.seat.bay read there)
+
+-- the bay that was read stands there
+pub bay_there : {D : Type 0} (w : WorldView D) (e : WorldSession) (place : ℕ) (bay : BayView D) (s : SitsAt w e place)
+    → s.seat.bay ≡ bay → slice_get w.bays place ≡ Some bay
+bay_there w e place bay s same =
+    subst (λ n. slice_get w.bays n ≡ Some s.seat.bay) s.at_is s.seat.bay_there ∙ ap Some same
+
+-- the session's lane is one of the queue's
+pub lane_within : {D : Type 0} (w : WorldView D) (e : WorldSession) (place : ℕ) (bay : BayView D) (s : SitsAt w e place)
+    → IsWorld w → s.seat.bay ≡ bay → (1 ≤ e.session.lane) × (e.session.lane ≤ bay.queue.lanes)
+lane_within w e place bay s is same =
+    let b : IsBay w place bay = is.bays place bay (bay_there w e place bay s same) in
+    let there : slice_get bay.lanes s.seat.place ≡ Some s.seat.lane = subst (λ (x : BayView _). slice_get x.lanes s.seat.place ≡ Some s.seat.lane) same s.seat.lane_there in
+    let within : s.seat.place < length bay.lanes = slice_get_within bay.lanes s.seat.place s.seat.lane there in
+    let lane : e.session.lane ≡ s.seat.place + 1 = s.seat.lane_is in
+    let lanes : bay.queue.lanes ≡ length bay.lanes = b.lanes_are in
+    (omega arith, omega arith)
+
+-- one that goes on has its drive online
+pub online_at : {D : Type 0} (w : WorldView D) (e : WorldSession) (place : ℕ) (bay : BayView D) (s : SitsAt w e place)
+    → s.seat.bay ≡ bay → e.drive ≡ place + 1 → IsRunning e.session.status → (d : DriveIs D) × IsOnline w e.drive place bay d
+online_at w e place bay s same drive running =
+    let there = some_of bay.drive (subst (λ (x : BayView _). IsSome x.drive) same (s.seat.online running)) in
+    (there.0, record { number = drive; there = bay_there w e place bay s same; online = there.1 })
+
+-- the session at its place takes a step of sending
+pub despools_one : {D : Type 0} (answer : Despooled) (w : WorldView D) (ticket at place : ℕ) (e : WorldSession) (new : SessionView) (bay : BayView D) (queue : LanesView)
+    (s : SitsAt w e place) → s.seat.bay ≡ bay → e.drive ≡ place + 1 → IsReadAt ticket w.sessions at e → SendsStep answer e.session bay.queue new queue
+    → DespoolsSession answer w ticket (record w { sessions = slice_set w.sessions at (record e { session = new }); bays = slice_set w.bays place (record bay { queue = queue }) })
+despools_one answer w ticket at place e new bay queue s same drive f step =
+    let on = online_at w e place bay s same drive (sends_running answer e.session new bay.queue queue step) in
+    record {
+      e = e;
+      has = f.found;
+      at = place;
+      bay = bay;
+      d = on.0;
+      online = on.1;
+      session = new;
+      queue = queue;
+      step = step;
+      new_is = ap (λ (es : List WorldSession). record w { sessions = es; bays = slice_set w.bays place (record bay { queue = queue }) })
+          (f.changes (record e { session = new }) (sends_key answer e.session new bay.queue queue step ∙ f.id_is));
+    }
+
+-- the session at its place is refused a step of sending; its queue stays
+pub despool_refused : {D : Type 0} (w : WorldView D) (ticket at place : ℕ) (e : WorldSession) (new : SessionView) (bay after : BayView D) (why : Refusal)
+    (s : SitsAt w e place) → s.seat.bay ≡ bay → after ≡ bay → IsReadAt ticket w.sessions at e → DespoolRefused e.session why new
+    → RefusedWith w ticket why (record w { sessions = slice_set w.sessions at (record e { session = new }); bays = slice_set w.bays place after }) (λ s t. DespoolRefused s why t)
+despool_refused w ticket at place e new bay after why s same stays f refused =
+    let c = changes_one w ticket at e new (λ s t. DespoolRefused s why t) f refused (despool_keeps_key e.session new why refused) in
+    let kept : slice_set w.bays place after ≡ w.bays = ap (slice_set w.bays place) stays ∙ same_set w.bays place bay (bay_there w e place bay s same) in
+    inr (c.0, c.1, c.2, c.3, ap (λ (bs : List (BayView _)). record w { sessions = slice_set w.sessions at (record e { session = new }); bays = bs }) kept ∙ c.4)

@@ -1,0 +1,55 @@
+// Which lanes of a drive are free, and what decides whether a drive takes a new session.
+ghost use Rattle.std.specs.Prelude.{◌≡◌, ◌≤◌, ℕ, length};
+ghost use Rattle.sd_moves.specs.Rules.{NumbersRise};
+ghost use Rattle.sd_moves.specs.World.{free_lanes, lane_is_free};
+
+use arrayvec::ArrayVec;
+use sd_base::Ticket;
+use sd_drive::Drive;
+use sd_driver::Driver;
+use sd_parts::{Entry, LaneSlot, find};
+use sd_session::Status;
+use sd_spool::SpoolStore;
+
+/// Of each lane of a drive whether it is free. Takes no memory.
+pub fn free_lanes<D: Driver, S: SpoolStore + Drop>(
+    sessions: &[Entry<S>],
+    drive: &Drive<D>,
+    lanes: &[LaneSlot<S>],
+) -> ArrayVec<bool, 32>
+    requires rise { (time : ℕ) × (next : ℕ) × NumbersRise time 1 next sessions.now }
+    requires most { length lanes.now ≤ 32 }
+    ensures { result.items ≡ free_lanes sessions.now drive.now.journal lanes.now }
+{
+    let mut free = ArrayVec::new();
+    for slot in lanes {
+        free.push(is_free(sessions, drive, slot.holder));
+    }
+    free
+}
+
+// Whether a lane is free that this session used last, if one did: the session no longer keeps it.
+fn is_free<D: Driver, S: SpoolStore + Drop>(
+    sessions: &[Entry<S>],
+    drive: &Drive<D>,
+    holder: Option<Ticket>,
+) -> bool
+    requires rise { (time : ℕ) × (next : ℕ) × NumbersRise time 1 next sessions.now }
+    ensures { result ≡ lane_is_free sessions.now drive.now.journal holder }
+{
+    let Some(ticket) = holder else {
+        return true;
+    };
+    let Some(at) = find(sessions, ticket) else {
+        return true;
+    };
+    let entry = &sessions[at];
+    let session = &entry.session;
+    match session.status() {
+        Status::Active | Status::Ended => false,
+        Status::Closed => true,
+        Status::Cancelled | Status::Failed => {
+            session.sent() == drive.progress(session.key()).placed
+        }
+    }
+}

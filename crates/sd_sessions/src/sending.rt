@@ -1,0 +1,59 @@
+// A step of sending.
+ghost use Rattle.std.specs.Prelude.{◌≡◌, ◌≤◌, IfOk, IfErr, OnErr};
+ghost use Rattle.sd_machine.specs.declared.event.Event.TheVariants.{Despool};
+ghost use Rattle.sd_moves.specs.Moves.{Moves};
+ghost use Rattle.sd_moves.specs.Rules.{IsWorld};
+ghost use Rattle.sd_moves.specs.Sessions.{SendsStep};
+ghost use Rattle.sd_parts.specs.View.{world_of};
+ghost use Rattle.sd_session.specs.Sending.{DespoolRefused};
+
+use crate::place::place_of;
+use sd_base::{Refusal, Ticket};
+use sd_driver::Driver;
+use sd_lane::Lanes;
+use sd_machine::Reply;
+use sd_parts::{Parts, find};
+use sd_session::{Despooled, Session};
+use sd_spool::SpoolStore;
+
+/// The next body of a session goes to the queue before its drive, where there is room.
+pub fn despool<D: Driver, Q: Lanes, S: SpoolStore + Drop>(
+    parts: &mut Parts<D, Q, S>,
+    ticket: Ticket,
+) -> Reply
+    requires world { IsWorld (world_of parts.old) }
+    ensures moves { Moves (λ d. D.meaning d) (world_of parts.old) (Despool ticket)
+        result (world_of parts.new) }
+{
+    let Some(at) = find(&parts.sessions, ticket) else {
+        return Reply::Refused(Refusal::SessionNotOpen);
+    };
+    let entry = &mut parts.sessions[at];
+    let place = place_of(entry.drive);
+    let bay = &mut parts.bays[place];
+    match send(&mut entry.session, &mut bay.queue) {
+        Ok(Despooled::Sent) => Reply::Sent,
+        Ok(Despooled::LaneFull) => Reply::LaneFull,
+        Ok(Despooled::Nothing) => Reply::Nothing,
+        Ok(Despooled::NotDue) => Reply::NotDue,
+        Err(why) => Reply::Refused(why),
+    }
+}
+
+// A session's step of sending, by a lane of the queue before its drive.
+fn send<Q: Lanes, S: SpoolStore + Drop>(
+    session: &mut Session<S>,
+    queue: &mut Q,
+) -> Result<Despooled, Refusal>
+    requires least { 1 ≤ session.old.lane }
+    requires most { session.old.lane ≤ Q.lanes queue.old }
+    ensures ok { IfOk result (λ answer. SendsStep answer
+        session.old
+        (record { lanes = Q.lanes queue.old; capacity = Q.capacity queue.old; held = Q.held queue.old })
+        session.new
+        (record { lanes = Q.lanes queue.new; capacity = Q.capacity queue.new; held = Q.held queue.new })) }
+    ensures err { IfErr result (λ why. DespoolRefused session.old why session.new) }
+    ensures refused { OnErr result (queue.new ≡ queue.old) }
+{
+    session.despool_step(queue)
+}

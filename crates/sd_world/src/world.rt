@@ -1,0 +1,88 @@
+// A world.
+ghost use Rattle.std.specs.Prelude.{◌≡◌, IfOk, IfErr};
+ghost use Rattle.sd_world.specs.Reading.{ReadsWorld};
+ghost use Rattle.sd_world.specs.View.{status_at, devices_of};
+
+use crate::leaving::take_devices;
+use crate::reading::read_parts;
+use sd_base::{Refusal, SessionKey, Ticket};
+use sd_desk::Request;
+use sd_driver::Driver;
+use sd_lane::Lanes;
+use sd_parts::{Parts, find};
+use sd_readback::{ReadEnd, Sink};
+use sd_session::Status;
+use sd_span::Span;
+use sd_spool::SpoolStore;
+use std::marker::Model;
+
+/// The sessions of one run of the daemon, with its drives, each with its lanes and the queue before it, and the
+/// operator's desk. In a contract it is a `WorldView`. Its type keeps what `IsWorld` says.
+#[derive(Drop)]
+pub struct World<D: Driver, Q: Lanes, S: SpoolStore> {
+    parts: Parts<D, Q, S>,
+}
+
+impl<D: Driver, Q: Lanes, S: SpoolStore> Model for World<D, Q, S> {
+    ghost use Rattle.sd_moves.specs.World.{WorldView};
+    ghost use Rattle.sd_moves.specs.Rules.{IsWorld};
+    ghost use Rattle.sd_parts.specs.View.{world_of};
+
+    ghost Value = { WorldView D };
+
+    ghost view = { λ w. world_of w.parts };
+
+    ghost invariant = { λ w. IsWorld (world_of w.parts) };
+}
+
+impl<D: Driver + Drop, Q: Lanes + Drop, S: SpoolStore + Drop> World<D, Q, S> {
+    /// The devices of the drives that are online, by rising number. For want of memory the world comes back as it was.
+    pub fn into_drivers(self) -> Result<Vec<D>, World<D, Q, S>>
+        ensures ok { IfOk result (λ drivers. drivers.items ≡ devices_of self.bays) }
+        ensures err { IfErr result (λ world. world ≡ self) }
+    {
+        let Ok(mut drivers) = Vec::with_capacity(self.parts.alloc, self.parts.bays.len()) else {
+            return Err(self);
+        };
+        let World { parts } = self;
+        let mut bays = parts.bays;
+        take_devices(&mut bays, &mut drivers);
+        Ok(drivers)
+    }
+}
+
+impl<D: Driver, Q: Lanes, S: SpoolStore + Drop> World<D, Q, S> {
+    /// The requests for volumes, in the order in which they were asked.
+    pub fn requests(&self) -> &[Request]
+        ensures { result.now ≡ self.now.desk.requests }
+    {
+        let parts = &self.parts;
+        parts.desk.requests()
+    }
+
+    /// How far the session of a ticket is, if there is one. Takes no memory.
+    pub fn status(&self, ticket: Ticket) -> Option<Status>
+        ensures { result ≡ status_at ticket self.now.sessions }
+    {
+        let parts = &self.parts;
+        let at = find(&parts.sessions, ticket)?;
+        let session = &parts.sessions[at].session;
+        Some(session.status())
+    }
+
+    /// Reads a session back from spans. The records go to the sink one by one; those that were handed over before a
+    /// fault stay, and they are the first of the session's, in order. No spans are a bad span; then the first span's
+    /// volume must be at a drive, that drive online, and all spans on its volumes; then comes what the drive's reader
+    /// says. Changes no session, no volume and no list.
+    pub fn read<K: Sink>(
+        &mut self,
+        key: SessionKey,
+        spans: &[Span],
+        sink: &mut K,
+    ) -> Result<ReadEnd, Refusal>
+        ensures reads { ReadsWorld (λ d. D.meaning d) key spans.now (K.got sink.old) (K.got sink.new)
+            result self.old self.new }
+    {
+        read_parts(&mut self.parts, key, spans, sink)
+    }
+}
