@@ -20,47 +20,106 @@ pub fn run<R: Print + Clock + AllocGlobal>(rt: &R, length: Length) -> Result<()>
     pack_and_unpack(rt, length, "1,000,000 bytes", 1_000_000)
 }
 
+/// How much a run goes over: so many records of so many bytes, so many times.
+#[derive(Clone, Copy)]
+struct Work {
+    size: usize,
+    count: usize,
+    rounds: usize,
+}
+
+impl Work {
+    fn new(length: Length, size: usize) -> Work {
+        match length {
+            Length::Once => Work {
+                size,
+                count: 2,
+                rounds: 1,
+            },
+            Length::Timed => Work {
+                size,
+                count: AT_ONCE / size.max(1),
+                rounds: 25,
+            },
+        }
+    }
+
+    fn print<R: Print + Clock>(
+        self,
+        rt: &R,
+        length: Length,
+        name: &str,
+        start: Instant,
+    ) -> Result<()> {
+        let whole = self.size.wrapping_mul(self.count);
+        print_rate(rt, length, name, start, whole, self.rounds)
+    }
+}
+
 fn pack_and_unpack<R: Print + Clock + AllocGlobal>(
     rt: &R,
     length: Length,
     label: &str,
     size: usize,
 ) -> Result<()> {
-    let rec = anyhow::Context::context(
-        Rec::new(1, 2, Bytes::from_vec(vec![in rt.alloc(); 0x5au8; size]?)),
-        "a record",
-    )?;
-    let count = match length {
-        Length::Once => 2,
-        Length::Timed => AT_ONCE / size.max(1),
-    };
-    let rounds = match length {
-        Length::Once => 1,
-        Length::Timed => 25,
-    };
-    let whole = size.wrapping_mul(count);
-    let start = Instant::now(rt)?;
-    for _ in 0..rounds {
-        for _ in 0..count {
-            let _copy = rec.bytes.as_slice().to_vec(rt.alloc())?;
-        }
-    }
-    print_rate(rt, length, "copy of the records", start, whole, rounds)?;
-    let mut bodies = packed(rt, &rec, count)?;
-    let start = Instant::now(rt)?;
-    for _ in 0..rounds {
-        bodies = packed(rt, &rec, count)?;
-    }
-    print_rate(rt, length, "pack", start, whole, rounds)?;
-    let start = Instant::now(rt)?;
-    let mut records = 0usize;
-    for _ in 0..rounds {
-        records = unpacked(rt, &bodies)?;
-    }
-    print_rate(rt, length, "unpack", start, whole, rounds)?;
-    let all = records == count;
+    let work = Work::new(length, size);
+    let rec = record(rt, size)?;
+    copy(rt, length, work, &rec)?;
+    let bodies = pack(rt, length, work, &rec)?;
+    let all = unpack(rt, length, work, &bodies)? == work.count;
     println!(rt; "records of {label} come back: {all}")?;
     Ok(())
+}
+
+/// A record of so many bytes.
+pub fn record<R: AllocGlobal>(rt: &R, size: usize) -> Result<Rec> {
+    let bytes = Bytes::from_vec(vec![in rt.alloc(); 0x5au8; size]?);
+    anyhow::Context::context(Rec::new(1, 2, bytes), "a record")
+}
+
+fn copy<R: Print + Clock + AllocGlobal>(
+    rt: &R,
+    length: Length,
+    work: Work,
+    rec: &Rec,
+) -> Result<()> {
+    let start = Instant::now(rt)?;
+    for _ in 0..work.rounds.saturating_mul(work.count) {
+        let _copy = rec.bytes.as_slice().to_vec(rt.alloc())?;
+    }
+    work.print(rt, length, "copy of the records", start)
+}
+
+// The bodies of the last of the rounds.
+fn pack<R: Print + Clock + AllocGlobal>(
+    rt: &R,
+    length: Length,
+    work: Work,
+    rec: &Rec,
+) -> Result<Vec<Body>> {
+    let mut bodies = packed(rt, rec, work.count)?;
+    let start = Instant::now(rt)?;
+    for _ in 0..work.rounds {
+        bodies = packed(rt, rec, work.count)?;
+    }
+    work.print(rt, length, "pack", start)?;
+    Ok(bodies)
+}
+
+// How many records came out in the last of the rounds.
+fn unpack<R: Print + Clock + AllocGlobal>(
+    rt: &R,
+    length: Length,
+    work: Work,
+    bodies: &[Body],
+) -> Result<usize> {
+    let start = Instant::now(rt)?;
+    let mut records = 0;
+    for _ in 0..work.rounds {
+        records = unpacked(rt, bodies)?;
+    }
+    work.print(rt, length, "unpack", start)?;
+    Ok(records)
 }
 
 /// The bodies of a session of so many of this record, without its end label.

@@ -2,11 +2,11 @@
 // one copy of each byte.
 ghost use Rattle.std.specs.Prelude.{◌≡◌, Some, None};
 
-use crate::packing::packed;
+use crate::packing::{packed, record};
 use crate::rate::{Length, print_rate};
 use crate::volumes::label;
 use anyhow::{Context, Result, bail};
-use sd_base::{Bytes, LEAST_BODY, MOST_BODY, MOST_VOLUME, Rec, SessionKey};
+use sd_base::{LEAST_BODY, MOST_BODY, MOST_VOLUME, SessionKey};
 use sd_crc::crc32;
 use sd_driver::Driver;
 use sd_memdrive::MemDrive;
@@ -28,54 +28,58 @@ pub fn run<R: Print + Clock + AllocGlobal>(rt: &R, length: Length) -> Result<()>
         Length::Once => (2, 1),
         Length::Timed => (250, 25),
     };
-    let bytes = Bytes::from_vec(vec![in rt.alloc(); 0x5au8; RECORD]?);
-    let rec = Context::context(Rec::new(1, 2, bytes), "a record")?;
-    let bodies = packed(rt, &rec, count)?;
+    let bodies = packed(rt, &record(rt, RECORD)?, count)?;
     let mut drive = MemDrive::new(rt.alloc(), MOST_VOLUME, &[])?;
+    let span = stored(rt, &mut drive, &bodies)?;
+    alone(rt, length, &bodies, rounds)?;
+    let start = Instant::now(rt)?;
+    let records = read(rt, &mut drive, &span, rounds)?;
+    let whole = RECORD.wrapping_mul(count);
+    print_rate(rt, length, "read a session back", start, whole, rounds)?;
+    let all = records == count as u64;
+    println!(rt; "a session's records are read back: {all}")?;
+    Ok(())
+}
+
+// Where the session stands, on a volume that is made for it.
+fn stored<D: Driver, R: AllocGlobal>(rt: &R, drive: &mut D, bodies: &[Body]) -> Result<Span>
+    requires { (D.meaning drive.old).loaded ≡ None }
+{
     let label = Context::context(label(), "a label")?;
-    let Ok(mut volume) = label_new(rt.alloc(), &mut drive, &label) else {
+    let Ok(mut volume) = label_new(rt.alloc(), drive, &label) else {
         bail!("no volume was made");
     };
     let start = volume.end();
-    if !store(rt, &mut drive, &mut volume, &bodies) {
+    if !store(rt, drive, &mut volume, bodies) {
         bail!("a block wasn't added");
     }
-    let span = Span {
+    Ok(Span {
         volume: label.name.copy(),
         vol_index: 1,
         first: 1,
         last: 1,
         start,
         end: volume.end(),
-    };
-    alone(rt, length, &bodies, rounds)?;
-    let start = Instant::now(rt)?;
-    let mut records = 0u64;
+    })
+}
+
+// Reads the session so many times. How many records the last of them gave.
+fn read<D: Driver, R: AllocGlobal>(
+    rt: &R,
+    drive: &mut D,
+    span: &Span,
+    rounds: usize,
+) -> Result<u64> {
+    let spans = std::slice::from_ref(span);
+    let mut records = 0;
     for _ in 0..rounds {
         let mut sink = Vec::new(rt.alloc());
-        let read = read_session(
-            rt.alloc(),
-            &mut drive,
-            KEY,
-            std::slice::from_ref(&span),
-            &mut sink,
-        );
-        let Ok(end) = read else {
+        let Ok(end) = read_session(rt.alloc(), drive, KEY, spans, &mut sink) else {
             bail!("the session isn't read");
         };
         records = end.records;
     }
-    print_rate(
-        rt,
-        length,
-        "read a session back",
-        start,
-        RECORD.wrapping_mul(count),
-        rounds,
-    )?;
-    let all = records == count as u64;
-    println!(rt; "a session's records are read back: {all}")?;
-    Ok(())
+    Ok(records)
 }
 
 // The checksums of the blocks and one copy of the bodies, as often.

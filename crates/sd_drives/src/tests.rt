@@ -13,7 +13,7 @@ const BODY: &[u8] = b"twelve bytes";
 const LONG_BODY: &[u8] =
     b"twelve bytesthe body of another blockthe body of another blockthe body of another blockthe body of another blockthe body of another block";
 
-const HISTORY: [Step; 43] = [
+static HISTORY: [Step; 43] = [
     Step::Label("Vol-0001", "Default", "Tape"),
     Step::Label("Vol-0001", "Default", "File"),
     Step::Label("Vol-0001", "Default", "File"),
@@ -60,7 +60,7 @@ const HISTORY: [Step; 43] = [
 ];
 
 // How many calls of each kind the history makes.
-const KINDS: [(Call, u64); 5] = [
+static KINDS: [(Call, u64); 5] = [
     (Call::Create, 3),
     (Call::Load, 2),
     (Call::Len, 1),
@@ -69,7 +69,7 @@ const KINDS: [(Call, u64); 5] = [
 ];
 
 // A body on one volume, whose append fails after all its bytes went out, and then on another.
-const APPEND: [Step; 9] = [
+static APPEND: [Step; 9] = [
     Step::Label("Vol-0001", "Default", "File"),
     Step::Label("Vol-0002", "Default", "File"),
     Step::Serve(1, "Default"),
@@ -82,7 +82,7 @@ const APPEND: [Step; 9] = [
 ];
 
 // Two sessions with a block each on a volume whose second sync fails, and one with a block that was synced before.
-const SYNC: [Step; 17] = [
+static SYNC: [Step; 17] = [
     Step::Label("Vol-0001", "Default", "File"),
     Step::Serve(1, "Default"),
     Step::Mount("Vol-0001"),
@@ -132,7 +132,8 @@ fn tell_all(alloc: Global) -> Result<String, TestFail> {
     let mut text = String::new(alloc);
     let told = history(alloc, &HISTORY, &[])?;
     writeln!(text, "no failure: {told}")?;
-    for (call, count) in KINDS {
+    for row in KINDS.iter() {
+        let (call, count) = *row;
         tell_failing(alloc, &mut text, call, count, When::Before)?;
         if call == Call::Append {
             tell_failing(alloc, &mut text, call, count, When::Half)?;
@@ -182,7 +183,7 @@ const SESSION_BODY: &[u8] =
 \0\0\0\0\0\0\0\0Default\0File\0\
 \0\0\0\0\0\0\0\x01\0\0\0\0\0\0\0\x05\0\0\0\x54";
 
-const READ: [Step; 8] = [
+static READ: [Step; 8] = [
     Step::Label("Vol-0001", "Default", "File"),
     Step::Serve(1, "Default"),
     Step::Mount("Vol-0001"),
@@ -202,7 +203,7 @@ fn reads_back(rt: HostRuntime) -> Result<(), TestFail> {
     Ok(())
 }
 
-const NEXT: [Step; 13] = [
+static NEXT: [Step; 13] = [
     Step::Label("Vol-0001", "Default", "File"),
     Step::Label("Vol-0002", "Default", "File"),
     Step::Label("Vol-0003", "Other", "File"),

@@ -5,18 +5,16 @@ mod faulty;
 use crate::FileDrive;
 use bench::{Bench, Step, make_folder};
 use faulty::{Call, Faulty, Plan};
-use sd_base::VolName;
 use sd_driver::Driver;
 use std::alloc::Global;
 use std::fs::Files;
 use std::os::unix::fs::{MetadataExt, symlink};
 use std::process::Abort;
-use std::sync::atomic::Ordering;
 use std::test::Fail;
 use std::{env, fs, io};
 
 // What a drive answers that has the folder to itself.
-const HISTORY: [(Step, &str); 42] = [
+static HISTORY: [(Step, &str); 42] = [
     (Step::Create("A"), "."),
     (Step::Append(&[1, 2, 3, 4, 5]), "."),
     (Step::Sync, "."),
@@ -62,7 +60,7 @@ const HISTORY: [(Step, &str); 42] = [
 ];
 
 // A second drive finds what the first one left.
-const LATER: [(Step, &str); 5] = [
+static LATER: [(Step, &str); 5] = [
     (Step::Len("A"), "3"),
     (Step::Create("B"), "E"),
     (Step::Load("A"), "."),
@@ -70,49 +68,63 @@ const LATER: [(Step, &str); 5] = [
     (Step::Read("A", 0), "[1, 2, 11, 12]"),
 ];
 
-// Links and a folder under the names of volumes.
-const NO_FILES: [(Step, &str); 16] = [
-    (Step::Create("Link"), "D"),
-    (Step::Load("Link"), "D"),
-    (Step::Len("Link"), "D"),
-    (Step::Read("Link", 0), "D"),
-    (Step::Create("Dangling"), "D"),
-    (Step::Load("Dangling"), "D"),
-    (Step::Len("Dangling"), "D"),
-    (Step::Read("Dangling", 0), "D"),
-    (Step::Create("Folder"), "D"),
-    (Step::Load("Folder"), "D"),
-    (Step::Len("Folder"), "D"),
-    (Step::Read("Folder", 0), "D"),
-    (Step::Create("Full"), "D"),
-    (Step::Load("Full"), "D"),
-    (Step::Len("Full"), "D"),
-    (Step::Read("Full", 0), "D"),
-];
-
-// A folder that isn't there.
-const NO_FOLDER: [(Step, &str); 4] = [
-    (Step::Create("A"), "D"),
-    (Step::Load("A"), "N"),
-    (Step::Len("A"), "N"),
-    (Step::Read("A", 0), "N"),
-];
-
-// A file in place of the folder.
-const FILE_FOR_FOLDER: [(Step, &str); 4] = [
-    (Step::Create("A"), "D"),
-    (Step::Load("A"), "D"),
-    (Step::Len("A"), "D"),
-    (Step::Read("A", 0), "D"),
+// What isn't a file or a folder: the end of the path of the drive's folder, what the drive answers, and how often
+// it has failed by the end.
+static NO_PLACES: [(&str, &[(Step, &str)], u64); 3] = [
+    // Links and a folder under the names of volumes.
+    (
+        "",
+        &[
+            (Step::Create("Link"), "D"),
+            (Step::Load("Link"), "D"),
+            (Step::Len("Link"), "D"),
+            (Step::Read("Link", 0), "D"),
+            (Step::Create("Dangling"), "D"),
+            (Step::Load("Dangling"), "D"),
+            (Step::Len("Dangling"), "D"),
+            (Step::Read("Dangling", 0), "D"),
+            (Step::Create("Folder"), "D"),
+            (Step::Load("Folder"), "D"),
+            (Step::Len("Folder"), "D"),
+            (Step::Read("Folder", 0), "D"),
+            (Step::Create("Full"), "D"),
+            (Step::Load("Full"), "D"),
+            (Step::Len("Full"), "D"),
+            (Step::Read("Full", 0), "D"),
+        ],
+        16,
+    ),
+    // A folder that isn't there.
+    (
+        "/Nothing",
+        &[
+            (Step::Create("A"), "D"),
+            (Step::Load("A"), "N"),
+            (Step::Len("A"), "N"),
+            (Step::Read("A", 0), "N"),
+        ],
+        1,
+    ),
+    // A file in place of the folder.
+    (
+        "/Target",
+        &[
+            (Step::Create("A"), "D"),
+            (Step::Load("A"), "D"),
+            (Step::Len("A"), "D"),
+            (Step::Read("A", 0), "D"),
+        ],
+        4,
+    ),
 ];
 
 // A folder in which nobody makes a file.
-const NO_PERMISSION: [(Step, &str); 1] = [(Step::Create("A"), "D")];
+static NO_PERMISSION: [(Step, &str); 1] = [(Step::Create("A"), "D")];
 
 // What a drive answers where a call of the system fails so, with a number of the system's: 2 no such file,
 // 4 interrupted, 5 a fault, 12 no memory, 13 no permission, 17 there already, 27 file too large, 28 no space,
 // 122 no quota.
-const FAULTS: [(Step, &str); 83] = [
+static FAULTS: [(Step, &str); 83] = [
     (Step::Fails(Call::Open, 2), "."),
     (Step::Create("A"), "D"),
     (Step::Fails(Call::Open, 12), "."),
@@ -199,7 +211,7 @@ const FAULTS: [(Step, &str); 83] = [
 ];
 
 // A file is opened once for many calls, and the folder is synced once for each create or load.
-const FEW_OPENS: [(Step, &str); 23] = [
+static FEW_OPENS: [(Step, &str); 24] = [
     (Step::Create("A"), "."),
     (Step::Append(&[1, 2, 3]), "."),
     (Step::Sync, "."),
@@ -223,83 +235,109 @@ const FEW_OPENS: [(Step, &str); 23] = [
     (Step::Append(&[6]), "."),
     (Step::Sync, "."),
     (Step::Unload, "."),
+    (Step::Opens, "8 8"),
 ];
 
-// The greatest count of failures, and what comes after it.
-const GREATEST: [(Step, &str); 10] = [
-    (Step::Load("A"), "."),
+// From one failure below their greatest count. At that count no call of the system is made any more: the four calls
+// are an open, a look at the open file, a write and a read.
+static GREATEST: [(Step, &str); 18] = [
+    (Step::Create("A"), "."),
     (Step::Append(&[7]), "."),
     (Step::Fails(Call::Read, 5), "."),
     (Step::Read("A", 0), "D"),
+    (Step::Calls, "4"),
     (Step::Append(&[8]), "D"),
     (Step::Sync, "D"),
     (Step::Cut(0), "D"),
     (Step::Len("A"), "D"),
     (Step::Read("A", 0), "D"),
     (Step::Unload, "."),
-];
-
-// After that nothing can be loaded.
-const SPENT: [(Step, &str); 5] = [
     (Step::Create("B"), "D"),
     (Step::Load("A"), "D"),
     (Step::Len("A"), "D"),
     (Step::Read("A", 0), "D"),
     (Step::Unload, "."),
+    (Step::Calls, "4"),
+    (Step::Opens, "1 0"),
 ];
 
-// A history, and how often the drive has answered `Device` and `NoRoom` by its end.
-fn play(
+// Each call once.
+static EACH_CALL: [(Step, &str); 9] = [
+    (Step::Create("Vol-0001"), "."),
+    (Step::Append(&[1, 2, 3]), "."),
+    (Step::Sync, "."),
+    (Step::Unload, "."),
+    (Step::Load("Vol-0001"), "."),
+    (Step::Cut(2), "."),
+    (Step::Len("Vol-0001"), "2"),
+    (Step::Unload, "."),
+    (Step::Read("Vol-0001", 0), "[1, 2]"),
+];
+
+// A history, and how often the drive has failed by its end.
+fn play<D: Driver + Drop>(
     rt: &impl Abort,
     alloc: Global,
-    bench: &mut Bench<'_, FileDrive<Faulty<'_>>>,
+    bench: &mut Bench<'_, D>,
     rows: &[(Step, &str)],
-    counts: (u64, u64),
+    failures: u64,
 ) -> Result<(), Fail> {
     for (row, (step, expected)) in rows.iter().enumerate() {
-        let mut text = String::new(alloc);
-        bench.step(&mut text, *step)?;
+        let text = bench.told(alloc, *step)?;
         assert_eq!(rt; text.as_str(), *expected, "row {row}");
     }
-    assert_eq!(rt; (bench.driver.failures(), bench.driver.tally.told), counts);
+    assert_eq!(rt; bench.driver.failures(), failures);
     Ok(())
 }
 
-fn make_bench<'a>(
-    rt: &'a HostRuntime,
-    plan: &'a Plan,
+// A history on a drive of the folder at `path` that has failed `before` times. How often it has failed and was full
+// by its end.
+fn play_in(
+    rt: &impl Abort,
+    system: &HostRuntime,
     path: &str,
-) -> Result<Bench<'a, FileDrive<Faulty<'a>>>, Fail> {
-    let system = Faulty { rt, plan };
-    Ok(Bench {
-        plan,
-        driver: FileDrive::new(system, rt.alloc(), path)?,
+    before: u64,
+    rows: &[(Step, &str)],
+    counts: (u64, u64),
+) -> Result<(), Fail> {
+    let plan = Plan::new();
+    let mut driver = FileDrive::new(
+        Faulty {
+            rt: system,
+            plan: &plan,
+        },
+        system.alloc(),
+        path,
+    )?;
+    driver.tally.failures = before;
+    let mut bench = Bench {
+        plan: &plan,
+        driver,
         loaded: false,
-    })
+    };
+    let (failures, told) = counts;
+    play(rt, system.alloc(), &mut bench, rows, failures)?;
+    assert_eq!(rt; bench.driver.tally.told, told);
+    Ok(())
+}
+
+// The bytes and the permissions of the file of volume A.
+fn look<R: Files + AllocGlobal>(rt: &R, path: &str) -> io::Result<String> {
+    let file = format!(in rt.alloc(); "{path}/A")?;
+    let bytes = fs::read(rt, file.as_str())?;
+    let mode = fs::metadata(rt, file.as_str())?.mode() & 0o777;
+    Ok(format!(in rt.alloc(); "{bytes:?} {mode:o}")?)
 }
 
 #[test]
 fn volumes_are_files(rt: HostRuntime) -> Result<(), Fail> {
-    let alloc = rt.alloc();
-    let plan = Plan::new();
     let folder = make_folder(&rt)?;
     let path = folder.as_str();
-    play(
-        &rt,
-        alloc,
-        &mut make_bench(&rt, &plan, path)?,
-        &HISTORY,
-        (0, 0),
-    )?;
-    let file = format!(in alloc; "{path}/A")?;
-    assert_eq!(rt;
-        fs::read(&rt, file.as_str())?.as_slice(),
-        [1, 2, 11].as_slice()
-    );
-    assert_eq!(rt; fs::metadata(&rt, file.as_str())?.mode() & 0o777, 0o600);
+    play_in(&rt, &rt, path, 0, &HISTORY, (0, 0))?;
+    assert_eq!(rt; look(&rt, path)?.as_str(), "[1, 2, 11] 600");
     // An empty path is the current folder.
     env::set_current_dir(&rt, path)?;
-    play(&rt, alloc, &mut make_bench(&rt, &plan, "")?, &LATER, (0, 0))?;
+    play_in(&rt, &rt, "", 0, &LATER, (0, 0))?;
     fs::remove_dir_all(&rt, path)?;
     Ok(())
 }
@@ -314,17 +352,13 @@ fn put_names<R: Files + AllocGlobal>(rt: &R, path: &str) -> io::Result<()> {
     fs::create_dir(rt, format!(in alloc; "{path}/Folder")?)
 }
 
-// A history on a drive of the folder at `path` that ends with so many failures.
-fn play_refusals(
-    rt: &impl Abort,
-    system: &HostRuntime,
-    path: &str,
-    rows: &[(Step, &str)],
-    failures: u64,
-) -> Result<(), Fail> {
-    let plan = Plan::new();
-    let mut bench = make_bench(system, &plan, path)?;
-    play(rt, system.alloc(), &mut bench, rows, (failures, 0))
+// The histories of what is no file, in the folder at `path`.
+fn play_places(rt: &impl Abort, system: &HostRuntime, path: &str) -> Result<(), Fail> {
+    for (place, rows, failures) in NO_PLACES.iter() {
+        let place = format!(in system.alloc(); "{path}{place}")?;
+        play_in(rt, system, place.as_str(), 0, rows, (*failures, 0))?;
+    }
+    Ok(())
 }
 
 #[test]
@@ -332,67 +366,59 @@ fn what_is_no_file(rt: HostRuntime) -> Result<(), Fail> {
     let folder = make_folder(&rt)?;
     let path = folder.as_str();
     put_names(&rt, path)?;
-    play_refusals(&rt, &rt, path, &NO_FILES, 16)?;
-    let missing = format!(in rt.alloc(); "{path}/Nothing")?;
-    play_refusals(&rt, &rt, missing.as_str(), &NO_FOLDER, 1)?;
+    play_places(&rt, &rt, path)?;
     let target = format!(in rt.alloc(); "{path}/Target")?;
-    play_refusals(&rt, &rt, target.as_str(), &FILE_FOR_FOLDER, 4)?;
-    play_refusals(&rt, &rt, "/proc", &NO_PERMISSION, 1)?;
     assert_eq!(rt; fs::read(&rt, target)?.as_slice(), b"kept".as_slice());
     fs::remove_dir_all(&rt, path)?;
     Ok(())
 }
 
 #[test]
+fn nobody_makes_a_file(rt: HostRuntime) -> Result<(), Fail> {
+    play_in(&rt, &rt, "/proc", 0, &NO_PERMISSION, (1, 0))
+}
+
+#[test]
 fn calls_of_the_system_fail(rt: HostRuntime) -> Result<(), Fail> {
-    let alloc = rt.alloc();
     let folder = make_folder(&rt)?;
-    let path = folder.as_str();
-    let plan = Plan::new();
-    let mut bench = make_bench(&rt, &plan, path)?;
-    play(&rt, alloc, &mut bench, &FAULTS, (25, 3))?;
-    fs::remove_dir_all(&rt, path)?;
+    play_in(&rt, &rt, folder.as_str(), 0, &FAULTS, (25, 3))?;
+    fs::remove_dir_all(&rt, folder)?;
     Ok(())
 }
 
 #[test]
 fn few_opens(rt: HostRuntime) -> Result<(), Fail> {
-    let alloc = rt.alloc();
+    let folder = make_folder(&rt)?;
+    play_in(&rt, &rt, folder.as_str(), 0, &FEW_OPENS, (0, 0))?;
+    fs::remove_dir_all(&rt, folder)?;
+    Ok(())
+}
+
+#[test]
+fn greatest_count(rt: HostRuntime) -> Result<(), Fail> {
     let folder = make_folder(&rt)?;
     let path = folder.as_str();
-    let plan = Plan::new();
-    let mut bench = make_bench(&rt, &plan, path)?;
-    play(&rt, alloc, &mut bench, &FEW_OPENS, (0, 0))?;
-    assert_eq!(rt; plan.opens.load(Ordering::SeqCst), 8);
-    assert_eq!(rt; plan.syncs.load(Ordering::SeqCst), 8);
-    bench.driver.tally.failures = u64::MAX - 1;
-    play(&rt, alloc, &mut bench, &GREATEST, (u64::MAX, 0))?;
-    let calls = plan.calls.load(Ordering::SeqCst);
-    play(&rt, alloc, &mut bench, &SPENT, (u64::MAX, 0))?;
-    assert_eq!(rt; plan.calls.load(Ordering::SeqCst), calls);
-    assert_eq!(rt; fs::metadata(&rt, format!(in alloc; "{path}/A")?)?.len(), 6);
+    play_in(&rt, &rt, path, u64::MAX - 1, &GREATEST, (u64::MAX, 0))?;
+    assert_eq!(rt; look(&rt, path)?.as_str(), "[7] 600");
     fs::remove_dir_all(&rt, path)?;
     Ok(())
 }
 
-// Each call once on the system's own files.
+// On the system's own files.
+fn play_plain(rt: &impl Abort, system: &HostRuntime, path: &str) -> Result<(), Fail> {
+    let plan = Plan::new();
+    let mut bench = Bench {
+        plan: &plan,
+        driver: FileDrive::new(system.clone()?, system.alloc(), path)?,
+        loaded: false,
+    };
+    play(rt, system.alloc(), &mut bench, &EACH_CALL, 0)
+}
+
 #[test]
 fn on_the_system(rt: HostRuntime) -> Result<(), Fail> {
     let folder = make_folder(&rt)?;
-    let name = VolName::parse("Vol-0001")?;
-    let mut drive = FileDrive::new(rt.clone()?, rt.alloc(), folder.as_str())?;
-    drive.create(&name)?;
-    drive.append(&[1, 2, 3])?;
-    drive.sync()?;
-    drive.unload();
-    drive.load(&name)?;
-    drive.cut(2)?;
-    assert_eq!(rt; drive.len(&name)?, 2);
-    drive.unload();
-    let mut buffer = [0; 4];
-    assert_eq!(rt; drive.read_at(&name, 0, &mut buffer)?, 2);
-    assert_eq!(rt; buffer, [1, 2, 0, 0]);
-    assert_eq!(rt; drive.failures(), 0);
-    fs::remove_dir_all(&rt, folder.as_str())?;
+    play_plain(&rt, &rt, folder.as_str())?;
+    fs::remove_dir_all(&rt, folder)?;
     Ok(())
 }

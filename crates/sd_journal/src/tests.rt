@@ -5,7 +5,7 @@ use player::{Step, play, tell};
 use sd_base::VolName;
 use std::test::Fail;
 
-const STEPS: [Step; 10] = [
+static STEPS: [Step; 10] = [
     Step::Note(1, "A", 82, 100, 0, 0),
     Step::Note(2, "A", 182, 50, 1, 1),
     Step::Synced("A"),
@@ -19,7 +19,7 @@ const STEPS: [Step; 10] = [
 ];
 
 // What a journal tells of three sessions, of which the last has no block.
-const TOLD: [(u32, &str); 3] = [
+static TOLD: [(u32, &str); 3] = [
     (
         1,
         "placed 4 synced 3 failed
@@ -50,7 +50,8 @@ span B 2 2 3 60 90
 #[test]
 fn tells_each_session(rt: HostRuntime) -> Result<(), Fail> {
     let journal = play(rt.alloc(), &STEPS).ok_or("played")?;
-    for (id, told) in TOLD {
+    for row in TOLD.iter() {
+        let (id, told) = *row;
         let text = tell(rt.alloc(), &journal, id).ok_or("told")?;
         assert_eq!(rt; text.as_str(), told);
     }

@@ -20,7 +20,7 @@ const END_DATA: &[u8] =
 const EARLY_DATA: &[u8] = b"sd-profile\n\0\0\0\0\x01\xff\xff\xff\xff\xff\xff\xff\xfeA\0B\0C\0";
 
 // The header and the data of a label's record, and what the readers tell of it.
-const LABELS: [(&[u8], &[u8], &str); 4] = [
+static LABELS: [(&[u8], &[u8], &str); 4] = [
     (
         b"\xff\xff\xff\xfe\0\0\0\x01\0\0\0\x2e",
         VOLUME_DATA,
@@ -45,7 +45,7 @@ const LABELS: [(&[u8], &[u8], &str); 4] = [
 
 // Why it is no label; the index and the stream of its header, how far its size is from the length of its
 // data, and its data.
-const NO_LABELS: [(&str, i32, i32, i32, &[u8]); 24] = [
+static NO_LABELS: [(&str, i32, i32, i32, &[u8]); 24] = [
     ("a session's index", -4, 1, 0, VOLUME_DATA),
     ("other stream", -2, 2, 0, VOLUME_DATA),
     (
@@ -234,7 +234,8 @@ fn record(
 
 #[test]
 fn labels(rt: HostRuntime) -> Result<(), Fail> {
-    for (header, data, wanted) in LABELS {
+    for row in LABELS.iter() {
+        let (header, data, wanted) = *row;
         let bytes = joined(rt.alloc(), &[header, data])?;
         assert_tell(&rt, rt.alloc(), &bytes, wanted)?;
         let behind = joined(rt.alloc(), &[header, data, b"\0"])?;
@@ -248,7 +249,8 @@ fn labels(rt: HostRuntime) -> Result<(), Fail> {
 
 #[test]
 fn no_labels(rt: HostRuntime) -> Result<(), Fail> {
-    for (why, index, stream, more, data) in NO_LABELS {
+    for row in NO_LABELS.iter() {
+        let (why, index, stream, more, data) = *row;
         let size = u32::try_from(data.len())?.wrapping_add_signed(more);
         let bytes = record(rt.alloc(), index, stream, size, data)?;
         assert!(rt; read_volume_label(&bytes).is_err(), "{why}");

@@ -34,7 +34,7 @@ enum Step {
     Cut(u64),
 }
 
-const HISTORY: [Step; 26] = [
+static HISTORY: [Step; 26] = [
     Step::Create('A'),
     Step::Append(&[1, 2, 3, 4, 5]),
     Step::Sync,
@@ -211,13 +211,23 @@ fn stopped(
     left.shelf(text)
 }
 
+// Steps one after another, told with a space behind each.
+fn play<D: Driver + Drop>(
+    text: &mut String,
+    bench: &mut Bench<D>,
+    steps: &[Step],
+) -> Result<(), TestFail> {
+    for step in steps {
+        bench.step(text, *step)?;
+    }
+    Ok(())
+}
+
 // The history under a plan, told as the tables tell it.
 fn history(alloc: Global, plan: &[Fail]) -> Result<String, TestFail> {
     let mut text = String::new(alloc);
     let mut bench = make_bench(alloc, plan)?;
-    for step in HISTORY {
-        bench.step(&mut text, step)?;
-    }
+    play(&mut text, &mut bench, &HISTORY)?;
     text.push_str("| ")?;
     bench.shelf(&mut text)?;
     text.push_str(" | ")?;
@@ -229,7 +239,7 @@ fn history(alloc: Global, plan: &[Fail]) -> Result<String, TestFail> {
 }
 
 // The kinds of call, and how many of each the history makes.
-const KINDS: [(Call, u64); 7] = [
+static KINDS: [(Call, u64); 7] = [
     (Call::Create, 3),
     (Call::Load, 2),
     (Call::Len, 3),
@@ -259,22 +269,26 @@ fn tell_all(alloc: Global) -> Result<String, TestFail> {
     let mut text = String::new(alloc);
     let told = history(alloc, &[])?;
     writeln!(text, "no failure: {told}")?;
-    for (call, count) in KINDS {
-        tell_failing(alloc, &mut text, call, count, When::Before)?;
-        tell_failing(alloc, &mut text, call, count, When::Half)?;
-        tell_failing(alloc, &mut text, call, count, When::After)?;
+    for (call, count) in KINDS.iter() {
+        tell_failing(alloc, &mut text, *call, *count, When::Before)?;
+        tell_failing(alloc, &mut text, *call, *count, When::Half)?;
+        tell_failing(alloc, &mut text, *call, *count, When::After)?;
     }
     Ok(text)
 }
 
+// A drive after the history.
+fn after_history(alloc: Global) -> Result<Bench<MemDrive>, TestFail> {
+    let mut text = String::new(alloc);
+    let mut bench = make_bench(alloc, &[])?;
+    play(&mut text, &mut bench, &HISTORY)?;
+    Ok(bench)
+}
+
 // What a stop after each counted call of the history leaves, a line for each.
 fn tell_stops(alloc: Global) -> Result<String, TestFail> {
-    let mut text = String::new(alloc);
+    let bench = after_history(alloc)?;
     let mut left = String::new(alloc);
-    let mut bench = make_bench(alloc, &[])?;
-    for step in HISTORY {
-        bench.step(&mut text, step)?;
-    }
     for calls in 0..=bench.driver.calls() {
         write!(left, "{calls}: ")?;
         stopped(alloc, &mut left, &bench.driver, calls, &[0, 0])?;
@@ -295,26 +309,43 @@ fn stop_after_every_call(rt: HostRuntime) -> Result<(), TestFail> {
     Ok(())
 }
 
+// Two stable bytes, by three counted calls.
+static TWO_BYTES: [Step; 3] = [Step::Create('A'), Step::Append(&[1, 2]), Step::Sync];
+
+// One counted call.
+static SYNC_AGAIN: [Step; 2] = [Step::Load('A'), Step::Sync];
+
+// What a stop behind two stable bytes leaves, with a tail of one byte; the calls before it are told.
+fn left_with_tail(alloc: Global, text: &mut String) -> Result<Bench<MemDrive>, TestFail> {
+    let mut bench = make_bench(alloc, &[])?;
+    play(text, &mut bench, &TWO_BYTES)?;
+    let calls = bench.driver.calls();
+    write!(text, "{calls} ")?;
+    Ok(Bench {
+        driver: bench.driver.after_stop(alloc, calls, &[9])?,
+        loaded: false,
+    })
+}
+
+// That drive stopped before and after a sync, told with the number of its counted calls.
+fn tell_tail(alloc: Global) -> Result<String, TestFail> {
+    let mut text = String::new(alloc);
+    let mut left = left_with_tail(alloc, &mut text)?;
+    stopped(alloc, &mut text, &left.driver, 0, &[])?;
+    text.push(' ')?;
+    play(&mut text, &mut left, &SYNC_AGAIN)?;
+    let calls = left.driver.calls();
+    stopped(alloc, &mut text, &left.driver, calls, &[])?;
+    write!(text, " {calls}")?;
+    Ok(text)
+}
+
 // A tail that a stop left is made stable by a sync, as any other bytes.
 #[test]
 fn tail_is_synced(rt: HostRuntime) -> Result<(), TestFail> {
-    let alloc = rt.alloc();
-    let mut text = String::new(alloc);
-    let mut bench = make_bench(alloc, &[])?;
-    let name = named('A')?;
-    bench.create(&mut text, &name)?;
-    bench.append(&mut text, &[1, 2])?;
-    bench.sync(&mut text)?;
-    assert_eq!(rt; bench.driver.calls(), 3);
-    let mut left = Bench {
-        driver: bench.driver.after_stop(alloc, 3, &[9])?,
-        loaded: false,
-    };
-    stopped(alloc, &mut text, &left.driver, 0, &[])?;
-    left.load(&mut text, &name)?;
-    left.sync(&mut text)?;
-    assert_eq!(rt; left.driver.calls(), 1);
-    stopped(alloc, &mut text, &left.driver, 1, &[])?;
-    assert_eq!(rt; text.as_str(), "...A=[1, 2] B=N..A=[1, 2, 9] B=N");
+    assert_eq!(rt;
+        tell_tail(rt.alloc())?.as_str(),
+        ". . . 3 A=[1, 2] B=N . . A=[1, 2, 9] B=N 1"
+    );
     Ok(())
 }

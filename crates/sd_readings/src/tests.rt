@@ -52,7 +52,8 @@ fn told(alloc: Global, drive: &mut MemDrive, id: u32, rows: &[SpanRow]) -> Optio
 #[test]
 fn spans(rt: HostRuntime) {
     let mut drive = shelf(rt.alloc(), &[]).expect(&rt, "a drive");
-    for (name, id, rows, wanted) in ROWS {
+    for row in ROWS.iter() {
+        let (name, id, rows, wanted) = *row;
         let answer = told(rt.alloc(), &mut drive, id, rows).expect(&rt, "an answer");
         assert_eq!(rt; answer.as_str(), wanted, "{name}");
     }

@@ -29,14 +29,25 @@ pub fn run<R: Print + AllocGlobal>(rt: &R) -> Result<()> {
         Ok(drive) => drive,
         Err(_) => ready_drive(alloc, &names)?,
     };
-    let mut session = opened(alloc, &names)?;
-    fill(alloc, &mut session)?;
-    let piece = sent(alloc, &mut session)?;
-    place(rt, &mut drive, piece)?;
+    write(rt, &mut drive, &names)?;
+    read(rt, &mut drive)
+}
+
+// A session from its start to its close.
+fn write<R: Print + AllocGlobal>(rt: &R, drive: &mut Drive<MemDrive>, names: &Names) -> Result<()> {
+    let mut session = filled(rt.alloc(), names)?;
+    let piece = sent(rt.alloc(), &mut session)?;
+    place(rt, drive, piece)?;
     if session.close(&drive.progress(KEY)).is_err() {
         bail!("the session isn't closed");
     }
-    read(rt, &mut drive)
+    Ok(())
+}
+
+fn filled(alloc: Global, names: &Names) -> Result<Session<MemSpool>> {
+    let mut session = opened(alloc, names)?;
+    fill(alloc, &mut session)?;
+    Ok(session)
 }
 
 fn the_names() -> Result<Names> {
@@ -61,6 +72,12 @@ fn the_names() -> Result<Names> {
 // A drive with a labelled volume in it, which serves the session. A label that wanted memory may leave its name on
 // the shelf, so the second try is a drive of its own.
 fn ready_drive(alloc: Global, names: &Names) -> Result<Drive<MemDrive>> {
+    let mut drive = new_drive(alloc, names)?;
+    make_ready(&mut drive, names)?;
+    Ok(drive)
+}
+
+fn new_drive(alloc: Global, names: &Names) -> Result<Drive<MemDrive>> {
     let limits = Limits {
         block: 1024,
         volume: 10_000,
@@ -68,9 +85,14 @@ fn ready_drive(alloc: Global, names: &Names) -> Result<Drive<MemDrive>> {
         time: KEY.time,
     };
     let device = MemDrive::new(alloc, 10_000, &[])?;
-    let Ok(mut drive) = Drive::new(alloc, device, names.media.copy(), limits) else {
+    let Ok(drive) = Drive::new(alloc, device, names.media.copy(), limits) else {
         bail!("no drive is made");
     };
+    Ok(drive)
+}
+
+// Labels and mounts the volume, and serves the session.
+fn make_ready(drive: &mut Drive<MemDrive>, names: &Names) -> Result<()> {
     if drive
         .label(&names.volume, &names.pool, &names.media, 0)
         .is_err()
@@ -83,7 +105,7 @@ fn ready_drive(alloc: Global, names: &Names) -> Result<Drive<MemDrive>> {
     if drive.serve(KEY, &names.pool).is_err() {
         drive.serve(KEY, &names.pool)?;
     }
-    Ok(drive)
+    Ok(())
 }
 
 fn open(

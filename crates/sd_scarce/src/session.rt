@@ -10,30 +10,12 @@ use sd_unpack::{AddFault, Unpacker};
 use std::alloc::Global;
 
 /// Records of which the second goes on over several bodies.
-const SIZES: [usize; 3] = [863, 3000, 0];
+static SIZES: [usize; 3] = [863, 3000, 0];
 
 /// Packs the records at the least block limit, and takes them back.
 pub fn run<R: Print + AllocGlobal>(rt: &R) -> Result<()> {
-    let alloc = rt.alloc();
-    let mut packer = match Packer::new(alloc, 1024) {
-        Ok(packer) => packer,
-        Err(_) => Packer::new(alloc, 1024)?,
-    };
-    put_label(&mut packer, None)?;
-    let mut index = 1;
-    for size in SIZES {
-        put(alloc, &mut packer, index, size)?;
-        index = if index < 3 { index + 1 } else { index };
-    }
-    put_label(
-        &mut packer,
-        Some(Totals {
-            records: 3,
-            bytes: 3863,
-        }),
-    )?;
-    packer.finish();
-    let mut unpacker = Unpacker::new(alloc);
+    let mut packer = packed(rt.alloc())?;
+    let mut unpacker = Unpacker::new(rt.alloc());
     for _ in 0..packer.waiting() {
         if let Some(body) = packer.take_body() {
             pass(rt, &mut unpacker, &body)?;
@@ -41,6 +23,29 @@ pub fn run<R: Print + AllocGlobal>(rt: &R) -> Result<()> {
     }
     let ended = unpacker.ended();
     println!(rt; "session ended: {ended}")?;
+    Ok(())
+}
+
+fn packed(alloc: Global) -> Result<Packer> {
+    let mut packer = match Packer::new(alloc, 1024) {
+        Ok(packer) => packer,
+        Err(_) => Packer::new(alloc, 1024)?,
+    };
+    put_label(&mut packer, None)?;
+    put_records(alloc, &mut packer)?;
+    let totals = Totals {
+        records: 3,
+        bytes: 3863,
+    };
+    put_label(&mut packer, Some(totals))?;
+    packer.finish();
+    Ok(packer)
+}
+
+fn put_records(alloc: Global, packer: &mut Packer) -> Result<()> {
+    for (place, size) in SIZES.iter().enumerate() {
+        put(alloc, packer, place as u32 + 1, *size)?;
+    }
     Ok(())
 }
 

@@ -24,33 +24,41 @@ fn body(alloc: Global, byte: u8) -> Result<Body> {
 }
 
 fn spool<R: Print + AllocGlobal>(rt: &R) -> Result<()> {
-    let alloc = rt.alloc();
-    let store = MemSpool::new(alloc);
-    let Ok(mut spool) = JobSpool::new(alloc, store, 2000) else {
+    let store = MemSpool::new(rt.alloc());
+    let Ok(mut spool) = JobSpool::new(rt.alloc(), store, 2000) else {
         bail!("a spool that can't be cleared");
     };
-    for byte in [1u8, 2] {
-        let body = body(alloc, byte)?;
-        let mut put = spool.put_body(&body);
-        if let Err(PutFault::Memory) = put {
-            put = spool.put_body(&body);
-        }
-        let put = put.is_ok();
-        println!(rt; "spooled: {put}")?;
-    }
+    put(rt, &mut spool, 1)?;
+    put(rt, &mut spool, 2)?;
     for _ in 0..3 {
-        let mut taken = spool.next_body();
-        if let Err(SpoolStoreFault::Memory) = &taken {
-            taken = spool.next_body();
+        take(rt, &mut spool)?;
+    }
+    Ok(())
+}
+
+fn put<R: Print + AllocGlobal>(rt: &R, spool: &mut JobSpool<MemSpool>, byte: u8) -> Result<()> {
+    let body = body(rt.alloc(), byte)?;
+    let mut put = spool.put_body(&body);
+    if let Err(PutFault::Memory) = put {
+        put = spool.put_body(&body);
+    }
+    let put = put.is_ok();
+    println!(rt; "spooled: {put}")?;
+    Ok(())
+}
+
+fn take<R: Print>(rt: &R, spool: &mut JobSpool<MemSpool>) -> Result<()> {
+    let mut taken = spool.next_body();
+    if let Err(SpoolStoreFault::Memory) = &taken {
+        taken = spool.next_body();
+    }
+    match taken {
+        Ok(Some(body)) => {
+            let first = body.bytes.as_slice().first().copied().unwrap_or(0);
+            println!(rt; "out: {first}")?;
         }
-        match taken {
-            Ok(Some(body)) => {
-                let first = body.bytes.as_slice().first().copied().unwrap_or(0);
-                println!(rt; "out: {first}")?;
-            }
-            Ok(None) => println!(rt; "out: none")?,
-            Err(_) => bail!("a spool fault"),
-        }
+        Ok(None) => println!(rt; "out: none")?,
+        Err(_) => bail!("a spool fault"),
     }
     Ok(())
 }

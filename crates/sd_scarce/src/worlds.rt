@@ -33,9 +33,9 @@ enum Act {
     Close,
 }
 
-const BEFORE: [Act; 3] = [Act::Open, Act::Append, Act::End];
+static BEFORE: [Act; 3] = [Act::Open, Act::Append, Act::End];
 
-const EACH_BLOCK: [Act; 4] = [Act::Despool, Act::Take, Act::Seek, Act::Place];
+static EACH_BLOCK: [Act; 4] = [Act::Despool, Act::Take, Act::Seek, Act::Place];
 
 /// Plays a session of one block and one of three, each on a world of its own, and reads them back.
 pub fn run<R: Print + AllocGlobal>(rt: &R) -> Result<()> {
@@ -45,22 +45,41 @@ pub fn run<R: Print + AllocGlobal>(rt: &R) -> Result<()> {
 
 // One session with the one record of this data.
 fn play<R: Print + AllocGlobal>(rt: &R, data: &[u8], blocks: usize) -> Result<()> {
-    let alloc = rt.alloc();
     let names = the_names()?;
-    let mut world = match new_world(alloc) {
+    let mut world = match new_world(rt.alloc()) {
         Ok(world) => world,
-        Err(_) => new_world(alloc)?,
+        Err(_) => new_world(rt.alloc())?,
     };
-    label(alloc, &mut world, &names)?;
-    steps(alloc, &mut world, &names, data, &BEFORE)?;
+    write(rt.alloc(), &mut world, &names, data, blocks)?;
+    close(rt, &mut world, &names, data)
+}
+
+// The session up to the sync of its last block.
+fn write(
+    alloc: Global,
+    world: &mut World,
+    names: &Names,
+    data: &[u8],
+    blocks: usize,
+) -> Result<()> {
+    label(alloc, world, names)?;
+    steps(alloc, world, names, data, &BEFORE)?;
     for _ in 0..blocks {
-        steps(alloc, &mut world, &names, data, &EACH_BLOCK)?;
+        steps(alloc, world, names, data, &EACH_BLOCK)?;
     }
-    steps(alloc, &mut world, &names, data, &[Act::Sync])?;
-    let Reply::Closed { key, spans } = step(alloc, &mut world, &names, data, Act::Close)? else {
+    steps(alloc, world, names, data, &[Act::Sync])
+}
+
+fn close<R: Print + AllocGlobal>(
+    rt: &R,
+    world: &mut World,
+    names: &Names,
+    data: &[u8],
+) -> Result<()> {
+    let Reply::Closed { key, spans } = step(rt.alloc(), world, names, data, Act::Close)? else {
         anyhow::bail!("the session isn't closed");
     };
-    print_session(rt, &world, key, &spans, data)
+    print_session(rt, world, key, &spans, data)
 }
 
 fn new_world(alloc: Global) -> Result<World, AllocError> {

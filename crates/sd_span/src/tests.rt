@@ -28,7 +28,8 @@ span A 3 3 4 300 4294967767
 
 #[test]
 fn texts_are_read_back(rt: HostRuntime) -> Result<(), Fail> {
-    for text in READ {
+    for row in READ.iter() {
+        let text = *row;
         let again = outcome_of(rt.alloc(), text).ok_or("memory")?;
         assert_eq!(rt; again.as_str().trim_end(), text.trim_end(), "{text}");
     }
@@ -37,7 +38,8 @@ fn texts_are_read_back(rt: HostRuntime) -> Result<(), Fail> {
 
 #[test]
 fn other_texts_are_refused(rt: HostRuntime) -> Result<(), Fail> {
-    for text in REFUSED {
+    for row in REFUSED.iter() {
+        let text = *row;
         let refused = outcome_of(rt.alloc(), text).ok_or("memory")?;
         assert_eq!(rt; refused.as_str(), "3950 Bad span", "{text}");
     }
@@ -46,10 +48,12 @@ fn other_texts_are_refused(rt: HostRuntime) -> Result<(), Fail> {
 
 #[test]
 fn memory_comes_back(rt: HostRuntime) {
-    for text in READ {
+    for row in READ.iter() {
+        let text = *row;
         assert!(rt; read_at_last(rt.alloc(), text), "{text}");
     }
-    for text in REFUSED {
+    for row in REFUSED.iter() {
+        let text = *row;
         assert!(rt; is_refused(rt.alloc(), text), "{text}");
     }
 }

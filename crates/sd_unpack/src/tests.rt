@@ -51,7 +51,7 @@ type Records = &'static [(u32, &'static [u8])];
 
 // What was taken before, the body that is refused, why, and the records that wait then: those of the body that is
 // refused never come. The first of two reasons is the answer.
-const DAMAGES: [(&[&[u8]], &[&[u8]], Damage, Records); 29] = [
+static DAMAGES: [(&[&[u8]], &[&[u8]], Damage, Records); 29] = [
     (&[], &[], Damage::BadFragment, &[]),
     (&[], &[b"\xff\xff\xff"], Damage::BadFragment, &[]),
     (&[], &[ZERO_STREAM], Damage::BadFragment, &[]),
@@ -123,7 +123,7 @@ const AT_END: (bool, bool) = (false, true);
 // A body, what stands of the session then, the records that are taken then, and whether they are all that wait.
 type Step = (&'static [&'static [u8]], (bool, bool), Records, bool);
 
-const SESSIONS: [&[Step]; 3] = [
+static SESSIONS: [&[Step]; 3] = [
     &[(&[START, HELLO, END], AT_END, &[(1, b"hello")], true)],
     &[
         (&[START, EMPTY, HEL], WITHIN, &[(2, b"")], true),
@@ -160,7 +160,7 @@ const CUT_RECORDS: [(&str, usize, &[usize], &[u8]); 3] = [
     ),
 ];
 
-const LARGE_PARTS: [usize; 16] = [
+static LARGE_PARTS: [usize; 16] = [
     64_423, 64_476, 64_476, 64_476, 64_476, 64_476, 64_476, 64_476, 64_476, 64_476, 64_476, 64_476,
     64_476, 64_476, 64_476, 32_913,
 ];
@@ -243,7 +243,8 @@ fn assert_session(rt: &impl Abort, alloc: Global, steps: &[Step]) {
 
 #[test]
 fn sessions(rt: HostRuntime) {
-    for steps in SESSIONS {
+    for row in SESSIONS.iter() {
+        let steps = *row;
         assert_session(&rt, rt.alloc(), steps);
     }
     unpacked_are_whole();
@@ -328,7 +329,8 @@ fn cut_records(rt: HostRuntime) {
 
 #[test]
 fn damages(rt: HostRuntime) {
-    for (before, last, damage, records) in DAMAGES {
+    for row in DAMAGES.iter() {
+        let (before, last, damage, records) = *row;
         let mut unpacker = Unpacker::new(rt.alloc());
         if !before.is_empty() {
             assert_answer(&rt, add_joined(rt.alloc(), &mut unpacker, before), None);

@@ -4,10 +4,11 @@ ghost use Rattle.std.specs.Prelude.{◌≡◌, false, None, IsTrue, IsSome};
 use super::faulty::{Call, Plan};
 use sd_base::VolName;
 use sd_driver::{Driver, DriverFault};
-use std::alloc::AllocError;
+use std::alloc::{AllocError, Global};
 use std::fs::Files;
 use std::io::ErrorKind;
 use std::rt::Env;
+use std::sync::atomic::Ordering;
 use std::test::Fail;
 use std::{env, fs, io};
 
@@ -24,6 +25,23 @@ pub(super) enum Step {
     Cut(u64),
     // The next such call of the system fails with this number.
     Fails(Call, u32),
+    // How many calls of the system were made.
+    Calls,
+    // How many of them opened a file, and how many synced one or a folder.
+    Opens,
+}
+
+impl Step {
+    // The volume that the step names; any other name where it names none.
+    fn name(self) -> &'static str {
+        match self {
+            Step::Create(name) => name,
+            Step::Load(name) => name,
+            Step::Len(name) => name,
+            Step::Read(name, _) => name,
+            _ => "None",
+        }
+    }
 }
 
 // A driver of any kind, beside the plan of what fails below it. It keeps in mind whether a volume is loaded.
@@ -120,23 +138,43 @@ impl<'a, D: Driver + Drop> Bench<'a, D> {
         tell(text, answer)
     }
 
-    // What the driver answers: '.', a letter for a fault, a length or bytes; 's' for a step that is skipped.
-    pub(super) fn step(&mut self, text: &mut String, step: Step) -> Result<(), Fail> {
+    fn opens(&self, text: &mut String) -> Result<(), AllocError> {
+        let opens = self.plan.opens.load(Ordering::SeqCst);
+        let syncs = self.plan.syncs.load(Ordering::SeqCst);
+        write!(text, "{opens} {syncs}")
+    }
+
+    fn calls(&self, text: &mut String) -> Result<(), AllocError> {
+        let calls = self.plan.calls.load(Ordering::SeqCst);
+        write!(text, "{calls}")
+    }
+
+    fn step(&mut self, text: &mut String, name: &VolName, step: Step) -> Result<(), AllocError> {
         match step {
-            Step::Create(name) => self.create(text, &VolName::parse(name)?)?,
-            Step::Load(name) => self.load(text, &VolName::parse(name)?)?,
-            Step::Unload => self.unload(text)?,
-            Step::Len(name) => self.len(text, &VolName::parse(name)?)?,
-            Step::Read(name, at) => self.read(text, &VolName::parse(name)?, at)?,
-            Step::Append(bytes) => self.append(text, bytes)?,
-            Step::Sync => self.sync(text)?,
-            Step::Cut(to) => self.cut(text, to)?,
+            Step::Create(_) => self.create(text, name),
+            Step::Load(_) => self.load(text, name),
+            Step::Unload => self.unload(text),
+            Step::Len(_) => self.len(text, name),
+            Step::Read(_, at) => self.read(text, name, at),
+            Step::Append(bytes) => self.append(text, bytes),
+            Step::Sync => self.sync(text),
+            Step::Cut(to) => self.cut(text, to),
             Step::Fails(call, errno) => {
                 self.plan.set(call, errno);
-                text.push('.')?;
+                text.push('.')
             }
+            Step::Calls => self.calls(text),
+            Step::Opens => self.opens(text),
         }
-        Ok(())
+    }
+
+    // What the driver answers: '.', a letter for a fault, a length or bytes; 's' for a step that is skipped. Of the
+    // plan: its counts.
+    pub(super) fn told(&mut self, alloc: Global, step: Step) -> Result<String, Fail> {
+        let name = VolName::parse(step.name())?;
+        let mut text = String::new(alloc);
+        self.step(&mut text, &name, step)?;
+        Ok(text)
     }
 }
 

@@ -9,7 +9,7 @@ use sd_memdrive::Call;
 /// What the spans are, the session's number, the spans, and what is told.
 pub type Row = (&'static str, u32, &'static [SpanRow], &'static str);
 
-pub const ROWS: [Row; 39] = [
+pub static ROWS: [Row; 39] = [
     (
         "two volumes",
         1,

@@ -3,7 +3,7 @@ use crate::{JobMediaFault, SessionSpans, put_jobmedia, read_jobmedia};
 use std::alloc::Global;
 
 /// Texts that are read: with the last newline and without it, and each number at its limits.
-pub const READ: [&str; 7] = [
+pub static READ: [&str; 7] = [
     "session 1000 1\n",
     "session 1000 1",
     "session 0 0\nspan Vol-0001 0 0 0 0 0",
@@ -14,7 +14,7 @@ pub const READ: [&str; 7] = [
 ];
 
 /// Texts that are none.
-pub const REFUSED: [&str; 43] = [
+pub static REFUSED: [&str; 43] = [
     "",
     "\n",
     "session",

@@ -10,7 +10,7 @@ use std::alloc::Global;
 /// FileIndex.
 type Row = (u32, &'static str, u64, u64, u32, u32);
 
-const ROWS: [Row; 6] = [
+static ROWS: [Row; 6] = [
     (1, "A", 82, 38, 0, 0),
     (1, "B", 0, 50, 0, 0),
     (2, "B", 50, 40, 5, 5),
