@@ -27,7 +27,7 @@ const FRONT: &[u8] = &[
     0xe8, 0x74, 0x77, 0x65, 0x6c, 0x76, 0x65,
 ];
 
-const HISTORY: [Step; 12] = [
+static HISTORY: [Step; 12] = [
     Step::Label("Vol-0001"),
     Step::Append(1000, BODY),
     Step::Append(1001, OTHER_BODY),
@@ -43,7 +43,7 @@ const HISTORY: [Step; 12] = [
 ];
 
 // How many calls of each kind the history makes.
-const KINDS: [(Call, u64); 7] = [
+static KINDS: [(Call, u64); 7] = [
     (Call::Create, 2),
     (Call::Load, 6),
     (Call::Len, 4),
@@ -104,7 +104,8 @@ fn tell_all(alloc: Global) -> Result<String, TestFail> {
     let mut text = String::new(alloc);
     let told = history(alloc, &[])?;
     writeln!(text, "no failure: {told}")?;
-    for (call, count) in KINDS {
+    for row in KINDS.iter() {
+        let (call, count) = *row;
         tell_failing(alloc, &mut text, call, count, When::Before)?;
         if call == Call::Append {
             tell_failing(alloc, &mut text, call, count, When::Half)?;
@@ -176,7 +177,7 @@ fn tell_adopted(alloc: Global, bytes: &[u8], text: &mut String) -> Result<(), Te
     Ok(())
 }
 
-const TWO_BLOCKS: [Step; 3] = [
+static TWO_BLOCKS: [Step; 3] = [
     Step::Label("Vol-0001"),
     Step::Append(1000, BODY),
     Step::Append(1001, OTHER_BODY),
@@ -230,7 +231,7 @@ fn wrong_byte(rt: HostRuntime) -> Result<(), TestFail> {
 }
 
 // On drives with little room, and at a volume's limit.
-const NARROW: [(u64, &[Step], &str); 3] = [
+static NARROW: [(u64, &[Step], &str); 3] = [
     (81, &[Step::Label("Vol-0001"), Step::List], "3939 - "),
     (
         117,
@@ -263,7 +264,8 @@ fn tell_narrow(alloc: Global, capacity: u64, steps: &[Step]) -> Result<String, T
 
 #[test]
 fn little_room(rt: HostRuntime) -> Result<(), TestFail> {
-    for (capacity, steps, told) in NARROW {
+    for row in NARROW.iter() {
+        let (capacity, steps, told) = *row;
         assert_eq!(rt; tell_narrow(rt.alloc(), capacity, steps)?.as_str(), told);
     }
     Ok(())

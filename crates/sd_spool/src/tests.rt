@@ -16,7 +16,7 @@ use std::test::Fail;
 pub(crate) const LIMIT: u64 = 60;
 
 // What any such spool answers.
-pub(crate) const HISTORY: [(Step, &str); 20] = [
+pub(crate) static HISTORY: [(Step, &str); 20] = [
     (Step::Next, "-"),
     (Step::Put(61, 1), "F"),
     (Step::Next, "-"),
@@ -52,7 +52,7 @@ fn fills_and_empties(rt: HostRuntime) -> Result<(), Fail> {
 }
 
 // What goes through such a spool, by length.
-const LENGTHS: [usize; 6] = [12, 20, 28, 30, 30, 12];
+static LENGTHS: [usize; 6] = [12, 20, 28, 30, 30, 12];
 
 const WENT_THROUGH: &str =
     "12 of 1 1-2\n20 of 2 2-3\n28 of 3 3-4\n30 of 4 4-5\n30 of 5 5-6\n12 of 6 6-7\n";

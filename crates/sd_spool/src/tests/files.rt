@@ -10,7 +10,7 @@ use std::test::Fail;
 use std::{env, io};
 
 // A spool beside a file of an earlier run that has its name.
-const LEFT: [(Call, &str); 7] = [
+static LEFT: [(Call, &str); 7] = [
     (Call::Append(&[1, 2, 3]), "[0, 0, 0]"),
     (Call::Append(&[4]), "[0, 0, 0]"),
     (Call::Read(1), "[2, 3, 4]"),
@@ -21,7 +21,7 @@ const LEFT: [(Call, &str); 7] = [
 ];
 
 // A link under the name, a folder that isn't there, or a file in its place.
-const NO_FILE: [(Call, &str); 3] = [
+static NO_FILE: [(Call, &str); 3] = [
     (Call::Clear, "D"),
     (Call::Append(&[1]), "D"),
     (Call::Read(0), "D"),
