@@ -6,14 +6,15 @@ use std::test::Fail;
 
 #[test]
 fn lines_are_read(rt: HostRuntime) {
-    for row in READ {
-        assert!(rt; is_read_so(row), "{}", row.0);
+    for row in READ.iter() {
+        assert!(rt; is_read_so(*row), "{}", row.0);
     }
 }
 
 #[test]
 fn lines_are_refused(rt: HostRuntime) -> Result<(), Fail> {
-    for (line, number) in REFUSED {
+    for row in REFUSED.iter() {
+        let (line, number) = *row;
         assert_eq!(rt; refusal_of(line), number, "{line}");
     }
     Ok(())

@@ -4,7 +4,7 @@ use crate::{ConsoleCmd, command};
 /// A line, what it asks for, its number or 0, and its words.
 pub type Row = (&'static str, &'static str, u32, [&'static str; 3]);
 
-pub const READ: [Row; 12] = [
+pub static READ: [Row; 12] = [
     (
         "label 1 Vol-0001 Default File",
         "label",
@@ -25,7 +25,7 @@ pub const READ: [Row; 12] = [
 ];
 
 /// Lines that are none, and the number of their refusal.
-pub const REFUSED: [(&str, u16); 24] = [
+pub static REFUSED: [(&str, u16); 24] = [
     ("", 3901),
     (" status", 3901),
     ("status ", 3901),
