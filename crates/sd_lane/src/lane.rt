@@ -1,5 +1,5 @@
 // What sessions and a drive use of the queue between them, whoever owns it.
-ghost use Rattle.std.specs.Prelude.{◌≡◌, ℕ, ◌<◌, ◌≤◌, ◌++◌, ◌∷◌, [], true, length, OnOk, OnErr, IfErr, IfSome, IfNone};
+ghost use Rattle.std.specs.Prelude.{◌≡◌, ℕ, ◌<◌, ◌≤◌, ◌++◌, ◌∷◌, [], true, length, ◌↔◌, IsTrue, OnOk, OnErr, IfErr, IfSome, IfNone};
 ghost use Rattle.sd_lane.specs.Queue.{queued, pieces_of, Sends, SendsNone};
 
 use crate::piece::{Piece, Queued};
@@ -62,6 +62,10 @@ pub trait Lanes: Lane {
         ensures lanes { Self.lanes self.new ≡ Self.lanes self.old }
         ensures first { IfSome result (λ piece. (lane : ℕ) × (Self.held self.old ≡ queued lane piece ∷ Self.held self.new)) }
         ensures empty { IfNone result ((Self.held self.old ≡ []) × (Self.held self.new ≡ [])) };
+
+    /// Whether no piece is held.
+    fn is_empty(&self) -> bool
+        ensures { IsTrue result ↔ (Self.held self.now ≡ []) };
 
     // Laws: its owner is alone, and each of its lanes may push.
     ghost single: { (x : Self) → Self.alone x ≡ true };

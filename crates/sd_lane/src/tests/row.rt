@@ -93,6 +93,10 @@ impl Lanes for Row {
         self.take()
     }
 
+    fn is_empty(&self) -> bool {
+        self.pieces.is_empty()
+    }
+
     ghost single = { λ q. refl };
 
     ghost open = { λ q lane least most. (least, most) };
