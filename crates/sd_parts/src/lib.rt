@@ -3,8 +3,10 @@
 
 mod bay;
 mod entry;
+mod lanes;
 mod parts;
 
 pub use bay::{Bay, LaneSlot};
 pub use entry::{Entry, find};
+pub use lanes::free_lanes;
 pub use parts::Parts;

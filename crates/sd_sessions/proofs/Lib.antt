@@ -1,4 +1,3 @@
 pub mod Changes
 pub mod Closes
-pub mod Frees
 pub mod Seats

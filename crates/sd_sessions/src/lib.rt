@@ -2,12 +2,10 @@
 #![tactic(auto)]
 
 mod closing;
-mod lanes;
 mod place;
 mod records;
 mod sending;
 
 pub use closing::{close, media};
-pub use lanes::free_lanes;
 pub use records::{append, cancel, end, spool};
 pub use sending::despool;

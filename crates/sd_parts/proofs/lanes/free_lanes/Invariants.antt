@@ -1,7 +1,7 @@
 use Rattle.std.proofs.Common.{◌≡◌, take}
 use Rattle.arrayvec.specs.ArrayVec.{array_vec_len}
 use Rattle.sd_moves.specs.World.{free_lanes}
-use Rattle.sd_sessions.proofs.lanes.free_lanes.Given as goal
+use Rattle.sd_parts.proofs.lanes.free_lanes.Given as goal
 
 -- each lane so far, and as many answers
 abbrev pub invariant-loop-slot : goal.invariant-loop-slot

@@ -1,7 +1,7 @@
 use Rattle.std.proofs.Common.{ap, ◌∙◌, arith}
 use Rattle.sd_moves.specs.World.{lane_is_free, LaneView}
-use Rattle.sd_sessions.proofs.Frees.{frees_more}
-use Rattle.sd_sessions.proofs.lanes.free_lanes.Goals as goal
+use Rattle.sd_parts.proofs.Frees.{frees_more}
+use Rattle.sd_parts.proofs.lanes.free_lanes.Goals as goal
 
 pub loop-slot-preserved : goal.loop-slot-preserved
 loop-slot-preserved g c =

@@ -1,13 +1,14 @@
-// Which lanes of a drive are free, and what decides whether a drive takes a new session.
+// Which lanes of a drive are free.
 ghost use Rattle.std.specs.Prelude.{◌≡◌, ◌≤◌, ℕ, length};
 ghost use Rattle.sd_moves.specs.Rules.{NumbersRise};
 ghost use Rattle.sd_moves.specs.World.{free_lanes, lane_is_free};
 
+use crate::bay::LaneSlot;
+use crate::entry::{Entry, find};
 use arrayvec::ArrayVec;
 use sd_base::Ticket;
 use sd_drive::Drive;
 use sd_driver::Driver;
-use sd_parts::{Entry, LaneSlot, find};
 use sd_session::Status;
 use sd_spool::SpoolStore;
 

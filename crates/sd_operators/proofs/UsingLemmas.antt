@@ -1,0 +1,69 @@
+-- Whether a drive is in use, and how it goes offline.
+use Rattle.std.proofs.Common.{◌≡◌, ◌≢◌, ◌⊎◌, ℕ, ◌+◌, ◌-◌, ◌<◌, Bool, true, false, ◌||◌, cond, refl, sym, ap, ◌∙◌, subst, arith, inl, inr, List, [], ◌∷◌, length, get_or, Option, Some, None}
+use Rattle.std.specs.Prelude.{not}
+use Rattle.std.specs.List.{count_by, list_any}
+use Rattle.std.proofs.lemmas.List.Sums.{sum_by-cons}
+use Rattle.std.proofs.lemmas.Option.{slice_get_read}
+use Rattle.sd_drive.specs.View.{DriveIs}
+use Rattle.sd_moves.specs.World.{WorldView, WorldSession, BayView, LaneView, IsOnline, with_bay, free_lanes, busy_lanes}
+use Rattle.sd_moves.specs.Operators.{IsInUse, RetiresDrive}
+use Rattle.sd_operators.specs.Using.{IsUsed}
+use Rattle.sd_operators.proofs.Bays.{bay_stays}
+
+-- where a test that tells of `false` tells of one, one is counted
+any_counts : (busy : Bool → Bool) (bs : List Bool) → busy true ≡ false → busy false ≡ true → list_any busy bs ≡ true → count_by not bs ≢ 0
+any_counts busy [] unset set any none = absurd (cc any)
+any_counts busy (true ∷ bs) unset set any none = any_counts busy bs unset set (sym (ap (λ b. b || list_any busy bs) unset) ∙ any) none
+any_counts busy (false ∷ bs) unset set any none =
+    let more : count_by not (false ∷ bs) ≡ 1 + count_by not bs = sum_by-cons (λ (b : Bool). cond (not b) 1 0) false bs in
+    absurd (omega (arith, none, more))
+
+-- where one is counted, the test tells of one
+count_any : (busy : Bool → Bool) (bs : List Bool) → busy true ≡ false → busy false ≡ true → count_by not bs ≢ 0 → list_any busy bs ≡ true
+count_any busy [] unset set some = absurd (some refl)
+count_any busy (true ∷ bs) unset set some = ap (λ b. b || list_any busy bs) unset ∙ count_any busy bs unset set some
+count_any busy (false ∷ bs) unset set some = ap (λ b. b || list_any busy bs) set
+
+-- the answer of such a test
+pub busy_told : (busy : Bool → Bool) (told : Bool) (read frees : List Bool) → told ≡ list_any busy read → read ≡ frees → busy true ≡ false → busy false ≡ true
+    → (told ≡ true → count_by not frees ≢ 0) × (count_by not frees ≢ 0 → told ≡ true)
+busy_told busy told read frees is same unset set =
+    let all : told ≡ list_any busy frees = is ∙ ap (list_any busy) same in
+    (λ t. any_counts busy frees unset set (sym all ∙ t), λ some. all ∙ count_any busy frees unset set some)
+
+-- of four only the first may be
+pub only_first : {A B C E : Type 0} → A ⊎ B ⊎ C ⊎ E → (B → ⊥) → (C → ⊥) → (E → ⊥) → A
+only_first (inl a) b c e = a
+only_first (inr (inl x)) b c e = absurd (b x)
+only_first (inr (inr (inl x))) b c e = absurd (c x)
+only_first (inr (inr (inr x))) b c e = absurd (e x)
+
+-- how many lanes aren't free
+counted : {D : Type 0} (w : WorldView D) (drive at : ℕ) (bay : BayView D) (d : DriveIs D) (sessions : List WorldSession) (lanes : List LaneView)
+    → IsOnline w drive at bay d → sessions ≡ w.sessions → lanes ≡ bay.lanes
+    → busy_lanes w.sessions bay.drive bay.lanes ≡ count_by not (free_lanes sessions d.journal lanes)
+counted {D} w drive at bay d sessions lanes on had laned =
+    ap (λ (o : Option (DriveIs D)). busy_lanes w.sessions o bay.lanes) on.online
+    ∙ ap (λ (es : List WorldSession). count_by not (free_lanes es d.journal bay.lanes)) (sym had)
+    ∙ ap (λ (ls : List LaneView). count_by not (free_lanes sessions d.journal ls)) (sym laned)
+
+-- a drive that is used is in use in its world
+pub used_there : {D : Type 0} (w : WorldView D) (drive at : ℕ) (bay : BayView D) (d : DriveIs D) (sessions : List WorldSession) (lanes : List LaneView)
+    → IsOnline w drive at bay d → sessions ≡ w.sessions → lanes ≡ bay.lanes → IsUsed sessions d lanes bay.queue.held → IsInUse w bay d
+used_there w drive at bay d sessions lanes on had laned (inl busy) = inl (λ none. busy (sym (counted w drive at bay d sessions lanes on had laned) ∙ none))
+used_there w drive at bay d sessions lanes on had laned (inr other) = inr other
+
+-- and only such a one
+pub used_here : {D : Type 0} (w : WorldView D) (drive at : ℕ) (bay : BayView D) (d : DriveIs D) (sessions : List WorldSession) (lanes : List LaneView)
+    → IsOnline w drive at bay d → sessions ≡ w.sessions → lanes ≡ bay.lanes → IsInUse w bay d → IsUsed sessions d lanes bay.queue.held
+used_here w drive at bay d sessions lanes on had laned (inl busy) = inl (λ none. busy (counted w drive at bay d sessions lanes on had laned ∙ none))
+used_here w drive at bay d sessions lanes on had laned (inr other) = inr other
+
+-- a bay that was read and is left alone
+pub left_alone : {D : Type 0} (w : WorldView D) (at : ℕ) (now : BayView D) → at < length w.bays → now ≡ get_or w.bays at now → with_bay at now w ≡ w
+left_alone w at now below there = bay_stays w at now (slice_get_read w.bays (length w.bays) at now refl below there)
+
+-- the drive goes offline
+pub retires : {D : Type 0} (w new : WorldView D) (drive at : ℕ) (bay : BayView D) (d : DriveIs D)
+    → IsOnline w drive at bay d → (IsInUse w bay d → ⊥) → new ≡ with_bay at (record bay { drive = None }) w → RetiresDrive w drive new
+retires w new drive at bay d on unused is = record { at = at; bay = bay; d = d; online = on; unused = unused; new_is = is }

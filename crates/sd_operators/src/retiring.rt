@@ -1,0 +1,74 @@
+// A drive goes offline for good.
+ghost use Rattle.std.specs.Prelude.{◌≤◌, ◌↔◌, ℕ, IsTrue, length};
+ghost use Rattle.sd_machine.specs.declared.event.Event.TheVariants.{Retire};
+ghost use Rattle.sd_moves.specs.Moves.{Moves};
+ghost use Rattle.sd_moves.specs.Rules.{IsWorld, NumbersRise};
+ghost use Rattle.sd_parts.specs.View.{world_of};
+ghost use Rattle.sd_operators.specs.Using.{IsUsed, HasBusyLane};
+
+use sd_base::{DriveNo, Refusal};
+use sd_drive::Drive;
+use sd_driver::Driver;
+use sd_lane::Lanes;
+use sd_machine::Reply;
+use sd_parts::{Entry, LaneSlot, Parts, free_lanes};
+use sd_spool::SpoolStore;
+
+/// Takes the drive offline for good. In use, while a lane of it isn't free, a volume is loaded, or a piece is in its
+/// hand or in the queue before it.
+pub fn retire<D: Driver + Drop, Q: Lanes, S: SpoolStore + Drop>(
+    parts: &mut Parts<D, Q, S>,
+    drive: DriveNo,
+) -> Reply
+    requires world { IsWorld (world_of parts.old) }
+    ensures moves { Moves (λ d. D.meaning d) (world_of parts.old) (Retire drive) result (world_of parts.new) }
+{
+    let Some(bay) = parts.bays.get_mut(drive.get() as usize - 1) else {
+        return Reply::Refused(Refusal::NoSuchDrive);
+    };
+    let Some(at) = &bay.drive else {
+        return Reply::Refused(Refusal::DriveOffline);
+    };
+    if is_used(&parts.sessions, at, &bay.lanes, &bay.queue) {
+        return Reply::Refused(Refusal::InUse);
+    }
+    bay.drive = None;
+    Reply::Retired
+}
+
+// Whether a lane of the drive isn't free, a volume is loaded, or a piece is in its hand or in the queue.
+fn is_used<D: Driver, Q: Lanes, S: SpoolStore + Drop>(
+    sessions: &[Entry<S>],
+    drive: &Drive<D>,
+    lanes: &[LaneSlot<S>],
+    queue: &Q,
+) -> bool
+    requires rise { (time : ℕ) × (next : ℕ) × NumbersRise time 1 next sessions.now }
+    requires most { length lanes.now ≤ 32 }
+    ensures { IsTrue result ↔ IsUsed sessions.now drive.now lanes.now (Q.held queue.now) }
+{
+    let None = drive.loaded() else {
+        return true;
+    };
+    let None = drive.hand() else {
+        return true;
+    };
+    if !queue.is_empty() {
+        return true;
+    }
+    has_busy_lane(sessions, drive, lanes)
+}
+
+// Whether a lane of the drive isn't free.
+fn has_busy_lane<D: Driver, S: SpoolStore + Drop>(
+    sessions: &[Entry<S>],
+    drive: &Drive<D>,
+    lanes: &[LaneSlot<S>],
+) -> bool
+    requires rise { (time : ℕ) × (next : ℕ) × NumbersRise time 1 next sessions.now }
+    requires most { length lanes.now ≤ 32 }
+    ensures { IsTrue result ↔ HasBusyLane sessions.now drive.now.journal lanes.now }
+{
+    let free = free_lanes(sessions, drive, lanes);
+    free.as_slice().contains(&false)
+}
