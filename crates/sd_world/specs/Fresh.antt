@@ -1,12 +1,14 @@
 -- A world that was just made, of its configuration and of the devices, queues and stores that it was given.
-use Rattle.std.specs.Prelude.{◌≡◌, ℕ, None, Some, List, [], ◌∷◌}
+use Rattle.std.specs.Prelude.{◌≡◌, ℕ, ◌≤◌, None, Some, List, [], ◌∷◌, map, length, Vec, vec_capacity}
 use Rattle.sd_driver.specs.Meaning.{Meaning}
 use Rattle.sd_driver.specs.Shelf.{StillLasts}
 use Rattle.sd_drive.specs.View.{DriveIs}
 use Rattle.sd_drive.specs.declared.limits.Limits.{Limits}
 use Rattle.sd_spool.specs.Job.{state_of}
 use Rattle.sd_spool.specs.Meaning.{Meaning as StoreMeaning}
-use Rattle.sd_moves.specs.World.{LaneView}
+use Rattle.sd_desk.specs.Desk.{claimed_by}
+use Rattle.sd_lane.specs.Queue.{LanesView}
+use Rattle.sd_moves.specs.World.{WorldView, BayView, LaneView}
 
 -- a device is as honest as it was, and what lasted lasts
 pub record StaysDevice {D : Type 0} (meaning : D → Meaning) (old new : D) : Type 0 where
@@ -29,3 +31,38 @@ AreNewDrives meaning limits (m ∷ ms) (x ∷ xs) (d ∷ ds) = IsNewDrive meanin
 -- a lane that no session used yet, with its store
 abbrev pub new_lane : StoreMeaning → LaneView
 new_lane store = record { holder = None; store = Some (state_of store) }
+
+-- the list of lanes is empty, and has room for one over each of the stores
+abbrev pub HasRoom : {S L Z : Type 0} → Vec S Z → Vec L Z → Type 0
+HasRoom stores lanes = (lanes.items ≡ []) × (length stores.items ≤ vec_capacity lanes)
+
+-- the bay of a drive, with a lane over each store, and this queue
+abbrev pub new_bay : {D S Z : Type 0} → (S → StoreMeaning) → DriveIs D → LanesView → Vec S Z → BayView D
+new_bay store d queue stores = record {
+  media = d.media;
+  drive = Some d;
+  lanes = map (λ s. new_lane (store s)) stores.items;
+  queue = queue;
+}
+
+-- the bays of these drives, with the queues and stores at their places
+abbrev pub new_bays : {D Q S Z : Type 0} → (Q → LanesView) → (S → StoreMeaning) → List (DriveIs D) → List Q → List (Vec S Z) → List (BayView D)
+new_bays queue store [] qs ss = []
+new_bays queue store (d ∷ ds) [] ss = []
+new_bays queue store (d ∷ ds) (q ∷ qs) [] = []
+new_bays queue store (d ∷ ds) (q ∷ qs) (s ∷ ss) = new_bay store d (queue q) s ∷ new_bays queue store ds qs ss
+
+-- A world that was just made: no session was opened, no volume is known and none asked for, and each drive is new, with
+-- its queue and its stores.
+pub record IsFresh {D Q S Z : Type 0} (meaning : D → Meaning) (queue : Q → LanesView) (store : S → StoreMeaning)
+    (limits : Limits) (room : ℕ) (medias : List (List ℕ × ℕ)) (devices : List D) (queues : List Q) (spools : List (Vec S Z))
+    (w : WorldView D) : Type 0 where
+  pub limits_are : w.limits ≡ limits
+  pub queue_is : w.queue ≡ room
+  pub next_is : w.next ≡ 1
+  pub no_session : w.sessions ≡ []
+  pub no_claim : (name : List ℕ) → claimed_by w.desk name ≡ None
+  pub no_request : w.desk.requests ≡ []
+  pub drives : List (DriveIs D)
+  pub drives_are : AreNewDrives meaning limits medias devices drives
+  pub bays_are : w.bays ≡ new_bays queue store drives queues spools

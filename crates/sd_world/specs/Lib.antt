@@ -1,3 +1,4 @@
+pub mod Conf
 pub mod Fresh
 pub mod Reading
 pub mod View

@@ -2,9 +2,12 @@
 //! told is taken comes back, once and in order (as: Bacula Developer's Guide, storage daemon).
 #![tactic(auto)]
 
+mod conf;
+mod filling;
 mod leaving;
 mod making;
 mod reading;
 mod world;
 
+pub use conf::{NotMade, WorldConf};
 pub use world::World;
