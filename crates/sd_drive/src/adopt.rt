@@ -4,7 +4,7 @@ ghost use Rattle.sd_base.specs.declared.refusal.Refusal.{Refusal as SpecRefusal}
 ghost use Rattle.sd_driver.specs.Meaning.{IsHonest};
 ghost use Rattle.sd_driver.specs.Shelf.{SameShelf, StillLasts, StillLastsBelow};
 ghost use Rattle.sd_volume.specs.declared.fault.AdoptFault.{AdoptFault as SpecFault};
-ghost use Rattle.sd_volume.specs.Adopt.{IsDue};
+ghost use Rattle.sd_volume.specs.Adopt.{IsDue, KeepsWholeBlocks};
 ghost use Rattle.sd_volume.specs.Device.{Counted};
 ghost use Rattle.sd_volume.specs.Fault.{adopt_refusal};
 ghost use Rattle.sd_drive.specs.Shelf.{KeepsPieces};
@@ -56,6 +56,8 @@ impl<D: Driver> Drive<D> {
             self.old.journal self.new.journal self.old.hand self.new.hand }
         ensures others_last { StillLastsBelow 0 name.now
             (D.meaning self.old.device).shelf (D.meaning self.new.device).shelf }
+        ensures whole_blocks { IsHonest (D.meaning self.old.device) → KeepsWholeBlocks name.now
+            (D.meaning self.old.device).shelf (D.meaning self.new.device).shelf }
         ensures refused_last { IfErr result (λ fault. fault ≢ Refusal.DeviceFault
             → StillLasts (D.meaning self.old.device).shelf (D.meaning self.new.device).shelf) }
     {
@@ -106,6 +108,8 @@ impl<D: Driver> Drive<D> {
         ensures keeps { KeepsPieces (D.meaning self.old.device) (D.meaning self.new.device)
             self.old.journal self.new.journal self.old.hand self.new.hand }
         ensures others_last { StillLastsBelow 0 name.now
+            (D.meaning self.old.device).shelf (D.meaning self.new.device).shelf }
+        ensures whole_blocks { IsHonest (D.meaning self.old.device) → KeepsWholeBlocks name.now
             (D.meaning self.old.device).shelf (D.meaning self.new.device).shelf }
         ensures refused_last { IfErr result (λ fault. fault ≢ Refusal.DeviceFault
             → StillLasts (D.meaning self.old.device).shelf (D.meaning self.new.device).shelf) }

@@ -100,7 +100,7 @@ placed_end_with_blocks device volumes loaded journal key ps more kept honest is 
     spans_all (BlocksEndAt (volumes_on device.shelf)) key ps (own_end device volumes loaded journal key [] ps more kept honest is)
 
 -- what holds of each span, by two facts of each
-all_both : (P Q R : Span → Type 0) (spans : List Span) → ((s : Span) → P s → Q s → R s) → All P spans → All Q spans → All R spans
+pub all_both : (P Q R : Span → Type 0) (spans : List Span) → ((s : Span) → P s → Q s → R s) → All P spans → All Q spans → All R spans
 all_both P Q R spans each one other = All-from_recursion R spans (from spans (recursion_from_All P spans one) (recursion_from_All Q spans other))
   where
     from : (ss : List Span) → AllByRecursion P ss → AllByRecursion Q ss → AllByRecursion R ss

@@ -1,5 +1,5 @@
 pub mod EndLemmas
+pub mod LastLemmas
 pub mod ReachLemmas
 pub mod HoldLemmas
 pub mod RestoreLemmas
-pub mod StopLemmas

@@ -1,14 +1,14 @@
 -- What is read back of the blocks that a drive placed.
-use Rattle.std.specs.Prelude.{◌≡◌, ◌≢◌, ℕ, ◌+◌, ◌≤◌, All, Bool, List, [], ◌∷◌, ◌++◌, map, Option, Some, slice_get}
+use Rattle.std.specs.Prelude.{◌≡◌, ◌≢◌, ℕ, ◌+◌, Bool, List, [], ◌∷◌, ◌++◌, map, Option, Some}
 use Rattle.sd_base.specs.Record.{Record}
 use Rattle.sd_base.specs.declared.number.SessionKey.{SessionKey}
 use Rattle.sd_driver.specs.Meaning.{Meaning, IsHonest}
-use Rattle.sd_driver.specs.Shelf.{Shelf, Held, Lasts, AfterStop, low_mark}
+use Rattle.sd_driver.specs.Shelf.{Shelf, Held}
 use Rattle.sd_drive.specs.Shelf.{Kept, block_at}
-use Rattle.sd_journal.specs.Journal.{Entry, placements, placed_of, synced_of}
+use Rattle.sd_journal.specs.Journal.{Entry, placements}
 use Rattle.sd_label.specs.Cutting.{WholeOf}
 use Rattle.sd_label.specs.declared.label.VolumeLabel.{VolumeLabel}
-use Rattle.sd_readback.specs.Reading.{Reads, KeepSpans, blocks_of, volumes_on}
+use Rattle.sd_readback.specs.Reading.{Reads, blocks_of, volumes_on}
 use Rattle.sd_span.specs.Spans.{placements_of, spans_of}
 use Rattle.sd_span.specs.declared.placement.Placement.{Placement}
 use Rattle.sd_volume.specs.Image.{Block, VolumeImage, volume_end}
@@ -25,11 +25,6 @@ pub record StandsAmong (shelf : Shelf) (p : Placement) : Type 0 where
   pub image : VolumeImage held.bytes label (before ++ block_at shelf p ∷ behind) tail
   pub start_is : p.start ≡ volume_end label before
   pub end_is : p.start + p.length ≡ volume_end label (before ++ block_at shelf p ∷ [])
-
--- what lasted of each of the volumes has lasted to the later shelf
-abbrev pub StillLastOn : List VolumeView → Shelf → Shelf → Type 0
-StillLastOn volumes old later = (at : ℕ) (v : VolumeView) → slice_get volumes at ≡ Some v
-    → (since : ℕ) (bytes : List ℕ) → Lasts since v.name bytes old → Lasts since v.name bytes later
 
 -- Laws.
 
@@ -56,47 +51,3 @@ PlacedRead =
     → placements_of key ps ≢ []
     → WholeOf (blocks_of key (map (block_at device.shelf) ps)) records ended
     → Reads (volumes_on device.shelf) key (spans_of key ps) records ended
-
--- While a drive's device is honest and all blocks of a session are synced, what a stop leaves at any time from this
--- moment on, also inside a call, has the bytes of the session's spans, as long as what lasted on the drive's volumes
--- lasts.
-abbrev pub SyncedKeptByStop : Type 0
-SyncedKeptByStop =
-    (device : Meaning) (volumes : List VolumeView) (loaded : Option ℕ) (journal : List Entry)
-    (key : SessionKey) (later left : Shelf)
-    → Kept device volumes loaded journal
-    → IsHonest device
-    → synced_of key journal ≡ placed_of key journal
-    → StillLastOn volumes device.shelf later
-    → AfterStop device.shelf.moment later left
-    → KeepSpans (spans_of key (placements journal)) (volumes_on device.shelf) (volumes_on left)
-
--- While a drive's device is honest and all blocks of a session are synced, the spans of the session read to the same on
--- what a stop leaves at any time from this moment on, also inside a call, as long as what lasted on the drive's
--- volumes lasts.
-abbrev pub SyncedReadAfterStop : Type 0
-SyncedReadAfterStop =
-    (device : Meaning) (volumes : List VolumeView) (loaded : Option ℕ) (journal : List Entry)
-    (key : SessionKey) (records : List Record) (ended : Bool) (later left : Shelf)
-    → Kept device volumes loaded journal
-    → IsHonest device
-    → placements_of key (placements journal) ≢ []
-    → synced_of key journal ≡ placed_of key journal
-    → WholeOf (blocks_of key (map (block_at device.shelf) (placements journal))) records ended
-    → StillLastOn volumes device.shelf later
-    → AfterStop device.shelf.moment later left
-    → Reads (volumes_on left) key (spans_of key (placements journal)) records ended
-
--- While a drive's device is honest and all blocks of a session are synced, the low mark of each volume of its spans,
--- from this moment on, is at least where the span ends, at any later time and also inside a call, as long as what
--- lasted on the drive's volumes lasts.
-abbrev pub SyncedLowMark : Type 0
-SyncedLowMark =
-    (device : Meaning) (volumes : List VolumeView) (loaded : Option ℕ) (journal : List Entry)
-    (key : SessionKey) (later : Shelf)
-    → Kept device volumes loaded journal
-    → IsHonest device
-    → synced_of key journal ≡ placed_of key journal
-    → StillLastOn volumes device.shelf later
-    → device.shelf.moment ≤ later.moment
-    → All (λ s. s.end ≤ low_mark later device.shelf.moment s.volume) (spans_of key (placements journal))

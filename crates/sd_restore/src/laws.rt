@@ -1,6 +1,7 @@
 // What holds of the placements in a drive's journal, whatever was placed, labelled, adopted or synced since.
 ghost use Rattle.sd_restore.specs.Ends.{PlacedEndWithBlocks, KeptSpansEndWithBlocks, AdoptionKeepsSpans};
-ghost use Rattle.sd_restore.specs.Restore.{PlacedAmongBlocks, PlacedRead, SyncedKeptByStop, SyncedReadAfterStop, SyncedLowMark};
+ghost use Rattle.sd_restore.specs.Lasting.{AdoptionKeepsLasting, SyncedSpansLast, LastingSpansStay, LastingSpansMark, LastingSpansKept, LastingSpansSurvive};
+ghost use Rattle.sd_restore.specs.Restore.{PlacedAmongBlocks, PlacedRead};
 
 /// Each placement is where a block of its volume begins and ends, behind the label and whole blocks.
 pub fn placed_among_blocks()
@@ -11,24 +12,6 @@ pub fn placed_among_blocks()
 /// that are whole in the bodies that were placed by then.
 pub fn placed_read()
     ensures { PlacedRead }
-{}
-
-/// What a stop leaves at any later time, also inside a call, has the bytes of a session all of whose blocks are
-/// synced.
-pub fn synced_kept_by_stop()
-    ensures { SyncedKeptByStop }
-{}
-
-/// The spans of a session all of whose blocks are synced read to the same after a stop at any later time, also inside
-/// a call.
-pub fn synced_read_after_stop()
-    ensures { SyncedReadAfterStop }
-{}
-
-/// Where all blocks of a session are synced, no stop from then on, also inside a call, leaves less of a volume than
-/// what its spans reach over.
-pub fn synced_low_mark()
-    ensures { SyncedLowMark }
 {}
 
 /// The spans of a drive's journal end where whole blocks of their volumes do.
@@ -44,4 +27,34 @@ pub fn kept_spans_end_with_blocks()
 /// Adopting a volume cuts off no byte of spans that end where whole blocks do.
 pub fn adoption_keeps_spans()
     ensures { AdoptionKeepsSpans }
+{}
+
+/// Whatever an adoption answers, a label block and whole blocks that lasted still last.
+pub fn adoption_keeps_lasting()
+    ensures { AdoptionKeepsLasting }
+{}
+
+/// Where all blocks of a session are synced, its spans last from that moment on.
+pub fn synced_spans_last()
+    ensures { SyncedSpansLast }
+{}
+
+/// Spans that last still do as long as whole blocks do.
+pub fn lasting_spans_stay()
+    ensures { LastingSpansStay }
+{}
+
+/// No stop leaves less of a volume than what spans that last reach over.
+pub fn lasting_spans_mark()
+    ensures { LastingSpansMark }
+{}
+
+/// What a stop leaves has the bytes of spans that last.
+pub fn lasting_spans_kept()
+    ensures { LastingSpansKept }
+{}
+
+/// What a stop left has spans that last from then on.
+pub fn lasting_spans_survive()
+    ensures { LastingSpansSurvive }
 {}

@@ -4,6 +4,7 @@
 mod laws;
 
 pub use laws::{
-    adoption_keeps_spans, kept_spans_end_with_blocks, placed_among_blocks, placed_end_with_blocks,
-    placed_read, synced_kept_by_stop, synced_low_mark, synced_read_after_stop,
+    adoption_keeps_lasting, adoption_keeps_spans, kept_spans_end_with_blocks, lasting_spans_kept,
+    lasting_spans_mark, lasting_spans_stay, lasting_spans_survive, placed_among_blocks,
+    placed_end_with_blocks, placed_read, synced_spans_last,
 };

@@ -1,15 +1,15 @@
 -- Which refusal of an adoption is due, that it is one, and what is left of a volume that was adopted.
 use Rattle.std.proofs.Common.{◌≡◌, ◌≢◌, ◌⊎◌, inl, inr, ℕ, ◌+◌, ◌<◌, ◌≤◌, List, [], ◌∷◌, ◌++◌, length, take, drop, get_or, refl, ap, sym, ◌∙◌, subst, arith, Some, None}
 use Rattle.std.proofs.lemmas.List.{append_assoc, append-nil, length-append, take-append-drop, take-take, get_or_at}
-use Rattle.sd_driver.specs.Shelf.{Shelf, Held, SameShelf, BeginsWith}
-use Rattle.sd_driver.proofs.Lasting.{BeginsWith-trans, BeginsWith-own_take}
+use Rattle.sd_driver.specs.Shelf.{Shelf, Held, SameShelf, BeginsWith, StillLasts, StillLastsBelow}
+use Rattle.sd_driver.proofs.Lasting.{BeginsWith-trans, BeginsWith-own_take, StillLastsBelow-of, StillLastsBelow-lower, StillLastsBelow-trans}
 use Rattle.sd_label.specs.declared.label.VolumeLabel.{VolumeLabel}
 use Rattle.sd_label.specs.Label.{IsVolumeLabel}
 use Rattle.sd_volume.specs.declared.fault.AdoptFault.{AdoptFault}
 use Rattle.sd_volume.specs.declared.fault.AdoptFault.TheVariants.{NotOnShelf, NotOurVolume, OtherMedia, BlocksOfThisRun, Device, Memory}
 use Rattle.sd_volume.specs.Image.{Block, NoBlockNext, images, label_block, label_and_blocks, volume_end, VolumeImage, WholeImage}
 use Rattle.sd_volume.specs.Volume.{VolumeView}
-use Rattle.sd_volume.specs.Adopt.{IsVolumeOf, AreEarlier, HasBlockOfThisRun, IsDue, IsAdoptable, Adopts, CutsAt, KeepsUpTo, GoesUpTo}
+use Rattle.sd_volume.specs.Adopt.{IsVolumeOf, AreEarlier, HasBlockOfThisRun, IsDue, IsAdoptable, Adopts, CutsAt, KeepsUpTo, KeepsWholeBlocks, GoesUpTo}
 use Rattle.sd_volume.proofs.ImageLemmas.{one_label, whole_image_goes_on, bytes_before, images-append}
 
 same_held : (shelf : Shelf) (name : List ℕ) (held other : Held) → shelf.volume name ≡ Some held → shelf.volume name ≡ Some other → held ≡ other
@@ -174,7 +174,7 @@ adoptable_of name media start bytes v label ours same pool first goes ended = re
 }
 
 -- the bytes up to where the blocks end are a volume with those blocks and no tail
-cut_image : (bytes : List ℕ) (label : VolumeLabel) (blocks : List Block) (tail : List ℕ) (end : ℕ) → VolumeImage bytes label blocks tail → end ≡ volume_end label blocks
+pub cut_image : (bytes : List ℕ) (label : VolumeLabel) (blocks : List Block) (tail : List ℕ) (end : ℕ) → VolumeImage bytes label blocks tail → end ≡ volume_end label blocks
     → VolumeImage (take end bytes) label blocks []
 cut_image bytes label blocks tail end is end_is = record {
   label_is = is.label_is;
@@ -241,3 +241,24 @@ pub same_bytes : (shelf : Shelf) (name : List ℕ) (held other : Held) (label : 
 same_bytes shelf name held other label blocks tail there here is =
     let same = ap (λ (h : Held). h.bytes) (same_held shelf name held other there here) in
     subst (λ bytes. VolumeImage bytes label blocks tail) same is
+
+-- where nothing changed, whole blocks are kept
+pub KeepsWholeBlocks-same : (name : List ℕ) (old new : Shelf) → SameShelf old new → StillLasts old new → KeepsWholeBlocks name old new
+KeepsWholeBlocks-same name old new same still = record {
+  bytes = λ held there label blocks tail is. KeepsUpTo-same (volume_end label blocks) name old new same;
+  lasts = λ held there label blocks tail is. StillLastsBelow-of (volume_end label blocks) name old new still;
+}
+
+-- and so they are by what keeps a volume up to the end of its last whole block
+pub KeepsWholeBlocks-cut : (name media : List ℕ) (start : ℕ) (v : VolumeView) (to : ℕ) (old mid new : Shelf) (held : Held) → old.volume name ≡ Some held → IsAdoptable name media start held.bytes v → to ≡ v.end
+    → SameShelf old mid → StillLasts old mid → KeepsUpTo to name mid new → StillLastsBelow to name mid new → KeepsWholeBlocks name old new
+KeepsWholeBlocks-cut name media start v to old mid new held there found at same still keeps below = record {
+  bytes = λ other here label blocks tail is. KeepsUpTo-lower (volume_end label blocks) to name old mid new (within other here label blocks tail is) same keeps;
+  lasts = λ other here label blocks tail is. (
+      let end = volume_end label blocks in
+      StillLastsBelow-trans end name old mid new (StillLastsBelow-of end name old mid still) (StillLastsBelow-lower end to name mid new (within other here label blocks tail is) below));
+}
+  where
+    within : (other : Held) → old.volume name ≡ Some other → (label : VolumeLabel) (blocks : List Block) (tail : List ℕ) → VolumeImage other.bytes label blocks tail → volume_end label blocks ≤ to
+    within other here label blocks tail is =
+        omega (arith, at, found.end_is, end_within held.bytes label found.label blocks found.blocks tail found.tail (same_bytes old name other held label blocks tail here there is) found.whole)

@@ -2,7 +2,7 @@
 use Rattle.std.specs.Prelude.{◌≡◌, ◌≢◌, ℕ, ◌+◌, ◌<◌, ◌≤◌, List, [], ◌∷◌, ◌++◌, length, take, drop, All, if◌then◌else◌, nat_le, None, Some}
 use Rattle.sd_base.specs.Limits.{block_header, most_volume}
 use Rattle.sd_block.specs.declared.head.Head.{Head}
-use Rattle.sd_driver.specs.Shelf.{Shelf, Held, BeginsWith, Lasts}
+use Rattle.sd_driver.specs.Shelf.{Shelf, Held, BeginsWith, Lasts, StillLastsBelow}
 use Rattle.sd_label.specs.declared.label.VolumeLabel.{VolumeLabel}
 use Rattle.sd_label.specs.Label.{IsVolumeLabel}
 use Rattle.sd_volume.specs.declared.volume.VolumeStatus.{VolumeStatus}
@@ -85,6 +85,19 @@ pub record KeepsUpTo (to : ℕ) (name : List ℕ) (old new : Shelf) : Type 0 whe
       → (after : Held) × (new.volume name ≡ Some after)
       × BeginsWith after.bytes (take to held.bytes)
   pub others : (other : List ℕ) → other ≢ name → new.volume other ≡ old.volume other
+
+-- this holds of each place of a volume where whole blocks end: where its label block does, and where any blocks do that
+-- stand in order behind it
+abbrev pub WhereBlocksEnd : List ℕ → Shelf → (ℕ → Type 0) → Type 0
+WhereBlocksEnd name shelf holds = (held : Held) → shelf.volume name ≡ Some held
+    → (label : VolumeLabel) (blocks : List Block) (tail : List ℕ)
+    → VolumeImage held.bytes label blocks tail → holds (volume_end label blocks)
+
+-- A volume keeps its whole blocks, whatever becomes of what stands behind them: up to each place where whole blocks end
+-- its bytes are as they were, and what lasted of them still lasts. All other volumes stay.
+pub record KeepsWholeBlocks (name : List ℕ) (old new : Shelf) : Type 0 where
+  pub bytes : WhereBlocksEnd name old (λ end. KeepsUpTo end name old new)
+  pub lasts : WhereBlocksEnd name old (λ end. StillLastsBelow end name old new)
 
 -- a volume was cut at a place, and all of what is left lasts from now on; all others stay
 pub record CutsAt (to : ℕ) (name : List ℕ) (old new : Shelf) : Type 0 where

@@ -3,11 +3,9 @@ ghost use Rattle.std.specs.Prelude.{◌≡◌, ◌≢◌, ◌≤◌, ◌⊎◌, 
 ghost use Rattle.sd_base.specs.Limits.{most_volume};
 ghost use Rattle.sd_driver.specs.Meaning.{IsHonest};
 ghost use Rattle.sd_driver.specs.Shelf.{Held, SameShelf, StillLasts, StillLastsBelow};
-ghost use Rattle.sd_label.specs.declared.label.VolumeLabel.{VolumeLabel as SpecLabel};
 ghost use Rattle.sd_volume.specs.declared.fault.AdoptFault.{AdoptFault as SpecFault};
-ghost use Rattle.sd_volume.specs.Adopt.{IsDue, IsAdoptable, Adopts, CutsAt, KeepsUpTo, status_at};
+ghost use Rattle.sd_volume.specs.Adopt.{IsDue, IsAdoptable, Adopts, CutsAt, KeepsUpTo, KeepsWholeBlocks, status_at};
 ghost use Rattle.sd_volume.specs.Device.{Counted, OnlyReads, CutsLoaded, KeepsLoaded};
-ghost use Rattle.sd_volume.specs.Image.{Block, VolumeImage, volume_end};
 ghost use Rattle.sd_volume.specs.Reader.{Shows};
 
 use crate::fault::AdoptFault;
@@ -62,17 +60,7 @@ pub fn adopt<D: Driver>(
         → SameShelf (D.meaning driver.old).shelf (D.meaning driver.new).shelf) }
     ensures others { IsHonest (D.meaning driver.old) → (other : List ℕ) → other ≢ name.now
         → (D.meaning driver.new).shelf.volume other ≡ (D.meaning driver.old).shelf.volume other }
-    ensures keeps { IsHonest (D.meaning driver.old)
-        → (held : Held) → (D.meaning driver.old).shelf.volume name.now ≡ Some held
-        → (label : SpecLabel) (blocks : List Block) (tail : List ℕ)
-        → VolumeImage held.bytes label blocks tail
-        → KeepsUpTo (volume_end label blocks) name.now
-        (D.meaning driver.old).shelf (D.meaning driver.new).shelf }
-    ensures lasts { IsHonest (D.meaning driver.old)
-        → (held : Held) → (D.meaning driver.old).shelf.volume name.now ≡ Some held
-        → (label : SpecLabel) (blocks : List Block) (tail : List ℕ)
-        → VolumeImage held.bytes label blocks tail
-        → StillLastsBelow (volume_end label blocks) name.now
+    ensures keeps { IsHonest (D.meaning driver.old) → KeepsWholeBlocks name.now
         (D.meaning driver.old).shelf (D.meaning driver.new).shelf }
 {
     let mut reader = VolumeReader::new(alloc, name)?;

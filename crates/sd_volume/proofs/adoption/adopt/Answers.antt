@@ -4,9 +4,8 @@ use Rattle.std.proofs.lemmas.Result.{err_from_is_err_and}
 use Rattle.sd_driver.proofs.Lasting.{StillLasts-trans, StillLastsBelow-of, StillLastsBelow-lower, StillLastsBelow-trans}
 use Rattle.sd_volume.specs.Volume.{VolumeView}
 use Rattle.sd_volume.specs.Adopt.{CutsAt}
-use Rattle.sd_volume.specs.Image.{volume_end}
 use Rattle.sd_volume.proofs.ReaderLemmas.{shows_nothing}
-use Rattle.sd_volume.proofs.DueLemmas.{refuses_due, not_due, adopts_of, end_within, same_bytes, KeepsUpTo-lower, KeepsUpTo-same}
+use Rattle.sd_volume.proofs.DueLemmas.{refuses_due, not_due, adopts_of, KeepsWholeBlocks-same, KeepsWholeBlocks-cut}
 use Rattle.sd_volume.proofs.adoption.adopt.Goals as goal
 
 pub returns-in_err-volume-clause-others_last : goal.returns-in_err-volume-clause-others_last
@@ -23,10 +22,7 @@ pub returns-in_err-volume-clause-others : goal.returns-in_err-volume-clause-othe
 returns-in_err-volume-clause-others g c = λ honest other apart. c.in_err-volume.ensures.device.same honest other
 
 pub returns-in_err-volume-clause-keeps : goal.returns-in_err-volume-clause-keeps
-returns-in_err-volume-clause-keeps g c = λ honest held there label blocks tail is. KeepsUpTo-same (volume_end label blocks) c.args.name.now _ _ (c.in_err-volume.ensures.device.same honest)
-
-pub returns-in_err-volume-clause-lasts : goal.returns-in_err-volume-clause-lasts
-returns-in_err-volume-clause-lasts g c = λ honest held there label blocks tail is. StillLastsBelow-of (volume_end label blocks) c.args.name.now _ _ c.in_err-volume.ensures.device.lasts
+returns-in_err-volume-clause-keeps g c = λ honest. KeepsWholeBlocks-same c.args.name.now _ _ (c.in_err-volume.ensures.device.same honest) c.in_err-volume.ensures.device.lasts
 
 pub returns-in_err-cut_back-clause-others_last : goal.returns-in_err-cut_back-clause-others_last
 returns-in_err-cut_back-clause-others_last g c =
@@ -50,28 +46,14 @@ returns-in_err-cut_back-clause-others g c = λ honest other apart.
     (c.in_err-cut_back.ensures.keeps honest_1).others other apart ∙ c.in_ok-volume.ensures.device.same honest other
 
 pub returns-in_err-cut_back-clause-keeps : goal.returns-in_err-cut_back-clause-keeps
-returns-in_err-cut_back-clause-keeps g c = λ honest held there label blocks tail is.
+returns-in_err-cut_back-clause-keeps g c = λ honest.
     let shelf_0 = (g.D.Driver.meaning c.args.driver.now).shelf in
     let shelf_1 = (g.D.Driver.meaning c.survey.new.driver).shelf in
     let shelf_2 = (g.D.Driver.meaning c.cut_back.new.driver).shelf in
     let found = c.in_ok-volume.ensures.found honest (shows_nothing c.in_ok-reader.reader shelf_0 c.in_ok-reader.ensures.bytes) in
-    let end_is = ap (λ (v : VolumeView). v.end) c.volume.view_is in
-    let within = end_within found.0.bytes label found.2.label blocks found.2.blocks tail found.2.tail (same_bytes shelf_0 c.args.name.now held found.0 label blocks tail there found.1 is) found.2.whole in
     let honest_1 = subst IsTrue (sym c.in_ok-volume.ensures.device.counted.honest) honest in
-    KeepsUpTo-lower (volume_end label blocks) c.volume.inside.end c.args.name.now shelf_0 shelf_1 shelf_2 (omega (arith, within, end_is, found.2.end_is)) (c.in_ok-volume.ensures.device.same honest) (c.in_err-cut_back.ensures.keeps honest_1)
-
-pub returns-in_err-cut_back-clause-lasts : goal.returns-in_err-cut_back-clause-lasts
-returns-in_err-cut_back-clause-lasts g c = λ honest held there label blocks tail is.
-    let name = c.args.name.now in
-    let shelf_0 = (g.D.Driver.meaning c.args.driver.now).shelf in
-    let shelf_1 = (g.D.Driver.meaning c.survey.new.driver).shelf in
-    let shelf_2 = (g.D.Driver.meaning c.cut_back.new.driver).shelf in
-    let found = c.in_ok-volume.ensures.found honest (shows_nothing c.in_ok-reader.reader shelf_0 c.in_ok-reader.ensures.bytes) in
-    let end_is = ap (λ (v : VolumeView). v.end) c.volume.view_is in
-    let within = end_within found.0.bytes label found.2.label blocks found.2.blocks tail found.2.tail (same_bytes shelf_0 c.args.name.now held found.0 label blocks tail there found.1 is) found.2.whole in
-    let to = volume_end label blocks in
-    StillLastsBelow-trans to name shelf_0 shelf_1 shelf_2 (StillLastsBelow-of to name shelf_0 shelf_1 c.in_ok-volume.ensures.device.lasts)
-    (StillLastsBelow-lower to c.volume.inside.end name shelf_1 shelf_2 (omega (arith, within, end_is, found.2.end_is)) c.in_err-cut_back.ensures.lasts_below)
+    KeepsWholeBlocks-cut c.args.name.now c.args.media.now c.args.start_time c.in_ok-volume.volume c.volume.inside.end shelf_0 shelf_1 shelf_2 found.0 found.1 found.2 (ap (λ (v : VolumeView). v.end) c.volume.view_is)
+    (c.in_ok-volume.ensures.device.same honest) c.in_ok-volume.ensures.device.lasts (c.in_err-cut_back.ensures.keeps honest_1) c.in_err-cut_back.ensures.lasts_below
 
 pub returns-clause-lasts_below : goal.returns-clause-lasts_below
 returns-clause-lasts_below g c =
@@ -114,25 +96,11 @@ returns-clause-others g c = λ honest other apart.
     (c.in_ok-cut_back.ensures.keeps honest_1).others other apart ∙ c.in_ok-volume.ensures.device.same honest other
 
 pub returns-clause-keeps : goal.returns-clause-keeps
-returns-clause-keeps g c = λ honest held there label blocks tail is.
+returns-clause-keeps g c = λ honest.
     let shelf_0 = (g.D.Driver.meaning c.args.driver.now).shelf in
     let shelf_1 = (g.D.Driver.meaning c.survey.new.driver).shelf in
     let shelf_2 = (g.D.Driver.meaning c.cut_back.new.driver).shelf in
     let found = c.in_ok-volume.ensures.found honest (shows_nothing c.in_ok-reader.reader shelf_0 c.in_ok-reader.ensures.bytes) in
-    let end_is = ap (λ (v : VolumeView). v.end) c.volume.view_is in
-    let within = end_within found.0.bytes label found.2.label blocks found.2.blocks tail found.2.tail (same_bytes shelf_0 c.args.name.now held found.0 label blocks tail there found.1 is) found.2.whole in
     let honest_1 = subst IsTrue (sym c.in_ok-volume.ensures.device.counted.honest) honest in
-    KeepsUpTo-lower (volume_end label blocks) c.volume.inside.end c.args.name.now shelf_0 shelf_1 shelf_2 (omega (arith, within, end_is, found.2.end_is)) (c.in_ok-volume.ensures.device.same honest) (c.in_ok-cut_back.ensures.keeps honest_1)
-
-pub returns-clause-lasts : goal.returns-clause-lasts
-returns-clause-lasts g c = λ honest held there label blocks tail is.
-    let name = c.args.name.now in
-    let shelf_0 = (g.D.Driver.meaning c.args.driver.now).shelf in
-    let shelf_1 = (g.D.Driver.meaning c.survey.new.driver).shelf in
-    let shelf_2 = (g.D.Driver.meaning c.cut_back.new.driver).shelf in
-    let found = c.in_ok-volume.ensures.found honest (shows_nothing c.in_ok-reader.reader shelf_0 c.in_ok-reader.ensures.bytes) in
-    let end_is = ap (λ (v : VolumeView). v.end) c.volume.view_is in
-    let within = end_within found.0.bytes label found.2.label blocks found.2.blocks tail found.2.tail (same_bytes shelf_0 c.args.name.now held found.0 label blocks tail there found.1 is) found.2.whole in
-    let to = volume_end label blocks in
-    StillLastsBelow-trans to name shelf_0 shelf_1 shelf_2 (StillLastsBelow-of to name shelf_0 shelf_1 c.in_ok-volume.ensures.device.lasts)
-    (StillLastsBelow-lower to c.volume.inside.end name shelf_1 shelf_2 (omega (arith, within, end_is, found.2.end_is)) c.in_ok-cut_back.ensures.lasts_below)
+    KeepsWholeBlocks-cut c.args.name.now c.args.media.now c.args.start_time c.in_ok-volume.volume c.volume.inside.end shelf_0 shelf_1 shelf_2 found.0 found.1 found.2 (ap (λ (v : VolumeView). v.end) c.volume.view_is)
+    (c.in_ok-volume.ensures.device.same honest) c.in_ok-volume.ensures.device.lasts (c.in_ok-cut_back.ensures.keeps honest_1) c.in_ok-cut_back.ensures.lasts_below

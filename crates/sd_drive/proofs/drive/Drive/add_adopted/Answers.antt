@@ -1,5 +1,6 @@
-use Rattle.std.proofs.Common.{ap, sym, ◌∙◌, rules, [], subst}
+use Rattle.std.proofs.Common.{refl, ap, sym, ◌∙◌, rules, [], subst}
 use Rattle.sd_volume.specs.Fault.{adopt_refusal}
+use Rattle.sd_volume.proofs.DueLemmas.{KeepsWholeBlocks-same}
 use Rattle.sd_drive.proofs.VolumeLists.{kept_more, kept_called, pieces_called, same_but, on_others, IsFresh}
 use Rattle.sd_drive.proofs.drive.Drive.add_adopted.Goals as goal
 
@@ -53,6 +54,17 @@ returns-in-Err-clause-keeps g c =
     let fresh = rw (← c.self.view_is) at c.requires.fresh in
     rw (← c.self.view_is) (pieces_called (g.D.Driver.meaning c.self.inside.driver) (g.D.Driver.meaning c.adopt.new.driver) vs c.self.inside.loaded c.self.inside.journal.entries c.self.inside.hand
     c.self.invariant.kept e.counted.honest (λ o. same_but vs c.args.name.now (g.D.Driver.meaning c.self.inside.driver).shelf (g.D.Driver.meaning c.adopt.new.driver).shelf fresh (e.others o)))
+
+pub returns-in_default-clause-whole_blocks : goal.returns-in_default-clause-whole_blocks
+returns-in_default-clause-whole_blocks g c =
+    let shelf = (g.D.Driver.meaning c.self.inside.driver).shelf in
+    rw (← c.self.view_is) (λ honest. KeepsWholeBlocks-same c.args.name.now shelf shelf (λ name. refl) (λ since name bytes lasts. lasts))
+
+pub returns-in-Ok-adopt-clause-whole_blocks : goal.returns-in-Ok-adopt-clause-whole_blocks
+returns-in-Ok-adopt-clause-whole_blocks g c = rw (← c.self.view_is) c.in-Ok-adopt.ensures.keeps
+
+pub returns-in-Err-clause-whole_blocks : goal.returns-in-Err-clause-whole_blocks
+returns-in-Err-clause-whole_blocks g c = rw (← c.self.view_is) c.in-Err.ensures.keeps
 
 pub returns-in-Err-clause-refused_last : goal.returns-in-Err-clause-refused_last
 returns-in-Err-clause-refused_last g c =
