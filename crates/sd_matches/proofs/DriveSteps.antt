@@ -4,7 +4,7 @@ use Rattle.std.proofs.lemmas.Bool.{and_parts}
 use Rattle.sd_base.specs.declared.refusal.Refusal.{Refusal}
 use Rattle.sd_base.specs.declared.refusal.Refusal.TheVariants.{NoSuchDrive, DriveOffline, DeviceFault, Memory}
 use Rattle.sd_driver.specs.Meaning.{Meaning}
-use Rattle.sd_drive.specs.Moves.{Places, Syncs, Unmounts}
+use Rattle.sd_drive.specs.Moves.{Places, Unmounts}
 use Rattle.sd_drive.specs.View.{DriveIs}
 use Rattle.sd_drive.specs.declared.place.Placed.TheVariants as place
 use Rattle.sd_journal.specs.declared.mark.Mark.TheVariants.{Lost}
@@ -23,11 +23,12 @@ use Rattle.sd_moves.specs.Moves.{Moves, MissingOr}
 use Rattle.sd_moves.specs.Rules.{IsWorld}
 use Rattle.sd_moves.specs.World.{WorldView, WorldSession, BayView, IsOnline, with_bay}
 use Rattle.sd_moves.proofs.Lookups.{get_set-tells}
+use Rattle.sd_moves.proofs.Views.{running_is}
 use Rattle.sd_matches.specs.Matches.{Matches, IsOutstanding, body_of_piece, bodies_with, queued_bodies}
 use Rattle.sd_matches.specs.Steps.{StepsTo, newly_failed}
 use Rattle.sd_matches.proofs.Bodies.{sent_taken, bodies_queued}
 use Rattle.sd_matches.proofs.Drives.{Settles, settles_same, settles_settled, settles_synced, settles_placed, drive_frame, drive_step}
-use Rattle.sd_matches.proofs.Failing.{drops_falls, steps, stays, none_fall_stay, fails_step, failed_went_on, of_running, Falls, FallOrStay}
+use Rattle.sd_matches.proofs.Failing.{drops_falls, steps, stays, none_fall_stay, fails_step, failed_went_on, Falls, FallOrStay}
 use Rattle.sd_matches.proofs.Frames.{Framed, frame_in_bay}
 use Rattle.sd_matches.proofs.Honesty.{honest_back, honest_here, fail_stores}
 use Rattle.sd_matches.proofs.Sessions.{all_same}
@@ -165,7 +166,7 @@ loses_step {D} meaning old new m event drive rules l may fail h =
     subst (λ w. StepsTo meaning m old event (Refused DeviceFault) w) (sym l.new_is)
     (fails_step meaning old w' m event (Refused DeviceFault) refl refl rules.numbers
     (fall_exactly meaning old w' loses old.sessions l.sessions
-    (λ e is. of_running e.session.status (and_parts _ _ (and_parts _ _ is).1).0) frames l.fail)
+    (λ e is. running_is e.session.status (and_parts _ _ (and_parts _ _ is).1).0) frames l.fail)
     (may, refl) (fail (newly_failed old.sessions l.sessions) (failed_went_on meaning old m l.sessions rules.numbers h)) h)
 
 -- the same for a cause that is a fault of the device
@@ -185,8 +186,8 @@ sync_refused meaning old new drive why m rules (inr c) h = device_fault meaning 
 pub sync_steps : {D : Type 0} (meaning : D → Meaning) (old new : WorldView D) (drive : ℕ) (reply : Reply) (m : Machine) → IsWorld old
     → Moves meaning old (Sync drive) reply new → Matches meaning old m → StepsTo meaning m old (Sync drive) reply new
 sync_steps {D} meaning old new drive Synced m rules moves h =
-    call_step meaning old new m (Sync drive) Synced drive Syncs moves
-    (λ d after c. settles_synced d after (ap (λ (x : DriveIs D). x.journal) c) (ap (λ (x : DriveIs D). x.hand) c)) refl refl h
+    drive_step meaning old new m (Sync drive) Synced drive moves.0 moves.1 moves.2 moves.3 old.desk moves.4 moves.5.1.keeps
+    (settles_synced moves.2 moves.3 (ap (λ (x : DriveIs D). x.journal) moves.5.0) (ap (λ (x : DriveIs D). x.hand) moves.5.0)) refl refl h moves.6
 sync_steps meaning old new drive (Refused why) m rules moves h = sync_refused meaning old new drive why m rules moves h
 sync_steps meaning old new drive reply m rules moves h = absurd moves
 

@@ -18,10 +18,13 @@ use Rattle.sd_moves.specs.Drives.{is_running}
 use Rattle.sd_moves.specs.Rules.{NumbersRise}
 use Rattle.sd_moves.specs.World.{WorldView, WorldSession, session_at, with_session}
 use Rattle.sd_moves.proofs.Lookups.{session_id}
+use Rattle.sd_moves.proofs.Pairs.{is_numbered}
+use Rattle.sd_moves.proofs.Views.{runs, running_is}
+pub use Rattle.sd_moves.proofs.Views.{running_is as of_running}
 use Rattle.sd_matches.specs.Matches.{SessionMatches, SessionsMatch, Matches}
 use Rattle.sd_matches.specs.Steps.{is_failed, newly_failed, StepsTo}
 use Rattle.sd_matches.proofs.Frames.{Framed, same_session}
-use Rattle.sd_matches.proofs.Sessions.{found_session, numbered_key}
+use Rattle.sd_matches.proofs.Sessions.{found_session}
 
 -- No session fails.
 
@@ -135,12 +138,8 @@ FallAsTold meaning w w' failing (e ∷ es) (e' ∷ es') =
     (((list_any (λ t. t == e.session.key.id) failing ≡ true) × Falls e e')
     ⊎ ((list_any (λ t. t == e.session.key.id) failing ≡ false) × (e' ≡ e) × Framed meaning w w' e)) × FallAsTold meaning w w' failing es es'
 
-running_is : (status : Status) → IsRunning status → is_running status ≡ true
-running_is status (inl is) = ap is_running is
-running_is status (inr is) = ap is_running is
-
 pub falls_is : (e e' : WorldSession) → Falls e e' → falls e e' ≡ true
-falls_is e e' h = ap₂ (λ a b. a && b) (running_is e.session.status h.running) (ap is_failed h.failed)
+falls_is e e' h = ap₂ (λ a b. a && b) (runs e.session.status h.running) (ap is_failed h.failed)
 
 -- the tickets of those that fail are above those before
 absent : (t time least next : ℕ) (es es' : List WorldSession) → t < least → NumbersRise time least next es → list_any (λ x. x == t) (newly_failed es es') ≡ false
@@ -254,22 +253,15 @@ running_behind : (x : WorldSession) (time least next : ℕ) (es : List WorldSess
     → AllRunning es ts → AllRunning (x ∷ es) ts
 running_behind x time least next es [] low rise h = tt
 running_behind x time least next es (t ∷ ts) low rise h =
-    let up = (numbered_key time least next t es h.0.0 rise h.0.1).least_is in
+    let up = (is_numbered time least next t es h.0.0 rise h.0.1).least_is in
     let id = session_id t es h.0.0 h.0.1 in (
       (h.0.0, chosen (λ o. o ≡ Some h.0.0) x.session.key.id t (Some x) (session_at t es) (λ p. absurd (omega (arith, p, id, up, low))) (λ n. h.0.1), h.0.2),
       running_behind x time least next es ts low rise h.1,
     )
 
-pub of_running : (status : Status) → is_running status ≡ true → IsRunning status
-of_running Active is = inl refl
-of_running Ended is = inr refl
-of_running Closed is = absurd (cc is)
-of_running Cancelled is = absurd (cc is)
-of_running Failed is = absurd (cc is)
-
 running_of_falls : (e e' : WorldSession) → falls e e' ≡ true → IsRunning e.session.status
 running_of_falls e e' is =
-    of_running e.session.status ((elim (is_running e.session.status) as (λ b. (b && is_failed e'.session.status) ≡ true → b ≡ true) [
+    running_is e.session.status ((elim (is_running e.session.status) as (λ b. (b && is_failed e'.session.status) ≡ true → b ≡ true) [
       | true ↦ λ p. refl
       | false ↦ λ p. absurd (cc p)
     ]) is)

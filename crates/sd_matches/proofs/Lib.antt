@@ -10,6 +10,7 @@ pub mod Honesty
 pub mod MovesSteps
 pub mod OpenSteps
 pub mod OperatorSteps
+pub mod Sent
 pub mod SessionSteps
 pub mod Sessions
 pub mod TakenStores

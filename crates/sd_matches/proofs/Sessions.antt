@@ -1,5 +1,5 @@
 -- The sessions of the world and of the machine side by side: looking up, one that changes, one more.
-use Rattle.std.proofs.Common.{◌≡◌, ◌≢◌, ℕ, ◌+◌, ◌<◌, ◌≤◌, refl, sym, ap, subst, ◌∙◌, arith, Some, None, List, [], ◌∷◌, ◌++◌}
+use Rattle.std.proofs.Common.{◌≡◌, ◌≢◌, ℕ, ◌+◌, ◌<◌, refl, sym, ap, subst, ◌∙◌, arith, Some, None, List, [], ◌∷◌, ◌++◌}
 use Rattle.sd_base.specs.declared.number.SessionKey.{SessionKey}
 use Rattle.sd_driver.specs.Meaning.{Meaning}
 use Rattle.sd_machine.proofs.Lookups.{chosen}
@@ -74,29 +74,6 @@ put_back ticket (x ∷ es) e at =
     (λ n r. absurd (n (p ∙ session_id ticket es e r))) at)
     (λ n. chosen (λ o. o ≡ Some e → x ∷ with_session e es ≡ x ∷ es) x.session.key.id ticket (Some x) (session_at ticket es)
     (λ q r. let is : x ≡ e = cc in absurd (n (ap (λ (z : WorldSession). z.session.key.id) is))) (λ q r. ap (λ l. x ∷ l) (put_back ticket es e r)) at)
-
--- Numbers.
-
--- what the numbers say of one session
-pub record NumberedKey (time least next : ℕ) (e : WorldSession) : Type 0 where
-  pub time_is : e.session.key.time ≡ time
-  pub least_is : least ≤ e.session.key.id
-  pub below : e.session.key.id < next
-
-pub least_below : (time least next : ℕ) (es : List WorldSession) → NumbersRise time least next es → least ≤ next
-least_below time least next [] h = h
-least_below time least next (x ∷ es) h = let more = least_below time (x.session.key.id + 1) next es h.2 in omega (arith, h.1)
-
-pub numbered_key : (time least next ticket : ℕ) (es : List WorldSession) (e : WorldSession) → NumbersRise time least next es → session_at ticket es ≡ Some e → NumberedKey time least next e
-numbered_key time least next ticket [] e h at = absurd (cc at)
-numbered_key time least next ticket (x ∷ es) e h at =
-    let more = least_below time (x.session.key.id + 1) next es h.2 in
-    let own : NumberedKey time least next x = record { time_is = h.0; least_is = h.1; below = omega arith } in
-    chosen (λ o. o ≡ Some e → NumberedKey time least next e) x.session.key.id ticket (Some x) (session_at ticket es)
-    (λ p q. let is : x ≡ e = cc in subst (NumberedKey time least next) is own)
-    (λ n q. let k = numbered_key time (x.session.key.id + 1) next ticket es e h.2 q in
-    record { time_is = k.time_is; least_is = (let low = h.1 in let up = k.least_is in omega arith); below = k.below })
-    at
 
 -- One session changes in both.
 

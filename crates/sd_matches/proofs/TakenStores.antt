@@ -18,12 +18,13 @@ use Rattle.sd_moves.specs.Rules.{IsWorld, NumbersRise}
 use Rattle.sd_moves.specs.Sessions.{TakesStore}
 use Rattle.sd_moves.specs.World.{WorldView, WorldSession, BayView, LaneView, session_at, with_session}
 use Rattle.sd_moves.proofs.Lookups.{one_or_two, session_id, session_at-other}
+use Rattle.sd_moves.proofs.Pairs.{is_numbered}
 use Rattle.sd_matches.specs.Matches.{StoreIsTrue, HasBodies, SessionMatches, SessionsMatch, Matches, IsHonestAt}
 use Rattle.sd_matches.specs.Steps.{is_failed, newly_failed}
 use Rattle.sd_matches.proofs.Changes.{entry_with}
 use Rattle.sd_matches.proofs.Failing.{never_both, none_fall_same, fall_with}
 use Rattle.sd_matches.proofs.Frames.{Framed, same_session}
-use Rattle.sd_matches.proofs.Sessions.{found_session, numbered_key, put_same, sessions_same, sessions_with}
+use Rattle.sd_matches.proofs.Sessions.{found_session, put_same, sessions_same, sessions_with}
 
 -- A session that gives its lane's store back.
 
@@ -113,7 +114,7 @@ none_next time least next es rise =
     let given : (o : Option WorldSession) → session_at next es ≡ o → o ≡ None = λ o. elim o as (λ o. session_at next es ≡ o → o ≡ None) [
       | None ↦ λ is. refl
       | Some e ↦ λ is.
-          let low = (numbered_key time least next next es e rise is).below in
+          let low = (is_numbered time least next next es e rise is).below in
           let id = session_id next es e is in
           absurd (omega (arith, low, id))
     ] in
@@ -123,7 +124,7 @@ pub taken_next : {D : Type 0} (old : WorldView D) (lane : LaneView) (store : Sto
 taken_next old lane store es' (inl t) rules = ap (session_at old.next) t.1 ∙ none_next old.limits.time 1 old.next old.sessions rules.numbers
 taken_next old lane store es' (inr t) rules =
     let e = t.2 in
-    let low = (numbered_key old.limits.time 1 old.next t.1 old.sessions e rules.numbers t.5).below in
+    let low = (is_numbered old.limits.time 1 old.next t.1 old.sessions e rules.numbers t.5).below in
     let same : t.3.key.id ≡ e.session.key.id = ap (λ (x : SessionView). x.key.id) t.6.is in
     ap (session_at old.next) t.7 ∙ session_at-other old.next (entry_with e t.3) old.sessions (λ p. omega (arith, low, same, p))
     ∙ none_next old.limits.time 1 old.next old.sessions rules.numbers

@@ -6,15 +6,13 @@ use Rattle.sd_desk.specs.Desk.{DeskView, claimed_by, SameClaims}
 use Rattle.sd_drive.specs.View.{DriveIs}
 use Rattle.sd_driver.specs.Meaning.{Meaning}
 use Rattle.sd_journal.specs.Journal.{fails_with}
-use Rattle.sd_session.specs.Session.{IsRunning}
-use Rattle.sd_session.specs.declared.status.Status.{Status}
 use Rattle.sd_moves.specs.World.{WorldView, WorldSession, BayView, IsOnline, session_at}
 use Rattle.sd_moves.specs.Rules.{IsWorld}
 use Rattle.sd_moves.specs.Drives.{LosesBlocks, FailsWhere, is_running, loses_by}
 use Rattle.sd_moves.specs.Operators.{ClaimsName, with_desk}
 use Rattle.sd_moves.proofs.DriveSteps.{DriveGoesOn, DriveAdds, DriveLoses, fails_to_sync}
 use Rattle.sd_moves.proofs.Pairs.{FallsWhere, fail_pairs, numbers_fail}
-use Rattle.sd_moves.proofs.Views.{failed_over, fails as session_fails}
+use Rattle.sd_moves.proofs.Views.{runs, failed_over, fails as session_fails}
 use Rattle.sd_moves.proofs.Worlds.{whole_same, pair_map, GoesOnBy, drive_world, calm_world, claimed_on}
 
 -- the desk's claims stay
@@ -53,10 +51,6 @@ gets_volume w drive at bay d after desk name h online more claims =
 and_second : (a b : Bool) → (a && b) ≡ false → a ≡ true → b ≡ false
 and_second true b none is = none
 and_second false b none is = absurd (true≢false (sym is))
-
-runs : (status : Status) → IsRunning status → is_running status ≡ true
-runs status (inl is) = ap is_running is
-runs status (inr is) = ap is_running is
 
 -- the session that loses a block doesn't go on
 pub falls : {D : Type 0} (drive at : ℕ) (name : List ℕ) (d after : DriveIs D) (x y : WorldSession) (b : Bool) → drive ≡ at + 1 → DriveLoses name d after

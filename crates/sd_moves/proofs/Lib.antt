@@ -1,3 +1,4 @@
+pub mod Bays
 pub mod DriveMoves
 pub mod DriveSteps
 pub mod Items

@@ -1,8 +1,11 @@
 -- Looking up a session by its ticket, and an element by its place, after one of them changed.
-use Rattle.std.proofs.Common.{◌≡◌, ◌≢◌, ◌⊎◌, ℕ, zero, suc, ◌==◌, cond, refl, sym, ap, ◌∙◌, inl, inr, true, false, Some, None, List, [], ◌∷◌, ◌++◌, slice_get, slice_set}
+use Rattle.std.proofs.Common.{◌≡◌, ◌≢◌, ◌⊎◌, ℕ, zero, suc, ◌+◌, ◌≤◌, ◌==◌, cond, refl, sym, ap, subst, ◌∙◌, arith, inl, inr, true, false, Some, None, List, [], ◌∷◌, ◌++◌, slice_get, slice_set}
 use Rattle.std.proofs.lemmas.Bool.Decides.{eqb_tells}
+use Rattle.sd_drive.proofs.Places.{get_set_here}
+pub use Rattle.sd_drive.proofs.Places.{set_same, get_set_other as get_set-other}
 use Rattle.sd_machine.proofs.Lookups.{chosen}
 use Rattle.sd_moves.specs.World.{WorldSession, session_at, with_session}
+use Rattle.sd_moves.specs.Rules.{NumbersRise}
 
 -- two numbers are one, or not
 pub one_or_two : (a b : ℕ) → (a ≡ b) ⊎ (a ≢ b)
@@ -80,17 +83,7 @@ session_at-push ticket (x ∷ es) new e at =
 
 -- what is written stands there
 pub get_set-same : {A : Type 0} → (xs : List A) (at : ℕ) (x y : A) → slice_get xs at ≡ Some y → slice_get (slice_set xs at x) at ≡ Some x
-get_set-same [] at x y there = absurd (cc there)
-get_set-same (z ∷ xs) zero x y there = refl
-get_set-same (z ∷ xs) (suc k) x y there = get_set-same xs k x y there
-
--- all else stays
-pub get_set-other : {A : Type 0} → (xs : List A) (at place : ℕ) (x : A) → place ≢ at → slice_get (slice_set xs at x) place ≡ slice_get xs place
-get_set-other [] at place x other = refl
-get_set-other (z ∷ xs) zero zero x other = absurd (other refl)
-get_set-other (z ∷ xs) zero (suc k) x other = refl
-get_set-other (z ∷ xs) (suc k) zero x other = refl
-get_set-other (z ∷ xs) (suc k) (suc m) x other = get_set-other xs k m x (λ e. other (ap suc e))
+get_set-same xs at x y there = get_set_here xs at y x there
 
 -- what stands in a list after a write was written, or stood there
 pub get_set-tells : {A : Type 0} → (xs : List A) (at place : ℕ) (x y : A) → slice_get (slice_set xs at x) place ≡ Some y
@@ -112,8 +105,50 @@ get_push-tells [] (suc k) x y there = absurd (cc there)
 get_push-tells (z ∷ xs) zero x y there = inl there
 get_push-tells (z ∷ xs) (suc k) x y there = get_push-tells xs k x y there
 
--- to write what stands there changes nothing
-pub set_same : {A : Type 0} → (xs : List A) (at : ℕ) (x : A) → slice_get xs at ≡ Some x → slice_set xs at x ≡ xs
-set_same [] at x there = refl
-set_same (y ∷ xs) zero x there = ap (λ z. z ∷ xs) (cc there)
-set_same (y ∷ xs) (suc k) x there = ap (λ l. y ∷ l) (set_same xs k x there)
+-- Numbers that rise.
+
+-- the number of a session at a place is `least` or above
+pub number_least : (time least next : ℕ) (es : List WorldSession) (at : ℕ) (e : WorldSession)
+    → NumbersRise time least next es → slice_get es at ≡ Some e → least ≤ e.session.key.id
+number_least time least next [] at e rise there = absurd (cc there)
+number_least time least next (x ∷ es) zero e rise there =
+    let is : x ≡ e = cc there in subst (λ (y : WorldSession). least ≤ y.session.key.id) is rise.1
+number_least time least next (x ∷ es) (suc k) e rise there =
+    let later = number_least time (x.session.key.id + 1) next es k e rise.2 there in
+    let here = rise.1 in
+    omega (arith, later, here)
+
+-- a session is found by its number
+pub found_by_number : (time least next : ℕ) (es : List WorldSession) (at : ℕ) (e : WorldSession)
+    → NumbersRise time least next es → slice_get es at ≡ Some e → session_at e.session.key.id es ≡ Some e
+found_by_number time least next [] at e rise there = absurd (cc there)
+found_by_number time least next (x ∷ es) zero e rise there =
+    let is : x ≡ e = cc there in
+    chosen (λ o. o ≡ Some e) x.session.key.id e.session.key.id (Some x) (session_at e.session.key.id es)
+    (λ p. ap Some is) (λ n. absurd (n (ap (λ (y : WorldSession). y.session.key.id) is)))
+found_by_number time least next (x ∷ es) (suc k) e rise there =
+    let later = number_least time (x.session.key.id + 1) next es k e rise.2 there in
+    chosen (λ o. o ≡ Some e) x.session.key.id e.session.key.id (Some x) (session_at e.session.key.id es)
+    (λ p. absurd (omega (arith, later, p))) (λ n. found_by_number time (x.session.key.id + 1) next es k e rise.2 there)
+
+-- and is changed by it
+pub changed_by_number : (time least next : ℕ) (es : List WorldSession) (at : ℕ) (e new : WorldSession)
+    → NumbersRise time least next es → slice_get es at ≡ Some e → new.session.key.id ≡ e.session.key.id → slice_set es at new ≡ with_session new es
+changed_by_number time least next [] at e new rise there same = absurd (cc there)
+changed_by_number time least next (x ∷ es) zero e new rise there same =
+    let is : x ≡ e = cc there in
+    chosen (λ l. new ∷ es ≡ l) x.session.key.id new.session.key.id (new ∷ es) (x ∷ with_session new es)
+    (λ p. refl) (λ n. absurd (n (ap (λ (y : WorldSession). y.session.key.id) is ∙ sym same)))
+changed_by_number time least next (x ∷ es) (suc k) e new rise there same =
+    let later = number_least time (x.session.key.id + 1) next es k e rise.2 there in
+    chosen (λ l. x ∷ slice_set es k new ≡ l) x.session.key.id new.session.key.id (new ∷ es) (x ∷ with_session new es)
+    (λ p. absurd (omega (arith, later, same, p)))
+    (λ n. ap (λ l. x ∷ l) (changed_by_number time (x.session.key.id + 1) next es k e new rise.2 there same))
+
+-- a ticket that stands at no place is no session's
+pub none_found : (ticket : ℕ) (es : List WorldSession)
+    → ((at : ℕ) (e : WorldSession) → slice_get es at ≡ Some e → e.session.key.id ≢ ticket) → session_at ticket es ≡ None
+none_found ticket [] none = refl
+none_found ticket (x ∷ es) none =
+    chosen (λ o. o ≡ None) x.session.key.id ticket (Some x) (session_at ticket es)
+    (λ p. absurd (none 0 x refl p)) (λ n. none_found ticket es (λ at e there. none (suc at) e there))

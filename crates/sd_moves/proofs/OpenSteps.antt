@@ -32,7 +32,7 @@ loses_none : (drive lane : ℕ) (x : WorldSession) → LosesStore drive lane x x
 loses_none drive lane x = record { drive_is = refl; stays = same_stays x.session; store = λ other h. h }
 
 -- the session that used a lane last
-holder_of : (sessions : List WorldSession) (drive place : ℕ) (lane : LaneView) (ticket : ℕ) → IsLane sessions drive place lane → lane.holder ≡ Some ticket
+pub holder_of : (sessions : List WorldSession) (drive place : ℕ) (lane : LaneView) (ticket : ℕ) → IsLane sessions drive place lane → lane.holder ≡ Some ticket
     → (e : WorldSession) × (session_at ticket sessions ≡ Some e) × (e.drive ≡ drive) × (e.session.lane ≡ place + 1) × (lane.store ≡ None → IsSome (store_of e.session))
 holder_of sessions drive place lane ticket h holds =
     MatchOption-at_some _ (λ number. (e : WorldSession) × (session_at number sessions ≡ Some e) × (e.drive ≡ drive) × (e.session.lane ≡ place + 1)
@@ -147,7 +147,7 @@ opens_not {D} w w' pool media why h o =
 -- A session is opened.
 
 -- the lane that it gets is free
-reserved_free : {D : Type 0} (w : WorldView D) (pool media : List ℕ) (drive at place : ℕ) (bay : BayView D) (d : DriveIs D) (lane : LaneView)
+pub reserved_free : {D : Type 0} (w : WorldView D) (pool media : List ℕ) (drive at place : ℕ) (bay : BayView D) (d : DriveIs D) (lane : LaneView)
     → Reserves w pool media drive at place bay d lane → lane_is_free w.sessions d.journal lane.holder ≡ true
 reserved_free w pool media drive at place bay d lane r =
     let free : LaneView → Bool = λ (l : LaneView). lane_is_free w.sessions d.journal l.holder in

@@ -62,7 +62,7 @@ with_pairs es ticket e f at id other = elim (one_or_two other ticket) [
 -- Some sessions fail.
 
 -- the failed session has its key
-fails_key : (b : Bool) (e e' : WorldSession) → FailsWhere b e e' → e'.session.key ≡ e.session.key
+pub fails_key : (b : Bool) (e e' : WorldSession) → FailsWhere b e e' → e'.session.key ≡ e.session.key
 fails_key true e e' h = ap (λ (x : WorldSession). x.session.key) h.2 ∙ (fails e.session h.0 h.1).stays.key_is
 fails_key false e e' h = ap (λ (x : WorldSession). x.session.key) h
 

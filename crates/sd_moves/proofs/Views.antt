@@ -1,16 +1,17 @@
 -- What a change of one session leaves of it: whose it is and where it sits; and the statuses that go on.
-use Rattle.std.proofs.Common.{◌≡◌, refl, sym, ap, subst, inl, inr, Some, IsSome}
+use Rattle.std.proofs.Common.{◌≡◌, true, false, refl, sym, ap, subst, inl, inr, Some, IsSome}
 use Rattle.sd_base.specs.Record.{Record}
 use Rattle.sd_base.specs.declared.refusal.Refusal.{Refusal}
 use Rattle.sd_machine.proofs.Lookups.{not_closed}
 use Rattle.sd_session.specs.declared.answer.Spooling.{Spooling}
 use Rattle.sd_session.specs.declared.answer.Spooling.TheVariants.{Spooled, SpoolFull, Nothing, NoSpool}
 use Rattle.sd_session.specs.declared.status.Status.{Status}
-use Rattle.sd_session.specs.declared.status.Status.TheVariants.{Closed, Cancelled, Failed}
+use Rattle.sd_session.specs.declared.status.Status.TheVariants.{Active, Ended, Closed, Cancelled, Failed}
 use Rattle.sd_session.specs.Session.{SessionView, IsRunning, TakesRecord, EndsSession, DropsParts, CancelsSession, FailsSession, GivesBack, store_of}
 use Rattle.sd_session.specs.Spooling.{Spools, SpoolRefused, FailsBySpool}
 use Rattle.sd_session.specs.Sending.{DespoolRefused}
 use Rattle.sd_spool.specs.Job.{StoreState, JobView}
+use Rattle.sd_moves.specs.Drives.{is_running}
 
 -- a session that failed, is cancelled or closed doesn't go on
 pub failed_not_running : IsRunning Failed → ⊥
@@ -24,6 +25,26 @@ cancelled_not_running (inr is) = cc
 pub closed_not_running : IsRunning Closed → ⊥
 closed_not_running (inl is) = cc
 closed_not_running (inr is) = cc
+
+-- the test tells of who goes on
+pub runs : (status : Status) → IsRunning status → is_running status ≡ true
+runs status (inl is) = ap is_running is
+runs status (inr is) = ap is_running is
+
+-- and of no other
+pub running_is : (status : Status) → is_running status ≡ true → IsRunning status
+running_is Active is = inl refl
+running_is Ended is = inr refl
+running_is Closed is = absurd (cc is)
+running_is Cancelled is = absurd (cc is)
+running_is Failed is = absurd (cc is)
+
+pub not_running : (status : Status) → (IsRunning status → ⊥) → is_running status ≡ false
+not_running Active over = absurd (over (inl refl))
+not_running Ended over = absurd (over (inr refl))
+not_running Closed over = refl
+not_running Cancelled over = refl
+not_running Failed over = refl
 
 -- The session is whose it was, in its lane, and as many pieces were sent of it; it goes on only if it did, and is
 -- closed exactly if it was.

@@ -1,9 +1,9 @@
 -- What an event does to a world, by its reply.
-use Rattle.std.specs.Prelude.{◌≡◌, ◌⊎◌, ℕ, ◌+◌, None, List, Ok, Err}
+use Rattle.std.specs.Prelude.{◌≡◌, ◌⊎◌, ℕ, ◌+◌, false, None, List, Ok, Err}
 use Rattle.sd_base.specs.declared.refusal.Refusal.{Refusal}
 use Rattle.sd_base.specs.declared.refusal.Refusal.TheVariants.{DeviceFault, Memory}
 use Rattle.sd_driver.specs.Meaning.{Meaning}
-use Rattle.sd_drive.specs.Moves.{Places, Syncs, Unmounts, LimitAllows}
+use Rattle.sd_drive.specs.Moves.{Places, Syncs, Unmounts, LimitAllows, awaits_sync}
 use Rattle.sd_drive.specs.declared.place.Placed.TheVariants as place
 use Rattle.sd_machine.specs.declared.event.Event.{Event}
 use Rattle.sd_machine.specs.declared.event.Event.TheVariants.{Open, Append, End, Close, Cancel, Spool, Despool, Take, Place, Sync, Label, Adopt, Mount, Unmount, Seek, Retire, Media}
@@ -35,6 +35,11 @@ FindsFull meaning old drive new = ChangesDrive old drive new
 abbrev pub FindsError : {D : Type 0} → (D → Meaning) → WorldView D → ℕ → WorldView D → Type 0
 FindsError meaning old drive new = ChangesDrive old drive new
     (λ d after. Places {E = Unit {0}} (Ok place.VolumeError) d after × Calls meaning (Unit {0}) ⊥ d after)
+
+-- the drive's loaded volume is synced; where no block awaits that, the drive is as it was: its device isn't called
+abbrev pub SyncsLoaded : {D : Type 0} → (D → Meaning) → WorldView D → ℕ → WorldView D → Type 0
+SyncsLoaded meaning old drive new = ChangesDrive old drive new
+    (λ d after. Syncs d after × Calls meaning ⊥ ⊥ d after × (awaits_sync d ≡ false → after ≡ d))
 
 -- another drive's number, or the drive refuses so and nothing changes
 abbrev pub MissingOr : {D : Type 0} → WorldView D → ℕ → Refusal → WorldView D → Type 0 → Type 0
@@ -74,7 +79,7 @@ Moves meaning old (Place drive) VolumeError new = FindsError meaning old drive n
 Moves meaning old (Place drive) Idle new = OnDrive old drive (λ d. d.hand ≡ None) × StaysAs old new
 Moves meaning old (Place drive) (Refused why) new = MissingOr old drive why new
     ((why ≡ Memory) × CallsDrive meaning old drive new (Places {E = Unit {0}} (Err tt)))
-Moves meaning old (Sync drive) Synced new = CallsDrive meaning old drive new Syncs
+Moves meaning old (Sync drive) Synced new = SyncsLoaded meaning old drive new
 Moves meaning old (Sync drive) (Refused why) new = MissingOr old drive why new ((why ≡ DeviceFault) × LosesBlocks meaning old drive new)
 Moves meaning old (Label drive name pool media moment) Labelled new = LabelsVolume meaning old drive name pool media moment new
 Moves meaning old (Label drive name pool media moment) (Refused why) new = MissingOr old drive why new (LabelRefused meaning old drive name media why new)

@@ -11,7 +11,7 @@ use Rattle.sd_drive.specs.Shelf.{KeepsPieces}
 use Rattle.sd_drive.specs.View.{DriveIs}
 use Rattle.sd_driver.specs.Meaning.{Meaning, IsHonest}
 use Rattle.sd_driver.specs.Shelf.{MayCreate, SameShelf, StillLasts, StillLastsBelow}
-use Rattle.sd_volume.specs.Adopt.{IsDue}
+use Rattle.sd_volume.specs.Adopt.{IsDue, KeepsWholeBlocks}
 use Rattle.sd_volume.specs.Device.{Counted}
 use Rattle.sd_volume.specs.Fault.{label_refusal, adopt_refusal}
 use Rattle.sd_volume.specs.Label.{Labels, new_volume}
@@ -107,11 +107,13 @@ LabelRefused meaning old drive name media why new =
 
 -- Adoptions.
 
--- what an adoption leaves of the drive's device: as every call does, but that bytes of the adopted volume may be cut
+-- what an adoption leaves of the drive's device, whatever it answers: as every call does, but that bytes of the adopted
+-- volume may be cut behind its whole blocks
 pub record CallsAdopting {D : Type 0} (meaning : D → Meaning) (fault : Type 0) (name : List ℕ) (old new : DriveIs D) : Type 0 where
   pub counted : Counted fault ⊥ (meaning old.device) (meaning new.device)
   pub keeps : KeepsPieces (meaning old.device) (meaning new.device) old.journal new.journal old.hand new.hand
   pub others : StillLastsBelow 0 name (meaning old.device).shelf (meaning new.device).shelf
+  pub whole_blocks : IsHonest (meaning old.device) → KeepsWholeBlocks name (meaning old.device).shelf (meaning new.device).shelf
 
 -- a volume that an earlier run left comes to the drive, and its name is claimed for it
 pub record AdoptsAt {D : Type 0} (meaning : D → Meaning) (old : WorldView D) (drive : ℕ) (name : List ℕ)

@@ -2,18 +2,18 @@
 use Rattle.std.proofs.Common.{◌≡◌, ◌≢◌, ℕ, ℤ, Bool, true, false, ◌+◌, List, Option, Some, None, refl, sym, ap, ◌∙◌, subst}
 use Rattle.std.specs.Str.{bytes_eq}
 use Rattle.std.proofs.lemmas.Slice.Eq.{bytes_eq-Decides}
-use Rattle.sd_desk.specs.Desk.{DeskView, claimed_by, OtherClaimsStay}
+use Rattle.sd_desk.specs.Desk.{DeskView, claimed_by, SameClaims, OtherClaimsStay}
 use Rattle.sd_drive.specs.View.{DriveIs}
 use Rattle.sd_drive.specs.Moves.{label_due, adopt_due, place_of}
 use Rattle.sd_drive.proofs.FindLemmas.{place_there}
 use Rattle.sd_moves.specs.World.{WorldView, BayView, IsOnline, with_bay}
-use Rattle.sd_moves.specs.Operators.{with_desk, SameDesk}
+use Rattle.sd_moves.specs.Operators.{with_desk, SameDesk, ClaimsName}
 use Rattle.sd_driver.specs.Meaning.{Meaning}
 use Rattle.sd_machine.specs.declared.event.Event.TheVariants.{Label}
 use Rattle.sd_machine.specs.declared.reply.Reply.{Reply}
 use Rattle.sd_moves.specs.Moves.{Moves}
 use Rattle.sd_moves.specs.Rules.{IsWorld}
-use Rattle.sd_operators.proofs.Bays.{bay_stays}
+use Rattle.sd_moves.proofs.Bays.{bay_stays}
 
 -- a drive that is put back, beside another desk
 pub desk_alone : {D : Type 0} (w : WorldView D) (drive at : ℕ) (bay : BayView D) (d : DriveIs D) (desk : DeskView)
@@ -51,6 +51,18 @@ label_free d name media same loaded none =
 -- no refusal of an adoption is due
 pub adopt_free : {D : Type 0} (d : DriveIs D) (name : List ℕ) → d.loaded ≡ None → place_of d.volumes name ≡ None → adopt_due d name ≡ None
 adopt_free d name loaded none = rw (none, loaded)
+
+-- the desk knows what it knew
+pub knows_same : (old desk new : DeskView) → old ≡ desk → SameClaims desk new → new.requests ≡ desk.requests → SameDesk old new
+knows_same old desk new desked claims asked =
+    subst (λ (k : DeskView). SameDesk k new) (sym desked) (record { claims = claims; requests = asked })
+
+-- the name is claimed
+pub claims_name : (name : List ℕ) (drive : ℕ) (old desk new : DeskView) → old ≡ desk → claimed_by desk name ≡ None → claimed_by new name ≡ Some drive
+    → OtherClaimsStay name desk new → new.requests ≡ desk.requests → ClaimsName name drive old new
+claims_name name drive old desk new desked unclaimed claimed others asked =
+    subst (λ (k : DeskView). ClaimsName name drive k new) (sym desked)
+    (record { unclaimed = unclaimed; claimed = claimed; others = others; requests = asked })
 
 -- a name that was claimed and released
 pub released : (name : List ℕ) (old mid new : DeskView) → claimed_by old name ≡ None → OtherClaimsStay name old mid → OtherClaimsStay name mid new

@@ -1,4 +1,4 @@
-pub mod Bays
+pub mod CallLemmas
 pub mod DeskLemmas
 pub mod Lists
 pub mod LosingLemmas

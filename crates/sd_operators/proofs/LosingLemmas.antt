@@ -1,25 +1,34 @@
 -- Which sessions fail by a sync that failed, looked at lane by lane.
-use Rattle.std.proofs.Common.{◌≡◌, ◌≢◌, ℕ, zero, suc, ◌+◌, ◌<◌, ◌≤◌, ◌==◌, ◌&&◌, ◌||◌, Bool, true, false, refl, sym, ap, subst, ◌∙◌, arith, inl, inr, Option, Some, None, IfSome, IsSome, List, [], ◌∷◌, ◌++◌, length, take, get_or, slice_get}
+use Rattle.std.proofs.Common.{◌≡◌, ◌≢◌, ℕ, zero, suc, ◌+◌, ◌<◌, ◌≤◌, ◌==◌, ◌&&◌, ◌||◌, Bool, true, false, refl, sym, ap, subst, ◌∙◌, arith, inl, inr, Option, Err, Some, None, IfSome, IsSome, List, [], ◌∷◌, ◌++◌, length, take, get_or, slice_get}
+use Rattle.std.specs.Prelude.{IsErrOf}
 use Rattle.std.specs.List.{list_any}
 use Rattle.std.proofs.lemmas.Bool.Decides.{eqb_tells}
 use Rattle.std.proofs.lemmas.List.{take_more, take_all}
 use Rattle.std.proofs.lemmas.List.Folds.{list_any-append}
 use Rattle.sd_base.specs.declared.number.SessionKey.{SessionKey}
+use Rattle.sd_base.specs.declared.refusal.Refusal.{Refusal}
+use Rattle.sd_base.specs.declared.refusal.Refusal.TheVariants.{DeviceFault}
 use Rattle.sd_drive.specs.View.{DriveIs}
 use Rattle.sd_drive.specs.Moves.{FailsToSync}
+use Rattle.sd_drive.specs.Shelf.{KeepsPieces}
 use Rattle.sd_driver.specs.Meaning.{Meaning}
+use Rattle.sd_driver.specs.Shelf.{StillLasts}
+use Rattle.sd_volume.specs.Device.{Counted}
 use Rattle.sd_journal.specs.Journal.{Entry, fails, fails_with, settled}
 use Rattle.sd_journal.proofs.EntryLemmas.{failing}
 use Rattle.sd_journal.specs.declared.mark.Mark.TheVariants.{Lost}
 use Rattle.sd_session.specs.Session.{SessionView, FailsSession, IsRunning, store_of}
-use Rattle.sd_session.specs.declared.status.Status.{Status}
-use Rattle.sd_session.specs.declared.status.Status.TheVariants.{Active, Ended, Closed, Cancelled, Failed}
 use Rattle.sd_moves.specs.World.{WorldView, WorldSession, BayView, LaneView, IsOnline, session_at}
 use Rattle.sd_moves.specs.Drives.{FailsWhere, FailExactly, is_running, loses_by, LosesBlocks, Calls}
+use Rattle.sd_moves.specs.Moves.{MissingOr}
 use Rattle.sd_moves.specs.Rules.{IsWorld}
+use Rattle.sd_moves.proofs.Lookups.{found_by_number}
+use Rattle.sd_moves.proofs.Pairs.{fails_key}
+use Rattle.sd_moves.proofs.Views.{runs, running_is, not_running, failed_over}
 use Rattle.sd_operators.specs.OnDrives.{with_sessions}
 use Rattle.sd_operators.specs.Losing.{is_holder, holds_lane, has_lost}
-use Rattle.sd_operators.proofs.Lists.{fails_key, fail_alike, found_by_number, all_stay}
+use Rattle.sd_operators.proofs.Lists.{fail_alike, all_stay}
+use Rattle.sd_operators.proofs.CallLemmas.{recounted, counted_refused, calls_are}
 
 and_false : (a : Bool) → (a && false) ≡ false
 and_false true = refl
@@ -27,17 +36,8 @@ and_false false = refl
 
 -- a session that failed goes on no more
 failed_is_over : (e f : WorldSession) → FailsWhere true e f → is_running f.session.status ≡ false
-failed_is_over e f failed = elim failed.1 [
-  | inl p ↦ ap (λ (x : WorldSession). is_running x.session.status) failed.2 ∙ ap (λ (x : SessionView). is_running x.status) p.1.is
-  | inr p ↦ ap (λ (x : WorldSession). is_running x.session.status) failed.2 ∙ ap (λ (x : SessionView). is_running x.status) p.1 ∙ not_running e.session.status p.0
-]
-  where
-    not_running : (s : Status) → (IsRunning s → ⊥) → is_running s ≡ false
-    not_running Active nope = absurd (nope (inl refl))
-    not_running Ended nope = absurd (nope (inr refl))
-    not_running Closed nope = refl
-    not_running Cancelled nope = refl
-    not_running Failed nope = refl
+failed_is_over e f failed =
+    ap (λ (x : WorldSession). is_running x.session.status) failed.2 ∙ not_running failed.0.status (failed_over e.session failed.0 failed.1)
 
 -- one session, looked at twice
 one_step : (journal : List Entry) (a b l : Bool) (e f g : WorldSession) → has_lost journal e ≡ l
@@ -104,14 +104,6 @@ lane_last journal lanes i es fs past fail =
     subst (λ (ls : List LaneView). FailExactly (λ e. holds_lane ls e && has_lost journal e) es fs) (take_all i lanes past) fail
 
 -- Who loses.
-
--- the session goes on
-running_is : (s : Status) → is_running s ≡ true → IsRunning s
-running_is Active is = inl refl
-running_is Ended is = inr refl
-running_is Closed is = absurd (cc is)
-running_is Cancelled is = absurd (cc is)
-running_is Failed is = absurd (cc is)
 
 -- what one of a list has, some of it has
 any_there : {A : Type 0} (p : A → Bool) (xs : List A) (at : ℕ) (x : A) → slice_get xs at ≡ Some x → p x ≡ true → list_any p xs ≡ true
@@ -223,41 +215,34 @@ fail_session holder journal e s is lost kept =
 
     from : (r l : Bool) → is_running e.session.status ≡ r → fails e.session.key journal ≡ l
         → FailsWhere (is_running e.session.status && fails e.session.key journal) e (record e { session = s })
-    from r false runs is_lost =
+    from r false goes is_lost =
         subst (λ b. FailsWhere (is_running e.session.status && b) e (record e { session = s })) (sym is_lost)
         (subst (λ b. FailsWhere b e (record e { session = s })) (sym (and_false (is_running e.session.status))) (stays (kept is_lost)))
-    from true true runs is_lost =
-        subst (λ b. FailsWhere (b && fails e.session.key journal) e (record e { session = s })) (sym runs)
+    from true true goes is_lost =
+        subst (λ b. FailsWhere (b && fails e.session.key journal) e (record e { session = s })) (sym goes)
         (subst (λ b. FailsWhere b e (record e { session = s })) (sym is_lost) (s, lost is_lost, refl))
-    from false true runs is_lost =
-        subst (λ b. FailsWhere (b && fails e.session.key journal) e (record e { session = s })) (sym runs)
+    from false true over is_lost =
+        subst (λ b. FailsWhere (b && fails e.session.key journal) e (record e { session = s })) (sym over)
         (elim (lost is_lost) [
-          | inl p ↦ absurd (over e.session.status p.0 runs)
+          | inl p ↦ absurd (let goes : false ≡ true = sym over ∙ runs e.session.status p.0 in cc goes)
           | inr p ↦ stays p.1
         ])
-      where
-        over : (t : Status) → IsRunning t → is_running t ≡ false → ⊥
-        over Active r i = cc i
-        over Ended r i = cc i
-        over Closed r i = elim r [ inl p ↦ cc p | inr p ↦ cc p ]
-        over Cancelled r i = elim r [ inl p ↦ cc p | inr p ↦ cc p ]
-        over Failed r i = elim r [ inl p ↦ cc p | inr p ↦ cc p ]
 
 -- the sessions that lose blocks have failed
-pub loses : {D : Type 0} (meaning : D → Meaning) (w : WorldView D) (drive at : ℕ) (bay : BayView D) (d after : DriveIs D)
+pub loses : {D : Type 0} (meaning : D → Meaning) (w : WorldView D) (drive at : ℕ) (bay : BayView D) (d after : DriveIs D) (why : Refusal)
     (lanes : List LaneView) (sessions sessions' : List WorldSession)
     → IsWorld w → IsOnline w drive at bay d → bay.lanes ≡ lanes → w.sessions ≡ sessions
-    → FailsToSync d after → Calls meaning (Unit {0}) ⊥ d after
+    → FailsToSync d after → why ≡ DeviceFault → Calls meaning (why ≡ DeviceFault) ⊥ d after
     → FailExactly (λ e. holds_lane lanes e && has_lost after.journal e) sessions sessions'
     → LosesBlocks meaning w drive (with_sessions at bay after sessions' w)
-loses {D} meaning w drive at bay d after lanes sessions sessions' world on laned had failed calls exactly = record {
+loses {D} meaning w drive at bay d after why lanes sessions sessions' world on laned had failed is calls exactly = record {
   at = at;
   bay = bay;
   d = d;
   after = after;
   online = on;
   fails = failed;
-  calls = calls;
+  calls = record { counted = recounted _ _ (λ x. is) (λ x. tt) (λ x. x) (λ x. x) calls.counted; keeps = calls.keeps; later = calls.later };
   sessions = sessions';
   fail = fail_alike (λ e. holds_lane bay.lanes e && has_lost (settled Lost failed.volume.name d.journal) e) (loses_by drive failed.volume.name d.journal) w.sessions sessions'
       (λ place e there. lost_here w drive at place bay d failed.volume.name e world on there)
@@ -266,6 +251,19 @@ loses {D} meaning w drive at bay d after lanes sessions sessions' world on laned
       (subst (λ (j : List Entry). FailExactly (λ e. holds_lane lanes e && has_lost j e) sessions sessions') (ap (λ (x : DriveIs D). x.journal) failed.becomes) exactly)));
   new_is = refl;
 }
+
+-- so is a call answered that fails its device
+pub device_fails : {D T : Type 0} (meaning : D → Meaning) (w : WorldView D) (drive at : ℕ) (bay : BayView D) (d after : DriveIs D) (why : Refusal)
+    (lanes : List LaneView) (sessions sessions' : List WorldSession)
+    → IsWorld w → IsOnline w drive at bay d → bay.lanes ≡ lanes → w.sessions ≡ sessions → FailsToSync d after → why ≡ DeviceFault
+    → Counted (IsErrOf {T = T} {E = Refusal} (Err why) DeviceFault) ⊥ (meaning d.device) (meaning after.device)
+    → KeepsPieces (meaning d.device) (meaning after.device) d.journal after.journal d.hand after.hand
+    → StillLasts (meaning d.device).shelf (meaning after.device).shelf
+    → FailExactly (λ e. holds_lane lanes e && has_lost after.journal e) sessions sessions'
+    → MissingOr w drive why (with_sessions at bay after sessions' w) ((why ≡ DeviceFault) × LosesBlocks meaning w drive (with_sessions at bay after sessions' w))
+device_fails meaning w drive at bay d after why lanes sessions sessions' world on laned had failed is counted keeps later exactly =
+    let calls = calls_are meaning (why ≡ DeviceFault) ⊥ d after (counted_refused (meaning d.device) (meaning after.device) why counted) keeps later in
+    inr (is, loses meaning w drive at bay d after why lanes sessions sessions' world on laned had failed is calls exactly)
 
 -- where the journal tells of no lost block more, none of a session that goes on is lost
 none_lost : {D : Type 0} (w : WorldView D) (drive at place : ℕ) (bay : BayView D) (d : DriveIs D) (journal : List Entry) (e : WorldSession)

@@ -14,9 +14,9 @@ use Rattle.sd_moves.specs.World.{WorldView, WorldSession, BayView, LaneView, IsO
 use Rattle.sd_moves.specs.Drives.{FailExactly, Calls, LosesBlocks}
 use Rattle.sd_moves.specs.Operators.{MountsAt, MountRefused, AnswersDrive}
 use Rattle.sd_moves.specs.Rules.{IsWorld}
+use Rattle.sd_moves.proofs.Bays.{drive_stays}
 use Rattle.sd_operators.specs.Losing.{holds_lane, has_lost}
 use Rattle.sd_operators.specs.OnDrives.{with_all}
-use Rattle.sd_operators.proofs.Bays.{drive_stays}
 use Rattle.sd_operators.proofs.LosingLemmas.{loses, sessions_stay}
 
 -- a refusal is due, or none is
@@ -70,7 +70,7 @@ refused_at_once {D} meaning w drive at bay d after name why lanes sessions sessi
 pub refused_by_sync : {D : Type 0} (meaning : D → Meaning) (w : WorldView D) (drive at : ℕ) (bay : BayView D) (d after : DriveIs D) (name : List ℕ) (why : Refusal)
     (lanes : List LaneView) (sessions sessions' : List WorldSession) (desk : DeskView)
     → IsWorld w → IsOnline w drive at bay d → bay.lanes ≡ lanes → w.sessions ≡ sessions → w.desk ≡ desk → mount_due d name ≡ None
-    → FailsToSync d after → why ≡ DeviceFault → Calls meaning (Unit {0}) ⊥ d after
+    → FailsToSync d after → why ≡ DeviceFault → Calls meaning (why ≡ DeviceFault) ⊥ d after
     → FailExactly (λ e. holds_lane lanes e && has_lost after.journal e) sessions sessions'
     → MountRefused meaning w drive name why (with_all at bay after sessions' desk w)
 refused_by_sync {D} meaning w drive at bay d after name why lanes sessions sessions' desk world on laned had desked due failed is calls exactly =
@@ -78,7 +78,7 @@ refused_by_sync {D} meaning w drive at bay d after name why lanes sessions sessi
       (at, bay, d, on, due),
       is,
       subst (λ (k : DeskView). LosesBlocks meaning w drive (with_all at bay after sessions' k w)) desked
-          (loses meaning w drive at bay d after lanes sessions sessions' world on laned had failed calls exactly),
+          (loses meaning w drive at bay d after why lanes sessions sessions' world on laned had failed is calls exactly),
     ))
 
 -- the volume could not be loaded

@@ -1,5 +1,5 @@
 -- A drive that seeks a volume.
-use Rattle.std.proofs.Common.{◌≡◌, ◌≢◌, ◌⊎◌, ℕ, ◌+◌, ◌==◌, Bool, true, false, not, Option, Some, None, List, [], ◌∷◌, ◌++◌, refl, sym, ap, ◌∙◌, subst, arith, inl, inr, slice_get, map}
+use Rattle.std.proofs.Common.{◌≡◌, ℕ, true, false, not, Option, Some, None, List, [], ◌∷◌, ◌++◌, refl, sym, ap, ◌∙◌, subst, arith, inl, inr, slice_get, map}
 use Rattle.std.specs.Str.{bytes_eq}
 use Rattle.std.proofs.lemmas.Bool.Decides.{eqb_tells}
 use Rattle.std.proofs.lemmas.Slice.Eq.{bytes_eq-Decides}
@@ -7,14 +7,14 @@ use Rattle.sd_base.specs.Choice.{FirstOf}
 use Rattle.sd_base.specs.declared.refusal.Refusal.{Refusal}
 use Rattle.sd_desk.specs.Desk.{DeskView, SameClaims, HasNotAsked}
 use Rattle.sd_desk.specs.Next.{TakesBlocksOf}
-use Rattle.sd_drive.specs.Moves.{TakesBlocks, TakesOn, mount_due, mount_due_at, place_of, is_append, is_at, is_other_pool}
+use Rattle.sd_drive.specs.Moves.{TakesBlocks, mount_due, place_of, is_append, is_at, is_other_pool}
 use Rattle.sd_drive.specs.Shelf.{NamesDiffer}
 use Rattle.sd_drive.specs.View.{DriveIs}
 use Rattle.sd_drive.proofs.FindLemmas.{place_there, place_none, due_there}
 use Rattle.sd_drive.proofs.Places.{get_map}
 use Rattle.sd_driver.specs.Meaning.{Meaning}
 use Rattle.sd_volume.specs.Volume.{VolumeView}
-use Rattle.sd_moves.specs.World.{WorldView, WorldSession, BayView, IsOnline, with_bay}
+use Rattle.sd_moves.specs.World.{WorldView, WorldSession, BayView, IsOnline}
 use Rattle.sd_moves.specs.Operators.{MountRefused, MountFails, AsksOnce}
 use Rattle.sd_operators.specs.OnDrives.{with_all}
 use Rattle.sd_operators.proofs.DeskLemmas.{desk_alone}

@@ -8,7 +8,7 @@ use Rattle.sd_lane.specs.declared.piece.Queued.{Queued}
 use Rattle.sd_moves.specs.World.{WorldView, BayView, IsOnline, with_bay}
 use Rattle.sd_moves.specs.Drives.{TakesPiece}
 use Rattle.sd_moves.specs.Rules.{IsWorld, IsOfOpened, AreOfOpened}
-use Rattle.sd_operators.proofs.Bays.{bay_stays}
+use Rattle.sd_moves.proofs.Bays.{bay_stays}
 
 -- queues of the same parts
 pub queue_same : (l l' k k' : ℕ) (h h' : List Queued) → l ≡ l' → k ≡ k' → h ≡ h'

@@ -1,14 +1,13 @@
 -- Whether a drive is in use, and how it goes offline.
-use Rattle.std.proofs.Common.{◌≡◌, ◌≢◌, ◌⊎◌, ℕ, ◌+◌, ◌-◌, ◌<◌, Bool, true, false, ◌||◌, cond, refl, sym, ap, ◌∙◌, subst, arith, inl, inr, List, [], ◌∷◌, length, get_or, Option, Some, None}
+use Rattle.std.proofs.Common.{◌≡◌, ◌≢◌, ◌⊎◌, ℕ, ◌+◌, Bool, true, false, ◌||◌, cond, refl, sym, ap, ◌∙◌, arith, inl, inr, List, [], ◌∷◌, Option, None}
 use Rattle.std.specs.Prelude.{not}
 use Rattle.std.specs.List.{count_by, list_any}
 use Rattle.std.proofs.lemmas.List.Sums.{sum_by-cons}
-use Rattle.std.proofs.lemmas.Option.{slice_get_read}
 use Rattle.sd_drive.specs.View.{DriveIs}
 use Rattle.sd_moves.specs.World.{WorldView, WorldSession, BayView, LaneView, IsOnline, with_bay, free_lanes, busy_lanes}
 use Rattle.sd_moves.specs.Operators.{IsInUse, RetiresDrive}
 use Rattle.sd_operators.specs.Using.{IsUsed}
-use Rattle.sd_operators.proofs.Bays.{bay_stays}
+use Rattle.sd_moves.proofs.Bays.{IsBayAt, bay_stays}
 
 -- where a test that tells of `false` tells of one, one is counted
 any_counts : (busy : Bool → Bool) (bs : List Bool) → busy true ≡ false → busy false ≡ true → list_any busy bs ≡ true → count_by not bs ≢ 0
@@ -60,8 +59,8 @@ used_here w drive at bay d sessions lanes on had laned (inl busy) = inl (λ none
 used_here w drive at bay d sessions lanes on had laned (inr other) = inr other
 
 -- a bay that was read and is left alone
-pub left_alone : {D : Type 0} (w : WorldView D) (at : ℕ) (now : BayView D) → at < length w.bays → now ≡ get_or w.bays at now → with_bay at now w ≡ w
-left_alone w at now below there = bay_stays w at now (slice_get_read w.bays (length w.bays) at now refl below there)
+pub left_alone : {D : Type 0} (w : WorldView D) (drive at : ℕ) (bay now : BayView D) → IsBayAt w drive at bay → bay ≡ now → with_bay at now w ≡ w
+left_alone w drive at bay now read same = ap (λ b. with_bay at b w) (sym same) ∙ bay_stays w at bay read.there
 
 -- the drive goes offline
 pub retires : {D : Type 0} (w new : WorldView D) (drive at : ℕ) (bay : BayView D) (d : DriveIs D)

@@ -1,5 +1,5 @@
 -- Whether a drive is in use: told from its lanes, its journal, its hand and the queue before it.
-use Rattle.std.specs.Prelude.{◌≡◌, ◌≢◌, ◌⊎◌, not, None, List, []}
+use Rattle.std.specs.Prelude.{◌≢◌, ◌⊎◌, not, None, List, []}
 use Rattle.std.specs.List.{count_by}
 use Rattle.sd_drive.specs.View.{DriveIs}
 use Rattle.sd_journal.specs.Journal.{Entry}

@@ -1,14 +1,12 @@
 -- Which lanes are free, seen from the sessions that used them last.
 use Rattle.std.proofs.Common.{◌≡◌, ℕ, ◌+◌, ◌<◌, ◌==◌, Bool, sym, ap, ◌∙◌, Option, Some, List, [], ◌∷◌, ◌++◌, length, take, get_or}
 use Rattle.std.proofs.lemmas.List.{take_more, map-append}
-use Rattle.std.proofs.lemmas.Option.{get_or_from_slice_get}
 use Rattle.sd_base.specs.declared.number.SessionKey.{SessionKey}
 use Rattle.sd_journal.specs.Journal.{Entry, placed_of, progress_of}
 use Rattle.sd_span.specs.declared.progress.Progress.{Progress}
 use Rattle.sd_session.specs.Session.{SessionView}
 use Rattle.sd_session.specs.declared.status.Status.{Status}
 use Rattle.sd_moves.specs.World.{WorldSession, LaneView, session_at, leaves_lane, is_done, is_done_of, lane_is_free, free_lanes}
-use Rattle.sd_parts.specs.Found.{IsFoundAt}
 
 -- a lane is free as the session that used it last tells
 pub lane_tells : (es : List WorldSession) (journal : List Entry) (holder : Option ℕ) (ticket : ℕ) (e : WorldSession) (free : Bool)
@@ -38,10 +36,3 @@ frees_more es journal lanes n lane free frees after told read within is more =
     let tells : LaneView → Bool = λ l. lane_is_free es journal l.holder in
     more ∙ ap (λ (l : List Bool). l ++ free ∷ []) told ∙ ap (λ b. free_lanes es journal (take n lanes) ++ b ∷ []) (is ∙ ap tells read)
     ∙ sym (ap (free_lanes es journal) (take_more lanes n lane within) ∙ map-append tells (take n lanes) (get_or lanes n lane ∷ []))
-
--- who was found at a place is who was read there
-pub read_there : (ticket : ℕ) (es : List WorldSession) (at : ℕ) (e read : WorldSession)
-    → IsFoundAt ticket es at → read ≡ get_or es at read → e ≡ read → session_at ticket es ≡ Some e
-read_there ticket es at e read found is same =
-    let that : found.e ≡ e = sym (same ∙ is ∙ get_or_from_slice_get es at found.e read found.there) in
-    found.found ∙ ap Some that

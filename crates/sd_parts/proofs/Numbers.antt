@@ -1,35 +1,17 @@
 -- Where a session stands among those whose numbers rise.
-use Rattle.std.proofs.Common.{◌≡◌, ◌≢◌, ◌⊎◌, ℕ, zero, suc, ◌+◌, ◌<◌, ◌≤◌, ◌==◌, ltb, cond, true, false, refl, sym, ap, subst, ◌∙◌, inl, inr, Some, None, List, [], ◌∷◌, length, get_or, slice_get, slice_set, arith}
+use Rattle.std.proofs.Common.{◌≡◌, ◌≢◌, ◌⊎◌, ℕ, zero, suc, ◌+◌, ◌<◌, ◌≤◌, ltb, true, false, sym, ap, subst, ◌∙◌, inl, inr, Some, None, List, [], ◌∷◌, length, get_or, slice_get, arith}
 use Rattle.std.proofs.lemmas.Bool.Decides.{eqb_tells, leb_tells}
 use Rattle.std.proofs.lemmas.Bool.{ltb-true, ltb-false}
 use Rattle.std.proofs.lemmas.Option.{get_or_from_slice_get, slice_get-get_or, slice_get_within}
 use Rattle.std.specs.List.Sorted.{IsNonDecreasingBy, IsPartitionPoint}
-use Rattle.sd_moves.specs.World.{WorldSession, session_at, with_session}
+use Rattle.sd_moves.specs.World.{WorldSession, session_at}
 use Rattle.sd_moves.specs.Rules.{NumbersRise}
+use Rattle.sd_moves.proofs.Lookups.{number_least, found_by_number, changed_by_number, none_found}
 use Rattle.sd_parts.specs.Found.{IsFoundAt}
 
 -- the number of a session
 abbrev pub number_of : WorldSession → ℕ
 number_of e = e.session.key.id
-
--- what a test of two numbers chooses, has what both sides have
-chosen : {X : Type 0} (P : X → Type 0) (a b : ℕ) (x y : X) → (a ≡ b → P x) → (a ≢ b → P y) → P (cond (a == b) x y)
-chosen P a b x y same other =
-    elim (eqb_tells a b) [
-      | inl p ↦ subst (λ c. P (cond c x y)) (sym p.0) (same p.1)
-      | inr p ↦ subst (λ c. P (cond c x y)) (sym p.0) (other p.1)
-    ]
-
--- no number is below the least
-at_least : (time least next : ℕ) (es : List WorldSession) (at : ℕ) (e : WorldSession)
-    → NumbersRise time least next es → slice_get es at ≡ Some e → least ≤ number_of e
-at_least time least next [] at e rise there = absurd (cc there)
-at_least time least next (x ∷ es) zero e rise there =
-    let is : x ≡ e = cc there in subst (λ (z : WorldSession). least ≤ number_of z) is rise.1
-at_least time least next (x ∷ es) (suc at) e rise there =
-    let here : least ≤ number_of x = rise.1 in
-    let later : number_of x + 1 ≤ number_of e = at_least time (number_of x + 1) next es at e rise.2 there in
-    omega arith
 
 -- a later session has the greater number
 pub later_rises : (time least next : ℕ) (es : List WorldSession) (at behind : ℕ) (e f : WorldSession)
@@ -38,7 +20,7 @@ later_rises time least next [] at behind e f rise below there then = absurd (cc 
 later_rises time least next (x ∷ es) zero zero e f rise below there then = absurd (omega (arith, below))
 later_rises time least next (x ∷ es) zero (suc behind) e f rise below there then =
     let is : x ≡ e = cc there in
-    let later : number_of x + 1 ≤ number_of f = at_least time (number_of x + 1) next es behind f rise.2 then in
+    let later : number_of x + 1 ≤ number_of f = number_least time (number_of x + 1) next es behind f rise.2 then in
     subst (λ (z : WorldSession). number_of z < number_of f) is (omega arith)
 later_rises time least next (x ∷ es) (suc at) zero e f rise below there then = absurd (omega (arith, below))
 later_rises time least next (x ∷ es) (suc at) (suc behind) e f rise below there then =
@@ -57,33 +39,6 @@ never_fall time least next es rise i j d below within =
           omega arith
     ]
 
--- the session at a place is found by its number
-found_by_number : (time least next : ℕ) (es : List WorldSession) (at : ℕ) (e : WorldSession)
-    → NumbersRise time least next es → slice_get es at ≡ Some e → session_at (number_of e) es ≡ Some e
-found_by_number time least next [] at e rise there = absurd (cc there)
-found_by_number time least next (x ∷ es) zero e rise there =
-    let is : x ≡ e = cc there in
-    chosen (λ o. o ≡ Some e) (number_of x) (number_of e) (Some x) (session_at (number_of e) es)
-    (λ same. ap Some is) (λ other. absurd (other (ap number_of is)))
-found_by_number time least next (x ∷ es) (suc at) e rise there =
-    let later : number_of x < number_of e = later_rises time least next (x ∷ es) zero (suc at) x e rise (omega arith) refl there in
-    chosen (λ o. o ≡ Some e) (number_of x) (number_of e) (Some x) (session_at (number_of e) es)
-    (λ same. absurd (omega arith)) (λ other. found_by_number time (number_of x + 1) next es at e rise.2 there)
-
--- the session at a place is changed by its number
-changed_by_number : (time least next : ℕ) (es : List WorldSession) (at : ℕ) (e new : WorldSession)
-    → NumbersRise time least next es → slice_get es at ≡ Some e → number_of new ≡ number_of e → slice_set es at new ≡ with_session new es
-changed_by_number time least next [] at e new rise there same = absurd (cc there)
-changed_by_number time least next (x ∷ es) zero e new rise there same =
-    let is : x ≡ e = cc there in
-    chosen (λ l. new ∷ es ≡ l) (number_of x) (number_of new) (new ∷ es) (x ∷ with_session new es)
-    (λ _. refl) (λ other. absurd (other (ap number_of is ∙ sym same)))
-changed_by_number time least next (x ∷ es) (suc at) e new rise there same =
-    let later : number_of x < number_of e = later_rises time least next (x ∷ es) zero (suc at) x e rise (omega arith) refl there in
-    chosen (λ l. x ∷ slice_set es at new ≡ l) (number_of x) (number_of new) (new ∷ es) (x ∷ with_session new es)
-    (λ is. absurd (omega arith))
-    (λ other. ap (λ l. x ∷ l) (changed_by_number time (number_of x + 1) next es at e new rise.2 there same))
-
 -- where the session of a ticket stands, it is found and changed
 pub found_at : (time next : ℕ) (es : List WorldSession) (at ticket : ℕ) (e : WorldSession)
     → NumbersRise time 1 next es → slice_get es at ≡ Some e → number_of e ≡ ticket → IsFoundAt ticket es at
@@ -95,14 +50,6 @@ found_at time next es at ticket e rise there is =
       id_is = is;
       changes = λ new same. changed_by_number time 1 next es at e new rise there (same ∙ sym is);
     }
-
--- who isn't at any place isn't found
-none_found : (ticket : ℕ) (es : List WorldSession)
-    → ((at : ℕ) (e : WorldSession) → slice_get es at ≡ Some e → number_of e ≢ ticket) → session_at ticket es ≡ None
-none_found ticket [] none = refl
-none_found ticket (x ∷ es) none =
-    chosen (λ o. o ≡ None) (number_of x) ticket (Some x) (session_at ticket es)
-    (λ same. absurd (none 0 x refl same)) (λ other. none_found ticket es (λ at e there. none (suc at) e there))
 
 -- A place at which the numbers below the ticket end; what stands there, if anything does, isn't of the ticket: no
 -- session has it.

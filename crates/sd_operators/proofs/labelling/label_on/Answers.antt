@@ -2,9 +2,10 @@ use Rattle.std.proofs.lemmas.Int.{to_z-of_z}
 use Rattle.sd_drive.specs.Moves.{AddsVolume, label_of}
 use Rattle.sd_volume.specs.Label.{Labels, new_volume}
 use Rattle.std.proofs.Common.{ℤ, w64, Err, refl, sym, ap, ◌∙◌, subst, inl, inr}
-use Rattle.sd_desk.specs.Desk.{DeskView, claimed_by, OtherClaimsStay}
-use Rattle.sd_operators.proofs.Bays.{recounted, calls_are}
-use Rattle.sd_operators.proofs.DeskLemmas.{desk_stays, desk_alone, no_volume, label_free, released}
+use Rattle.sd_desk.specs.Desk.{DeskView, claimed_by}
+use Rattle.sd_moves.specs.Operators.{SameDesk}
+use Rattle.sd_operators.proofs.CallLemmas.{recounted, calls_are}
+use Rattle.sd_operators.proofs.DeskLemmas.{desk_stays, desk_alone, no_volume, label_free, knows_same, claims_name, released}
 use Rattle.sd_operators.proofs.labelling.label_on.Goals as goal
 
 pub returns-then-not-is_same : goal.returns-then-not-is_same
@@ -41,10 +42,7 @@ returns-in_default-claim g c = λ w at bay world on desked.
       (at, bay, c.args.at.now, on, (media, loaded, unclaimed, refl)),
       (
         c.claim.new.self,
-        record {
-          claims = λ name. c.in_default-claim.ensures.err name ∙ ap (λ (k : DeskView). claimed_by k name) (sym desked);
-          requests = c.claim.ensures.requests ∙ ap (λ (k : DeskView). k.requests) (sym desked);
-        },
+        knows_same w.desk c.args.desk.now c.claim.new.self desked c.in_default-claim.ensures.err c.claim.ensures.requests,
         desk_alone w c.args.drive at bay _ _ on,
       ),
     )))))
@@ -61,12 +59,8 @@ returns-in-Ok-label g c = λ w at bay world on desked.
       online = on;
       media_is = c.is_same.ensures.0 c.if-not-is_same.false ∙ c.media.ensures;
       none_loaded = sym c.loaded.ensures ∙ c.in-None.is;
-      claims = record {
-        unclaimed = ap (λ (k : DeskView). claimed_by k c.args.name.now) desked ∙ sym c.drive_of.ensures ∙ c.in-None-drive_of.is;
-        claimed = c.in-Ok.ensures.claimed;
-        others = subst (λ (k : DeskView). OtherClaimsStay c.args.name.now k c.claim.new.self) (sym desked) c.in-Ok.ensures.others;
-        requests = c.claim.ensures.requests ∙ ap (λ (k : DeskView). k.requests) (sym desked);
-      };
+      claims = claims_name c.args.name.now c.args.drive w.desk c.args.desk.now c.claim.new.self desked (sym c.drive_of.ensures ∙ c.in-None-drive_of.is)
+          c.in-Ok.ensures.claimed c.in-Ok.ensures.others c.claim.ensures.requests;
       adds = subst (λ (z : ℤ). AddsVolume (new_volume (label_of c.args.name.now c.args.pool.now c.args.media.now z)) c.args.at.now c.label.new.self) (to_z-of_z w64 c.args.moment c.ranges.moment) e.ok;
       calls = calls_are (λ d. g.D.Driver.meaning d) ⊥ ⊥ _ _ (recounted _ _ (λ x. absurd x) (λ x. cc x) (λ x. absurd x) (λ x. cc x) e.counted) e.keeps e.later;
       labels = λ honest. subst (λ (z : ℤ). Labels (label_of c.args.name.now c.args.pool.now c.args.media.now z) (g.D.Driver.meaning c.args.at.now.device).shelf (g.D.Driver.meaning c.label.new.self.device).shelf) (to_z-of_z w64 c.args.moment c.ranges.moment) (e.labels honest);
@@ -92,10 +86,9 @@ returns-in-Err g c = λ w at bay world on desked.
       media_is = media;
       none_loaded = loaded;
       unclaimed = unclaimed;
-      knows = released c.args.name.now w.desk c.claim.new.self c.release.new.self unclaimed
-          (subst (λ (k : DeskView). OtherClaimsStay c.args.name.now k c.claim.new.self) (sym desked) c.in-Ok.ensures.others)
-          c.release.ensures.others c.release.ensures.released
-          (c.claim.ensures.requests ∙ ap (λ (k : DeskView). k.requests) (sym desked)) c.release.ensures.requests;
+      knows = subst (λ (k : DeskView). SameDesk k c.release.new.self) (sym desked)
+          (released c.args.name.now c.args.desk.now c.claim.new.self c.release.new.self here c.in-Ok.ensures.others
+          c.release.ensures.others c.release.ensures.released c.claim.ensures.requests c.release.ensures.requests);
       cause = fault.0;
       why_is = fault.1;
       adds_none = e.err;

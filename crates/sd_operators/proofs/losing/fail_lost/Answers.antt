@@ -2,7 +2,8 @@ use Rattle.std.proofs.Common.{ℕ, ◌&&◌, Option, refl, ap, subst}
 use Rattle.sd_moves.specs.World.{LaneView}
 use Rattle.sd_moves.specs.Drives.{FailExactly}
 use Rattle.sd_operators.specs.Losing.{is_holder, has_lost}
-use Rattle.sd_operators.proofs.Lists.{none_fails, fail_rise}
+use Rattle.sd_moves.proofs.Pairs.{numbers_fail}
+use Rattle.sd_operators.proofs.Lists.{none_fails}
 use Rattle.sd_operators.proofs.LosingLemmas.{lane_step, lane_last}
 use Rattle.sd_operators.proofs.losing.fail_lost.Goals as goal
 
@@ -14,7 +15,7 @@ loop-lane-preserved g c =
     let journal = c.args.drive.now.journal in
     let before = c.loop-lane.invariant.rise in
     record {
-      rise = (before.0, before.1, fail_rise (λ e. is_holder c.lane.inside.holder e && has_lost journal e) before.0 1 before.1 _ _ before.2 c.fail_holder.ensures);
+      rise = (before.0, before.1, numbers_fail (λ e. is_holder c.lane.inside.holder e && has_lost journal e) before.0 1 before.1 _ _ c.fail_holder.ensures before.2);
       fail = lane_step journal c.args.lanes.now c.loop-lane.lane-index c.lane-item.result _ c.loop-lane.sessions.items _ c.lane-item.is c.loop-lane-test.true c.loop-lane.invariant.fail
           (subst (λ (h : Option ℕ). FailExactly (λ e. is_holder h e && has_lost journal e) c.loop-lane.sessions.items c.fail_holder.new.sessions.items) (ap (λ (l : LaneView). l.holder) c.lane.view_is) c.fail_holder.ensures);
     }

@@ -1,6 +1,7 @@
 use Rattle.std.proofs.Common.{refl, ap, inr, arith}
 use Rattle.sd_span.specs.declared.placement.Placement.{Placement}
-use Rattle.sd_operators.proofs.Bays.{drive_stays, recounted, calls_are}
+use Rattle.sd_moves.proofs.Bays.{drive_stays}
+use Rattle.sd_operators.proofs.CallLemmas.{recounted, calls_are}
 use Rattle.sd_operators.proofs.placing.place_on.Goals as goal
 
 pub overflow_add-result : goal.overflow_add-result

@@ -1,5 +1,5 @@
-use Rattle.std.proofs.Common.{refl, sym, ap, ◌∙◌, inl, inr}
-use Rattle.sd_desk.specs.Desk.{DeskView, claimed_by}
+use Rattle.std.proofs.Common.{refl, ◌∙◌, inl, inr}
+use Rattle.sd_operators.proofs.DeskLemmas.{knows_same}
 use Rattle.sd_operators.proofs.SeekLemmas.{next_free, fails_later, all_alone, all_stays, asked_once}
 use Rattle.sd_operators.proofs.seeking.seek_on.Goals as goal
 
@@ -54,10 +54,7 @@ returns-in-Err-ask g c = λ w at bay world on laned had desked.
       refl,
       (
         c.ask.new.self,
-        record {
-          claims = λ name. e.claims name ∙ ap (λ (k : DeskView). claimed_by k name) (sym desked);
-          requests = e.err ∙ ap (λ (k : DeskView). k.requests) (sym desked);
-        },
+        knows_same w.desk c.args.desk.now c.ask.new.self desked e.claims e.err,
         all_alone w c.args.drive at bay _ _ _ on had,
       ),
     ))
