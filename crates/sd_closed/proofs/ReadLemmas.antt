@@ -1,23 +1,27 @@
 -- What the spans of closed and cancelled sessions read to.
-use Rattle.std.proofs.Common.{◌≡◌, ◌≢◌, ℕ, ◌≤◌, inl, inr, true, Some, List, [], ◌∷◌, ◌++◌, map, refl, ap, sym, subst, ◌∙◌, append-nil}
-use Rattle.std.specs.Prelude.{All}
+use Rattle.std.proofs.Common.{◌≡◌, ◌≢◌, ℕ, inl, inr, true, Some, List, [], ◌∷◌, ◌++◌, map, refl, ap, sym, subst, ◌∙◌, append-nil}
+use Rattle.std.specs.Prelude.{IfSome}
 use Rattle.std.proofs.lemmas.List.{append_assoc, map-append}
+use Rattle.sd_base.specs.Record.{Record}
 use Rattle.sd_base.specs.declared.number.SessionKey.{SessionKey}
 use Rattle.sd_driver.specs.Meaning.{Meaning}
-use Rattle.sd_driver.specs.Shelf.{Shelf, AfterStop, low_mark}
+use Rattle.sd_driver.specs.Shelf.{Shelf}
 use Rattle.sd_drive.specs.Shelf.{block_at}
 use Rattle.sd_drive.specs.View.{DriveIs}
 use Rattle.sd_journal.specs.Journal.{Entry, placements, placed_of, synced_of}
-use Rattle.sd_label.specs.Cutting.{AtEnd, Holds, WholeOf, is_ended}
+use Rattle.sd_label.specs.Cutting.{Standing, Between, Within, AtEnd, Behind, Holds, WholeOf, is_ended}
+use Rattle.sd_label.specs.Label.{AreTotals}
 use Rattle.sd_label.proofs.CuttingLemmas.{holds_front, holds_begins}
 use Rattle.sd_machine.specs.Machine.{Machine, MachineSession, session_of}
 use Rattle.sd_machine.proofs.Lookups.{chosen}
 use Rattle.sd_pack.specs.Body.{PackedBody}
 use Rattle.sd_pack.specs.Packing.{bytes_of}
+use Rattle.sd_record.specs.Fragment.{Fragment}
+use Rattle.sd_readback.specs.Faults.{AreCountable}
 use Rattle.sd_readback.specs.Reading.{Reads, blocks_of, volumes_on}
-use Rattle.sd_restore.specs.Restore.{StillLastOn}
+use Rattle.sd_restore.specs.Lasting.{SpansLast}
+use Rattle.sd_restore.proofs.LastLemmas.{synced_spans_last}
 use Rattle.sd_restore.proofs.RestoreLemmas.{placed_read}
-use Rattle.sd_restore.proofs.StopLemmas.{synced_read_after_stop, synced_low_mark}
 use Rattle.sd_session.specs.Session.{parts_of}
 use Rattle.sd_session.specs.declared.status.Status.{Status}
 use Rattle.sd_session.specs.declared.status.Status.TheVariants.{Closed, Cancelled}
@@ -30,7 +34,7 @@ use Rattle.sd_moves.specs.Sessions.{SpansAt}
 use Rattle.sd_matches.specs.Matches.{Matches, SessionMatches, SessionsMatch, HasBodies, BeginsPacked, bodies_with, bodies_in, sent_to}
 use Rattle.sd_closed.specs.Grows.{AllGrow}
 use Rattle.sd_closed.specs.Seats.{SeatsStay}
-use Rattle.sd_closed.specs.Reads.{HasHonestDrive, HasCancelled, ReadsToAll, ReadsToFront}
+use Rattle.sd_closed.specs.Reads.{HasHonestDrive, HasCancelled, ReadsToAll, ReadsToFront, ClosedIsCountable}
 use Rattle.sd_closed.proofs.BodyLemmas.{none_of, placed_bodies, placed_more, placed_bytes, placed_alike, bodies_with-append, coming, sent_are, packed_holds, cutting_holds, all_synced}
 use Rattle.sd_closed.proofs.ClaimLemmas.{closed_spans, one_drive}
 
@@ -129,30 +133,28 @@ closed_reads meaning w m key spans at bay d pairs c h =
           (placed_read device d.volumes d.loaded d.journal key ps [] t.s.records true h.kept h.honest.device (sym (append-nil ps)) t.some t.whole);
     }
 
-pub closed_survives : {D : Type 0} (meaning : D → Meaning) (w : WorldView D) (m : Machine) (key : SessionKey) (spans : List Span) (at : ℕ) (bay : BayView D) (d : DriveIs D) (later left : Shelf)
-    → Matches meaning w m → (c : IsClosedAt w key spans) → HasHonestDrive meaning w c.e.drive at bay d
-    → StillLastOn d.volumes (meaning d.device).shelf later → AfterStop (meaning d.device).shelf.moment later left → ReadsToAll (volumes_on left) m key spans
-closed_survives meaning w m key spans at bay d later left pairs c h still stop =
-    let device = meaning d.device in
-    let t = settles meaning w m key spans at bay d pairs c h in
-    record {
-      s = t.s;
-      there = t.there;
-      key_is = t.key_is;
-      closed = t.closed;
-      reads = subst (λ l. Reads (volumes_on left) key l t.s.records true) (sym (closed_spans w key spans at bay d c h.online))
-          (synced_read_after_stop device d.volumes d.loaded d.journal key t.s.records true later left h.kept h.honest.device t.some t.synced t.whole still stop);
-    }
+-- what stands behind an end label is countable
+ended_counts : (records : List Record) (standing : Standing) (fs : List Fragment) → Behind records standing fs → true ≡ is_ended standing → AreCountable records
+ended_counts records Between fs b is = absurd (cc is)
+ended_counts records Within fs b is = absurd (cc is)
+ended_counts records AtEnd fs b is =
+    let totals = subst (λ o. IfSome o AreTotals) b.1.totals_are b.1.label_is.totals in
+    (totals.records, totals.bytes)
 
-pub closed_low_mark : {D : Type 0} (meaning : D → Meaning) (w : WorldView D) (m : Machine) (key : SessionKey) (spans : List Span) (at : ℕ) (bay : BayView D) (d : DriveIs D) (later : Shelf)
+pub closed_is_countable : ClosedIsCountable
+closed_is_countable volumes m key spans all =
+    let whole = all.reads.whole in
+    let session = whole.1.holds_by.session_is in
+    ended_counts all.s.records whole.0 session.behind session.behind_is whole.2
+
+pub closed_spans_last : {D : Type 0} (meaning : D → Meaning) (w : WorldView D) (m : Machine) (key : SessionKey) (spans : List Span) (at : ℕ) (bay : BayView D) (d : DriveIs D)
     → Matches meaning w m → (c : IsClosedAt w key spans) → HasHonestDrive meaning w c.e.drive at bay d
-    → StillLastOn d.volumes (meaning d.device).shelf later → (meaning d.device).shelf.moment ≤ later.moment
-    → All (λ (s : Span). s.end ≤ low_mark later (meaning d.device).shelf.moment s.volume) spans
-closed_low_mark meaning w m key spans at bay d later pairs c h still moment =
+    → SpansLast (meaning d.device).shelf.moment (volumes_on (meaning d.device).shelf) (meaning d.device).shelf spans
+closed_spans_last meaning w m key spans at bay d pairs c h =
     let device = meaning d.device in
     let t = settles meaning w m key spans at bay d pairs c h in
-    subst (λ l. All (λ (s : Span). s.end ≤ low_mark later device.shelf.moment s.volume) l) (sym (closed_spans w key spans at bay d c h.online))
-    (synced_low_mark device d.volumes d.loaded d.journal key later h.kept h.honest.device t.synced still moment)
+    subst (SpansLast device.shelf.moment (volumes_on device.shelf) device.shelf) (sym (closed_spans w key spans at bay d c h.online))
+    (synced_spans_last device d.volumes d.loaded d.journal key h.kept h.honest.device t.synced)
 
 -- Cancelled sessions.
 

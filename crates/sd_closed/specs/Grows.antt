@@ -9,14 +9,18 @@ use Rattle.sd_span.specs.declared.placement.Placement.{Placement}
 use Rattle.sd_moves.specs.World.{WorldView, BayView, IsOnline}
 use Rattle.sd_moves.specs.Moves.{Moves}
 
+-- each drive that is online was online, in the same bay, and this holds of what it was and what it is
+abbrev pub EachDrive : {D : Type 0} → (DriveIs D → DriveIs D → Type 0) → WorldView D → WorldView D → Type 0
+EachDrive {D} holds old new = (drive at : ℕ) (bay' : BayView D) (d' : DriveIs D) → IsOnline new drive at bay' d'
+    → (bay : BayView D) × (d : DriveIs D) × IsOnline old drive at bay d × holds d d'
+
 -- the journal has the placements that it had, and then perhaps others
 abbrev pub Grows : List Entry → List Entry → Type 0
 Grows old new = (more : List Placement) × (placements new ≡ placements old ++ more)
 
 -- each drive that is online was online, in the same bay, and its journal grew
 abbrev pub AllGrow : {D : Type 0} → WorldView D → WorldView D → Type 0
-AllGrow {D} old new = (drive at : ℕ) (bay' : BayView D) (d' : DriveIs D) → IsOnline new drive at bay' d'
-    → (bay : BayView D) × (d : DriveIs D) × IsOnline old drive at bay d × Grows d.journal d'.journal
+AllGrow old new = EachDrive (λ d d'. Grows d.journal d'.journal) old new
 
 -- Laws.
 

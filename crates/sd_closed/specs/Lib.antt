@@ -1,3 +1,5 @@
+pub mod Along
+pub mod Devices
 pub mod Grows
 pub mod Reads
 pub mod Seats

@@ -8,6 +8,7 @@ use Rattle.sd_drive.specs.View.{DriveIs}
 use Rattle.sd_journal.specs.Journal.{placements}
 use Rattle.sd_label.specs.Cutting.{WholeOf}
 use Rattle.sd_machine.specs.Machine.{Machine, MachineSession, session_of}
+use Rattle.sd_readback.specs.Faults.{AreCountable}
 use Rattle.sd_readback.specs.Reading.{Volumes, Reads, blocks_of, volumes_on}
 use Rattle.sd_session.specs.declared.status.Status.TheVariants.{Closed, Cancelled}
 use Rattle.sd_span.specs.Spans.{placements_of, spans_of}
@@ -68,6 +69,13 @@ ClosedReads D =
     → (closed : IsClosedAt w key spans)
     → HasHonestDrive meaning w closed.e.drive at bay d
     → ReadsToAll (volumes_on (meaning d.device).shelf) m key spans
+
+-- these are no more records and data bytes than the session's end label can tell
+abbrev pub ClosedIsCountable : Type 0
+ClosedIsCountable =
+    (volumes : Volumes) (m : Machine) (key : SessionKey) (spans : List Span)
+    → (all : ReadsToAll volumes m key spans)
+    → AreCountable all.s.records
 
 -- The spans of a cancelled session, whose drive is honest, as the drive's journal gives them now, or gave them at any
 -- earlier moment when its placements were the first of those of now, read to records that begin those of the machine's

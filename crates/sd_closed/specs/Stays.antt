@@ -1,15 +1,14 @@
--- What stays of the spans of closed sessions: through any stop, and at the operator's desk.
-use Rattle.std.specs.Prelude.{◌≡◌, ℕ, ◌≤◌, All, Some, List, ◌++◌}
+-- What stays of the spans of closed sessions: their bytes, on any stop, and their volumes, at the operator's desk.
+use Rattle.std.specs.Prelude.{◌≡◌, ℕ, All, Some, List, ◌++◌}
 use Rattle.sd_base.specs.declared.number.SessionKey.{SessionKey}
 use Rattle.sd_desk.specs.Desk.{DeskView, claimed_by}
 use Rattle.sd_driver.specs.Meaning.{Meaning}
-use Rattle.sd_driver.specs.Shelf.{Shelf, AfterStop, low_mark}
 use Rattle.sd_drive.specs.Shelf.{Kept}
 use Rattle.sd_drive.specs.View.{DriveIs}
 use Rattle.sd_journal.specs.Journal.{placements}
 use Rattle.sd_machine.specs.Machine.{Machine}
 use Rattle.sd_readback.specs.Reading.{volumes_on}
-use Rattle.sd_restore.specs.Restore.{StillLastOn}
+use Rattle.sd_restore.specs.Lasting.{SpansLast}
 use Rattle.sd_span.specs.Spans.{spans_of}
 use Rattle.sd_span.specs.declared.placement.Placement.{Placement}
 use Rattle.sd_span.specs.declared.span.Span.{Span}
@@ -17,7 +16,7 @@ use Rattle.sd_moves.specs.World.{WorldView, BayView, IsOnline}
 use Rattle.sd_moves.specs.Kept.{IsClosedAt}
 use Rattle.sd_moves.specs.Rules.{IsWorld}
 use Rattle.sd_matches.specs.Matches.{Matches}
-use Rattle.sd_closed.specs.Reads.{HasHonestDrive, ReadsToAll}
+use Rattle.sd_closed.specs.Reads.{HasHonestDrive}
 
 -- the volume of each span is claimed for the drive
 abbrev pub AreClaimed : DeskView → ℕ → List Span → Type 0
@@ -25,30 +24,15 @@ AreClaimed desk drive spans = All (λ (s : Span). claimed_by desk s.volume ≡ S
 
 -- Laws.
 
--- The spans of a closed session, whose drive is honest, read to the same on what a stop leaves at any time from this
--- moment on, also inside a call, as long as what lasted on the drive's volumes lasts.
-abbrev pub ClosedSurvives : Type 0 → Type 0
-ClosedSurvives D =
+-- the spans of a closed session, whose drive is honest, last from this moment on
+abbrev pub ClosedSpansLast : Type 0 → Type 0
+ClosedSpansLast D =
     (meaning : D → Meaning) (w : WorldView D) (m : Machine) (key : SessionKey) (spans : List Span)
-    (at : ℕ) (bay : BayView D) (d : DriveIs D) (later left : Shelf)
+    (at : ℕ) (bay : BayView D) (d : DriveIs D)
     → Matches meaning w m
     → (closed : IsClosedAt w key spans)
     → HasHonestDrive meaning w closed.e.drive at bay d
-    → StillLastOn d.volumes (meaning d.device).shelf later
-    → AfterStop (meaning d.device).shelf.moment later left
-    → ReadsToAll (volumes_on left) m key spans
-
--- the low mark of each volume of a closed session's spans, from this moment on, is at least where the span ends
-abbrev pub ClosedLowMark : Type 0 → Type 0
-ClosedLowMark D =
-    (meaning : D → Meaning) (w : WorldView D) (m : Machine) (key : SessionKey) (spans : List Span)
-    (at : ℕ) (bay : BayView D) (d : DriveIs D) (later : Shelf)
-    → Matches meaning w m
-    → (closed : IsClosedAt w key spans)
-    → HasHonestDrive meaning w closed.e.drive at bay d
-    → StillLastOn d.volumes (meaning d.device).shelf later
-    → (meaning d.device).shelf.moment ≤ later.moment
-    → All (λ (s : Span). s.end ≤ low_mark later (meaning d.device).shelf.moment s.volume) spans
+    → SpansLast (meaning d.device).shelf.moment (volumes_on (meaning d.device).shelf) (meaning d.device).shelf spans
 
 -- the volumes of the spans that a drive's journal gives of a session, or gave at any earlier moment, are claimed for it
 abbrev pub PlacedIsFound : Type 0 → Type 0

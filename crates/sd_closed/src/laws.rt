@@ -1,12 +1,18 @@
 // What holds of the spans of closed and cancelled sessions, whatever a world was made to do before.
+ghost use Rattle.sd_closed.specs.Devices.{GoingOnJoins, MovesGoOn};
 ghost use Rattle.sd_closed.specs.Grows.{GrowthsJoin, JournalsGrow};
-ghost use Rattle.sd_closed.specs.Reads.{ClosedReads, CancelledReads, ToldSpansRead};
+ghost use Rattle.sd_closed.specs.Reads.{ClosedReads, ClosedIsCountable, CancelledReads, ToldSpansRead};
 ghost use Rattle.sd_closed.specs.Seats.{MovesKeepSeats};
-ghost use Rattle.sd_closed.specs.Stays.{ClosedSurvives, ClosedLowMark, PlacedIsFound, ClosedIsFound};
+ghost use Rattle.sd_closed.specs.Stays.{ClosedSpansLast, PlacedIsFound, ClosedIsFound};
 
 /// The spans of a closed session read to exactly the records of the machine's session.
 pub fn closed_reads<D>()
     ensures { ClosedReads D }
+{}
+
+/// These records are no more than the session's end label can tell.
+pub fn closed_is_countable()
+    ensures { ClosedIsCountable }
 {}
 
 /// The spans that a cancelled session had at any moment read to records that begin those of the machine's session.
@@ -19,14 +25,9 @@ pub fn told_spans_read<D>()
     ensures { ToldSpansRead D }
 {}
 
-/// What a stop leaves at any time from the close on, also inside a call, reads to the same.
-pub fn closed_survives<D>()
-    ensures { ClosedSurvives D }
-{}
-
-/// No stop from the close on, also inside a call, leaves less of a volume than what the spans reach over.
-pub fn closed_low_mark<D>()
-    ensures { ClosedLowMark D }
+/// The spans of a closed session last from the close on.
+pub fn closed_spans_last<D>()
+    ensures { ClosedSpansLast D }
 {}
 
 /// The volumes of the spans that a drive's journal gave at any moment are claimed for the drive.
@@ -53,4 +54,15 @@ pub fn growths_join<D>()
 /// A move leaves each session its key and its drive.
 pub fn moves_keep_seats<D>()
     ensures { MovesKeepSeats D }
+{}
+
+/// Whatever an event is answered, each device that is left is as honest as it was, and whole blocks that lasted on it
+/// still last.
+pub fn moves_go_on<D>()
+    ensures { MovesGoOn D }
+{}
+
+/// What goes on by one event and by the next goes on by both.
+pub fn going_on_joins<D>()
+    ensures { GoingOnJoins D }
 {}

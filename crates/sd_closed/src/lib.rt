@@ -4,6 +4,7 @@
 mod laws;
 
 pub use laws::{
-    cancelled_reads, closed_is_found, closed_low_mark, closed_reads, closed_survives, growths_join,
-    journals_grow, moves_keep_seats, placed_is_found, told_spans_read,
+    cancelled_reads, closed_is_countable, closed_is_found, closed_reads, closed_spans_last,
+    going_on_joins, growths_join, journals_grow, moves_go_on, moves_keep_seats, placed_is_found,
+    told_spans_read,
 };
