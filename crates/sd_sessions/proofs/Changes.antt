@@ -1,43 +1,13 @@
 -- What the step of one session does to the world around it.
-use Rattle.std.proofs.Common.{◌≡◌, ◌<◌, ℕ, zero, suc, refl, sym, ap, subst, ◌∙◌, inl, inr, Some, List, [], ◌∷◌, length, slice_get, slice_set, get_or}
-use Rattle.std.proofs.lemmas.Option.{get_or_from_slice_get, slice_get_within}
+use Rattle.std.proofs.Common.{◌≡◌, ℕ, refl, ap, subst, ◌∙◌, inl, inr, List, slice_set}
 use Rattle.sd_base.specs.declared.refusal.Refusal.{Refusal}
 use Rattle.sd_session.specs.Session.{SessionView}
 use Rattle.sd_session.specs.Spooling.{SpoolRefused}
 use Rattle.sd_session.specs.Sending.{DespoolRefused}
-use Rattle.sd_moves.specs.World.{WorldView, WorldSession, session_at, with_session}
+use Rattle.sd_moves.specs.World.{WorldView, WorldSession}
 use Rattle.sd_moves.specs.Sessions.{ChangesSession, TicketRefused, StaysAs}
-use Rattle.sd_parts.specs.Found.{IsFoundAt}
-
--- to write what stands there changes nothing
-pub same_set : {A : Type 0} → (xs : List A) (at : ℕ) (x : A) → slice_get xs at ≡ Some x → slice_set xs at x ≡ xs
-same_set [] at x there = refl
-same_set (y ∷ xs) zero x there = ap (λ z. z ∷ xs) (cc there)
-same_set (y ∷ xs) (suc at) x there = ap (λ l. y ∷ l) (same_set xs at x there)
-
--- The session of a ticket, as it was read at its place.
-pub record IsReadAt (ticket : ℕ) (es : List WorldSession) (at : ℕ) (e : WorldSession) : Type 0 where
-  pub there : slice_get es at ≡ Some e
-  pub found : session_at ticket es ≡ Some e
-  pub id_is : e.session.key.id ≡ ticket
-  pub changes : (new : WorldSession) → new.session.key.id ≡ ticket → slice_set es at new ≡ with_session new es
-
--- the place is within the list
-pub found_within : (ticket : ℕ) (es : List WorldSession) (at : ℕ) → IsFoundAt ticket es at → at < length es
-found_within ticket es at found = slice_get_within es at found.e found.there
-
--- who was found at a place is who was read there
-pub read_found : (ticket : ℕ) (es items : List WorldSession) (at : ℕ) (e read : WorldSession)
-    → IsFoundAt ticket es at → es ≡ items → read ≡ get_or items at read → e ≡ read → IsReadAt ticket items at e
-read_found ticket es items at e read found one is same =
-    let found : IsFoundAt ticket items at = subst (λ (l : List WorldSession). IsFoundAt ticket l at) one found in
-    let that : found.e ≡ e = sym (same ∙ is ∙ get_or_from_slice_get items at found.e read found.there) in
-    record {
-      there = subst (λ (x : WorldSession). slice_get items at ≡ Some x) that found.there;
-      found = subst (λ (x : WorldSession). session_at ticket items ≡ Some x) that found.found;
-      id_is = subst (λ (x : WorldSession). x.session.key.id ≡ ticket) that found.id_is;
-      changes = found.changes;
-    }
+use Rattle.sd_moves.proofs.Lookups.{set_same}
+use Rattle.sd_parts.proofs.Found.{IsReadAt}
 
 -- the world in which the session at a place is this one
 abbrev pub with_session_at : {D : Type 0} → ℕ → WorldSession → SessionView → WorldView D → WorldView D
@@ -54,7 +24,7 @@ pub stays_as : {D : Type 0} (w : WorldView D) (ticket at : ℕ) (e : WorldSessio
     → IsReadAt ticket w.sessions at e → s ≡ e.session → StaysAs w (with_session_at at e s w)
 stays_as w ticket at e s f same =
     ap (λ (x : SessionView). record w { sessions = slice_set w.sessions at (record e { session = x }) }) same
-    ∙ ap (λ (es : List WorldSession). record w { sessions = es }) (same_set w.sessions at e f.there)
+    ∙ ap (λ (es : List WorldSession). record w { sessions = es }) (set_same w.sessions at e f.there)
 
 -- the session at its place refuses the event
 pub refuses_one : {D : Type 0} (w : WorldView D) (ticket at : ℕ) (e : WorldSession) (s : SessionView) (why : Refusal) (causes : WorldSession → Type 0)

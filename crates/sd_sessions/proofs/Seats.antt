@@ -13,7 +13,10 @@ use Rattle.sd_session.specs.declared.answer.Despooled.TheVariants.{Sent, LaneFul
 use Rattle.sd_moves.specs.World.{WorldView, WorldSession, BayView, IsOnline}
 use Rattle.sd_moves.specs.Rules.{IsWorld, IsSeated, IsBay}
 use Rattle.sd_moves.specs.Sessions.{SendsStep, DespoolsSession, RefusedWith}
-use Rattle.sd_sessions.proofs.Changes.{IsReadAt, same_set, changes_one, despool_keeps_key}
+use Rattle.sd_moves.proofs.Lookups.{set_same}
+use Rattle.sd_parts.proofs.Found.{IsReadAt, read_found}
+use Rattle.sd_parts.specs.Found.{IsFoundAt}
+use Rattle.sd_sessions.proofs.Changes.{changes_one, despool_keeps_key}
 
 -- a value that is there
 pub some_of : {A : Type 0} (o : Option A) → IsSome o → (x : A) × (o ≡ Some x)
@@ -74,6 +77,15 @@ pub record SitsAt {D : Type 0} (w : WorldView D) (e : WorldSession) (place : ℕ
   pub at_is : seat.at ≡ place
   pub within : place < length w.bays
 
+-- A session and the bay of its drive, as they were read at their places.
+pub record IsSeatedAt {D : Type 0} (w : WorldView D) (ticket at place : ℕ) (e : WorldSession) (bay : BayView D) : Type 0 where
+  pub world : IsWorld w
+  pub read : IsReadAt ticket w.sessions at e
+  pub drive_is : e.drive ≡ place + 1
+  pub sits_at : SitsAt w e place
+  pub there : slice_get w.bays place ≡ Some bay
+  pub same : sits_at.seat.bay ≡ bay
+
 -- a session of a world has its seat
 pub sits : {D : Type 0} (w : WorldView D) (ticket at place : ℕ) (e : WorldSession)
     → IsWorld w → IsReadAt ticket w.sessions at e → e.drive ≡ place + 1 → SitsAt w e place
@@ -83,46 +95,57 @@ sits w ticket at place e is f drive =
     let there : seat.at < length w.bays = slice_get_within w.bays seat.at seat.bay seat.bay_there in
     record { seat = seat; at_is = here; within = omega arith }
 
--- the bay that was read is the one in which it sits
-pub bay_read : {D : Type 0} (w : WorldView D) (e : WorldSession) (place : ℕ) (bay read : BayView D) (s : SitsAt w e place)
-    → read ≡ get_or w.bays place read → bay ≡ read → s.seat.bay ≡ bay
-bay_read w e place bay read s is same =
-    let there : slice_get w.bays place ≡ Some s.seat.bay = subst (λ n. slice_get w.bays n ≡ Some s.seat.bay) s.at_is s.seat.bay_there in
-    sym (same ∙ is ∙ get_or_from_slice_get w.bays place s.seat.bay read there)
+-- so its bay's place is among them
+pub sits_within : {D : Type 0} (w : WorldView D) (ticket at place : ℕ) (es : List WorldSession) (e read : WorldSession)
+    → IsWorld w → IsFoundAt ticket es at → es ≡ w.sessions → read ≡ get_or w.sessions at read → e ≡ read → e.drive ≡ place + 1 → place < length w.bays
+sits_within w ticket at place es e read is found one there same drive =
+    (sits w ticket at place e is (read_found ticket es w.sessions at e read found one there same) drive).within
 
--- the bay that was read stands there
-pub bay_there : {D : Type 0} (w : WorldView D) (e : WorldSession) (place : ℕ) (bay : BayView D) (s : SitsAt w e place)
-    → s.seat.bay ≡ bay → slice_get w.bays place ≡ Some bay
-bay_there w e place bay s same =
-    subst (λ n. slice_get w.bays n ≡ Some s.seat.bay) s.at_is s.seat.bay_there ∙ ap Some same
+-- both are as they were read
+pub seated : {D : Type 0} (w : WorldView D) (ticket at place : ℕ) (es : List WorldSession) (e read : WorldSession) (bay got : BayView D)
+    → IsWorld w → IsFoundAt ticket es at → es ≡ w.sessions → read ≡ get_or w.sessions at read → e ≡ read → e.drive ≡ place + 1
+    → got ≡ get_or w.bays place got → bay ≡ got → IsSeatedAt w ticket at place e bay
+seated w ticket at place es e read bay got is found one there same drive stands alike =
+    let f = read_found ticket es w.sessions at e read found one there same in
+    let s = sits w ticket at place e is f drive in
+    let here : slice_get w.bays place ≡ Some s.seat.bay = subst (λ n. slice_get w.bays n ≡ Some s.seat.bay) s.at_is s.seat.bay_there in
+    let one_bay : s.seat.bay ≡ bay = sym (alike ∙ stands ∙ get_or_from_slice_get w.bays place s.seat.bay got here) in
+    record { world = is; read = f; drive_is = drive; sits_at = s; there = here ∙ ap Some one_bay; same = one_bay }
 
 -- the session's lane is one of the queue's
-pub lane_within : {D : Type 0} (w : WorldView D) (e : WorldSession) (place : ℕ) (bay : BayView D) (s : SitsAt w e place)
-    → IsWorld w → s.seat.bay ≡ bay → (1 ≤ e.session.lane) × (e.session.lane ≤ bay.queue.lanes)
-lane_within w e place bay s is same =
-    let b : IsBay w place bay = is.bays place bay (bay_there w e place bay s same) in
-    let there : slice_get bay.lanes s.seat.place ≡ Some s.seat.lane = subst (λ (x : BayView _). slice_get x.lanes s.seat.place ≡ Some s.seat.lane) same s.seat.lane_there in
-    let within : s.seat.place < length bay.lanes = slice_get_within bay.lanes s.seat.place s.seat.lane there in
-    let lane : e.session.lane ≡ s.seat.place + 1 = s.seat.lane_is in
+pub lane_within : {D : Type 0} {w : WorldView D} {ticket at place : ℕ} {e : WorldSession} {bay : BayView D} (s : IsSeatedAt w ticket at place e bay)
+    → (1 ≤ e.session.lane) × (e.session.lane ≤ bay.queue.lanes)
+lane_within {w = w} {place = place} {e = e} {bay = bay} s =
+    let seat = s.sits_at.seat in
+    let b : IsBay w place bay = s.world.bays place bay s.there in
+    let there : slice_get bay.lanes seat.place ≡ Some seat.lane = subst (λ (x : BayView _). slice_get x.lanes seat.place ≡ Some seat.lane) s.same seat.lane_there in
+    let within : seat.place < length bay.lanes = slice_get_within bay.lanes seat.place seat.lane there in
+    let lane : e.session.lane ≡ seat.place + 1 = seat.lane_is in
     let lanes : bay.queue.lanes ≡ length bay.lanes = b.lanes_are in
     (omega arith, omega arith)
 
+-- the drive that was read there is online
+pub online_read : {D : Type 0} {w : WorldView D} {ticket at place : ℕ} {e : WorldSession} {bay : BayView D} (d : DriveIs D) (s : IsSeatedAt w ticket at place e bay)
+    → bay.drive ≡ Some d → IsOnline w e.drive place bay d
+online_read d s on = record { number = s.drive_is; there = s.there; online = on }
+
 -- one that goes on has its drive online
-pub online_at : {D : Type 0} (w : WorldView D) (e : WorldSession) (place : ℕ) (bay : BayView D) (s : SitsAt w e place)
-    → s.seat.bay ≡ bay → e.drive ≡ place + 1 → IsRunning e.session.status → (d : DriveIs D) × IsOnline w e.drive place bay d
-online_at w e place bay s same drive running =
-    let there = some_of bay.drive (subst (λ (x : BayView _). IsSome x.drive) same (s.seat.online running)) in
-    (there.0, record { number = drive; there = bay_there w e place bay s same; online = there.1 })
+pub online_at : {D : Type 0} {w : WorldView D} {ticket at place : ℕ} {e : WorldSession} {bay : BayView D} (s : IsSeatedAt w ticket at place e bay)
+    → IsRunning e.session.status → (d : DriveIs D) × IsOnline w e.drive place bay d
+online_at {bay = bay} s running =
+    let there = some_of bay.drive (subst (λ (x : BayView _). IsSome x.drive) s.same (s.sits_at.seat.online running)) in
+    (there.0, online_read there.0 s there.1)
 
 -- the session at its place takes a step of sending
-pub despools_one : {D : Type 0} (answer : Despooled) (w : WorldView D) (ticket at place : ℕ) (e : WorldSession) (new : SessionView) (bay : BayView D) (queue : LanesView)
-    (s : SitsAt w e place) → s.seat.bay ≡ bay → e.drive ≡ place + 1 → IsReadAt ticket w.sessions at e → SendsStep answer e.session bay.queue new queue
+pub despools_one : {D : Type 0} {w : WorldView D} {ticket at place : ℕ} {e : WorldSession} {bay : BayView D} (answer said : Despooled) (new : SessionView) (queue : LanesView)
+    (s : IsSeatedAt w ticket at place e bay) → said ≡ answer → SendsStep said e.session bay.queue new queue
     → DespoolsSession answer w ticket (record w { sessions = slice_set w.sessions at (record e { session = new }); bays = slice_set w.bays place (record bay { queue = queue }) })
-despools_one answer w ticket at place e new bay queue s same drive f step =
-    let on = online_at w e place bay s same drive (sends_running answer e.session new bay.queue queue step) in
+despools_one {w = w} {place = place} {e = e} {bay = bay} answer said new queue s is told =
+    let step = subst (λ (a : Despooled). SendsStep a e.session bay.queue new queue) is told in
+    let on = online_at s (sends_running answer e.session new bay.queue queue step) in
     record {
       e = e;
-      has = f.found;
+      has = s.read.found;
       at = place;
       bay = bay;
       d = on.0;
@@ -131,14 +154,14 @@ despools_one answer w ticket at place e new bay queue s same drive f step =
       queue = queue;
       step = step;
       new_is = ap (λ (es : List WorldSession). record w { sessions = es; bays = slice_set w.bays place (record bay { queue = queue }) })
-          (f.changes (record e { session = new }) (sends_key answer e.session new bay.queue queue step ∙ f.id_is));
+          (s.read.changes (record e { session = new }) (sends_key answer e.session new bay.queue queue step ∙ s.read.id_is));
     }
 
 -- the session at its place is refused a step of sending; its queue stays
-pub despool_refused : {D : Type 0} (w : WorldView D) (ticket at place : ℕ) (e : WorldSession) (new : SessionView) (bay after : BayView D) (why : Refusal)
-    (s : SitsAt w e place) → s.seat.bay ≡ bay → after ≡ bay → IsReadAt ticket w.sessions at e → DespoolRefused e.session why new
+pub despool_refused : {D : Type 0} {w : WorldView D} {ticket at place : ℕ} {e : WorldSession} {bay : BayView D} (new : SessionView) (after : BayView D) (why : Refusal)
+    (s : IsSeatedAt w ticket at place e bay) → after ≡ bay → DespoolRefused e.session why new
     → RefusedWith w ticket why (record w { sessions = slice_set w.sessions at (record e { session = new }); bays = slice_set w.bays place after }) (λ s t. DespoolRefused s why t)
-despool_refused w ticket at place e new bay after why s same stays f refused =
-    let c = changes_one w ticket at e new (λ s t. DespoolRefused s why t) f refused (despool_keeps_key e.session new why refused) in
-    let kept : slice_set w.bays place after ≡ w.bays = ap (slice_set w.bays place) stays ∙ same_set w.bays place bay (bay_there w e place bay s same) in
+despool_refused {w = w} {ticket = ticket} {at = at} {place = place} {e = e} {bay = bay} new after why s stays refused =
+    let c = changes_one w ticket at e new (λ s t. DespoolRefused s why t) s.read refused (despool_keeps_key e.session new why refused) in
+    let kept : slice_set w.bays place after ≡ w.bays = ap (slice_set w.bays place) stays ∙ set_same w.bays place bay s.there in
     inr (c.0, c.1, c.2, c.3, ap (λ (bs : List (BayView _)). record w { sessions = slice_set w.sessions at (record e { session = new }); bays = bs }) kept ∙ c.4)

@@ -1,0 +1,47 @@
+-- The opening of a session by a lane, whatever the world around it.
+use Rattle.std.specs.Prelude.{◌≡◌, ◌≢◌, ◌⊎◌, ℕ, ◌-◌, Some, None, List, [], ◌∷◌, ◌++◌}
+use Rattle.sd_base.specs.Limits.{block_header}
+use Rattle.sd_base.specs.declared.refusal.Refusal.{Refusal}
+use Rattle.sd_base.specs.declared.refusal.Refusal.TheVariants.{SpoolFault, Memory}
+use Rattle.sd_drive.specs.View.{DriveIs}
+use Rattle.sd_drive.specs.declared.limits.Limits.{Limits}
+use Rattle.sd_session.specs.Session.{SessionView}
+use Rattle.sd_session.specs.declared.opening.Opening.{Opening}
+use Rattle.sd_spool.specs.Job.{StoreState}
+use Rattle.sd_moves.specs.World.{WorldSession, LaneView}
+use Rattle.sd_moves.specs.Sessions.{TakesStore, StartsOn, FailsToEmpty}
+
+-- the lane's store can be taken
+abbrev pub CanTakeStore : LaneView → List WorldSession → Type 0
+CanTakeStore lane sessions = (store : StoreState) × (after : List WorldSession) × TakesStore lane sessions store after
+
+-- a session of this ticket starts on its lane's store, which is its own from then on
+pub record StartsInLane (limits : Limits) (ticket : ℕ) (opening : Opening) (lane : LaneView) (old : List WorldSession)
+    (session : SessionView) (after : LaneView) (new : List WorldSession) : Type 0 where
+  pub store : StoreState
+  pub takes : TakesStore lane old store new
+  pub starts : StartsOn store opening (limits.block - block_header) limits.spool session
+  pub lane_is : after ≡ record { holder = Some ticket; store = None }
+
+-- none starts: for want of memory, or the lane's store could not be cleared; it lies in the lane now
+pub record StartsNot (limits : Limits) (lane : LaneView) (old : List WorldSession) (why : Refusal)
+    (after : LaneView) (new : List WorldSession) : Type 0 where
+  pub store : StoreState
+  pub store' : StoreState
+  pub takes : TakesStore lane old store new
+  pub lane_is : after ≡ record lane { store = Some store' }
+  pub cause : ((why ≡ Memory) × (store' ≡ store)) ⊎ ((limits.spool ≢ 0) × (why ≡ SpoolFault) × FailsToEmpty store store')
+
+-- it starts, comes behind all other sessions, and its pool is the drive's from now on
+pub record OpensAt {D : Type 0} (limits : Limits) (ticket drive : ℕ) (opening : Opening) (lane : LaneView) (old : List WorldSession) (d : DriveIs D)
+    (after : LaneView) (new : List WorldSession) (d' : DriveIs D) : Type 0 where
+  pub session : SessionView
+  pub sessions : List WorldSession
+  pub starts : StartsInLane limits ticket opening lane old session after sessions
+  pub new_is : new ≡ sessions ++ record { session = session; drive = drive } ∷ []
+  pub drive_is : d' ≡ record d { pool = Some opening.pool }
+
+-- it isn't opened: for want of memory at first, or since it doesn't start
+abbrev pub OpensNotAt : {D : Type 0} → Limits → LaneView → List WorldSession → DriveIs D → Refusal → LaneView → List WorldSession → DriveIs D → Type 0
+OpensNotAt limits lane old d why after new d' =
+    (((why ≡ Memory) × (after ≡ lane) × (new ≡ old)) ⊎ StartsNot limits lane old why after new) × (d' ≡ d)
