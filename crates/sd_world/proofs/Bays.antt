@@ -108,4 +108,5 @@ reads_there meaning key got got' result w spans first number at bay d after is c
       record { number = number_is; there = b.there; online = online },
       reads,
       refl,
+      all,
     )

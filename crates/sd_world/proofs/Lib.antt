@@ -1,7 +1,15 @@
 pub mod Bays
+pub mod Claims
+pub mod ClosedRead
 pub mod Devices
+pub mod DrivesKept
 pub mod FreshWorld
 pub mod Kept
 pub mod NewBays
 pub mod NewDrives
+pub mod ReadKeeps
+pub mod Runs
+pub mod Shown
+pub mod Standing
+pub mod Tickets
 pub mod Told

@@ -1,5 +1,5 @@
 -- What reading a session back through a world answers, and what it leaves.
-use Rattle.std.specs.Prelude.{◌≡◌, ◌⊎◌, ℕ, zero, suc, ◌<◌, ◌^◌, ◌==◌, Bool, false, if◌then◌else◌, Option, Some, None, Result, Ok, Err, List, [], ◌∷◌, ◌++◌, length, slice_get, IfOk, IfErr, OnErr}
+use Rattle.std.specs.Prelude.{◌≡◌, ◌⊎◌, ℕ, zero, suc, ◌<◌, ◌^◌, ◌==◌, Bool, true, false, if◌then◌else◌, Option, Some, None, Result, Ok, Err, List, [], ◌∷◌, ◌++◌, length, slice_get, IfOk, IfErr, OnErr}
 use Rattle.std.specs.List.{list_all}
 use Rattle.sd_base.specs.Record.{Record}
 use Rattle.sd_base.specs.declared.number.SessionKey.{SessionKey}
@@ -78,10 +78,11 @@ pub record ReadsDrive {D : Type 0} (meaning : D → Meaning) (key : SessionKey) 
       (HandsOverFront (volumes_on (meaning old.device).shelf) key spans got got')
 
 -- A session is read back: where a refusal is due it is answered, and nothing changes; else the drive of the first span's
--- volume reads, and nothing of the world changes but its device.
+-- volume reads, on which all spans are, and nothing of the world changes but its device.
 abbrev pub ReadsWorld : {D : Type 0} → (D → Meaning) → SessionKey → List Span → List Record → List Record
     → Result ReadEnd Refusal → WorldView D → WorldView D → Type 0
 ReadsWorld {D} meaning key spans got got' result old new =
     ((why : Refusal) × (read_due old spans ≡ Some why) × (result ≡ Err why) × (got' ≡ got) × (new ≡ old))
     ⊎ ((read_due old spans ≡ None) × (drive : ℕ) × (at : ℕ) × (bay : BayView D) × (d : DriveIs D) × (after : DriveIs D)
-    × IsOnline old drive at bay d × ReadsDrive meaning key spans got got' result d after × (new ≡ with_drive at bay after old))
+    × IsOnline old drive at bay d × ReadsDrive meaning key spans got got' result d after × (new ≡ with_drive at bay after old)
+    × (are_at_drive old.desk drive spans ≡ true))

@@ -4,10 +4,19 @@
 
 mod conf;
 mod filling;
+mod knowing;
 mod leaving;
+mod listing;
 mod making;
 mod reading;
+mod showing;
+mod stepping;
 mod world;
 
 pub use conf::{NotMade, WorldConf};
+pub use sd_machine::{Event, Reply};
+pub use sd_readback::{ReadEnd, Sink};
+pub use sd_session::Status;
+pub use sd_span::Span;
+pub use sd_view::{DriveLine, Loaded, SessionLine, View, VolumeLine};
 pub use world::World;

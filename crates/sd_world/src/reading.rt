@@ -2,9 +2,12 @@
 ghost use Rattle.std.specs.Prelude.{◌≡◌, ◌≢◌, ◌↔◌, ℕ, Some, None, IfOk, IfErr, OnOk, OnErr, IsTrue};
 ghost use Rattle.sd_parts.specs.View.{world_of};
 ghost use Rattle.sd_moves.specs.Rules.{IsWorld};
+ghost use Rattle.sd_world.specs.Closed.{CountsFit};
+ghost use Rattle.sd_world.specs.Drives.{DrivesKeep};
 ghost use Rattle.sd_world.specs.Reading.{ReadsDrive, ReadsWorld, are_at_drive, is_at_drive};
 ghost use Rattle.sd_desk.specs.Desk.{claimed_by};
 
+use crate::knowing::{know_counts, know_drives};
 use sd_base::{DriveNo, Refusal, SessionKey, VolName};
 use sd_desk::Desk;
 use sd_drive::Drive;
@@ -15,8 +18,26 @@ use sd_readback::{ReadEnd, Sink};
 use sd_span::Span;
 use sd_spool::SpoolStore;
 
-/// Reads a session back from its spans.
-pub(crate) fn read_parts<D: Driver, Q: Lanes, S: SpoolStore + Drop, K: Sink>(
+/// Reads a session back from its spans; and what is known then of the drives, and of the session's counts.
+pub(crate) fn read_knowing<D: Driver, Q: Lanes, S: SpoolStore + Drop, K: Sink>(
+    parts: &mut Parts<D, Q, S>,
+    key: SessionKey,
+    spans: &[Span],
+    sink: &mut K,
+) -> Result<ReadEnd, Refusal>
+    requires world { IsWorld (world_of parts.old) }
+    ensures reads { ReadsWorld (λ d. D.meaning d) key spans.now (K.got sink.old) (K.got sink.new)
+        result (world_of parts.old) (world_of parts.new) }
+    ensures keep { DrivesKeep (λ d. D.meaning d) (world_of parts.old).bays }
+    ensures fit { CountsFit (world_of parts.old).sessions key }
+{
+    know_drives(&parts.bays);
+    know_counts(&parts.sessions, key);
+    read_parts(parts, key, spans, sink)
+}
+
+// Reads a session back from its spans.
+fn read_parts<D: Driver, Q: Lanes, S: SpoolStore + Drop, K: Sink>(
     parts: &mut Parts<D, Q, S>,
     key: SessionKey,
     spans: &[Span],

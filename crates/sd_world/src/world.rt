@@ -1,27 +1,45 @@
 // A world.
-ghost use Rattle.std.specs.Prelude.{◌≡◌, ◌≤◌, length, IfOk, IfErr};
+ghost use Rattle.std.specs.Prelude.{◌≡◌, ◌≢◌, ◌≤◌, [], length, IfOk, IfErr, OnErr};
 ghost use Rattle.std.specs.List.{AllZip};
 ghost use Rattle.sd_base.specs.Limits.{most_number};
+ghost use Rattle.sd_machine.specs.Machine.{Machine, empty_machine};
+ghost use Rattle.sd_moves.specs.Kept.{ClosedStands, StatusesStay};
+ghost use Rattle.sd_moves.specs.Moves.{Moves};
+ghost use Rattle.sd_matches.specs.Matches.{Matches};
+ghost use Rattle.sd_matches.specs.Steps.{StepsTo};
+ghost use Rattle.sd_closed.specs.Along.{MovesAlong};
+ghost use Rattle.sd_closed.specs.Grows.{AllGrow};
+ghost use Rattle.sd_closed.specs.Reads.{HasCancelled};
+ghost use Rattle.sd_closed.specs.Seats.{SeatsStay};
+ghost use Rattle.sd_moves.specs.World.{WorldView};
+ghost use Rattle.sd_world.specs.Closed.{IsHonestFor, IsThere, ReadsClosed, ReadsCancelled, WereTold};
 ghost use Rattle.sd_world.specs.Conf.{IsConf, AreQueues, AreStores, limits_of};
 ghost use Rattle.sd_world.specs.Fresh.{IsFresh, StaysDevice};
+ghost use Rattle.sd_world.specs.Kept.{IsFoundClosed, IsRetired, ReplyStands, RepliesStand, ClosedLast};
 ghost use Rattle.sd_world.specs.Reading.{ReadsWorld};
-ghost use Rattle.sd_world.specs.View.{status_at, devices_of};
+ghost use Rattle.sd_world.specs.Runs.{RunsTo};
+ghost use Rattle.sd_world.specs.View.{status_at, devices_of, running_tickets, view_of};
 
 use crate::conf::{NotMade, WorldConf};
 use crate::filling::fill_bays;
 use crate::leaving::take_devices;
-use crate::reading::read_parts;
+use crate::listing::list_running;
+use crate::reading::read_knowing;
+use crate::showing::{show_drives, show_sessions, show_volumes};
+use crate::stepping::answer;
 use sd_base::{Refusal, SessionKey, Ticket};
 use sd_desk::{Desk, Request};
 use sd_drive::Limits;
 use sd_driver::Driver;
 use sd_lane::Lanes;
+use sd_machine::{Event, Reply};
 use sd_parts::{Parts, find};
 use sd_readback::{ReadEnd, Sink};
 use sd_session::Status;
 use sd_span::Span;
 use sd_spool::SpoolStore;
-use std::alloc::Global;
+use sd_view::View;
+use std::alloc::{AllocError, Global};
 use std::marker::Model;
 
 /// The sessions of one run of the daemon, with its drives, each with its lanes and the queue before it, and the
@@ -67,6 +85,7 @@ impl<D: Driver + Drop, Q: Lanes + Drop, S: SpoolStore + Drop> World<D, Q, S> {
             (λ q. record { lanes = Q.lanes q; capacity = Q.capacity q; held = Q.held q })
             (λ s. S.meaning s) (limits_of conf time) conf.queue conf.drives.items
             drivers.items lanes.items spools.items) }
+        ensures matches { IfOk result (λ world. Matches (λ d. D.meaning d) world (empty_machine time)) }
         ensures drivers { IfErr result (λ kept. AllZip (StaysDevice (λ d. D.meaning d))
             drivers.items kept.drivers.items) }
         ensures lanes { IfErr result (λ kept. kept.lanes ≡ lanes) }
@@ -123,7 +142,70 @@ impl<D: Driver + Drop, Q: Lanes + Drop, S: SpoolStore + Drop> World<D, Q, S> {
     }
 }
 
+impl<D: Driver + Drop, Q: Lanes, S: SpoolStore + Drop> World<D, Q, S> {
+    /// One event. The reply says what came of it, and a refused event changes nothing but what docs/REFUSALS.md names. A
+    /// step looks at one session and one drive; an open looks at the drives, and at the lanes of the one that it chooses.
+    /// Take, Sync, Unmount and Cancel take no memory.
+    pub fn step(&mut self, event: Event) -> Reply
+        ensures moves { Moves (λ d. D.meaning d) self.old event result self.new }
+        ensures follows { (m : Machine) → Matches (λ d. D.meaning d) self.old m
+            → StepsTo (λ d. D.meaning d) m self.old event result self.new }
+        ensures closed { ClosedStands self.new result }
+        ensures stands { ReplyStands self.new result }
+        ensures closed_last { ClosedLast self.old self.new }
+        ensures status_stays { StatusesStay self.old self.new }
+        ensures seats_stay { SeatsStay self.old self.new }
+        ensures journals_grow { AllGrow self.old self.new }
+    {
+        answer(&mut self.parts, event)
+    }
+
+    /// All the events, in order, with the reply to each; it costs what its steps do. An `Err` comes before the first.
+    pub fn run(&mut self, events: Vec<Event>) -> Result<Vec<Reply>, AllocError>
+        ensures moves { IfOk result (λ replies. MovesAlong (λ d. D.meaning d)
+            self.old events.items replies.items self.new) }
+        ensures follows { IfOk result (λ replies. (m : Machine) → Matches (λ d. D.meaning d) self.old m
+            → RunsTo (λ d. D.meaning d) m events.items replies.items self.new) }
+        ensures stand { IfOk result (λ replies. RepliesStand self.new replies.items) }
+        ensures closed_last { ClosedLast self.old self.new }
+        ensures status_stays { StatusesStay self.old self.new }
+        ensures seats_stay { SeatsStay self.old self.new }
+        ensures journals_grow { AllGrow self.old self.new }
+        ensures length { IfOk result (λ replies. length replies.items ≡ length events.items) }
+        ensures err { OnErr result (self.new ≡ self.old) }
+    {
+        let parts = &self.parts;
+        let mut replies = Vec::with_capacity(parts.alloc, events.len())?;
+        for event in events {
+            let reply = self.step(event);
+            replies.push(reply).unwrap();
+        }
+        Ok(replies)
+    }
+}
+
 impl<D: Driver, Q: Lanes, S: SpoolStore + Drop> World<D, Q, S> {
+    /// The tickets of the sessions that are on their way, active or ended, by rising number. It costs what is on its way:
+    /// only the sessions that used a lane last are looked at.
+    pub fn tickets(&self) -> Result<Vec<Ticket>, AllocError>
+        ensures { IfOk result (λ tickets. tickets.items ≡ running_tickets self.now.sessions) }
+    {
+        let parts = &self.parts;
+        list_running(parts.alloc, &parts.sessions, &parts.bays)
+    }
+
+    /// The drives, the volumes and the sessions, as they are at this moment.
+    pub fn view(&self) -> Result<View, AllocError>
+        ensures { IfOk result (λ view. view ≡ view_of self.now) }
+    {
+        let parts = &self.parts;
+        Ok(View {
+            drives: show_drives(parts.alloc, &parts.sessions, &parts.bays)?,
+            volumes: show_volumes(parts.alloc, &parts.bays)?,
+            sessions: show_sessions(parts.alloc, &parts.sessions)?,
+        })
+    }
+
     /// The requests for volumes, in the order in which they were asked.
     pub fn requests(&self) -> &[Request]
         ensures { result.now ≡ self.now.desk.requests }
@@ -145,7 +227,8 @@ impl<D: Driver, Q: Lanes, S: SpoolStore + Drop> World<D, Q, S> {
     /// Reads a session back from spans. The records go to the sink one by one; those that were handed over before a
     /// fault stay, and they are the first of the session's, in order. No spans are a bad span; then the first span's
     /// volume must be at a drive, that drive online, and all spans on its volumes; then comes what the drive's reader
-    /// says. Changes no session, no volume and no list.
+    /// says. A closed session's own spans read to all of its records, and a cancelled one's to the first of them, as long
+    /// as the devices return what was written. Changes no session, no volume and no list.
     pub fn read<K: Sink>(
         &mut self,
         key: SessionKey,
@@ -154,7 +237,22 @@ impl<D: Driver, Q: Lanes, S: SpoolStore + Drop> World<D, Q, S> {
     ) -> Result<ReadEnd, Refusal>
         ensures reads { ReadsWorld (λ d. D.meaning d) key spans.now (K.got sink.old) (K.got sink.new)
             result self.old self.new }
+        ensures matches { (m : Machine) → Matches (λ d. D.meaning d) self.old m
+            → Matches (λ d. D.meaning d) self.new m }
+        ensures closed { (m : Machine) → Matches (λ d. D.meaning d) self.old m
+            → IsFoundClosed self.old key spans.now → IsHonestFor (λ d. D.meaning d) self.old key
+            → ReadsClosed m key (K.got sink.old) (K.got sink.new) result }
+        ensures retired { IsRetired self.old key spans.now → spans.now ≢ []
+            → result ≡ Err Refusal.DriveOffline }
+        ensures cancelled { (m : Machine) (before : WorldView D) → Matches (λ d. D.meaning d) self.old m
+            → WereTold before self.old key spans.now → HasCancelled self.old key → IsThere self.old key
+            → IsHonestFor (λ d. D.meaning d) self.old key
+            → ReadsCancelled m key (K.got sink.old) (K.got sink.new) result }
+        ensures closed_last { ClosedLast self.old self.new }
+        ensures status_stays { StatusesStay self.old self.new }
+        ensures seats_stay { SeatsStay self.old self.new }
+        ensures journals_grow { AllGrow self.old self.new }
     {
-        read_parts(&mut self.parts, key, spans, sink)
+        read_knowing(&mut self.parts, key, spans, sink)
     }
 }

@@ -1,0 +1,3 @@
+pub mod Online
+pub mod Played
+pub mod RoundParts

@@ -1,0 +1,10 @@
+//! Rounds over a world: all that is on its way moves one step on, until nothing moves.
+#![tactic(auto)]
+
+mod headway;
+mod rounds;
+mod sending;
+mod turns;
+
+pub use headway::Round;
+pub use rounds::{drain, round};

@@ -1,0 +1,66 @@
+// The drives' part of a round.
+ghost use Rattle.std.specs.Prelude.{◌∷◌, [], filter};
+ghost use Rattle.sd_rounds.specs.Rounds.{AreTurns, IsPlacing, PlaysOn, drives_online, is_online, online_flags};
+
+use crate::headway::Round;
+use sd_base::DriveNo;
+use sd_driver::Driver;
+use sd_lane::Lanes;
+use sd_machine::{Event, Reply};
+use sd_spool::SpoolStore;
+use sd_world::World;
+
+/// The most drives of a world.
+const MOST_DRIVES: u32 = 8;
+
+/// A turn of each drive that is online, by rising number.
+pub(crate) fn turn_all<D: Driver + Drop, Q: Lanes, S: SpoolStore + Drop>(
+    world: &mut World<D, Q, S>,
+) -> Round
+    ensures { PlaysOn (λ d. D.meaning d) (AreTurns (drives_online world.old)) world.old result world.new }
+{
+    let mut turned = Round::new();
+    for number in 1..MOST_DRIVES + 1 {
+        turned = turned.and(turn(world, DriveNo::new(number).unwrap()));
+    }
+    turned
+}
+
+// One step of the drive's each kind; none where the drive isn't there or is offline, which its first one tells.
+fn turn<D: Driver + Drop, Q: Lanes, S: SpoolStore + Drop>(
+    world: &mut World<D, Q, S>,
+    drive: DriveNo,
+) -> Round
+    ensures { PlaysOn (λ d. D.meaning d)
+        (AreTurns (filter (is_online (online_flags world.old)) (drive ∷ []))) world.old result world.new }
+{
+    let took = world.step(Event::Take { drive });
+    if let Reply::Refused(_) = took {
+        return Round::new();
+    }
+    let placed = place(world, drive);
+    let synced = world.step(Event::Sync { drive });
+    Round::of(&took).and(placed).and(Round::of(&synced))
+}
+
+// Places the body in the drive's hand. Where a volume is needed one is sought, and where that mounted one the body is
+// placed again.
+fn place<D: Driver + Drop, Q: Lanes, S: SpoolStore + Drop>(
+    world: &mut World<D, Q, S>,
+    drive: DriveNo,
+) -> Round
+    ensures { PlaysOn (λ d. D.meaning d) (IsPlacing drive) world.old result world.new }
+{
+    let placed = world.step(Event::Place { drive });
+    let first = Round::of(&placed);
+    let Reply::NeedVolume = placed else {
+        return first;
+    };
+    let sought = world.step(Event::Seek { drive });
+    let both = first.and(Round::of(&sought));
+    let Reply::Mounted { .. } = sought else {
+        return both;
+    };
+    let again = world.step(Event::Place { drive });
+    both.and(Round::of(&again))
+}
