@@ -1,0 +1,9 @@
+pub mod CommandLemmas
+pub mod ConverseLemmas
+pub mod HeaderLemmas
+pub mod OutLemmas
+pub mod ReadLemmas
+pub mod TakeLemmas
+pub mod TalkLemmas
+pub mod TextLemmas
+pub mod TurnLemmas

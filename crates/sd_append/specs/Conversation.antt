@@ -1,0 +1,64 @@
+-- A talk as a whole: what the packets of a client came to, one after another, and how it ended.
+use Rattle.std.specs.Prelude.{◌≡◌, ◌≢◌, ◌⊎◌, ℕ, List, [], ◌∷◌, ◌++◌, Option, Some, None, Result, Ok}
+use Rattle.std.specs.declared.alloc.AllocError.{AllocError}
+use Rattle.sd_base.specs.declared.refusal.Refusal.TheVariants.{PacketTooLong}
+use Rattle.sd_bnet.specs.Stream.{IsTooLong}
+use Rattle.sd_bnet.specs.declared.packet.Packet.{Packet}
+use Rattle.sd_append.specs.declared.end.TalkEnd.{TalkEnd}
+use Rattle.sd_append.specs.declared.end.TalkEnd.TheVariants.{Finished, Truncated, TooLong}
+use Rattle.sd_append.specs.declared.stage.Own.{Own}
+use Rattle.sd_append.specs.declared.stage.Stage.{Stage}
+use Rattle.sd_append.specs.declared.stage.Stage.TheVariants.{Command, Over}
+use Rattle.sd_append.specs.Port.{Exchange}
+use Rattle.sd_append.specs.Stage.{own_of}
+use Rattle.sd_append.specs.Talk.{GivesUp, Takes, refused}
+
+-- packets one after another, and where the talk stands behind them
+abbrev pub Converses : Stage → List Packet → List Exchange → List Packet → Stage → Type 0
+Converses old [] asked out new = (asked ≡ []) × (out ≡ []) × (new ≡ old)
+Converses old (packet ∷ packets) asked out new =
+    (between : Stage) × (first : List Exchange) × (more : List Exchange) × (says : List Packet) × (later : List Packet)
+    × Takes old packet first says between × Converses between packets more later new
+    × (asked ≡ first ++ more) × (out ≡ says ++ later)
+
+-- the client has ended the talk
+abbrev pub IsOver : Stage → Type 0
+IsOver (Over own) = Unit {0}
+IsOver stage = ⊥
+
+-- a command is due
+abbrev pub IsCommandDue : Stage → Type 0
+IsCommandDue (Command own) = Unit {0}
+IsCommandDue stage = ⊥
+
+-- At the end the talk's session is given up, where it goes on.
+abbrev pub GivesUpLast : Option Own → List Exchange → Type 0
+GivesUpLast None asked = asked ≡ []
+GivesUpLast (Some own) asked = (left : Own) × GivesUp own asked left
+
+-- what goes out at the end: the refusal of a packet that is too long
+abbrev pub end_says : Result TalkEnd AllocError → List Packet
+end_says (Ok TooLong) = refused PacketTooLong ∷ []
+end_says end = []
+
+-- How a talk that stands so, with these bytes behind its last packet, may end: finished by the client, or where the
+-- input ends between two commands; cut off where it ends elsewhere; by a length above the limit; or, at any place,
+-- by a fault, by its last turn, or for want of memory.
+abbrev pub MayEnd : Result TalkEnd AllocError → Stage → List ℕ → Type 0
+MayEnd (Ok Finished) stage rest = IsOver stage ⊎ (IsCommandDue stage × (rest ≡ []))
+MayEnd (Ok Truncated) stage rest = (IsOver stage → ⊥) × ((IsCommandDue stage → ⊥) ⊎ (rest ≢ []))
+MayEnd (Ok TooLong) stage rest = (IsOver stage → ⊥) × IsTooLong rest
+MayEnd end stage rest = Unit {0}
+
+-- A conversation: packets came, with these bytes behind them; the port was asked this and answered so; these packets
+-- went out; and the talk ended so.
+pub record Conversation (packets : List Packet) (rest : List ℕ) (asked : List Exchange) (out : List Packet) (end : Result TalkEnd AllocError) : Type 0 where
+  pub last : Stage
+  pub before : List Exchange
+  pub giving : List Exchange
+  pub says : List Packet
+  pub converses : Converses (Command None) packets before says last
+  pub gives_up : GivesUpLast (own_of last) giving
+  pub asked_is : asked ≡ before ++ giving
+  pub out_is : out ≡ says ++ end_says end
+  pub ends : MayEnd end last rest

@@ -1,0 +1,12 @@
+pub mod Command
+pub mod Conversation
+pub mod Does
+pub mod Header
+pub mod Line
+pub mod Out
+pub mod Port
+pub mod Reader
+pub mod Reading
+pub mod Stage
+pub mod Talk
+pub mod Text

@@ -1,0 +1,32 @@
+//! The conversation of a client with the daemon: packets in, events to a port, packets out (as: Bacula
+//! Developer's Guide, daemon protocol; the words of commands, headers and replies are this daemon's own).
+#![tactic(auto)]
+
+mod answers;
+mod command;
+mod data;
+mod end;
+mod handed;
+mod header;
+mod line;
+mod number;
+mod obey;
+mod outbox;
+mod port;
+mod read;
+mod reading;
+mod signal;
+mod spans;
+mod stage;
+mod take;
+#[cfg(test)]
+mod tests;
+mod text;
+mod turn;
+
+pub use command::{Command, CommandFault};
+pub use end::TalkEnd;
+pub use header::{Header, read_header};
+pub use line::Line;
+pub use port::SessionPort;
+pub use read::read_command;

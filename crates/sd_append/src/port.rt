@@ -1,0 +1,40 @@
+// What a talk asks the daemon by.
+ghost use Rattle.std.specs.Prelude.{◌≡◌, ◌∷◌, ◌++◌, [], List, All, IfOk};
+ghost use Rattle.sd_base.specs.Record.{Record};
+ghost use Rattle.sd_append.specs.Port.{Exchange, IsLine, Stepped, WasRead, Said};
+
+use sd_base::{Items, Refusal, SessionKey};
+use sd_bnet::Payload;
+use sd_machine::{Event, Reply};
+use sd_readback::{ReadEnd, Sink};
+use sd_span::Span;
+
+/// The daemon as a talk sees it. In a contract `asked` is the list of what it was asked, with the answers, in
+/// order.
+pub trait SessionPort {
+    ghost asked: { Self → List Exchange };
+
+    /// The reply to an event.
+    fn step(&mut self, event: Event) -> Reply
+        ensures { asked self.new ≡ asked self.old ++ Stepped event result ∷ [] };
+
+    /// Reads a session back by its spans. Each record goes to the sink as it comes; those before a fault
+    /// stay there.
+    fn read<S: Sink>(
+        &mut self,
+        key: SessionKey,
+        spans: &[Span],
+        sink: &mut S,
+    ) -> Result<ReadEnd, Refusal>
+        ensures { (records : List Record)
+            × (S.got sink.new ≡ S.got sink.old ++ records)
+            × (asked self.new ≡ asked self.old ++ WasRead key spans.now records result ∷ []) };
+
+    /// The lines that answer a console's line, each with its newline, or the refusal.
+    fn console(&mut self, line: &[u8]) -> Result<Items<Payload>, Refusal>
+        ensures lines { IfOk result (λ lines. All IsLine lines) }
+        ensures asked { asked self.new ≡ asked self.old ++ Said line.now result ∷ [] };
+
+    /// The moment of an open or of an end, in microseconds.
+    fn moment(&self) -> i64;
+}

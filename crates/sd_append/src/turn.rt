@@ -1,0 +1,202 @@
+// What a packet of a client comes to.
+ghost use Rattle.sd_append.specs.Conversation.{Converses};
+ghost use Rattle.sd_append.specs.Does.{Does};
+ghost use Rattle.sd_bnet.specs.Stream.{stream_of};
+ghost use Rattle.sd_append.specs.Out.{Puts, out_view};
+ghost use Rattle.sd_append.specs.Talk.{ReadsBack, Takes, TakesEnd, TakesSignal, poll_said};
+
+use crate::answers::{refuse, say, say_read_end};
+use crate::line::Line;
+use crate::outbox::Outbox;
+use crate::port::SessionPort;
+use crate::reading::read_out;
+use crate::signal::{Meaning, meaning_of};
+use crate::spans::SpanText;
+use crate::stage::{Own, Stage};
+use crate::take::take_bytes;
+use sd_base::Refusal;
+use sd_bnet::Packet;
+use std::alloc::Global;
+use std::io::Write;
+use std::marker::Brand;
+
+/// Where the talk stands behind a packet, and its outbox.
+#[derive(Drop)]
+pub(crate) struct Taken<W> {
+    pub(crate) stage: Stage,
+    pub(crate) outbox: Outbox<W>,
+}
+
+/// Takes a packet.
+pub(crate) fn take<W: Write, P: SessionPort>(
+    alloc: Global,
+    stage: Stage,
+    packet: Packet,
+    port: &mut P,
+    mut outbox: Outbox<W>,
+) -> Taken<W>
+    ensures { Does (λ asked out. Takes stage packet asked out result.stage)
+        (P.asked port.old) (P.asked port.new)
+        (out_view W.contents outbox) (out_view W.contents result.outbox) }
+{
+    match packet {
+        Packet::Bytes(payload) => {
+            let stage = take_bytes(alloc, stage, payload, port, &mut outbox);
+            Taken { stage, outbox }
+        }
+        Packet::Signal(signal) => take_signal(alloc, meaning_of(signal), stage, port, outbox),
+    }
+}
+
+fn take_signal<W: Write, P: SessionPort>(
+    alloc: Global,
+    meaning: Meaning,
+    stage: Stage,
+    port: &mut P,
+    outbox: Outbox<W>,
+) -> Taken<W>
+    ensures { Does (λ asked out. TakesSignal meaning stage asked out result.stage)
+        (P.asked port.old) (P.asked port.new)
+        (out_view W.contents outbox) (out_view W.contents result.outbox) }
+{
+    match meaning {
+        Meaning::EndOfData => take_end(alloc, stage, port, outbox),
+        Meaning::Terminate => Taken {
+            stage: Stage::Over(stage.own()),
+            outbox,
+        },
+        Meaning::Poll => {
+            let mut outbox = outbox;
+            answer_poll(&stage, &mut outbox);
+            Taken { stage, outbox }
+        }
+        Meaning::Other => Taken { stage, outbox },
+    }
+}
+
+/// Answers a poll or a heartbeat, where a command is due.
+fn answer_poll<W: Write>(stage: &Stage, outbox: &mut Outbox<W>)
+    ensures { Puts (out_view W.contents outbox.old) (out_view W.contents outbox.new)
+        (stream_of (poll_said stage.now)) }
+{
+    if let Stage::Command(_) = stage {
+        outbox.heartbeat_response();
+    }
+}
+
+/// Takes the end of data.
+fn take_end<W: Write, P: SessionPort>(
+    alloc: Global,
+    stage: Stage,
+    port: &mut P,
+    mut outbox: Outbox<W>,
+) -> Taken<W>
+    ensures { Does (λ asked out. TakesEnd stage asked out result.stage)
+        (P.asked port.old) (P.asked port.new)
+        (out_view W.contents outbox) (out_view W.contents result.outbox) }
+{
+    match stage {
+        Stage::Command(own) => Taken {
+            stage: Stage::Command(own),
+            outbox,
+        },
+        Stage::Header(own) => {
+            say(&mut outbox, Line::Appended);
+            Taken {
+                stage: Stage::Command(Some(own)),
+                outbox,
+            }
+        }
+        Stage::Records(own, _) => Taken {
+            stage: Stage::Header(own),
+            outbox,
+        },
+        Stage::Refused(own, refusal) => {
+            refuse(&mut outbox, refusal);
+            Taken {
+                stage: Stage::Command(Some(own)),
+                outbox,
+            }
+        }
+        Stage::Dropped(own, refusal) => Taken {
+            stage: Stage::Refused(own, refusal),
+            outbox,
+        },
+        Stage::Spans(own, text) => read_back(alloc, own, text, port, outbox),
+        Stage::BadSpans(own, refusal) => {
+            say_read_end(&mut outbox, Err(refusal));
+            Taken {
+                stage: Stage::Command(own),
+                outbox,
+            }
+        }
+        Stage::Over(own) => Taken {
+            stage: Stage::Over(own),
+            outbox,
+        },
+    }
+}
+
+/// Reads a session back by the spans that have come.
+fn read_back<W: Write, P: SessionPort>(
+    alloc: Global,
+    own: Option<Own>,
+    text: SpanText,
+    port: &mut P,
+    mut outbox: Outbox<W>,
+) -> Taken<W>
+    ensures { Does (λ asked out. ReadsBack own text asked out result.stage)
+        (P.asked port.old) (P.asked port.new)
+        (out_view W.contents outbox) (out_view W.contents result.outbox) }
+{
+    match text.read(alloc) {
+        Ok(read) => {
+            let mut out = read_out::<Brand, W, P>(outbox, port, read.key, read.spans.as_slice());
+            say_read_end(&mut out.outbox, out.answer);
+            Taken {
+                stage: Stage::Command(own),
+                outbox: out.outbox,
+            }
+        }
+        Err(fault) => {
+            say_read_end(&mut outbox, Err(fault.refusal()));
+            Taken {
+                stage: Stage::Command(own),
+                outbox,
+            }
+        }
+    }
+}
+
+/// Takes packets one after another.
+pub(crate) fn take_all<W: Write, P: SessionPort>(
+    alloc: Global,
+    stage: Stage,
+    packets: Vec<Packet>,
+    port: &mut P,
+    outbox: Outbox<W>,
+) -> Taken<W>
+    ensures { Does (λ asked out. Converses stage packets.items asked out result.stage)
+        (P.asked port.old) (P.asked port.new)
+        (out_view W.contents outbox) (out_view W.contents result.outbox) }
+{
+    let mut taken = Taken { stage, outbox };
+    for packet in packets {
+        taken = take_next(alloc, taken, packet, port);
+    }
+    taken
+}
+
+fn take_next<W: Write, P: SessionPort>(
+    alloc: Global,
+    taken: Taken<W>,
+    packet: Packet,
+    port: &mut P,
+) -> Taken<W>
+    ensures { Does (λ asked out. Takes taken.stage packet asked out result.stage)
+        (P.asked port.old) (P.asked port.new)
+        (out_view W.contents taken.outbox) (out_view W.contents result.outbox) }
+{
+    let Taken { stage, outbox } = taken;
+    take(alloc, stage, packet, port, outbox)
+}
