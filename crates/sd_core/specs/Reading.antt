@@ -1,63 +1,88 @@
--- What spans read to.
-use Rattle.std.specs.Prelude.{◌≡◌, ◌≢◌, ℕ, ◌+◌, ◌<◌, Bool, if◌then◌else◌, Option, Some, None, List, [], ◌∷◌, ◌++◌, length}
-use Rattle.std.specs.List.{flat_map}
-use Rattle.std.specs.Str.{bytes_eq}
+-- What reading a session back through a world answers, and what it leaves.
+use Rattle.std.specs.Prelude.{◌≡◌, ◌⊎◌, ℕ, zero, suc, ◌<◌, ◌^◌, ◌==◌, Bool, true, false, if◌then◌else◌, Option, Some, None, Result, Ok, Err, List, [], ◌∷◌, ◌++◌, length, slice_get, IfOk, IfErr, OnErr}
+use Rattle.std.specs.List.{list_all}
 use Rattle.sd_base.specs.Record.{Record}
 use Rattle.sd_base.specs.declared.number.SessionKey.{SessionKey}
-use Rattle.sd_label.specs.Cutting.{WholeOf}
+use Rattle.sd_base.specs.declared.refusal.Refusal.{Refusal}
+use Rattle.sd_base.specs.declared.refusal.Refusal.TheVariants.{BadSpan, VolumeNotOnShelf, DriveOffline}
+use Rattle.sd_desk.specs.Desk.{DeskView, claimed_by}
+use Rattle.sd_driver.specs.Meaning.{Meaning, IsHonest}
+use Rattle.sd_drive.specs.Shelf.{KeepsPieces}
+use Rattle.sd_drive.specs.View.{DriveIs}
+use Rattle.sd_label.specs.Cutting.{total_bytes}
+use Rattle.sd_readback.specs.Faults.{AreSpans, IsOfSpans, MeetsFault, fault_refusal}
+use Rattle.sd_readback.specs.HandsOver.{HandsOverFront}
+use Rattle.sd_readback.specs.Reading.{Reads, volumes_on}
+use Rattle.sd_readback.specs.declared.fault.ReadFault.{ReadFault}
+use Rattle.sd_readback.specs.declared.fault.ReadFault.TheVariants as fault
+use Rattle.sd_readback.specs.declared.read.ReadEnd.{ReadEnd}
 use Rattle.sd_span.specs.declared.span.Span.{Span}
-use Rattle.sd_core.specs.Volume.{Block, images, AreImages, blocks_of}
+use Rattle.sd_volume.specs.Device.{OnlyReads}
+use Rattle.sd_moves.specs.World.{WorldView, BayView, IsOnline, with_drive}
 
--- The volumes on a shelf: what bytes a name has, if it is there.
-abbrev pub Shelf : Type 0
-Shelf = List ℕ → Option (List ℕ)
+-- the volume is at the drive of this number
+abbrev pub is_at_drive : ℕ → Option ℕ → Bool
+is_at_drive drive None = false
+is_at_drive drive (Some other) = other == drive
 
--- a shelf with no volume
-abbrev pub empty_shelf : Shelf
-empty_shelf name = None
+-- every span is on a volume of the drive
+abbrev pub are_at_drive : DeskView → ℕ → List Span → Bool
+are_at_drive desk drive spans = list_all (λ s. is_at_drive drive (claimed_by desk s.volume)) spans
 
--- a shelf with one volume
-abbrev pub shelf_with : List ℕ → List ℕ → Shelf
-shelf_with volume bytes name = if bytes_eq volume name then Some bytes else None
+-- which refusal is due where the first span is at this drive, if it is online
+abbrev pub due_with : {D : Type 0} → DeskView → ℕ → List Span → Option (DriveIs D) → Option Refusal
+due_with desk drive spans None = Some DriveOffline
+due_with desk drive spans (Some d) = if are_at_drive desk drive spans then None else Some VolumeNotOnShelf
 
--- each span begins below its end, and their numbers are `index` and on
-abbrev pub AreNumbered : ℕ → List Span → Type 0
-AreNumbered index [] = Unit {0}
-AreNumbered index (s ∷ ss) = (s.vol_index ≡ index) × (s.start < s.end) × AreNumbered (index + 1) ss
+-- which is due where the first span is at the drive in this bay
+abbrev pub due_in : {D : Type 0} → DeskView → ℕ → List Span → Option (BayView D) → Option Refusal
+due_in desk drive spans None = Some VolumeNotOnShelf
+due_in desk drive spans (Some bay) = due_with desk drive spans bay.drive
 
--- from the start of the span to its end stand the images of these blocks, without gap, their numbers rising by one
-pub record SpanHolds (shelf : Shelf) (s : Span) (blocks : List Block) : Type 0 where
-  pub bytes : List ℕ
-  pub front : List ℕ
-  pub back : List ℕ
-  pub number : ℕ
-  pub there : shelf s.volume ≡ Some bytes
-  pub bytes_are : bytes ≡ front ++ (images number blocks ++ back)
-  pub start_is : length front ≡ s.start
-  pub end_is : s.start + length (images number blocks) ≡ s.end
-  pub blocks_are : AreImages number blocks
+-- which is due where the first span's volume is at the drive of this number, if any; drives are numbered from 1
+abbrev pub due_at : {D : Type 0} → WorldView D → List Span → Option ℕ → Option Refusal
+due_at w spans None = Some VolumeNotOnShelf
+due_at w spans (Some zero) = Some VolumeNotOnShelf
+due_at w spans (Some (suc at)) = due_in w.desk (suc at) spans (slice_get w.bays at)
 
--- each span holds its own
-abbrev pub AllHold : Shelf → List Span → List (List Block) → Type 0
-AllHold shelf [] [] = Unit {0}
-AllHold shelf [] (bs ∷ bss) = ⊥
-AllHold shelf (s ∷ ss) [] = ⊥
-AllHold shelf (s ∷ ss) (bs ∷ bss) = SpanHolds shelf s bs × AllHold shelf ss bss
+-- Which refusal is due before a drive is asked, in this order: there are no spans; the first one's volume is at no drive;
+-- that drive is offline for good; another one's volume isn't at that drive.
+abbrev pub read_due : {D : Type 0} → WorldView D → List Span → Option Refusal
+read_due w [] = Some BadSpan
+read_due w (s ∷ ss) = due_at w (s ∷ ss) (claimed_by w.desk s.volume)
 
--- The spans read to these records of the session: their numbers are 1, 2 and on; from the start to the end
--- of each stand whole blocks; those of the session, in the order of the spans, begin a cutting with its
--- start label, and the records are those that they hold whole. `ended` says that the end label is there.
-pub record Reads (shelf : Shelf) (key : SessionKey) (spans : List Span) (records : List Record) (ended : Bool) : Type 0 where
-  pub some_span : spans ≢ []
-  pub numbered : AreNumbered 1 spans
-  pub blocks : List (List Block)
-  pub hold : AllHold shelf spans blocks
-  pub some_block : blocks_of key (flat_map (λ bs. bs) blocks) ≢ []
-  pub whole : WholeOf (blocks_of key (flat_map (λ bs. bs) blocks)) records ended
+-- What a drive's read of a session answers and leaves; a refusal is that of the reader's fault.
+pub record ReadsDrive {D : Type 0} (meaning : D → Meaning) (key : SessionKey) (spans : List Span)
+    (got got' : List Record) (result : Result ReadEnd Refusal) (old new : DriveIs D) : Type 0 where
+  -- the reader's own answer
+  pub answer : Result ReadEnd ReadFault
+  pub ok : IfOk answer (λ end. result ≡ Ok end)
+  pub err : IfErr answer (λ why. result ≡ Err (fault_refusal why))
+  pub bad_spans : (AreSpans spans → ⊥) → answer ≡ Err fault.BadSpan
+  pub no_call : (AreSpans spans → ⊥) → (new ≡ old) × (got' ≡ got)
+  pub same : new ≡ record old { device = new.device }
+  pub device : OnlyReads (answer ≡ Err fault.Device) (meaning old.device) (meaning new.device)
+  pub keeps : KeepsPieces (meaning old.device) (meaning new.device) old.journal new.journal old.hand new.hand
+  pub more : List Record
+  pub adds : got' ≡ got ++ more
+  pub counts : IfOk answer (λ end. (end.records ≡ length more) × (end.bytes ≡ total_bytes more))
+  pub reads : IsHonest (meaning old.device) → IfOk answer (λ end.
+      Reads (volumes_on (meaning old.device).shelf) key spans more end.ended)
+  pub found : IsHonest (meaning old.device) → (records : List Record) (ended : Bool)
+      → length records < 2 ^ 64 → total_bytes records < 2 ^ 64
+      → Reads (volumes_on (meaning old.device).shelf) key spans records ended
+      → IfErr answer (λ why. (why ≡ fault.Device) ⊎ (why ≡ fault.Memory))
+  pub first : IsHonest (meaning old.device) → IfErr answer (λ why. IsOfSpans why
+      → MeetsFault (volumes_on (meaning old.device).shelf) key spans why)
+  pub handed_over : IsHonest (meaning old.device) → OnErr answer
+      (HandsOverFront (volumes_on (meaning old.device).shelf) key spans got got')
 
--- Laws.
-
--- spans read to one list of records, and in one way
-abbrev pub ReadsToOneList : Type 0
-ReadsToOneList = (shelf : Shelf) (key : SessionKey) (spans : List Span) (records others : List Record) (ended ended' : Bool)
-    → Reads shelf key spans records ended → Reads shelf key spans others ended' → (records ≡ others) × (ended ≡ ended')
+-- A session is read back: where a refusal is due it is answered, and nothing changes; else the drive of the first span's
+-- volume reads, on which all spans are, and nothing of the world changes but its device.
+abbrev pub ReadsWorld : {D : Type 0} → (D → Meaning) → SessionKey → List Span → List Record → List Record
+    → Result ReadEnd Refusal → WorldView D → WorldView D → Type 0
+ReadsWorld {D} meaning key spans got got' result old new =
+    ((why : Refusal) × (read_due old spans ≡ Some why) × (result ≡ Err why) × (got' ≡ got) × (new ≡ old))
+    ⊎ ((read_due old spans ≡ None) × (drive : ℕ) × (at : ℕ) × (bay : BayView D) × (d : DriveIs D) × (after : DriveIs D)
+    × IsOnline old drive at bay d × ReadsDrive meaning key spans got got' result d after × (new ≡ with_drive at bay after old)
+    × (are_at_drive old.desk drive spans ≡ true))

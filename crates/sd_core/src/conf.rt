@@ -1,8 +1,25 @@
 // What a world is made with.
+use sd_base::MediaName;
 
-/// The settings of a world.
-#[derive(Clone, Copy, Debug, PartialEq, Eq)]
+/// The settings of a world. What each may be stands in `IsConf`.
+#[derive(Drop)]
 pub struct WorldConf {
-    /// The most bytes of a block, 1,024 to 1,048,576.
+    /// The most bytes of a block, its header included: 1,024 to 1,048,576.
     pub block: usize,
+    /// The most bytes of a volume, at most 68,719,476,736.
+    pub volume: u64,
+    /// The most bytes of a session's spool, 0 where there is none.
+    pub spool: u64,
+    /// How many pieces the queue before a drive has room for.
+    pub queue: usize,
+    /// The media and the number of lanes of the drives 1, 2 and on: at most 8 drives, of at most 32 lanes each.
+    pub drives: Vec<(MediaName, u32)>,
+}
+
+/// What no world was made of, for want of memory: the devices, queues and stores, each in their order.
+#[derive(Drop)]
+pub struct NotMade<D, Q, S> {
+    pub drivers: Vec<D>,
+    pub lanes: Vec<Q>,
+    pub spools: Vec<Vec<S>>,
 }

@@ -1,33 +1,22 @@
-//! The core of the storage daemon: sessions, a drive with its volume, and the queue between them, changed
-//! by one event at a time. What a session was told is taken comes back, once and in order.
+//! The core of the storage daemon: a world of sessions and drives, changed by one event at a time. What a session was
+//! told is taken comes back, once and in order (as: Bacula Developer's Guide, storage daemon).
 #![tactic(auto)]
 
 mod conf;
-mod despool;
-mod drive;
-mod entry;
-mod event;
-mod journal;
-mod laws;
-mod piece;
-mod queue;
-mod readback;
-mod reading_laws;
-mod reply;
-mod session;
-mod status;
-mod volume;
+mod filling;
+mod knowing;
+mod leaving;
+mod listing;
+mod making;
+mod reading;
+mod showing;
+mod stepping;
 mod world;
 
-pub use conf::WorldConf;
-pub use event::Event;
-pub use laws::{
-    closed_keep_their_records, closed_keep_their_status, journal_gives_spans,
-    one_image_of_a_volume, placed_block_stands,
-};
-pub use readback::{ReadEnd, ReadFault, Sink};
-pub use reading_laws::{fault_is_no_reading, one_first_fault, reads_to_one_list};
-pub use reply::Reply;
-pub use sd_span::{Span, jobmedia_texts_apart, put_jobmedia};
-pub use status::Status;
+pub use conf::{NotMade, WorldConf};
+pub use sd_machine::{Event, Reply};
+pub use sd_readback::{ReadEnd, Sink};
+pub use sd_session::Status;
+pub use sd_span::Span;
+pub use sd_view::{DriveLine, Loaded, SessionLine, View, VolumeLine};
 pub use world::World;

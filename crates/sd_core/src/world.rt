@@ -1,468 +1,258 @@
-// A world: sessions, a drive and the queue between them, changed by one event at a time.
-ghost use Rattle.std.specs.Prelude.{◌≡◌, ◌≢◌, ◌↔◌, ℕ, ◌+◌, ◌-◌, ◌≤◌, ◌<◌, ◌^◌, Bool, List, ◌++◌, length, All, IfOk, IfErr, IfSome, IsTrue, OnErr, option_map};
-ghost use Rattle.std.specs.Option.{option_copied};
-ghost use Rattle.sd_base.specs.Record.{Record};
-ghost use Rattle.sd_base.specs.Limits.{block_header, least_block_limit, most_block, most_number};
-ghost use Rattle.sd_label.specs.Cutting.{total_bytes};
-ghost use Rattle.sd_core.specs.declared.event.Event.TheVariants.{Open, Append, End, Close, Cancel, Spool, Despool, Take, Place, Sync, Label, Mount, Seek};
-ghost use Rattle.sd_core.specs.Machine.{Machine, empty_machine, session_of};
-ghost use Rattle.sd_core.specs.Step.{Run};
-ghost use Rattle.sd_core.specs.Matches.{Matches, StepsTo};
-ghost use Rattle.sd_core.specs.Moves.{Moves};
-ghost use Rattle.sd_core.specs.Kept.{ClosedStand, ClosedStands, StatusesStay, SpansStay, IsClosedAt};
-ghost use Rattle.sd_core.specs.Reading.{Reads};
-ghost use Rattle.sd_core.specs.HandsOver.{HandsOverFront};
-ghost use Rattle.sd_core.specs.World.{entry_of, fresh_world, last_entry, shelf_of};
-ghost use Rattle.sd_core.specs.WorldReading.{ReadsWhole, AreOnVolume, MeetsWorldFault};
-ghost use Rattle.sd_core.specs.Session.{LeavesLane};
+// A world.
+ghost use Rattle.std.specs.Prelude.{◌≡◌, ◌≢◌, ◌≤◌, [], length, IfOk, IfErr, OnErr};
+ghost use Rattle.std.specs.List.{AllZip};
+ghost use Rattle.sd_base.specs.Limits.{most_number};
+ghost use Rattle.sd_machine.specs.Machine.{Machine, empty_machine};
+ghost use Rattle.sd_moves.specs.Kept.{ClosedStands, StatusesStay};
+ghost use Rattle.sd_moves.specs.Moves.{Moves};
+ghost use Rattle.sd_matches.specs.Matches.{Matches};
+ghost use Rattle.sd_matches.specs.Steps.{StepsTo};
+ghost use Rattle.sd_closed.specs.Along.{MovesAlong};
+ghost use Rattle.sd_closed.specs.Grows.{AllGrow};
+ghost use Rattle.sd_closed.specs.Reads.{HasCancelled};
+ghost use Rattle.sd_closed.specs.Seats.{SeatsStay};
+ghost use Rattle.sd_moves.specs.World.{WorldView};
+ghost use Rattle.sd_core.specs.Closed.{IsHonestFor, IsThere, ReadsClosed, ReadsCancelled, WereTold};
+ghost use Rattle.sd_core.specs.Conf.{IsConf, AreQueues, AreStores, limits_of};
+ghost use Rattle.sd_core.specs.Fresh.{IsFresh, StaysDevice};
+ghost use Rattle.sd_core.specs.Kept.{IsFoundClosed, IsRetired, ReplyStands, RepliesStand, ClosedLast};
+ghost use Rattle.sd_core.specs.Reading.{ReadsWorld};
+ghost use Rattle.sd_core.specs.Runs.{RunsTo};
+ghost use Rattle.sd_core.specs.View.{status_at, devices_of, running_tickets, view_of};
 
-use crate::conf::WorldConf;
-use crate::despool::Despooled;
-use crate::drive::{Drive, Placing, Seeking};
-use crate::entry::{Entry, find};
-use crate::event::Event;
-use crate::journal::SessionJournal;
-use crate::queue::Queue;
-use crate::readback::{ReadEnd, ReadFault, Sink, read_session};
-use crate::reply::Reply;
-use crate::session::Session;
-use crate::status::Status;
-use sd_base::{
-    DriveNo, JobId, MOST_NUMBER, MediaName, PoolName, Rec, Refusal, SessionKey, Ticket, VolName,
-};
-use sd_label::VolumeLabel;
+use crate::conf::{NotMade, WorldConf};
+use crate::filling::fill_bays;
+use crate::leaving::take_devices;
+use crate::listing::list_running;
+use crate::reading::read_knowing;
+use crate::showing::{show_drives, show_sessions, show_volumes};
+use crate::stepping::answer;
+use sd_base::{Refusal, SessionKey, Ticket};
+use sd_desk::{Desk, Request};
+use sd_drive::Limits;
+use sd_driver::Driver;
+use sd_lane::Lanes;
+use sd_machine::{Event, Reply};
+use sd_parts::{Parts, find};
+use sd_readback::{ReadEnd, Sink};
+use sd_session::Status;
 use sd_span::Span;
+use sd_spool::SpoolStore;
+use sd_view::View;
 use std::alloc::{AllocError, Global};
 use std::marker::Model;
 
-/// The media of a world's one drive.
-const MEDIA: &str = "File";
-
-/// The number of a world's one drive.
-const THE_DRIVE: u32 = 1;
-
-/// The sessions of one run of the daemon, with one drive of media `File`, whose one lane holds one session
-/// at a time, and one volume. In a contract it is a `WorldView`.
+/// The sessions of one run of the daemon, with its drives, each with its lanes and the queue before it, and the
+/// operator's desk. In a contract it is a `WorldView`. Its type keeps what `IsWorld` says.
 #[derive(Drop)]
-pub struct World {
-    alloc: Global,
-    block: usize,
-    time: u32,
-    entries: Vec<Entry>,
-    drive: Drive,
-    queue: Queue,
+pub struct World<D: Driver, Q: Lanes, S: SpoolStore> {
+    parts: Parts<D, Q, S>,
 }
 
-impl Model for World {
-    ghost use Rattle.std.specs.Prelude.{◌-◌};
-    ghost use Rattle.sd_base.specs.Limits.{block_header};
-    ghost use Rattle.sd_core.specs.World.{WorldView};
-    ghost use Rattle.sd_core.specs.Invariants.{IsWorldView};
+impl<D: Driver, Q: Lanes, S: SpoolStore> Model for World<D, Q, S> {
+    ghost use Rattle.sd_moves.specs.World.{WorldView};
+    ghost use Rattle.sd_moves.specs.Rules.{IsWorld};
+    ghost use Rattle.sd_parts.specs.View.{world_of};
 
-    ghost Value = { WorldView };
+    ghost Value = { WorldView D };
 
-    ghost view = { λ w. record {
-      time = w.time;
-      room = w.block - block_header;
-      entries = w.entries.items;
-      drive = w.drive;
-      queue = w.queue;
-    } };
+    ghost view = { λ w. world_of w.parts };
 
-    ghost invariant = { λ w. IsWorldView (record {
-      time = w.time;
-      room = w.block - block_header;
-      entries = w.entries.items;
-      drive = w.drive;
-      queue = w.queue;
-    }) };
+    ghost invariant = { λ w. IsWorld (world_of w.parts) };
 }
 
-impl World {
-    /// A world with no session, no volume and nothing on the way. The limits of `conf` and `time`, the time
-    /// of the run in seconds, are the caller's.
-    pub fn new(alloc: Global, conf: WorldConf, time: u32) -> Result<Self, AllocError>
-        requires block_least { least_block_limit ≤ conf.block }
-        requires block_most { conf.block ≤ most_block }
+impl<D: Driver + Drop, Q: Lanes + Drop, S: SpoolStore + Drop> World<D, Q, S> {
+    /// A world without sessions, whose drives have no volumes, for the run of this time in seconds. There are as many
+    /// devices, queues and lists of stores as the settings have drives; each queue is empty, with its drive's lanes and
+    /// the settings' room; there is a store for each lane. Unloads the devices. For want of memory all of them come back.
+    pub fn new(
+        alloc: Global,
+        conf: WorldConf,
+        time: u32,
+        drivers: Vec<D>,
+        lanes: Vec<Q>,
+        spools: Vec<Vec<S>>,
+    ) -> Result<World<D, Q, S>, NotMade<D, Q, S>>
+        requires conf { IsConf conf }
         requires time_least { 1 ≤ time }
         requires time_most { time ≤ most_number }
-        ensures fresh { IfOk result
-            (λ world. world ≡ fresh_world (conf.block - block_header) time) }
-        ensures matches { IfOk result (λ world. Matches world (empty_machine time)) }
+        requires drivers { length drivers.items ≡ length conf.drives.items }
+        requires lanes { AreQueues
+            (λ q. record { lanes = Q.lanes q; capacity = Q.capacity q; held = Q.held q })
+            conf.queue conf.drives.items lanes.items }
+        requires spools { AreStores conf.drives.items spools.items }
+        ensures fresh { IfOk result (IsFresh (λ d. D.meaning d)
+            (λ q. record { lanes = Q.lanes q; capacity = Q.capacity q; held = Q.held q })
+            (λ s. S.meaning s) (limits_of conf time) conf.queue conf.drives.items
+            drivers.items lanes.items spools.items) }
+        ensures matches { IfOk result (λ world. Matches (λ d. D.meaning d) world (empty_machine time)) }
+        ensures drivers { IfErr result (λ kept. AllZip (StaysDevice (λ d. D.meaning d))
+            drivers.items kept.drivers.items) }
+        ensures lanes { IfErr result (λ kept. kept.lanes ≡ lanes) }
+        ensures spools { IfErr result (λ kept. kept.spools ≡ spools) }
     {
-        Ok(World {
-            alloc,
+        let limits = Limits {
             block: conf.block,
+            volume: conf.volume,
+            spool: conf.spool,
             time,
-            entries: Vec::new(alloc),
-            drive: Drive::new(alloc, MediaName::parse(MEDIA).unwrap()),
-            queue: Queue::new(alloc)?,
-        })
-    }
-
-    /// One event. The reply says what came of it; a refused event changes nothing. No step goes over the
-    /// sessions, the bodies or the placements there are: an append goes over its record, a placing over its
-    /// block, a cancel over the bodies that its session has not sent, and any other step costs the same
-    /// whatever the world holds. Where the list of sessions or the volume is to grow, all of it may move.
-    pub fn step(&mut self, event: Event) -> Reply
-        ensures moves { Moves self.old event result self.new }
-        ensures follows { (m : Machine) → Matches self.old m → StepsTo m event result self.new }
-        ensures closed { (m : Machine) → Matches self.old m → ClosedStands self.new result }
-        ensures status_stays { (m : Machine) → Matches self.old m → StatusesStay self.old self.new }
-        ensures spans_stay { (m : Machine) → Matches self.old m → SpansStay self.old self.new }
-    {
-        self.apply(event)
-    }
-
-    fn apply(&mut self, event: Event) -> Reply
-        ensures { Moves self.old event result self.new }
-    {
-        match event {
-            Event::Open {
-                job,
-                pool,
-                media,
-                moment,
-            } => self.open(job, pool, media, moment),
-            Event::Append { ticket, rec } => self.append(ticket, &rec),
-            Event::End { ticket, moment } => self.end(ticket, moment),
-            Event::Close { ticket } => self.close(ticket),
-            Event::Cancel { ticket } => self.cancel(ticket),
-            Event::Spool { ticket } => self.spool(ticket),
-            Event::Despool { ticket } => self.despool(ticket),
-            Event::Take { drive } => self.take(drive),
-            Event::Place { drive } => self.place(drive),
-            Event::Sync { drive } => self.sync(drive),
-            Event::Label {
-                drive,
-                name,
-                pool,
-                media,
-                moment,
-            } => self.label(
-                drive,
-                VolumeLabel {
-                    name,
-                    pool,
-                    media,
-                    moment,
+        };
+        let mut drivers = drivers;
+        let mut lanes = lanes;
+        let mut spools = spools;
+        match fill_bays(
+            alloc,
+            limits,
+            &conf.drives,
+            &mut drivers,
+            &mut lanes,
+            &mut spools,
+        ) {
+            Ok(bays) => Ok(World {
+                parts: Parts {
+                    alloc,
+                    limits,
+                    queue: conf.queue,
+                    next: 1,
+                    sessions: Vec::new(alloc),
+                    bays,
+                    desk: Desk::new(alloc),
                 },
-            ),
-            Event::Mount { drive, name } => self.mount(drive, name),
-            Event::Seek { drive } => self.seek(drive),
+            }),
+            Err(_) => Err(NotMade {
+                drivers,
+                lanes,
+                spools,
+            }),
         }
     }
 
-    /// All the events, in order, with the reply to each; it costs what its steps do. An `Err` comes before the
-    /// first.
+    /// The devices of the drives that are online, by rising number. For want of memory the world comes back as it was.
+    pub fn into_drivers(self) -> Result<Vec<D>, World<D, Q, S>>
+        ensures ok { IfOk result (λ drivers. drivers.items ≡ devices_of self.bays) }
+        ensures err { IfErr result (λ world. world ≡ self) }
+    {
+        let Ok(mut drivers) = Vec::with_capacity(self.parts.alloc, self.parts.bays.len()) else {
+            return Err(self);
+        };
+        let World { parts } = self;
+        let mut bays = parts.bays;
+        take_devices(&mut bays, &mut drivers);
+        Ok(drivers)
+    }
+}
+
+impl<D: Driver + Drop, Q: Lanes, S: SpoolStore + Drop> World<D, Q, S> {
+    /// One event. The reply says what came of it, and a refused event changes nothing but what docs/REFUSALS.md names. A
+    /// step looks at one session and one drive; an open looks at the drives, and at the lanes of the one that it chooses.
+    /// Take, Sync, Unmount and Cancel take no memory.
+    pub fn step(&mut self, event: Event) -> Reply
+        ensures moves { Moves (λ d. D.meaning d) self.old event result self.new }
+        ensures follows { (m : Machine) → Matches (λ d. D.meaning d) self.old m
+            → StepsTo (λ d. D.meaning d) m self.old event result self.new }
+        ensures closed { ClosedStands self.new result }
+        ensures stands { ReplyStands self.new result }
+        ensures closed_last { ClosedLast self.old self.new }
+        ensures status_stays { StatusesStay self.old self.new }
+        ensures seats_stay { SeatsStay self.old self.new }
+        ensures journals_grow { AllGrow self.old self.new }
+    {
+        answer(&mut self.parts, event)
+    }
+
+    /// All the events, in order, with the reply to each; it costs what its steps do. An `Err` comes before the first.
     pub fn run(&mut self, events: Vec<Event>) -> Result<Vec<Reply>, AllocError>
-        ensures follows { IfOk result (λ replies. (m : Machine) → Matches self.old m
-            → (m' : Machine) × Run m events.items replies.items m' × Matches self.new m') }
-        ensures closed { IfOk result (λ replies. (m : Machine) → Matches self.old m
-            → ClosedStand self.new replies.items) }
-        ensures status_stays { (m : Machine) → Matches self.old m → StatusesStay self.old self.new }
-        ensures spans_stay { (m : Machine) → Matches self.old m → SpansStay self.old self.new }
+        ensures moves { IfOk result (λ replies. MovesAlong (λ d. D.meaning d)
+            self.old events.items replies.items self.new) }
+        ensures follows { IfOk result (λ replies. (m : Machine) → Matches (λ d. D.meaning d) self.old m
+            → RunsTo (λ d. D.meaning d) m events.items replies.items self.new) }
+        ensures stand { IfOk result (λ replies. RepliesStand self.new replies.items) }
+        ensures closed_last { ClosedLast self.old self.new }
+        ensures status_stays { StatusesStay self.old self.new }
+        ensures seats_stay { SeatsStay self.old self.new }
+        ensures journals_grow { AllGrow self.old self.new }
         ensures length { IfOk result (λ replies. length replies.items ≡ length events.items) }
         ensures err { OnErr result (self.new ≡ self.old) }
     {
-        let mut replies = Vec::with_capacity(self.alloc, events.len())?;
+        let parts = &self.parts;
+        let mut replies = Vec::with_capacity(parts.alloc, events.len())?;
         for event in events {
             let reply = self.step(event);
             replies.push(reply).unwrap();
         }
         Ok(replies)
     }
+}
 
-    /// Reads a session back from spans. The records go to the sink one by one; those that were handed over
-    /// before a fault stay, and they are the first of the session's, in order. No spans are a bad span; then
-    /// each must name this world's volume, or nothing is handed over; then comes what `ReadFault` says of
-    /// the spans and the blocks. It goes over all blocks in the spans, also other sessions'.
-    pub fn read<S: Sink>(
-        &self,
+impl<D: Driver, Q: Lanes, S: SpoolStore + Drop> World<D, Q, S> {
+    /// The tickets of the sessions that are on their way, active or ended, by rising number. It costs what is on its way:
+    /// only the sessions that used a lane last are looked at.
+    pub fn tickets(&self) -> Result<Vec<Ticket>, AllocError>
+        ensures { IfOk result (λ tickets. tickets.items ≡ running_tickets self.now.sessions) }
+    {
+        let parts = &self.parts;
+        list_running(parts.alloc, &parts.sessions, &parts.bays)
+    }
+
+    /// The drives, the volumes and the sessions, as they are at this moment.
+    pub fn view(&self) -> Result<View, AllocError>
+        ensures { IfOk result (λ view. view ≡ view_of self.now) }
+    {
+        let parts = &self.parts;
+        Ok(View {
+            drives: show_drives(parts.alloc, &parts.sessions, &parts.bays)?,
+            volumes: show_volumes(parts.alloc, &parts.bays)?,
+            sessions: show_sessions(parts.alloc, &parts.sessions)?,
+        })
+    }
+
+    /// The requests for volumes, in the order in which they were asked.
+    pub fn requests(&self) -> &[Request]
+        ensures { result.now ≡ self.now.desk.requests }
+    {
+        let parts = &self.parts;
+        parts.desk.requests()
+    }
+
+    /// How far the session of a ticket is, if there is one. Takes no memory.
+    pub fn status(&self, ticket: Ticket) -> Option<Status>
+        ensures { result ≡ status_at ticket self.now.sessions }
+    {
+        let parts = &self.parts;
+        let at = find(&parts.sessions, ticket)?;
+        let session = &parts.sessions[at].session;
+        Some(session.status())
+    }
+
+    /// Reads a session back from spans. The records go to the sink one by one; those that were handed over before a
+    /// fault stay, and they are the first of the session's, in order. No spans are a bad span; then the first span's
+    /// volume must be at a drive, that drive online, and all spans on its volumes; then comes what the drive's reader
+    /// says. A closed session's own spans read to all of its records, and a cancelled one's to the first of them, as long
+    /// as the devices return what was written. Changes no session, no volume and no list.
+    pub fn read<K: Sink>(
+        &mut self,
         key: SessionKey,
         spans: &[Span],
-        sink: &mut S,
-    ) -> Result<ReadEnd, ReadFault>
-        ensures ok { IfOk result (λ end. (records : List Record)
-            × (S.got sink.new ≡ S.got sink.old ++ records)
-            × Reads (shelf_of self.now.drive.volume) key spans.now records end.ended
-            × (end.records ≡ length records)
-            × (end.bytes ≡ total_bytes records)) }
-        ensures found { (records : List Record) (ended : Bool)
-            → length records < 2 ^ 64 → total_bytes records < 2 ^ 64
-            → Reads (shelf_of self.now.drive.volume) key spans.now records ended
-            → IfErr result (λ fault. fault ≡ ReadFault.Memory) }
-        ensures closed { (m : Machine) → Matches self.now m → IsClosedAt self.now key spans.now
-            → ReadsWhole m key (S.got sink.old) (S.got sink.new) result }
-        ensures first { IfErr result (λ fault. fault ≢ ReadFault.Memory
-            → MeetsWorldFault self.now.drive.volume key spans.now fault) }
-        ensures handed_over { OnErr result (HandsOverFront (shelf_of self.now.drive.volume) key
-            spans.now (S.got sink.old) (S.got sink.new)) }
-        ensures elsewhere { (AreOnVolume self.now.drive.volume spans.now → ⊥)
-            → S.got sink.new ≡ S.got sink.old }
+        sink: &mut K,
+    ) -> Result<ReadEnd, Refusal>
+        ensures reads { ReadsWorld (λ d. D.meaning d) key spans.now (K.got sink.old) (K.got sink.new)
+            result self.old self.new }
+        ensures matches { (m : Machine) → Matches (λ d. D.meaning d) self.old m
+            → Matches (λ d. D.meaning d) self.new m }
+        ensures closed { (m : Machine) → Matches (λ d. D.meaning d) self.old m
+            → IsFoundClosed self.old key spans.now → IsHonestFor (λ d. D.meaning d) self.old key
+            → ReadsClosed m key (K.got sink.old) (K.got sink.new) result }
+        ensures retired { IsRetired self.old key spans.now → spans.now ≢ []
+            → result ≡ Err Refusal.DriveOffline }
+        ensures cancelled { (m : Machine) (before : WorldView D) → Matches (λ d. D.meaning d) self.old m
+            → WereTold before self.old key spans.now → HasCancelled self.old key → IsThere self.old key
+            → IsHonestFor (λ d. D.meaning d) self.old key
+            → ReadsCancelled m key (K.got sink.old) (K.got sink.new) result }
+        ensures closed_last { ClosedLast self.old self.new }
+        ensures status_stays { StatusesStay self.old self.new }
+        ensures seats_stay { SeatsStay self.old self.new }
+        ensures journals_grow { AllGrow self.old self.new }
     {
-        let volume = self.drive.volume();
-        if spans.is_empty() {
-            return Err(ReadFault::BadSpan);
-        }
-        let Some(volume) = volume else {
-            return Err(ReadFault::VolumeNotOnShelf);
-        };
-        if !are_on(volume.name(), spans) {
-            return Err(ReadFault::VolumeNotOnShelf);
-        }
-        read_session(self.alloc, volume.name(), volume.bytes(), key, spans, sink)
-    }
-
-    /// The status of a session, or `None` for a ticket that was not given. No other session is looked at.
-    pub fn status(&self, ticket: Ticket) -> Option<Status>
-        ensures status { result
-            ≡ option_map (λ entry. entry.session.status) (entry_of ticket self.now.entries) }
-        ensures machine { (m : Machine) → Matches self.now m
-            → result ≡ option_map (λ s. s.status) (session_of ticket m.sessions) }
-    {
-        match find(&self.entries, ticket) {
-            None => None,
-            Some(at) => Some(self.entries[at].session.status()),
-        }
-    }
-
-    /// The bytes of the volume, or `None` where there is none; they are lent, not copied.
-    pub fn volume_bytes(&self) -> Option<&[u8]>
-        ensures { option_copied result ≡ option_map (λ v. v.bytes) self.now.drive.volume }
-    {
-        match self.drive.volume() {
-            None => None,
-            Some(volume) => Some(volume.bytes()),
-        }
-    }
-
-    fn open(&mut self, job: JobId, pool: PoolName, media: MediaName, moment: i64) -> Reply
-        ensures { Moves self.old (Open job pool media moment) result self.new }
-    {
-        if self.entries.len() >= MOST_NUMBER as usize {
-            return Reply::Refused(Refusal::NoSessionNumberLeft);
-        }
-        if !media.is_same(self.drive.media()) {
-            return Reply::Refused(Refusal::NoDriveOfMedia);
-        }
-        if !lane_is_free(&self.entries) {
-            return Reply::Refused(Refusal::NoFreeLane);
-        }
-        let number = self.entries.len() as u32 + 1;
-        let (Some(ticket), Some(drive)) = (Ticket::new(number), DriveNo::new(THE_DRIVE)) else {
-            return Reply::Refused(Refusal::NoSessionNumberLeft);
-        };
-        let key = SessionKey {
-            time: self.time,
-            id: number,
-        };
-        let served = pool.copy();
-        let Ok(session) = Session::open(self.alloc, key, job, pool, media, moment, self.block)
-        else {
-            return Reply::Refused(Refusal::Memory);
-        };
-        let entry = Entry {
-            session,
-            journal: SessionJournal::new(),
-        };
-        let Ok(()) = self.entries.push(entry) else {
-            return Reply::Refused(Refusal::Memory);
-        };
-        self.drive.serve(served);
-        Reply::Opened { ticket, drive }
-    }
-
-    fn append(&mut self, ticket: Ticket, rec: &Rec) -> Reply
-        ensures { Moves self.old (Append ticket rec.now) result self.new }
-    {
-        let Some(at) = find(&self.entries, ticket) else {
-            return Reply::Refused(Refusal::SessionNotOpen);
-        };
-        match self.entries[at].session.append(rec) {
-            Ok(count) => Reply::Taken { count },
-            Err(why) => Reply::Refused(why),
-        }
-    }
-
-    fn end(&mut self, ticket: Ticket, moment: i64) -> Reply
-        ensures { Moves self.old (End ticket moment) result self.new }
-    {
-        let Some(at) = find(&self.entries, ticket) else {
-            return Reply::Refused(Refusal::SessionNotOpen);
-        };
-        match self.entries[at].session.end(moment) {
-            Ok(()) => Reply::Ended,
-            Err(why) => Reply::Refused(why),
-        }
-    }
-
-    fn cancel(&mut self, ticket: Ticket) -> Reply
-        ensures { Moves self.old (Cancel ticket) result self.new }
-    {
-        let Some(at) = find(&self.entries, ticket) else {
-            return Reply::Refused(Refusal::SessionNotOpen);
-        };
-        match self.entries[at].session.cancel() {
-            Ok(()) => Reply::Cancelled,
-            Err(why) => Reply::Refused(why),
-        }
-    }
-
-    fn close(&mut self, ticket: Ticket) -> Reply
-        ensures { Moves self.old (Close ticket) result self.new }
-    {
-        let Some(at) = find(&self.entries, ticket) else {
-            return Reply::Refused(Refusal::SessionNotOpen);
-        };
-        let entry = &mut self.entries[at];
-        let synced = entry.journal.is_synced(self.drive.synced());
-        if let Err(why) = entry.session.check_close(entry.journal.blocks(), synced) {
-            return Reply::Refused(why);
-        }
-        let Ok(spans) = self.drive.spans(&entry.journal) else {
-            return Reply::Refused(Refusal::Memory);
-        };
-        entry.session.set_closed();
-        Reply::Closed {
-            key: entry.session.key(),
-            spans,
-        }
-    }
-
-    // There is no spool.
-    fn spool(&mut self, ticket: Ticket) -> Reply
-        ensures { Moves self.old (Spool ticket) result self.new }
-    {
-        let Some(at) = find(&self.entries, ticket) else {
-            return Reply::Refused(Refusal::SessionNotOpen);
-        };
-        match self.entries[at].session.running() {
-            Ok(()) => Reply::NoSpool,
-            Err(why) => Reply::Refused(why),
-        }
-    }
-
-    fn despool(&mut self, ticket: Ticket) -> Reply
-        ensures { Moves self.old (Despool ticket) result self.new }
-    {
-        let Some(at) = find(&self.entries, ticket) else {
-            return Reply::Refused(Refusal::SessionNotOpen);
-        };
-        match self.entries[at].session.despool(&mut self.queue) {
-            Ok(Despooled::Sent) => Reply::Sent,
-            Ok(Despooled::LaneFull) => Reply::LaneFull,
-            Ok(Despooled::Nothing) => Reply::Nothing,
-            Err(why) => Reply::Refused(why),
-        }
-    }
-
-    fn take(&mut self, drive: DriveNo) -> Reply
-        ensures { Moves self.old (Take drive) result self.new }
-    {
-        if drive.get() != THE_DRIVE {
-            return Reply::Refused(Refusal::NoSuchDrive);
-        }
-        if self.drive.hand_is_full() {
-            return Reply::HandFull;
-        }
-        let Some(piece) = self.queue.try_take() else {
-            return Reply::Idle;
-        };
-        let seq = piece.seq;
-        let Some(ticket) = Ticket::new(piece.key.id) else {
-            return Reply::Idle;
-        };
-        self.drive.give(piece);
-        Reply::InHand { ticket, seq }
-    }
-
-    fn place(&mut self, drive: DriveNo) -> Reply
-        ensures { Moves self.old (Place drive) result self.new }
-    {
-        if drive.get() != THE_DRIVE {
-            return Reply::Refused(Refusal::NoSuchDrive);
-        }
-        match self.drive.place() {
-            Placing::Placed(placement) => {
-                let at = placement.key.id as usize - 1;
-                self.entries[at].journal.note(&placement);
-                Reply::Placed {
-                    start: placement.start,
-                    end: placement.start + placement.length,
-                    volume: placement.volume,
-                }
-            }
-            Placing::NeedVolume => Reply::NeedVolume,
-            Placing::VolumeFull => Reply::VolumeFull,
-            Placing::Idle => Reply::Idle,
-            Placing::Memory => Reply::Refused(Refusal::Memory),
-        }
-    }
-
-    fn sync(&mut self, drive: DriveNo) -> Reply
-        ensures { Moves self.old (Sync drive) result self.new }
-    {
-        if drive.get() != THE_DRIVE {
-            return Reply::Refused(Refusal::NoSuchDrive);
-        }
-        self.drive.sync();
-        Reply::Synced
-    }
-
-    fn label(&mut self, drive: DriveNo, label: VolumeLabel) -> Reply
-        ensures { Moves self.old (Label drive label.name label.pool label.media label.moment)
-            result self.new }
-    {
-        if drive.get() != THE_DRIVE {
-            return Reply::Refused(Refusal::NoSuchDrive);
-        }
-        match self.drive.label(label) {
-            Ok(()) => Reply::Labelled,
-            Err(why) => Reply::Refused(why),
-        }
-    }
-
-    fn mount(&mut self, drive: DriveNo, name: VolName) -> Reply
-        ensures { Moves self.old (Mount drive name) result self.new }
-    {
-        if drive.get() != THE_DRIVE {
-            return Reply::Refused(Refusal::NoSuchDrive);
-        }
-        match self.drive.mount(&name) {
-            Ok(()) => Reply::Mounted { name },
-            Err(why) => Reply::Refused(why),
-        }
-    }
-
-    fn seek(&mut self, drive: DriveNo) -> Reply
-        ensures { Moves self.old (Seek drive) result self.new }
-    {
-        if drive.get() != THE_DRIVE {
-            return Reply::Refused(Refusal::NoSuchDrive);
-        }
-        match self.drive.seek() {
-            Seeking::Mounted(name) => Reply::Mounted { name },
-            Seeking::Requested => Reply::Requested,
-            Seeking::NoNeed => Reply::NoNeed,
-        }
-    }
-}
-
-// All the spans are on the volume of that name.
-fn are_on(name: &VolName, spans: &[Span]) -> bool
-    ensures { IsTrue result ↔ All (λ s. s.volume ≡ name.now) spans.now }
-{
-    spans.iter().all(|span| span.volume.is_same(name))
-}
-
-// The session last opened no longer keeps the lane.
-fn lane_is_free(entries: &[Entry]) -> bool
-    ensures { IsTrue result ↔ IfSome (last_entry entries.now)
-        (λ e. LeavesLane e.session.status (e.session.sent ≡ e.journal.blocks)) }
-{
-    match entries.last() {
-        None => true,
-        Some(entry) => entry.is_free(),
+        read_knowing(&mut self.parts, key, spans, sink)
     }
 }

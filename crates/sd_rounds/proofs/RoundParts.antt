@@ -19,7 +19,7 @@ use Rattle.sd_rounds.specs.declared.headway.Round.{Round}
 use Rattle.sd_rounds.specs.Rounds.{AllMove, AreSends, AreTurns, Drains, EndStill, IsRound, IsTurn, Moved, PlaysMoving, PlaysOn, PlaysOne, PlaysRound, PlaysRounds, Tells, counted, drives_online, is_online, is_set, online_flags, placed_in, placing, sends}
 use Rattle.sd_rounds.proofs.Online.{DrivesStay, IsNoRetiring, drives_same, drives_then, moves_stay}
 use Rattle.sd_rounds.proofs.Played.{counted_sum, on_and, on_none}
-use Rattle.sd_world.specs.View.{running_tickets}
+use Rattle.sd_core.specs.View.{running_tickets}
 
 -- Which drives are online, along a round.
 

@@ -5,10 +5,10 @@ ghost use Rattle.sd_rounds.specs.Rounds.{Drains, PlaysMoving, PlaysRound};
 use crate::headway::Round;
 use crate::sending::send_all;
 use crate::turns::turn_all;
+use sd_core::World;
 use sd_driver::Driver;
 use sd_lane::Lanes;
 use sd_spool::SpoolStore;
-use sd_world::World;
 use std::alloc::AllocError;
 
 /// One round: each session that is active or ended spools and despools, by rising ticket; then each drive that is

@@ -4,11 +4,11 @@ ghost use Rattle.sd_rounds.specs.Rounds.{AreSends, PlaysOn};
 
 use crate::headway::Round;
 use sd_base::Ticket;
+use sd_core::World;
 use sd_driver::Driver;
 use sd_lane::Lanes;
 use sd_machine::Event;
 use sd_spool::SpoolStore;
-use sd_world::World;
 
 /// One step to the spool and one to the queue for each of the sessions.
 pub(crate) fn send_all<D: Driver + Drop, Q: Lanes, S: SpoolStore + Drop>(

@@ -4,11 +4,11 @@ ghost use Rattle.sd_rounds.specs.Rounds.{AreTurns, IsPlacing, PlaysOn, drives_on
 
 use crate::headway::Round;
 use sd_base::DriveNo;
+use sd_core::World;
 use sd_driver::Driver;
 use sd_lane::Lanes;
 use sd_machine::{Event, Reply};
 use sd_spool::SpoolStore;
-use sd_world::World;
 
 /// The most drives of a world.
 const MOST_DRIVES: u32 = 8;

@@ -28,8 +28,8 @@ use Rattle.sd_moves.specs.World.{WorldView, BayView, IsOnline}
 use Rattle.sd_closed.specs.Stays.{AreClaimed}
 use Rattle.sd_closed.proofs.ClaimLemmas.{one_drive}
 use Rattle.sd_closed.proofs.ReadLemmas.{closed_is_countable}
-use Rattle.sd_world.specs.Fresh.{StaysDevice, AreNewDrives, new_bay, new_bays}
-use Rattle.sd_world.specs.Reading.{ReadsDrive, ReadsWorld, read_due, due_at, due_in, due_with, are_at_drive, is_at_drive}
+use Rattle.sd_core.specs.Fresh.{StaysDevice, AreNewDrives, new_bay, new_bays}
+use Rattle.sd_core.specs.Reading.{ReadsDrive, ReadsWorld, read_due, due_at, due_in, due_with, are_at_drive, is_at_drive}
 use Rattle.sd_stops.specs.Runs.{FreshIsMade}
 use Rattle.sd_stops.specs.Stops.{GivesAll, ClosedIsRead, shelf_then}
 use Rattle.sd_stops.proofs.RunLemmas.{run_keeps, run_honest, survive_all, kept_reads_to_all}

@@ -12,7 +12,7 @@ use Rattle.sd_volume.specs.Device.{OnlyReads}
 use Rattle.sd_moves.specs.World.{WorldView}
 use Rattle.sd_closed.specs.Devices.{GoesOn, DevicesGoOn}
 use Rattle.sd_closed.proofs.GrowLemmas.{drive_continues, stays as drives_stay, moves_go_on, devices_go_on, going_on_joins, same_journal}
-use Rattle.sd_world.specs.Reading.{ReadsWorld}
+use Rattle.sd_core.specs.Reading.{ReadsWorld}
 use Rattle.sd_stops.specs.Leads.{GoesTo, LeadsTo, RunsLead, LeadsJoin, LeadsGoOn, AdoptedIsClaimed, NamesStayClaimed}
 use Rattle.sd_stops.proofs.ClaimSteps.{Claimed, moves_keep_claims, stays as claims_same}
 

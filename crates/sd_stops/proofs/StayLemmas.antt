@@ -16,8 +16,8 @@ use Rattle.sd_moves.specs.Moves.{Moves}
 use Rattle.sd_moves.proofs.Lookups.{one_or_two, get_set-same, get_set-other}
 use Rattle.sd_moves.proofs.Moves.{moves_keep_closed, moves_keep_rules}
 use Rattle.sd_closed.proofs.SeatLemmas.{moves_keep_seats}
-use Rattle.sd_world.specs.Reading.{ReadsWorld}
-use Rattle.sd_world.proofs.Kept.{reading_keeps}
+use Rattle.sd_core.specs.Reading.{ReadsWorld}
+use Rattle.sd_core.proofs.Kept.{reading_keeps}
 use Rattle.sd_stops.specs.Leads.{LeadsTo}
 use Rattle.sd_stops.specs.Stops.{ClosedStays}
 use Rattle.sd_stops.proofs.LeadLemmas.{leads_go_on}

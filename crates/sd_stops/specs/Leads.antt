@@ -15,7 +15,7 @@ use Rattle.sd_moves.specs.World.{WorldView}
 use Rattle.sd_moves.specs.Moves.{Moves}
 use Rattle.sd_closed.specs.Along.{MovesAlong}
 use Rattle.sd_closed.specs.Devices.{DevicesGoOn}
-use Rattle.sd_world.specs.Reading.{ReadsWorld}
+use Rattle.sd_core.specs.Reading.{ReadsWorld}
 
 -- the world does one thing: it answers an event, or reads a session back
 abbrev pub GoesTo : {D : Type 0} → (D → Meaning) → WorldView D → WorldView D → Type 0

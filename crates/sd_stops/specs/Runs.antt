@@ -8,7 +8,7 @@ use Rattle.sd_lane.specs.Queue.{LanesView}
 use Rattle.sd_spool.specs.Meaning.{Meaning as StoreMeaning}
 use Rattle.sd_restore.specs.Lasting.{LeavesStable}
 use Rattle.sd_moves.specs.World.{WorldView, BayView, IsOnline}
-use Rattle.sd_world.specs.Fresh.{IsFresh, StaysDevice}
+use Rattle.sd_core.specs.Fresh.{IsFresh, StaysDevice}
 use Rattle.sd_stops.specs.Leads.{LeadsTo}
 
 -- the drive of this number has the device that a world was made with, and what lasted on the device lasts

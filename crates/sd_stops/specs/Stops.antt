@@ -19,7 +19,7 @@ use Rattle.sd_moves.specs.Rules.{IsWorld}
 use Rattle.sd_matches.specs.Matches.{Matches}
 use Rattle.sd_closed.specs.Reads.{HasHonestDrive, ReadsToAll}
 use Rattle.sd_closed.specs.Stays.{AreClaimed}
-use Rattle.sd_world.specs.Reading.{ReadsWorld}
+use Rattle.sd_core.specs.Reading.{ReadsWorld}
 use Rattle.sd_stops.specs.Leads.{LeadsTo}
 use Rattle.sd_stops.specs.Runs.{RunsOn, RunsStop}
 

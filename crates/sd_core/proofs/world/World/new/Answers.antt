@@ -1,13 +1,31 @@
-use Rattle.std.proofs.Common.{◌≡◌, rules, sym, subst, ◌-◌}
-use Rattle.sd_core.specs.Machine.{empty_machine}
-use Rattle.sd_core.specs.World.{WorldView, fresh_world}
-use Rattle.sd_core.specs.Matches.{Matches}
-use Rattle.sd_core.specs.contracts.world.World.{the_view}
-use Rattle.sd_core.proofs.StepLemmas.{fresh_matches}
+use Rattle.std.proofs.Common.{length, refl, ap, arith}
+use Rattle.sd_core.specs.Conf.{limits_of}
+use Rattle.sd_core.proofs.FreshWorld.{as_many_queues, as_many_stores, is_fresh, fresh_is_world}
 use Rattle.sd_core.proofs.world.World.new.Goals as goal
 
-pub returns-clause-matches : goal.returns-clause-matches
-returns-clause-matches c =
-    let fresh : the_view (record { alloc = c.args.alloc; block = c.args.conf.block; time = c.args.time; entries = c.new.result; drive = c.new-2.result; queue = c.in_ok-new.field-0 }) ≡ fresh_world (c.args.conf.block - 24) c.args.time = search rules in
-    let P : WorldView → Type 0 = λ w. Matches w (empty_machine c.args.time) in
-    subst P (sym fresh) (fresh_matches (c.args.conf.block - 24) c.args.time)
+pub fill_bays-requires-clause-queues : goal.fill_bays-requires-clause-queues
+fill_bays-requires-clause-queues g c κs within =
+    omega (arith, as_many_queues _ c.args.conf.queue c.args.conf.drives.items c.args.lanes.items c.requires.lanes, c.args.lanes.ok.0, ap length c.deref.ensures.value)
+
+pub fill_bays-requires-clause-spools : goal.fill_bays-requires-clause-spools
+fill_bays-requires-clause-spools g c κs within =
+    omega (arith, as_many_stores c.args.conf.drives.items c.args.spools.items c.requires.spools, c.args.spools.ok.0, ap length c.deref.ensures.value)
+
+pub invariant_of-result : goal.invariant_of-result
+invariant_of-result g c =
+    fresh_is_world (λ d. g.D.Driver.meaning d) (λ q. record { lanes = g.Q.Lane.lanes q; capacity = g.Q.Lane.capacity q; held = g.Q.Lane.held q })
+    (λ s. g.S.SpoolStore.meaning s) c.args.conf c.args.time c.args.drivers.items c.args.lanes.items c.args.spools.items _
+    c.requires.conf c.requires.time_least c.requires.time_most c.requires.lanes c.requires.spools
+    (is_fresh (λ d. g.D.Driver.meaning d) (λ q. record { lanes = g.Q.Lane.lanes q; capacity = g.Q.Lane.capacity q; held = g.Q.Lane.held q })
+    (λ s. g.S.SpoolStore.meaning s) (limits_of c.args.conf c.args.time) c.args.conf.queue c.args.conf.drives.items c.deref.result.now
+    c.args.drivers.items c.args.lanes.items c.args.spools.items c.in-Ok.ensures.made.0 _
+    refl refl refl c.new.ensures.items c.new-in-Ok.ensures.no_claim c.new-in-Ok.ensures.no_request
+    c.deref.ensures.value c.in-Ok.ensures.made.1 c.in-Ok.ensures.made.2)
+
+pub returns-in-Ok-clause-fresh : goal.returns-in-Ok-clause-fresh
+returns-in-Ok-clause-fresh g c =
+    is_fresh (λ d. g.D.Driver.meaning d) (λ q. record { lanes = g.Q.Lane.lanes q; capacity = g.Q.Lane.capacity q; held = g.Q.Lane.held q })
+    (λ s. g.S.SpoolStore.meaning s) (limits_of c.args.conf c.args.time) c.args.conf.queue c.args.conf.drives.items c.deref.result.now
+    c.args.drivers.items c.args.lanes.items c.args.spools.items c.in-Ok.ensures.made.0 _
+    refl refl refl c.new.ensures.items c.new-in-Ok.ensures.no_claim c.new-in-Ok.ensures.no_request
+    c.deref.ensures.value c.in-Ok.ensures.made.1 c.in-Ok.ensures.made.2

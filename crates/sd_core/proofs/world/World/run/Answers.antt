@@ -1,32 +1,53 @@
-use Rattle.std.proofs.Common.{◌≡◌, ◌++◌, List, [], ◌∷◌, length, refl, sym, ap, ◌∙◌, subst, arith, rules, append-nil}
-use Rattle.std.proofs.lemmas.List.{append_assoc, length-append, nil_from_length}
+use Rattle.std.proofs.Common.{◌≡◌, ◌++◌, List, [], ◌∷◌, refl, sym, ap, ◌∙◌, subst, arith, rules, append-nil}
+use Rattle.std.proofs.lemmas.List.{append_assoc, nil_from_length}
 use Rattle.std.specs.Vec.Iter.{into_iter_items}
-use Rattle.sd_core.specs.declared.event.Event.{Event}
-use Rattle.sd_core.specs.declared.reply.Reply.{Reply}
-use Rattle.sd_core.specs.Step.{Run}
-use Rattle.sd_core.specs.Kept.{ClosedStand}
-use Rattle.sd_core.proofs.KeptLemmas.{both_stay, statuses_stay, spans_stay}
-use Rattle.sd_core.proofs.WorldAnswers.{stand_on}
+use Rattle.sd_machine.specs.declared.event.Event.{Event}
+use Rattle.sd_machine.specs.declared.reply.Reply.{Reply}
+use Rattle.sd_moves.specs.Rules.{IsWorld}
+use Rattle.sd_moves.specs.World.{WorldView}
+use Rattle.sd_closed.specs.Along.{MovesAlong}
+use Rattle.sd_core.specs.Kept.{RepliesStand}
+use Rattle.sd_core.proofs.Runs.{along_runs, along_keeps, along_long, none_kept}
+use Rattle.sd_core.proofs.Standing.{replies_more}
+use Rattle.sd_driver.specs.Meaning.{Meaning}
 use Rattle.sd_core.proofs.world.World.run.Goals as goal
 
--- with nothing left, the run is whole
-pub returns-clause-follows : goal.returns-clause-follows
-returns-clause-follows c = λ m h.
-    let x = c.loop-event.invariant.follows m h in
+-- with no memory for the replies nothing happens
+pub returns-in_err-replies-clause-journals_grow : goal.returns-in_err-replies-clause-journals_grow
+returns-in_err-replies-clause-journals_grow g c = (none_kept c.args.self.now).grow
+
+-- with nothing left, the moves are whole
+pub returns : goal.returns
+returns g c =
+    let meaning : g.row.D.Denot → Meaning = λ d. g.D.Driver.meaning d in
+    let i = c.loop-event.invariant in
+    let old = c.args.self.now in
+    let new = c.loop-event.self in
+    let events = c.args.events.items in
+    let replies = c.loop-event.replies.items in
     let it = c.loop-event.event-iterator in
-    let done = nil_from_length (into_iter_items it) (omega (arith, it.rest.ok.0, c.in-None.ensures.steps.0)) in
-    let whole = x.2 [] x.0 (rw done refl) in
-    (x.0, rw append-nil at whole, x.1)
-
-pub returns-clause-status_stays : goal.returns-clause-status_stays
-returns-clause-status_stays c m h = statuses_stay _ _ (c.loop-event.invariant.kept m h)
-
-pub returns-clause-spans_stay : goal.returns-clause-spans_stay
-returns-clause-spans_stay c m h = spans_stay _ _ (c.loop-event.invariant.kept m h)
+    let done : into_iter_items it ≡ [] = nil_from_length (into_iter_items it) (omega (arith, it.rest.ok.0, c.in-None.ensures.steps.0)) in
+    let R : List Reply → Type 0 = λ l. MovesAlong meaning old events l new in
+    let along = subst R (append-nil replies) (i.along [] new (rw done refl)) in
+    let W : WorldView g.row.D.Denot → Type 0 = λ w. IsWorld w in
+    let h = subst W c.self.view_is c.self.invariant in
+    let kept = along_keeps meaning old new events replies h along in
+    record {
+      moves = along;
+      follows = λ m pairs. along_runs meaning old new events replies m h along pairs;
+      stand = i.stand;
+      closed_last = i.last;
+      status_stays = kept.statuses;
+      seats_stay = kept.seats;
+      journals_grow = kept.grow;
+      length = along_long meaning old new events replies along;
+      err = tt;
+    }
 
 -- one event more
 pub loop-event-preserved : goal.loop-event-preserved
-loop-event-preserved c =
+loop-event-preserved g c =
+    let meaning : g.row.D.Denot → Meaning = λ d. g.D.Driver.meaning d in
     let i = c.loop-event.invariant in
     let replies = c.loop-event.replies.items in
     let reply = c.step-reply.result in
@@ -36,23 +57,13 @@ loop-event-preserved c =
       can = tt;
       finite = tt;
       room = search rules;
-      count = omega (arith, i.count, ap length items, length-append replies (reply ∷ []), ap length left);
-      follows = λ m h.
-          let x = i.follows m h in
-          let s = c.step-reply.ensures.follows x.0 x.1 in (
-            s.0,
-            s.2,
-            λ rs m' run.
-                (let E : List Event → Type 0 = λ es. Run x.0 es (reply ∷ rs) m' in
-                let R : List Reply → Type 0 = λ l. Run m c.args.events.items l m' in
-                subst R (sym (append_assoc replies (reply ∷ []) rs) ∙ ap (λ l. l ++ rs) (sym items))
-                (x.2 (reply ∷ rs) m' (subst E (sym left) ([], s.0, s.1, run)))),
-          );
-      closed = λ m h.
-          let x = i.follows m h in
-          let C : List Reply → Type 0 = λ l. ClosedStand c.step-reply.new.self l in
-          subst C (sym items) (stand_on c.loop-event.self c.step-reply.new.self replies reply (both_stay _ _ (c.step-reply.ensures.status_stays x.0 x.1) (c.step-reply.ensures.spans_stay x.0 x.1)) (c.step-reply.ensures.closed x.0 x.1) (i.closed m h));
-      kept = λ m h key spans closed.
-          let x = i.follows m h in
-          both_stay _ _ (c.step-reply.ensures.status_stays x.0 x.1) (c.step-reply.ensures.spans_stay x.0 x.1) key spans (i.kept m h key spans closed);
+      along = λ rs w rest.
+          let E : List Event → Type 0 = λ es. MovesAlong meaning c.loop-event.self es (reply ∷ rs) w in
+          let R : List Reply → Type 0 = λ l. MovesAlong meaning c.args.self.now c.args.events.items l w in
+          subst R (sym (append_assoc replies (reply ∷ []) rs) ∙ ap (λ l. l ++ rs) (sym items))
+          (i.along (reply ∷ rs) w (subst E (sym left) (c.step-reply.new.self, c.step-reply.ensures.moves, rest)));
+      stand =
+          let C : List Reply → Type 0 = λ l. RepliesStand c.step-reply.new.self l in
+          subst C (sym items) (replies_more c.loop-event.self c.step-reply.new.self replies reply c.step-reply.ensures.closed_last i.stand c.step-reply.ensures.stands);
+      last = λ key spans stands. c.step-reply.ensures.closed_last key spans (i.last key spans stands);
     }

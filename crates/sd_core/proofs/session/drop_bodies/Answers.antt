@@ -1,9 +1,0 @@
-use Rattle.std.proofs.Common.{◌∙◌}
-use Rattle.std.specs.Prelude.{None}
-use Rattle.sd_core.proofs.SessionLemmas.{none_left, waiting_alone}
-use Rattle.sd_core.proofs.session.drop_bodies.Goals as goal
-
-pub returns-clause-none : goal.returns-clause-none
-returns-clause-none c =
-    waiting_alone c.take_body.new.self (c.take_body.ensures.open_body ∙ c.loop-body.invariant.none_open)
-    ∙ none_left None c.loop-body.packer.waiting c.take_body.new.self.waiting c.in_default.ensures.variant c.in_default.ensures.first

@@ -1,0 +1,32 @@
+-- Which settings a world may have, and which queues and stores fit them.
+use Rattle.std.specs.Prelude.{◌≡◌, ℕ, ◌≤◌, List, [], length, All, Vec}
+use Rattle.std.specs.List.{AllZip}
+use Rattle.sd_base.specs.Limits.{least_block_limit, most_block, most_volume}
+use Rattle.sd_drive.specs.declared.limits.Limits.{Limits}
+use Rattle.sd_lane.specs.Queue.{LanesView}
+use Rattle.sd_core.specs.declared.conf.WorldConf.{WorldConf}
+
+-- The settings are those that a world may have: the limits of a block and of a volume are in their bounds; there are 8
+-- drives at most, of 32 lanes each at most.
+pub record IsConf (conf : WorldConf) : Type 0 where
+  pub block_least : least_block_limit ≤ conf.block
+  pub block_most : conf.block ≤ most_block
+  pub volume_most : conf.volume ≤ most_volume
+  pub drives_most : length conf.drives.items ≤ 8
+  pub lanes_most : All (λ d. d.1 ≤ 32) conf.drives.items
+
+-- the limits of these settings, in the run of this time
+abbrev pub limits_of : WorldConf → ℕ → Limits
+limits_of conf time = record { block = conf.block; volume = conf.volume; spool = conf.spool; time = time }
+
+-- a queue of so many lanes that has room for so many pieces, and holds none
+abbrev pub empty_queue : ℕ → ℕ → LanesView
+empty_queue lanes capacity = record { lanes = lanes; capacity = capacity; held = [] }
+
+-- there is a queue for each drive: empty, with its lanes, and with room for so many pieces
+abbrev pub AreQueues : {Q : Type 0} → (Q → LanesView) → ℕ → List (List ℕ × ℕ) → List Q → Type 0
+AreQueues queue room drives queues = AllZip (λ (d : List ℕ × ℕ) q. queue q ≡ empty_queue d.1 room) drives queues
+
+-- there is a list of stores for each drive: one for each of its lanes
+abbrev pub AreStores : {S Z : Type 0} → List (List ℕ × ℕ) → List (Vec S Z) → Type 0
+AreStores drives spools = AllZip (λ (d : List ℕ × ℕ) (s : Vec _ _). length s.items ≡ d.1) drives spools

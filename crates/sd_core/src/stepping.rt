@@ -1,0 +1,68 @@
+// What an event does to the parts of a world.
+ghost use Rattle.sd_moves.specs.Moves.{Moves};
+ghost use Rattle.sd_moves.specs.Rules.{IsWorld};
+ghost use Rattle.sd_parts.specs.View.{world_of};
+ghost use Rattle.sd_core.specs.Drives.{DrivesKeep, WhereCloses};
+
+use crate::knowing::know_closing;
+use sd_driver::Driver;
+use sd_lane::Lanes;
+use sd_machine::{Event, Reply};
+use sd_operators::{adopt, label, mount, place, retire, seek, sync, take, unmount};
+use sd_parts::Parts;
+use sd_sessions::{append, cancel, close, despool, end, media, open, spool};
+use sd_spool::SpoolStore;
+
+/// Answers one event.
+pub(crate) fn answer<D: Driver + Drop, Q: Lanes, S: SpoolStore + Drop>(
+    parts: &mut Parts<D, Q, S>,
+    event: Event,
+) -> Reply
+    requires world { IsWorld (world_of parts.old) }
+    ensures moves { Moves (λ d. D.meaning d) (world_of parts.old) event result (world_of parts.new) }
+    ensures keep { WhereCloses result (DrivesKeep (λ d. D.meaning d) (world_of parts.new).bays) }
+{
+    let reply = apply(parts, event);
+    know_closing(&parts.bays, &reply);
+    reply
+}
+
+// What the event does.
+fn apply<D: Driver + Drop, Q: Lanes, S: SpoolStore + Drop>(
+    parts: &mut Parts<D, Q, S>,
+    event: Event,
+) -> Reply
+    requires world { IsWorld (world_of parts.old) }
+    ensures moves { Moves (λ d. D.meaning d) (world_of parts.old) event result (world_of parts.new) }
+{
+    match event {
+        Event::Open {
+            job,
+            pool,
+            media,
+            moment,
+        } => open(parts, job, pool, media, moment),
+        Event::Append { ticket, rec } => append(parts, ticket, &rec),
+        Event::End { ticket, moment } => end(parts, ticket, moment),
+        Event::Close { ticket } => close(parts, ticket),
+        Event::Cancel { ticket } => cancel(parts, ticket),
+        Event::Spool { ticket } => spool(parts, ticket),
+        Event::Despool { ticket } => despool(parts, ticket),
+        Event::Take { drive } => take(parts, drive),
+        Event::Place { drive } => place(parts, drive),
+        Event::Sync { drive } => sync(parts, drive),
+        Event::Label {
+            drive,
+            name,
+            pool,
+            media,
+            moment,
+        } => label(parts, drive, &name, &pool, &media, moment),
+        Event::Adopt { drive, name } => adopt(parts, drive, &name),
+        Event::Mount { drive, name } => mount(parts, drive, &name),
+        Event::Unmount { drive } => unmount(parts, drive),
+        Event::Seek { drive } => seek(parts, drive),
+        Event::Retire { drive } => retire(parts, drive),
+        Event::Media { ticket } => media(parts, ticket),
+    }
+}

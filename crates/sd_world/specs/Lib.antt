@@ -1,9 +1,0 @@
-pub mod Closed
-pub mod Conf
-pub mod Drives
-pub mod Fresh
-pub mod Kept
-pub mod Listing
-pub mod Reading
-pub mod Runs
-pub mod View
