@@ -1,9 +1,15 @@
-//! The console of the daemon: what an operator's line asks for.
+//! The console of the daemon: what an operator's line asks for, and the words that he is answered.
 #![tactic(auto)]
 
 mod line;
+mod reply;
+mod requests;
+mod status;
 #[cfg(test)]
 mod tests;
 
 pub use line::command;
+pub use reply::{ReplyLine, reply_text};
+pub use requests::requests_text;
 pub use sd_script::ConsoleCmd;
+pub use status::status_text;

@@ -1,161 +1,70 @@
--- What is spelled so is read so, and the word of a command tells the command.
-use Rattle.std.proofs.Common.{◌≡◌, ◌≢◌, ℕ, ◌^◌, ◌<◌, ◌≤◌, refl, sym, ap, ◌∙◌, arith, lit<, inl, inr, Bool, true, false, cond, List, [], ◌∷◌, length, Option, Some, None, rules}
+-- What is spelled so is read so.
+use Rattle.std.proofs.Common.{◌≡◌, ◌≢◌, ℕ, ◌^◌, ◌<◌, ◌≤◌, refl, sym, ap, ◌∙◌, arith, lit<, inl, inr, true, List, [], ◌∷◌, length, Option, Some, None}
 use Rattle.std.specs.Prelude.{IfSome, IfNone, pos, negsuc, nat_le, FitsSigned}
 use Rattle.std.specs.List.{AllByRecursion}
 use Rattle.std.specs.Int.{w64}
 use Rattle.std.specs.Fmt.{decimal}
-use Rattle.std.specs.Str.{bytes_eq}
 use Rattle.std.proofs.lemmas.Bool.{cond-true, le-leb}
-use Rattle.std.proofs.lemmas.List.Elements.{All-from_get_or, All-from_recursion}
+use Rattle.std.proofs.lemmas.List.Elements.{All-from_get_or}
 use Rattle.std.proofs.lemmas.Int.{ints}
 use Rattle.std.proofs.lemmas.Fmt.{digits_decimal}
 use Rattle.std.proofs.lemmas.Str.Parse.{digit_at}
-use Rattle.sd_base.specs.Limits.{least_block_limit, most_block, most_data, most_number}
+use Rattle.sd_base.specs.Limits.{least_block_limit, most_block, most_data, most_number, most_volume}
 use Rattle.sd_script.specs.declared.command.Command.{Command}
-use Rattle.sd_script.specs.declared.command.Command.TheVariants.{Block, Time, At, Label, Adopt, Mount, Unmount, Seek, Retire, Open, Rec, Fill, End, Cancel, Spool, Despool, Take, Place, Sync, Close, JobMedia, Read, Drain, Status, Requests}
+use Rattle.sd_script.specs.declared.command.Command.TheVariants.{Block, Volume, SpoolLimit, Queue, Time, Drive, Capacity, Fail, At, Label, Adopt, Mount, Unmount, Seek, Retire, Open, Rec, Fill, End, Cancel, Spool, Despool, Take, Place, Sync, Close, JobMedia, Read, Again, Drain, Status, Requests, Restart}
 use Rattle.sd_script.specs.declared.console.ConsoleCmd.TheVariants as console
 use Rattle.sd_script.specs.declared.line.Setting.TheVariants as setting
 use Rattle.sd_script.specs.declared.line.Line.{Line}
 use Rattle.sd_script.specs.declared.line.Line.TheVariants as line
-use Rattle.sd_script.specs.Command.{command_text, is_console}
+use Rattle.sd_base.specs.declared.number.SessionKey.{SessionKey}
+use Rattle.sd_memdrive.specs.declared.plan.Fail as plan
+use Rattle.sd_script.specs.declared.line.Part.{Part}
+use Rattle.sd_script.specs.declared.line.Tail.{Tail}
+use Rattle.sd_script.specs.Command.{command_text, stands}
 use Rattle.sd_words.specs.Fields.{HasNoBlank, joined, Fields, fields_of}
-use Rattle.sd_script.specs.Grammar.{IsWord, IsSpelled, IsWithin, AreWords, IsNumber, IsDrive}
+use Rattle.sd_script.specs.Grammar.{IsWord, IsSpelled, IsWithin, AreWords, IsNumber, IsDrive, call_text, most_capacity, most_lanes, most_queue, when_text}
 use Rattle.sd_words.specs.Reading.{word_at}
-use Rattle.sd_script.specs.Reading.{most_moment, shape, one_number, label_shape, adopt_shape, mount_shape, open_shape, rec_shape, fill_shape}
+use Rattle.sd_script.specs.Reading.{most_moment, most_wide, shape, one_number, label_shape, adopt_shape, mount_shape, open_shape, rec_shape, fill_shape, drive_shape, capacity_shape, fail_shape, again_shape, behind_shape, restart_shape}
 use Rattle.sd_words.proofs.NumberLemmas.{own}
 use Rattle.sd_words.proofs.FieldLemmas.{fields_of-joined, fields_of-behind, joined-fields_of}
 use Rattle.sd_words.proofs.ReadingLemmas.{number_at_again, word_at_again, word_at_takes, only_number_again}
-use Rattle.sd_script.proofs.ReadingLemmas.{one_number_again}
+use Rattle.sd_script.proofs.ReadingLemmas.{one_number_again, call-plain, when-plain, call_at_again, when_at_again}
+use Rattle.sd_script.proofs.CommandLemmas.{kinds, line_kinds, command-plain}
 
--- the command of a word, found by trying each
-abbrev command_at : List ℕ → Option Command
-command_at word =
-    cond (bytes_eq word (command_text Block)) (Some Block) (
-    cond (bytes_eq word (command_text Time)) (Some Time) (
-    cond (bytes_eq word (command_text At)) (Some At) (
-    cond (bytes_eq word (command_text Label)) (Some Label) (
-    cond (bytes_eq word (command_text Adopt)) (Some Adopt) (
-    cond (bytes_eq word (command_text Mount)) (Some Mount) (
-    cond (bytes_eq word (command_text Unmount)) (Some Unmount) (
-    cond (bytes_eq word (command_text Seek)) (Some Seek) (
-    cond (bytes_eq word (command_text Retire)) (Some Retire) (
-    cond (bytes_eq word (command_text Open)) (Some Open) (
-    cond (bytes_eq word (command_text Rec)) (Some Rec) (
-    cond (bytes_eq word (command_text Fill)) (Some Fill) (
-    cond (bytes_eq word (command_text End)) (Some End) (
-    cond (bytes_eq word (command_text Cancel)) (Some Cancel) (
-    cond (bytes_eq word (command_text Spool)) (Some Spool) (
-    cond (bytes_eq word (command_text Despool)) (Some Despool) (
-    cond (bytes_eq word (command_text Take)) (Some Take) (
-    cond (bytes_eq word (command_text Place)) (Some Place) (
-    cond (bytes_eq word (command_text Sync)) (Some Sync) (
-    cond (bytes_eq word (command_text Close)) (Some Close) (
-    cond (bytes_eq word (command_text JobMedia)) (Some JobMedia) (
-    cond (bytes_eq word (command_text Read)) (Some Read) (
-    cond (bytes_eq word (command_text Drain)) (Some Drain) (
-    cond (bytes_eq word (command_text Status)) (Some Status) (
-    cond (bytes_eq word (command_text Requests)) (Some Requests) None))))))))))))))))))))))))
-
-command_found : (k : Command) → command_at (command_text k) ≡ Some k
-command_found Block = refl
-command_found Time = refl
-command_found At = refl
-command_found Label = refl
-command_found Adopt = refl
-command_found Mount = refl
-command_found Unmount = refl
-command_found Seek = refl
-command_found Retire = refl
-command_found Open = refl
-command_found Rec = refl
-command_found Fill = refl
-command_found End = refl
-command_found Cancel = refl
-command_found Spool = refl
-command_found Despool = refl
-command_found Take = refl
-command_found Place = refl
-command_found Sync = refl
-command_found Close = refl
-command_found JobMedia = refl
-command_found Read = refl
-command_found Drain = refl
-command_found Status = refl
-command_found Requests = refl
-
--- no two commands are written alike
-pub command_one : (k j : Command) → command_text k ≡ command_text j → k ≡ j
-command_one k j e = let both = sym (command_found k) ∙ ap command_at e ∙ command_found j in cc
-
--- neither commands nor numbers hold a blank
-plain_command : (k : Command) → AllByRecursion (λ c. c ≢ 32) (command_text k)
-plain_command Block = search rules
-plain_command Time = search rules
-plain_command At = search rules
-plain_command Label = search rules
-plain_command Adopt = search rules
-plain_command Mount = search rules
-plain_command Unmount = search rules
-plain_command Seek = search rules
-plain_command Retire = search rules
-plain_command Open = search rules
-plain_command Rec = search rules
-plain_command Fill = search rules
-plain_command End = search rules
-plain_command Cancel = search rules
-plain_command Spool = search rules
-plain_command Despool = search rules
-plain_command Take = search rules
-plain_command Place = search rules
-plain_command Sync = search rules
-plain_command Close = search rules
-plain_command JobMedia = search rules
-plain_command Read = search rules
-plain_command Drain = search rules
-plain_command Status = search rules
-plain_command Requests = search rules
-
-command-plain : (k : Command) → HasNoBlank (command_text k)
-command-plain k = All-from_recursion (λ c. c ≢ 32) (command_text k) (plain_command k)
-
+-- no number holds a blank
 decimal-plain : (n : ℕ) → n < 2 ^ 64 → HasNoBlank (decimal n)
 decimal-plain n small =
     All-from_get_or (λ c. c ≢ 32) (decimal n) 0 (λ i within blank. let digit = digit_at (decimal n) i (digits_decimal own n small) within in omega arith)
 
--- a console has the line too
-abbrev pub is_console_line : Line → Bool
-is_console_line (line.Console command) = true
-is_console_line l = false
-
--- the command that bytes begin with, whose it is, the fields behind it, and that these are read as that line
+-- the command that bytes begin with, what its lines have in common, the fields behind it, and that these are read as that line
 pub record Parts (bytes : List ℕ) (l : Line) : Type 0 where
   pub command : Command
-  pub kind_is : is_console command ≡ is_console_line l
+  pub kinds_are : kinds command ≡ line_kinds l
   pub rest : Fields
   pub fields_are : fields_of bytes ≡ command_text command ∷ rest
   pub shape_is : shape command rest ≡ Some l
 
-plain_parts : (bytes : List ℕ) (k : Command) (rest : Fields) (l : Line) → is_console k ≡ is_console_line l → AllByRecursion HasNoBlank rest → bytes ≡ joined (command_text k ∷ rest)
+plain_parts : (bytes : List ℕ) (k : Command) (rest : Fields) (l : Line) → kinds k ≡ line_kinds l → AllByRecursion HasNoBlank rest → bytes ≡ joined (command_text k ∷ rest)
     → shape k rest ≡ Some l → Parts bytes l
-plain_parts bytes k rest l kind plain e read = record {
+plain_parts bytes k rest l same_kinds plain e read = record {
   command = k;
-  kind_is = kind;
+  kinds_are = same_kinds;
   rest = rest;
   fields_are = ap fields_of e ∙ fields_of-joined (command_text k) rest (command-plain k, plain);
   shape_is = read;
 }
 
 -- a line of one number
-one_parts : (bytes : List ℕ) (k : Command) (least most n : ℕ) (made : ℕ → Line) → is_console k ≡ is_console_line (made n) → most < 2 ^ 64 → (least ≤ n) × (n ≤ most)
+one_parts : (bytes : List ℕ) (k : Command) (least most n : ℕ) (made : ℕ → Line) → kinds k ≡ line_kinds (made n) → most < 2 ^ 64 → (least ≤ n) × (n ≤ most)
     → shape k (decimal n ∷ []) ≡ one_number least most made (decimal n ∷ []) → bytes ≡ joined (command_text k ∷ decimal n ∷ []) → Parts bytes (made n)
 one_parts bytes k least most n made kind small within same e =
     plain_parts bytes k (decimal n ∷ []) (made n) kind (decimal-plain n (omega arith), tt) e (same ∙ one_number_again least most n made small within.0 within.1)
 
-drive_parts : (bytes : List ℕ) (k : Command) (n : ℕ) (made : ℕ → Line) → is_console k ≡ is_console_line (made n) → IsDrive n
+drive_parts : (bytes : List ℕ) (k : Command) (n : ℕ) (made : ℕ → Line) → kinds k ≡ line_kinds (made n) → IsDrive n
     → shape k (decimal n ∷ []) ≡ one_number 1 8 made (decimal n ∷ []) → bytes ≡ joined (command_text k ∷ decimal n ∷ []) → Parts bytes (made n)
 drive_parts bytes k n made kind within same e = one_parts bytes k 1 8 n made kind (lit< tt) within same e
 
-session_parts : (bytes : List ℕ) (k : Command) (n : ℕ) (made : ℕ → Line) → is_console k ≡ is_console_line (made n) → IsNumber n
+session_parts : (bytes : List ℕ) (k : Command) (n : ℕ) (made : ℕ → Line) → kinds k ≡ line_kinds (made n) → IsNumber n
     → shape k (decimal n ∷ []) ≡ one_number 1 most_number made (decimal n ∷ []) → bytes ≡ joined (command_text k ∷ decimal n ∷ []) → Parts bytes (made n)
 session_parts bytes k n made kind within same e = one_parts bytes k 1 most_number n made kind (lit< tt) within same e
 
@@ -200,6 +109,48 @@ fill_again t i s n within =
       only_number_again 0 most_data n (lit< tt) (omega arith) within.3,
     ) refl
 
+drive_again : (media : List ℕ) (n : ℕ) → IsWord media → 1 ≤ n → n ≤ most_lanes → drive_shape (media ∷ decimal n ∷ []) ≡ Some (line.Set (setting.Drive media n))
+unfolding drive_shape
+drive_again media n media_word low high = rw (word_at_again media (decimal n ∷ []) media_word.0, only_number_again 1 most_lanes n (lit< tt) low high) refl
+
+capacity_again : (d n : ℕ) → IsDrive d → n ≤ most_capacity → capacity_shape (decimal d ∷ decimal n ∷ []) ≡ Some (line.Set (setting.Capacity d n))
+unfolding capacity_shape
+capacity_again d n within high =
+    rw (number_at_again 1 8 d (decimal n ∷ []) (lit< tt) within.0 within.1, only_number_again 0 most_capacity n (lit< tt) (omega arith) high) refl
+
+fail_again : (d : ℕ) (fail : plan.Fail) → IsWithin (line.Set (setting.Fail d fail))
+    → fail_shape (decimal d ∷ call_text fail.call ∷ decimal fail.nth ∷ when_text fail.when ∷ []) ≡ Some (line.Set (setting.Fail d fail))
+unfolding fail_shape
+fail_again d fail within =
+    let high : fail.nth ≤ most_wide = omega (arith, within.2) in
+    rw (
+      number_at_again 1 8 d (call_text fail.call ∷ decimal fail.nth ∷ when_text fail.when ∷ []) (lit< tt) within.0.0 within.0.1,
+      call_at_again fail.call (decimal fail.nth ∷ when_text fail.when ∷ []),
+      number_at_again 1 most_wide fail.nth (when_text fail.when ∷ []) (lit< tt) within.1 high,
+      when_at_again fail.when [],
+    ) refl
+
+again_again : (key : SessionKey) → IsNumber key.time → IsNumber key.id → again_shape (decimal key.time ∷ decimal key.id ∷ []) ≡ Some (line.Again key)
+unfolding again_shape
+again_again key time_is id_is =
+    rw (number_at_again 1 most_number key.time (decimal key.id ∷ []) (lit< tt) time_is.0 time_is.1, only_number_again 1 most_number key.id (lit< tt) id_is.0 id_is.1) refl
+
+restart_alone : (t : ℕ) → IsNumber t → restart_shape (decimal t ∷ []) ≡ Some (line.Restart t None)
+unfolding restart_shape
+restart_alone t within = rw (number_at_again 1 most_number t [] (lit< tt) within.0 within.1) refl
+
+restart_again : (t : ℕ) (tail : Tail) → IsWithin (line.Restart t (Some tail)) → IsWord tail.volume
+    → restart_shape (decimal t ∷ decimal tail.drive ∷ tail.volume ∷ decimal tail.count ∷ []) ≡ Some (line.Restart t (Some tail))
+unfolding restart_shape behind_shape
+restart_again t tail within volume_word =
+    let high : tail.count ≤ most_wide = omega (arith, within.2) in
+    rw (
+      number_at_again 1 most_number t (decimal tail.drive ∷ tail.volume ∷ decimal tail.count ∷ []) (lit< tt) within.0.0 within.0.1,
+      number_at_again 1 8 tail.drive (tail.volume ∷ decimal tail.count ∷ []) (lit< tt) within.1.0 within.1.1,
+      word_at_again tail.volume (decimal tail.count ∷ []) volume_word.0,
+      only_number_again 0 most_wide tail.count (lit< tt) (omega arith) high,
+    ) refl
+
 number-plain : (n : ℕ) → IsNumber n → HasNoBlank (decimal n)
 number-plain n within = decimal-plain n (omega (arith, within.1))
 
@@ -219,7 +170,7 @@ rec_parts : (bytes : List ℕ) (t i s : ℕ) (text : List ℕ) → IsWithin (lin
     → bytes ≡ joined (command_text Rec ∷ decimal t ∷ decimal i ∷ decimal s ∷ text ∷ []) → Parts bytes (line.Rec t i s text)
 rec_parts bytes t i s text within e = record {
   command = Rec;
-  kind_is = refl;
+  kinds_are = refl;
   rest = decimal t ∷ decimal i ∷ decimal s ∷ fields_of text;
   fields_are = ap fields_of e ∙ rec_fields t i s text within.0 within.1 within.2;
   shape_is = rec_again t i s (fields_of text) text (joined-fields_of text) within;
@@ -239,8 +190,35 @@ pub parts_of : (bytes : List ℕ) (l : Line) → bytes ≢ [] → IsSpelled byte
 parts_of bytes line.Empty some_there spelled within words = elim spelled [ inl e ↦ absurd (some_there e) | inr short ↦ absurd short ]
 parts_of bytes (line.Set (setting.Block n)) some_there spelled within words =
     elim spelled [ inl e ↦ one_parts bytes Block least_block_limit most_block n (λ m. line.Set (setting.Block m)) refl (lit< tt) within refl e | inr short ↦ absurd short ]
+parts_of bytes (line.Set (setting.Volume n)) some_there spelled within words =
+    elim spelled [ inl e ↦ one_parts bytes Volume 0 most_volume n (λ m. line.Set (setting.Volume m)) refl (lit< tt) (omega arith, within) refl e | inr short ↦ absurd short ]
+parts_of bytes (line.Set (setting.Spool n)) some_there spelled within words =
+    elim spelled [ inl e ↦ one_parts bytes SpoolLimit 0 most_volume n (λ m. line.Set (setting.Spool m)) refl (lit< tt) (omega arith, within) refl e | inr short ↦ absurd short ]
+parts_of bytes (line.Set (setting.Queue n)) some_there spelled within words =
+    elim spelled [ inl e ↦ one_parts bytes Queue 1 most_queue n (λ m. line.Set (setting.Queue m)) refl (lit< tt) within refl e | inr short ↦ absurd short ]
 parts_of bytes (line.Set (setting.Time n)) some_there spelled within words =
-    elim spelled [ inl e ↦ session_parts bytes Time n (λ m. line.Set (setting.Time m)) refl within refl e | inr short ↦ absurd short ]
+    elim spelled [ inl e ↦ one_parts bytes Time 1 most_number n (λ m. line.Set (setting.Time m)) refl (lit< tt) within refl e | inr short ↦ absurd short ]
+parts_of bytes (line.Set (setting.Drive media n)) some_there spelled within words =
+    elim spelled [
+      | inl e ↦
+          plain_parts bytes Drive (media ∷ decimal n ∷ []) (line.Set (setting.Drive media n)) refl
+          (words.0.1, (decimal-plain n (omega (arith, within.1)), tt)) e (drive_again media n words.0 within.0 within.1)
+      | inr short ↦ absurd short
+    ]
+parts_of bytes (line.Set (setting.Capacity d n)) some_there spelled within words =
+    elim spelled [
+      | inl e ↦
+          plain_parts bytes Capacity (decimal d ∷ decimal n ∷ []) (line.Set (setting.Capacity d n)) refl
+          (drive-plain d within.0, (decimal-plain n (omega (arith, within.1)), tt)) e (capacity_again d n within.0 within.1)
+      | inr short ↦ absurd short
+    ]
+parts_of bytes (line.Set (setting.Fail d fail)) some_there spelled within words =
+    elim spelled [
+      | inl e ↦
+          plain_parts bytes Fail (decimal d ∷ call_text fail.call ∷ decimal fail.nth ∷ when_text fail.when ∷ []) (line.Set (setting.Fail d fail)) refl
+          (drive-plain d within.0, (call-plain fail.call, (decimal-plain fail.nth within.2, (when-plain fail.when, tt)))) e (fail_again d fail within)
+      | inr short ↦ absurd short
+    ]
 parts_of bytes (line.At (pos n)) some_there spelled within words =
     elim spelled [ inl e ↦ one_parts bytes At 0 most_moment n (λ m. line.At (pos m)) refl (lit< tt) (omega arith, moment_most n within.1) refl e | inr short ↦ absurd short ]
 parts_of bytes (line.At (negsuc n)) some_there spelled within words = absurd (omega (arith, ints, within.0))
@@ -309,46 +287,38 @@ parts_of bytes (line.Close n) some_there spelled within words =
     elim spelled [ inl e ↦ session_parts bytes Close n line.Close refl within refl e | inr short ↦ absurd short ]
 parts_of bytes (line.Read n) some_there spelled within words =
     elim spelled [ inl e ↦ session_parts bytes Read n line.Read refl within refl e | inr short ↦ absurd short ]
+parts_of bytes (line.Again key) some_there spelled within words =
+    elim spelled [
+      | inl e ↦
+          plain_parts bytes Again (decimal key.time ∷ decimal key.id ∷ []) (line.Again key) refl
+          (number-plain key.time within.0, (number-plain key.id within.1, tt)) e (again_again key within.0 within.1)
+      | inr short ↦ absurd short
+    ]
+parts_of bytes (line.Restart t None) some_there spelled within words =
+    elim spelled [
+      | inl e ↦ plain_parts bytes Restart (decimal t ∷ []) (line.Restart t None) refl (number-plain t within, tt) e (restart_alone t within)
+      | inr short ↦ absurd short
+    ]
+parts_of bytes (line.Restart t (Some tail)) some_there spelled within words =
+    elim spelled [
+      | inl e ↦
+          plain_parts bytes Restart (decimal t ∷ decimal tail.drive ∷ tail.volume ∷ decimal tail.count ∷ []) (line.Restart t (Some tail)) refl
+          (number-plain t within.0, (drive-plain tail.drive within.1, (words.0.1, (decimal-plain tail.count within.2, tt)))) e (restart_again t tail within words.0)
+      | inr short ↦ absurd short
+    ]
 parts_of bytes line.Drain some_there spelled within words =
     elim spelled [ inl e ↦ plain_parts bytes Drain [] line.Drain refl tt e refl | inr short ↦ absurd short ]
 
--- no command is written by no characters
-pub command-some : (k : Command) → 0 < length (command_text k)
-command-some Block = lit< tt
-command-some Time = lit< tt
-command-some At = lit< tt
-command-some Label = lit< tt
-command-some Adopt = lit< tt
-command-some Mount = lit< tt
-command-some Unmount = lit< tt
-command-some Seek = lit< tt
-command-some Retire = lit< tt
-command-some Open = lit< tt
-command-some Rec = lit< tt
-command-some Fill = lit< tt
-command-some End = lit< tt
-command-some Cancel = lit< tt
-command-some Spool = lit< tt
-command-some Despool = lit< tt
-command-some Take = lit< tt
-command-some Place = lit< tt
-command-some Sync = lit< tt
-command-some Close = lit< tt
-command-some JobMedia = lit< tt
-command-some Read = lit< tt
-command-some Drain = lit< tt
-command-some Status = lit< tt
-command-some Requests = lit< tt
-
 -- the command of the first word, or none
-pub command_read : (fs : Fields) (word : List ℕ) (rest : Fields) (r : Option Command) → word_at fs ≡ Some (word, rest)
-    → IfSome r (λ k. word ≡ command_text k) → IfSome r (λ k. fs ≡ command_text k ∷ rest)
-command_read fs word rest None read none = tt
-command_read fs word rest (Some k) read found = (word_at_takes fs (word, rest) read).0 ∙ ap (λ (w : List ℕ). w ∷ rest) found
+pub command_read : (part : Part) (fs : Fields) (word : List ℕ) (rest : Fields) (r : Option Command) → word_at fs ≡ Some (word, rest)
+    → IfSome r (λ k. (word ≡ command_text k) × (stands part k ≡ true)) → IfSome r (λ k. (fs ≡ command_text k ∷ rest) × (stands part k ≡ true))
+command_read part fs word rest None read none = tt
+command_read part fs word rest (Some k) read found = ((word_at_takes fs (word, rest) read).0 ∙ ap (λ (w : List ℕ). w ∷ rest) found.0, found.1)
 
-pub no_command : (fs : Fields) (word : List ℕ) (rest : Fields) (r : Option Command) → word_at fs ≡ Some (word, rest)
-    → IfNone r ((k : Command) → word ≡ command_text k → ⊥) → IfNone r ((k : Command) (others : Fields) → fs ≡ command_text k ∷ others → ⊥)
-no_command fs word rest None read none = λ k others e.
+pub no_command : (part : Part) (fs : Fields) (word : List ℕ) (rest : Fields) (r : Option Command) → word_at fs ≡ Some (word, rest)
+    → IfNone r ((k : Command) → word ≡ command_text k → stands part k ≡ true → ⊥)
+    → IfNone r ((k : Command) (others : Fields) → fs ≡ command_text k ∷ others → stands part k ≡ true → ⊥)
+no_command part fs word rest None read none = λ k others e there.
     let both : word ∷ rest ≡ command_text k ∷ others = sym (word_at_takes fs (word, rest) read).0 ∙ e in
-    let same : word ≡ command_text k = cc in none k same
-no_command fs word rest (Some k) read found = tt
+    let same : word ≡ command_text k = cc in none k same there
+no_command part fs word rest (Some k) read found = tt

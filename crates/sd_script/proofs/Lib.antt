@@ -1,3 +1,4 @@
+pub mod CommandLemmas
 pub mod ReadingLemmas
 pub mod TakesLemmas
 pub mod AgainLemmas

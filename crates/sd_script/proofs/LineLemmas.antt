@@ -1,5 +1,5 @@
 -- What the answer of reading tells of the bytes, and that bytes spell one line.
-use Rattle.std.proofs.Common.{◌≡◌, ◌≢◌, ℕ, ◌<◌, refl, sym, ap, subst, ◌∙◌, arith, inl, inr, true, false, eqb, List, [], ◌∷◌, length, Option, Some, None, Result, Ok, Err}
+use Rattle.std.proofs.Common.{◌≡◌, ◌≢◌, ℕ, ◌<◌, refl, sym, ap, subst, ◌∙◌, arith, inl, inr, Bool, true, false, eqb, List, [], ◌∷◌, length, Option, Some, None, Result, Ok, Err}
 use Rattle.std.specs.Prelude.{◌↔◌, All, IfOk}
 use Rattle.std.specs.List.{AllByRecursion}
 use Rattle.std.proofs.lemmas.Bool.{eqb-true, eqb-false}
@@ -14,13 +14,16 @@ use Rattle.sd_script.specs.declared.line.Line.{Line}
 use Rattle.sd_script.specs.declared.line.Line.TheVariants as line
 use Rattle.sd_script.specs.declared.line.LineFault.{LineFault}
 use Rattle.sd_script.specs.declared.line.LineFault.TheVariants.{BadCommand, BadName}
-use Rattle.sd_script.specs.Command.{command_text, is_console}
-use Rattle.sd_script.specs.Grammar.{IsSpelled, IsWord, AreNames, HasShape, HasForm, HaveOneForm, IsConsole, names}
+use Rattle.sd_script.specs.declared.line.Part.{Part}
+use Rattle.sd_script.specs.declared.line.Part.TheVariants.{Head, Body}
+use Rattle.sd_script.specs.Command.{command_text, is_console, stands}
+use Rattle.sd_script.specs.Grammar.{IsSpelled, IsWord, AreNames, HasShape, HasForm, HaveOneForm, HaveOneShape, IsConsole, StandsIn, names}
 use Rattle.sd_words.specs.Fields.{Fields, fields_of}
 use Rattle.sd_script.specs.Reading.{Gives, shape}
 use Rattle.sd_words.proofs.ReadingLemmas.{some_is}
 use Rattle.sd_script.proofs.TakesLemmas.{takes}
-use Rattle.sd_script.proofs.AgainLemmas.{command_one, command-some, is_console_line, parts_of}
+use Rattle.sd_script.proofs.CommandLemmas.{command_one, command-some, command_stands, is_console_line, line_stands_there}
+use Rattle.sd_script.proofs.AgainLemmas.{parts_of}
 
 -- names are words
 name_char_plain : (c : ℕ) → Rattle.std.specs.Prelude.IsTrue (is_name_char c) → c ≢ 32
@@ -43,7 +46,13 @@ HasForm-shape bytes l has are_names = record { ascii = has.ascii; spelled = has.
 empty_only : (l : Line) → IsSpelled [] l → line.Empty ≡ l
 empty_only line.Empty spelled = refl
 empty_only (line.Set (setting.Block n)) spelled = elim spelled [ inl e ↦ absurd (cc e) | inr short ↦ absurd short ]
+empty_only (line.Set (setting.Volume n)) spelled = elim spelled [ inl e ↦ absurd (cc e) | inr short ↦ absurd short ]
+empty_only (line.Set (setting.Spool n)) spelled = elim spelled [ inl e ↦ absurd (cc e) | inr short ↦ absurd short ]
+empty_only (line.Set (setting.Queue n)) spelled = elim spelled [ inl e ↦ absurd (cc e) | inr short ↦ absurd short ]
 empty_only (line.Set (setting.Time n)) spelled = elim spelled [ inl e ↦ absurd (cc e) | inr short ↦ absurd short ]
+empty_only (line.Set (setting.Drive media n)) spelled = elim spelled [ inl e ↦ absurd (cc e) | inr short ↦ absurd short ]
+empty_only (line.Set (setting.Capacity d n)) spelled = elim spelled [ inl e ↦ absurd (cc e) | inr short ↦ absurd short ]
+empty_only (line.Set (setting.Fail d fail)) spelled = elim spelled [ inl e ↦ absurd (cc e) | inr short ↦ absurd short ]
 empty_only (line.Rec t i s []) spelled = elim spelled [ inl e ↦ absurd (cc e) | inr e ↦ absurd (cc e) ]
 empty_only (line.Rec t i s (x ∷ text)) spelled = elim spelled [ inl e ↦ absurd (cc e) | inr short ↦ absurd short ]
 empty_only (line.Console (console.Label d v p m)) spelled = elim spelled [ inl e ↦ absurd (cc e) | inr short ↦ absurd short ]
@@ -55,105 +64,122 @@ empty_only (line.Console (console.Cancel t)) spelled = elim spelled [ inl e ↦ 
 empty_only (line.Console (console.JobMedia t)) spelled = elim spelled [ inl e ↦ absurd (cc e) | inr short ↦ absurd short ]
 empty_only (line.Console console.Status) spelled = elim spelled [ inl e ↦ absurd (cc e) | inr short ↦ absurd short ]
 empty_only (line.Console console.Requests) spelled = elim spelled [ inl e ↦ absurd (cc e) | inr short ↦ absurd short ]
+empty_only (line.Restart t None) spelled = elim spelled [ inl e ↦ absurd (cc e) | inr short ↦ absurd short ]
+empty_only (line.Restart t (Some tail)) spelled = elim spelled [ inl e ↦ absurd (cc e) | inr short ↦ absurd short ]
 empty_only l spelled = elim spelled [ inl e ↦ absurd (cc e) | inr short ↦ absurd short ]
 
 -- the fields say what is read
-read_as : (bytes : List ℕ) (k : Command) (rest : Fields) (l : Line) → bytes ≢ [] → fields_of bytes ≡ command_text k ∷ rest → HasShape bytes l → shape k rest ≡ Some l
-read_as bytes k rest l some_there fields has =
+read_as : (part : Part) (bytes : List ℕ) (k : Command) (rest : Fields) (l : Line) → bytes ≢ [] → fields_of bytes ≡ command_text k ∷ rest → stands part k ≡ true
+    → HasShape bytes l → StandsIn part l → shape k rest ≡ Some l
+read_as part bytes k rest l some_there fields k_there has there =
     let parts = parts_of bytes l some_there has.spelled has.within has.words in
     let both : command_text k ∷ rest ≡ command_text parts.command ∷ parts.rest = sym fields ∙ parts.fields_are in
     let word : command_text k ≡ command_text parts.command = cc in
     let behind : rest ≡ parts.rest = cc in
-    ap (λ (j : Command). shape j rest) (command_one k parts.command word) ∙ ap (shape parts.command) behind ∙ parts.shape_is
+    let one = command_one part k parts.command k_there (command_stands part parts.command l parts.kinds_are there) word in
+    ap (λ (j : Command). shape j rest) one ∙ ap (shape parts.command) behind ∙ parts.shape_is
 
--- bytes spell one line, whatever its names are
-pub shapes_are_one : (bytes : List ℕ) (l m : Line) → HasShape bytes l → HasShape bytes m → l ≡ m
-shapes_are_one [] l m l_has m_has = sym (empty_only l l_has.spelled) ∙ empty_only m m_has.spelled
-shapes_are_one (b ∷ bytes) l m l_has m_has =
+-- bytes spell one line in each part of a script, whatever its names are
+pub shapes_are_one : HaveOneShape
+shapes_are_one part [] l m l_has l_there m_has m_there = sym (empty_only l l_has.spelled) ∙ empty_only m m_has.spelled
+shapes_are_one part (b ∷ bytes) l m l_has l_there m_has m_there =
     let some_there : b ∷ bytes ≢ [] = λ none. absurd (cc none) in
     let parts = parts_of (b ∷ bytes) l some_there l_has.spelled l_has.within l_has.words in
-    some_is l m (sym parts.shape_is ∙ read_as (b ∷ bytes) parts.command parts.rest m some_there parts.fields_are m_has)
+    let k_there = command_stands part parts.command l parts.kinds_are l_there in
+    some_is l m (sym parts.shape_is ∙ read_as part (b ∷ bytes) parts.command parts.rest m some_there parts.fields_are k_there m_has m_there)
 
 pub have_one_form : HaveOneForm
-have_one_form bytes l m l_form m_form = shapes_are_one bytes l m (HasShape-form bytes l l_form) (HasShape-form bytes m m_form)
+have_one_form part bytes l m l_form l_there m_form m_there =
+    shapes_are_one part bytes l m (HasShape-form bytes l l_form) l_there (HasShape-form bytes m m_form) m_there
 
 -- the line that was read; or one but for its names; or none
-abbrev pub Tells : List ℕ → Result Line LineFault → Type 0
-Tells bytes (Ok l) = HasShape bytes l × AreNames l
-Tells bytes (Err BadName) = (l : Line) × HasShape bytes l × (AreNames l → ⊥)
-Tells bytes (Err BadCommand) = (l : Line) → HasShape bytes l → ⊥
+abbrev pub Tells : Part → List ℕ → Result Line LineFault → Type 0
+Tells part bytes (Ok l) = HasShape bytes l × StandsIn part l × AreNames l
+Tells part bytes (Err BadName) = (l : Line) × HasShape bytes l × StandsIn part l × (AreNames l → ⊥)
+Tells part bytes (Err BadCommand) = (l : Line) → HasShape bytes l → StandsIn part l → ⊥
 
 -- the empty line
-tells_empty : (bytes : List ℕ) → bytes ≡ [] → Tells bytes (Ok line.Empty)
-tells_empty bytes none = (record { ascii = rw none (All-nil (λ byte. byte < 128)); spelled = inl none; within = tt; words = tt }, tt)
+empty_stands : (part : Part) → StandsIn part line.Empty
+empty_stands Head = tt
+empty_stands Body = tt
+
+tells_empty : (part : Part) (bytes : List ℕ) → bytes ≡ [] → Tells part bytes (Ok line.Empty)
+tells_empty part bytes none =
+    (record { ascii = rw none (All-nil (λ byte. byte < 128)); spelled = inl none; within = tt; words = tt }, empty_stands part, tt)
 
 -- no command, no line
-tells_no_command : (bytes : List ℕ) → bytes ≢ [] → ((k : Command) (rest : Fields) → fields_of bytes ≡ command_text k ∷ rest → ⊥) → Tells bytes (Err BadCommand)
-tells_no_command bytes some_there none l has =
-    let parts = parts_of bytes l some_there has.spelled has.within has.words in none parts.command parts.rest parts.fields_are
+tells_no_command : (part : Part) (bytes : List ℕ) → bytes ≢ [] → ((k : Command) (rest : Fields) → fields_of bytes ≡ command_text k ∷ rest → stands part k ≡ true → ⊥)
+    → Tells part bytes (Err BadCommand)
+tells_no_command part bytes some_there none l has there =
+    let parts = parts_of bytes l some_there has.spelled has.within has.words in
+    none parts.command parts.rest parts.fields_are (command_stands part parts.command l parts.kinds_are there)
 
 -- what a command and the fields behind it give
-tells_shape : (bytes : List ℕ) (r : Result Line LineFault) (l : Line) → Gives r (Some l) → HasShape bytes l → Tells bytes r
-tells_shape bytes (Ok found) l gives has = subst (λ (x : Line). HasShape bytes x × AreNames x) (sym gives.0) (has, gives.1)
-tells_shape bytes (Err BadName) l gives has = (l, has, gives.1)
-tells_shape bytes (Err BadCommand) l gives has = absurd (cc gives.0)
+tells_shape : (part : Part) (bytes : List ℕ) (r : Result Line LineFault) (l : Line) → Gives r (Some l) → HasShape bytes l → StandsIn part l → Tells part bytes r
+tells_shape part bytes (Ok found) l gives has there =
+    subst (λ (x : Line). HasShape bytes x × StandsIn part x × AreNames x) (sym gives.0) (has, there, gives.1)
+tells_shape part bytes (Err BadName) l gives has there = (l, has, there, gives.1)
+tells_shape part bytes (Err BadCommand) l gives has there = absurd (cc gives.0)
 
-tells_none : (bytes : List ℕ) (r : Result Line LineFault) → Gives r None → ((l : Line) → HasShape bytes l → ⊥) → Tells bytes r
-tells_none bytes r gives none = rw gives none
+tells_none : (part : Part) (bytes : List ℕ) (r : Result Line LineFault) → Gives r None → ((l : Line) → HasShape bytes l → StandsIn part l → ⊥) → Tells part bytes r
+tells_none part bytes r gives none = rw gives none
 
-tells_given : (bytes : List ℕ) (k : Command) (rest : Fields) (r : Result Line LineFault) (read : Option Line) → shape k rest ≡ read → bytes ≢ []
-    → All (λ byte. byte < 128) bytes → fields_of bytes ≡ command_text k ∷ rest → Gives r read → Tells bytes r
-tells_given bytes k rest r None e some_there ascii fields gives =
-    tells_none bytes r gives (λ l has. absurd (cc (sym e ∙ read_as bytes k rest l some_there fields has)))
-tells_given bytes k rest r (Some l) e some_there ascii fields gives =
+tells_given : (part : Part) (bytes : List ℕ) (k : Command) (rest : Fields) (r : Result Line LineFault) (read : Option Line) → shape k rest ≡ read → bytes ≢ []
+    → All (λ byte. byte < 128) bytes → fields_of bytes ≡ command_text k ∷ rest → stands part k ≡ true → Gives r read → Tells part bytes r
+tells_given part bytes k rest r None e some_there ascii fields k_there gives =
+    tells_none part bytes r gives (λ l has there. absurd (cc (sym e ∙ read_as part bytes k rest l some_there fields k_there has there)))
+tells_given part bytes k rest r (Some l) e some_there ascii fields k_there gives =
     let spells = takes k bytes rest l fields e in
-    tells_shape bytes r l gives (record { ascii = ascii; spelled = spells.spelled; within = spells.within; words = spells.words })
-
-tells_fields : (bytes : List ℕ) (k : Command) (rest : Fields) (r : Result Line LineFault) → bytes ≢ []
-    → All (λ byte. byte < 128) bytes → fields_of bytes ≡ command_text k ∷ rest → Gives r (shape k rest) → Tells bytes r
-tells_fields bytes k rest r some_there ascii fields gives = tells_given bytes k rest r (shape k rest) refl some_there ascii fields gives
+    tells_shape part bytes r l gives (record { ascii = ascii; spelled = spells.spelled; within = spells.within; words = spells.words })
+    (line_stands_there part k l spells.kinds_are k_there)
 
 -- what the code finds, exit by exit
-pub empty_told : (bytes : List ℕ) → true ≡ eqb (length bytes) 0 → Tells bytes (Ok line.Empty)
-empty_told bytes test = tells_empty bytes (nil_from_length bytes (eqb-true (length bytes) 0 (sym test)))
+pub empty_told : (part : Part) (bytes : List ℕ) → true ≡ eqb (length bytes) 0 → Tells part bytes (Ok line.Empty)
+empty_told part bytes test = tells_empty part bytes (nil_from_length bytes (eqb-true (length bytes) 0 (sym test)))
 
 some_from : (bytes : List ℕ) → false ≡ eqb (length bytes) 0 → bytes ≢ []
 some_from bytes test none = eqb-false (length bytes) 0 (sym test) (ap length none)
 
-pub no_command_told : (bytes text : List ℕ) (words : Fields) → false ≡ eqb (length bytes) 0 → text ≡ bytes → words ≡ fields_of text
-    → ((k : Command) (rest : Fields) → words ≡ command_text k ∷ rest → ⊥) → Tells bytes (Err BadCommand)
-no_command_told bytes text words test same fields none =
-    tells_no_command bytes (some_from bytes test) (λ k rest e. none k rest (fields ∙ ap fields_of same ∙ e))
+pub no_command_told : (part : Part) (bytes text : List ℕ) (words : Fields) → false ≡ eqb (length bytes) 0 → text ≡ bytes → words ≡ fields_of text
+    → ((k : Command) (rest : Fields) → words ≡ command_text k ∷ rest → stands part k ≡ true → ⊥) → Tells part bytes (Err BadCommand)
+no_command_told part bytes text words test same fields none =
+    tells_no_command part bytes (some_from bytes test) (λ k rest e. none k rest (fields ∙ ap fields_of same ∙ e))
 
-pub line_told : (bytes text : List ℕ) (words : Fields) (k : Command) (rest : Fields) (r : Result Line LineFault) → false ≡ eqb (length bytes) 0
-    → (text ≡ bytes) × All (λ byte. byte < 128) bytes → words ≡ fields_of text → words ≡ command_text k ∷ rest → Gives r (shape k rest) → Tells bytes r
-line_told bytes text words k rest r test ascii fields found gives =
-    tells_fields bytes k rest r (some_from bytes test) ascii.1 (sym (ap fields_of ascii.0) ∙ sym fields ∙ found) gives
+pub line_told : (part : Part) (bytes text : List ℕ) (words : Fields) (k : Command) (rest : Fields) (r : Result Line LineFault) → false ≡ eqb (length bytes) 0
+    → (text ≡ bytes) × All (λ byte. byte < 128) bytes → words ≡ fields_of text → (words ≡ command_text k ∷ rest) × (stands part k ≡ true) → Gives r (shape k rest)
+    → Tells part bytes r
+line_told part bytes text words k rest r test ascii fields found gives =
+    tells_given part bytes k rest r (shape k rest) refl (some_from bytes test) ascii.1 (sym (ap fields_of ascii.0) ∙ sym fields ∙ found.0) found.1 gives
 
 -- what was told, clause by clause
-pub told_ok : (bytes : List ℕ) (r : Result Line LineFault) → Tells bytes r → IfOk r (λ l. HasForm bytes l)
-told_ok bytes (Ok l) told = HasForm-shape bytes l told.0 told.1
-told_ok bytes (Err e) told = tt
-
-pub told_found : (bytes : List ℕ) (r : Result Line LineFault) → Tells bytes r → (l : Line) → HasForm bytes l → r ≡ Ok l
-told_found bytes (Ok m) told l form = ap Ok (shapes_are_one bytes m l told.0 (HasShape-form bytes l form))
-told_found bytes (Err BadName) told l form =
-    absurd (told.2 (subst AreNames (shapes_are_one bytes l told.0 (HasShape-form bytes l form) told.1) form.names))
-told_found bytes (Err BadCommand) told l form = absurd (told l (HasShape-form bytes l form))
-
 abbrev answer : Type 0
 answer = Result Line LineFault
 
-pub told_bad_name : (bytes : List ℕ) (r : answer) → Tells bytes r → (r ≡ Err BadName) ↔ ((l : Line) × HasShape bytes l × (AreNames l → ⊥))
-told_bad_name bytes (Ok m) told =
-    ((λ e. absurd (cc e)), (λ found. absurd (found.2 (subst AreNames (shapes_are_one bytes m found.0 told.0 found.1) told.1))))
-told_bad_name bytes (Err BadName) told = ((λ e. told), (λ found. refl))
-told_bad_name bytes (Err BadCommand) told = ((λ e. absurd (cc e)), (λ found. absurd (told found.0 found.1)))
+pub record Told (part : Part) (bytes : List ℕ) (r : answer) : Type 0 where
+  pub ok : IfOk r (λ l. HasForm bytes l × StandsIn part l)
+  pub found : (l : Line) → HasForm bytes l → StandsIn part l → r ≡ Ok l
+  pub bad_name : (r ≡ Err BadName) ↔ ((l : Line) × HasShape bytes l × StandsIn part l × (AreNames l → ⊥))
+  pub bad_command : (r ≡ Err BadCommand) ↔ ((l : Line) → HasShape bytes l → StandsIn part l → ⊥)
 
-pub told_bad_command : (bytes : List ℕ) (r : answer) → Tells bytes r → (r ≡ Err BadCommand) ↔ ((l : Line) → HasShape bytes l → ⊥)
-told_bad_command bytes (Ok m) told = ((λ e. absurd (cc e)), (λ none. absurd (none m told.0)))
-told_bad_command bytes (Err BadName) told = ((λ e. absurd (cc e)), (λ none. absurd (none told.0 told.1)))
-told_bad_command bytes (Err BadCommand) told = ((λ e. told), (λ none. refl))
+pub told_of : (part : Part) (bytes : List ℕ) (r : answer) → Tells part bytes r → Told part bytes r
+told_of part bytes (Ok m) told = record {
+  ok = (HasForm-shape bytes m told.0 told.2, told.1);
+  found = λ l form there. ap Ok (shapes_are_one part bytes m l told.0 told.1 (HasShape-form bytes l form) there);
+  bad_name = ((λ e. absurd (cc e)), (λ found. absurd (found.3 (subst AreNames (shapes_are_one part bytes m found.0 told.0 told.1 found.1 found.2) told.2))));
+  bad_command = ((λ e. absurd (cc e)), (λ none. absurd (none m told.0 told.1)));
+}
+told_of part bytes (Err BadName) told = record {
+  ok = tt;
+  found = λ l form there. absurd (told.3 (subst AreNames (shapes_are_one part bytes l told.0 (HasShape-form bytes l form) there told.1 told.2) form.names));
+  bad_name = ((λ e. told), (λ found. refl));
+  bad_command = ((λ e. absurd (cc e)), (λ none. absurd (none told.0 told.1 told.2)));
+}
+told_of part bytes (Err BadCommand) told = record {
+  ok = tt;
+  found = λ l form there. absurd (told l (HasShape-form bytes l form) there);
+  bad_name = ((λ e. absurd (cc e)), (λ found. absurd (told found.0 found.1 found.2)));
+  bad_command = ((λ e. told), (λ none. refl));
+}
 
 -- The lines that a console has too.
 
@@ -162,10 +188,10 @@ console_some bytes command has none =
     absurd (cc (empty_only (line.Console command) (subst (λ (bs : List ℕ). IsSpelled bs (line.Console command)) none has.spelled)))
 
 pub no_console : (bytes text : List ℕ) (words : Fields) → text ≡ bytes → words ≡ fields_of text
-    → ((k : Command) (rest : Fields) → words ≡ command_text k ∷ rest → ⊥) → (command : ConsoleCmd) → HasShape bytes (line.Console command) → ⊥
+    → ((k : Command) (rest : Fields) → words ≡ command_text k ∷ rest → stands Body k ≡ true → ⊥) → (command : ConsoleCmd) → HasShape bytes (line.Console command) → ⊥
 no_console bytes text words same fields none command has =
     let parts = parts_of bytes (line.Console command) (console_some bytes command has) has.spelled has.within has.words in
-    none parts.command parts.rest (fields ∙ ap fields_of same ∙ parts.fields_are)
+    none parts.command parts.rest (fields ∙ ap fields_of same ∙ parts.fields_are) (command_stands Body parts.command (line.Console command) parts.kinds_are tt)
 
 some_fields : (bytes : List ℕ) (k : Command) (rest : Fields) → fields_of bytes ≡ command_text k ∷ rest → bytes ≢ []
 some_fields bytes k rest fields none =
@@ -175,26 +201,28 @@ some_fields bytes k rest fields none =
     absurd (omega (arith, long, ap length word))
 
 -- the first word tells whether a console has the line too
-kind_of : (bytes : List ℕ) (k : Command) (rest : Fields) (l : Line) → fields_of bytes ≡ command_text k ∷ rest → HasShape bytes l → is_console k ≡ is_console_line l
-kind_of bytes k rest l fields has =
+kind_of : (bytes : List ℕ) (k : Command) (rest : Fields) (l : Line) → fields_of bytes ≡ command_text k ∷ rest → stands Body k ≡ true
+    → HasShape bytes l → StandsIn Body l → is_console k ≡ is_console_line l
+kind_of bytes k rest l fields k_there has there =
     let parts = parts_of bytes l (some_fields bytes k rest fields) has.spelled has.within has.words in
     let both : command_text k ∷ rest ≡ command_text parts.command ∷ parts.rest = sym fields ∙ parts.fields_are in
     let word : command_text k ≡ command_text parts.command = cc in
-    ap is_console (command_one k parts.command word) ∙ parts.kind_is
+    let one = command_one Body k parts.command k_there (command_stands Body parts.command l parts.kinds_are there) word in
+    ap is_console one ∙ ap (λ (t : Bool × Bool × Bool). t.0) parts.kinds_are
 
 IsConsole-kind : (l : Line) → is_console_line l ≡ true → IsConsole l
 IsConsole-kind (line.Console command) e = (command, refl)
 IsConsole-kind l e = absurd (cc e)
 
-pub kind_yes : (bytes text : List ℕ) (words : Fields) (k : Command) (rest : Fields) → text ≡ bytes → words ≡ fields_of text → words ≡ command_text k ∷ rest
-    → is_console k ≡ true → (l : Line) → HasShape bytes l → IsConsole l
-kind_yes bytes text words k rest same fields found own l has =
-    IsConsole-kind l (sym (kind_of bytes k rest l (sym (ap fields_of same) ∙ sym fields ∙ found) has) ∙ own)
+pub kind_yes : (bytes text : List ℕ) (words : Fields) (k : Command) (rest : Fields) → text ≡ bytes → words ≡ fields_of text
+    → (words ≡ command_text k ∷ rest) × (stands Body k ≡ true) → is_console k ≡ true → (l : Line) → HasShape bytes l → StandsIn Body l → IsConsole l
+kind_yes bytes text words k rest same fields found own l has there =
+    IsConsole-kind l (sym (kind_of bytes k rest l (sym (ap fields_of same) ∙ sym fields ∙ found.0) found.1 has there) ∙ own)
 
-pub kind_no : (bytes text : List ℕ) (words : Fields) (k : Command) (rest : Fields) → text ≡ bytes → words ≡ fields_of text → words ≡ command_text k ∷ rest
-    → (command : ConsoleCmd) → HasShape bytes (line.Console command) → is_console k ≡ true
+pub kind_no : (bytes text : List ℕ) (words : Fields) (k : Command) (rest : Fields) → text ≡ bytes → words ≡ fields_of text
+    → (words ≡ command_text k ∷ rest) × (stands Body k ≡ true) → (command : ConsoleCmd) → HasShape bytes (line.Console command) → is_console k ≡ true
 kind_no bytes text words k rest same fields found command has =
-    kind_of bytes k rest (line.Console command) (sym (ap fields_of same) ∙ sym fields ∙ found) has
+    kind_of bytes k rest (line.Console command) (sym (ap fields_of same) ∙ sym fields ∙ found.0) found.1 has tt
 
 -- the command that was read; or one but for its names; or none
 abbrev pub TellsConsole : List ℕ → Result ConsoleCmd LineFault → Type 0
@@ -202,29 +230,29 @@ TellsConsole bytes (Ok command) = HasForm bytes (line.Console command)
 TellsConsole bytes (Err BadName) = (command : ConsoleCmd) × HasShape bytes (line.Console command) × (AreNames (line.Console command) → ⊥)
 TellsConsole bytes (Err BadCommand) = (command : ConsoleCmd) → HasShape bytes (line.Console command) → ⊥
 
-pub console_told : (bytes : List ℕ) (l : Line) (r : Result ConsoleCmd LineFault) → ((m : Line) → HasShape bytes m → IsConsole m) → HasForm bytes l
-    → ((command : ConsoleCmd) → l ≡ line.Console command → r ≡ Ok command) → TellsConsole bytes r
+pub console_told : (bytes : List ℕ) (l : Line) (r : Result ConsoleCmd LineFault) → ((m : Line) → HasShape bytes m → StandsIn Body m → IsConsole m)
+    → HasForm bytes l × StandsIn Body l → ((command : ConsoleCmd) → l ≡ line.Console command → r ≡ Ok command) → TellsConsole bytes r
 console_told bytes l r all form gives =
-    let is = all l (HasShape-form bytes l form) in
-    subst (λ (x : Result ConsoleCmd LineFault). TellsConsole bytes x) (sym (gives is.0 is.1)) (subst (λ (m : Line). HasForm bytes m) is.1 form)
+    let is = all l (HasShape-form bytes l form.0) form.1 in
+    subst (λ (x : Result ConsoleCmd LineFault). TellsConsole bytes x) (sym (gives is.0 is.1)) (subst (λ (m : Line). HasForm bytes m) is.1 form.0)
 
-pub fault_told : (bytes : List ℕ) (r : answer) (fault : LineFault) → ((m : Line) → HasShape bytes m → IsConsole m)
-    → ((r ≡ Err BadName) ↔ ((l : Line) × HasShape bytes l × (AreNames l → ⊥))) → ((r ≡ Err BadCommand) ↔ ((l : Line) → HasShape bytes l → ⊥))
-    → r ≡ Err fault → TellsConsole bytes (Err fault)
+pub fault_told : (bytes : List ℕ) (r : answer) (fault : LineFault) → ((m : Line) → HasShape bytes m → StandsIn Body m → IsConsole m)
+    → ((r ≡ Err BadName) ↔ ((l : Line) × HasShape bytes l × StandsIn Body l × (AreNames l → ⊥)))
+    → ((r ≡ Err BadCommand) ↔ ((l : Line) → HasShape bytes l → StandsIn Body l → ⊥)) → r ≡ Err fault → TellsConsole bytes (Err fault)
 fault_told bytes r BadName all bad_name bad_command is =
     let found = bad_name.0 is in
-    let own = all found.0 found.1 in
-    (own.0, subst (λ (m : Line). HasShape bytes m) own.1 found.1, λ names. found.2 (subst AreNames (sym own.1) names))
-fault_told bytes r BadCommand all bad_name bad_command is = λ command has. bad_command.0 is (line.Console command) has
+    let own = all found.0 found.1 found.2 in
+    (own.0, subst (λ (m : Line). HasShape bytes m) own.1 found.1, λ names. found.3 (subst AreNames (sym own.1) names))
+fault_told bytes r BadCommand all bad_name bad_command is = λ command has. bad_command.0 is (line.Console command) has tt
 
 same_command : (a b : ConsoleCmd) → line.Console a ≡ line.Console b → a ≡ b
 same_command a b e = cc e
 
 console_found : (bytes : List ℕ) (r : Result ConsoleCmd LineFault) → TellsConsole bytes r → (command : ConsoleCmd) → HasForm bytes (line.Console command) → r ≡ Ok command
 console_found bytes (Ok m) told command form =
-    ap Ok (same_command m command (have_one_form bytes (line.Console m) (line.Console command) told form))
+    ap Ok (same_command m command (have_one_form Body bytes (line.Console m) (line.Console command) told tt form tt))
 console_found bytes (Err BadName) told command form =
-    absurd (told.2 (subst AreNames (shapes_are_one bytes (line.Console command) (line.Console told.0) (HasShape-form bytes (line.Console command) form) told.1) form.names))
+    absurd (told.2 (subst AreNames (shapes_are_one Body bytes (line.Console command) (line.Console told.0) (HasShape-form bytes (line.Console command) form) tt told.1 tt) form.names))
 console_found bytes (Err BadCommand) told command form = absurd (told command (HasShape-form bytes (line.Console command) form))
 
 abbrev console_answer : Type 0
@@ -233,7 +261,7 @@ console_answer = Result ConsoleCmd LineFault
 console_bad_name : (bytes : List ℕ) (r : console_answer) → TellsConsole bytes r
     → (r ≡ Err BadName) ↔ ((command : ConsoleCmd) × HasShape bytes (line.Console command) × (AreNames (line.Console command) → ⊥))
 console_bad_name bytes (Ok m) told =
-    ((λ e. absurd (cc e)), (λ found. absurd (found.2 (subst AreNames (shapes_are_one bytes (line.Console m) (line.Console found.0) (HasShape-form bytes (line.Console m) told) found.1) told.names))))
+    ((λ e. absurd (cc e)), (λ found. absurd (found.2 (subst AreNames (shapes_are_one Body bytes (line.Console m) (line.Console found.0) (HasShape-form bytes (line.Console m) told) tt found.1 tt) told.names))))
 console_bad_name bytes (Err BadName) told = ((λ e. told), (λ found. refl))
 console_bad_name bytes (Err BadCommand) told = ((λ e. absurd (cc e)), (λ found. absurd (told found.0 found.1)))
 

@@ -1,12 +1,20 @@
--- The words that lines begin with.
-use Rattle.std.specs.Prelude.{ℕ, Bool, true, false, List, codes}
+-- The words that lines begin with, and where in a script lines of each stand.
+use Rattle.std.specs.Prelude.{ℕ, ◌&&◌, Bool, true, false, not, if◌then◌else◌, List, codes}
 use Rattle.sd_script.specs.declared.command.Command.{Command}
-use Rattle.sd_script.specs.declared.command.Command.TheVariants.{Block, Time, At, Label, Adopt, Mount, Unmount, Seek, Retire, Open, Rec, Fill, End, Cancel, Spool, Despool, Take, Place, Sync, Close, JobMedia, Read, Drain, Status, Requests}
+use Rattle.sd_script.specs.declared.command.Command.TheVariants.{Block, Volume, SpoolLimit, Queue, Time, Drive, Capacity, Fail, At, Label, Adopt, Mount, Unmount, Seek, Retire, Open, Rec, Fill, End, Cancel, Spool, Despool, Take, Place, Sync, Close, JobMedia, Read, Again, Drain, Status, Requests, Restart}
+use Rattle.sd_script.specs.declared.line.Part.{Part}
+use Rattle.sd_script.specs.declared.line.Part.TheVariants.{Head, Body}
 
 -- how a command is written
 abbrev pub command_text : Command → List ℕ
 command_text Block = codes "block"
+command_text Volume = codes "volume"
+command_text SpoolLimit = codes "spool"
+command_text Queue = codes "queue"
 command_text Time = codes "time"
+command_text Drive = codes "drive"
+command_text Capacity = codes "capacity"
+command_text Fail = codes "fail"
 command_text At = codes "at"
 command_text Label = codes "label"
 command_text Adopt = codes "adopt"
@@ -27,9 +35,38 @@ command_text Sync = codes "sync"
 command_text Close = codes "close"
 command_text JobMedia = codes "jobmedia"
 command_text Read = codes "read"
+command_text Again = codes "again"
 command_text Drain = codes "drain"
 command_text Status = codes "status"
 command_text Requests = codes "requests"
+command_text Restart = codes "restart"
+
+-- a command that sets what the world is made with
+abbrev pub is_setting : Command → Bool
+is_setting Block = true
+is_setting Volume = true
+is_setting SpoolLimit = true
+is_setting Queue = true
+is_setting Time = true
+is_setting Drive = true
+is_setting Capacity = true
+is_setting Fail = true
+is_setting command = false
+
+-- the step of a session that has the word of a setting
+abbrev pub is_spool : Command → Bool
+is_spool Spool = true
+is_spool command = false
+
+-- no line but settings came before
+abbrev pub is_head : Part → Bool
+is_head Head = true
+is_head Body = false
+
+-- lines of the command stand there: settings at the head alone, and `spool` as a step behind it alone
+abbrev pub stands : Part → Command → Bool
+stands part command =
+    if is_setting command then is_head part else not (is_spool command && is_head part)
 
 -- a console has lines of these commands too
 abbrev pub is_console : Command → Bool

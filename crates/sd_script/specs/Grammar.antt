@@ -1,16 +1,23 @@
 -- The lines of a script: how each is spelled, and within which limits.
-use Rattle.std.specs.Prelude.{◌≡◌, ◌⊎◌, ℕ, ◌≤◌, ◌<◌, pos, ◌≤ℤ◌, FitsSigned, List, [], ◌∷◌, length, All, codes}
+use Rattle.std.specs.Prelude.{◌≡◌, ◌⊎◌, ℕ, ◌^◌, ◌≤◌, ◌<◌, pos, ◌≤ℤ◌, FitsSigned, List, [], ◌∷◌, length, All, Some, None, codes}
 use Rattle.std.specs.Int.{w64}
 use Rattle.std.specs.List.{AllByRecursion}
 use Rattle.std.specs.Fmt.{decimal, signed_decimal}
 use Rattle.sd_base.specs.Name.{IsName}
-use Rattle.sd_base.specs.Limits.{least_block_limit, most_block, most_data, most_number}
+use Rattle.sd_base.specs.Limits.{least_block_limit, most_block, most_data, most_number, most_volume}
 use Rattle.sd_base.specs.declared.refusal.Refusal as base
 use Rattle.sd_base.specs.declared.refusal.Refusal.TheVariants as refusals
 use Rattle.sd_words.specs.Fields.{HasNoBlank, joined}
-use Rattle.sd_script.specs.declared.line.Setting.TheVariants.{Block, Time}
+use Rattle.sd_memdrive.specs.declared.plan.Call.{Call}
+use Rattle.sd_memdrive.specs.declared.plan.Call.TheVariants as call
+use Rattle.sd_memdrive.specs.declared.plan.When.{When}
+use Rattle.sd_memdrive.specs.declared.plan.When.TheVariants as «when»
+use Rattle.sd_script.specs.declared.line.Part.{Part}
+use Rattle.sd_script.specs.declared.line.Part.TheVariants.{Head, Body}
+use Rattle.sd_script.specs.declared.line.Setting.{Setting}
+use Rattle.sd_script.specs.declared.line.Setting.TheVariants as setting
 use Rattle.sd_script.specs.declared.line.Line.{Line}
-use Rattle.sd_script.specs.declared.line.Line.TheVariants.{Empty, Set, At, Console, Seek, Open, Rec, Fill, End, Spool, Despool, Take, Place, Sync, Close, Read, Drain}
+use Rattle.sd_script.specs.declared.line.Line.TheVariants.{Empty, Set, At, Console, Seek, Open, Rec, Fill, End, Spool, Despool, Take, Place, Sync, Close, Read, Again, Drain, Restart}
 use Rattle.sd_script.specs.declared.console.ConsoleCmd.{ConsoleCmd}
 use Rattle.sd_script.specs.declared.console.ConsoleCmd.TheVariants.{Label, Adopt, Mount, Unmount, Retire, Cancel, JobMedia, Status, Requests}
 use Rattle.sd_script.specs.declared.line.LineFault.{LineFault}
@@ -29,11 +36,39 @@ console_fields (JobMedia ticket) = codes "jobmedia" ∷ decimal ticket ∷ []
 console_fields Status = codes "status" ∷ []
 console_fields Requests = codes "requests" ∷ []
 
+-- how a kind of call of a drive is written
+abbrev pub call_text : Call → List ℕ
+call_text call.Create = codes "create"
+call_text call.Load = codes "load"
+call_text call.Len = codes "len"
+call_text call.Read = codes "read"
+call_text call.Append = codes "append"
+call_text call.Sync = codes "sync"
+call_text call.Cut = codes "cut"
+
+-- how it is written how a call fails
+abbrev pub when_text : When → List ℕ
+when_text «when».Before = codes "before"
+when_text «when».Half = codes "half"
+when_text «when».After = codes "after"
+
+-- the fields of a setting
+abbrev pub setting_fields : Setting → List (List ℕ)
+setting_fields (setting.Block size) = codes "block" ∷ decimal size ∷ []
+setting_fields (setting.Volume bytes) = codes "volume" ∷ decimal bytes ∷ []
+setting_fields (setting.Spool bytes) = codes "spool" ∷ decimal bytes ∷ []
+setting_fields (setting.Queue blocks) = codes "queue" ∷ decimal blocks ∷ []
+setting_fields (setting.Time time) = codes "time" ∷ decimal time ∷ []
+setting_fields (setting.Drive media lanes) = codes "drive" ∷ media ∷ decimal lanes ∷ []
+setting_fields (setting.Capacity drive bytes) =
+    codes "capacity" ∷ decimal drive ∷ decimal bytes ∷ []
+setting_fields (setting.Fail drive fail) =
+    codes "fail" ∷ decimal drive ∷ call_text fail.call ∷ decimal fail.nth ∷ when_text fail.when ∷ []
+
 -- the fields of a line; the last one of `rec` is its text, which may hold blanks
 abbrev pub fields : Line → List (List ℕ)
 fields Empty = []
-fields (Set (Block size)) = codes "block" ∷ decimal size ∷ []
-fields (Set (Time time)) = codes "time" ∷ decimal time ∷ []
+fields (Set s) = setting_fields s
 fields (At moment) = codes "at" ∷ signed_decimal moment ∷ []
 fields (Console command) = console_fields command
 fields (Seek drive) = codes "seek" ∷ decimal drive ∷ []
@@ -50,7 +85,11 @@ fields (Place drive) = codes "place" ∷ decimal drive ∷ []
 fields (Sync drive) = codes "sync" ∷ decimal drive ∷ []
 fields (Close ticket) = codes "close" ∷ decimal ticket ∷ []
 fields (Read ticket) = codes "read" ∷ decimal ticket ∷ []
+fields (Again key) = codes "again" ∷ decimal key.time ∷ decimal key.id ∷ []
 fields Drain = codes "drain" ∷ []
+fields (Restart time None) = codes "restart" ∷ decimal time ∷ []
+fields (Restart time (Some tail)) =
+    codes "restart" ∷ decimal time ∷ decimal tail.drive ∷ tail.volume ∷ decimal tail.count ∷ []
 
 -- how a line is written, without the newline behind it
 abbrev pub spelling : Line → List ℕ
@@ -65,6 +104,18 @@ IsShorter bytes line = ⊥
 -- the bytes are the line as it is written, or that shorter form of it
 abbrev pub IsSpelled : List ℕ → Line → Type 0
 IsSpelled bytes line = (bytes ≡ spelling line) ⊎ IsShorter bytes line
+
+-- the most blocks that wait before a drive
+abbrev pub most_queue : ℕ
+most_queue = 1024
+
+-- the most lanes of a drive
+abbrev pub most_lanes : ℕ
+most_lanes = 32
+
+-- the most bytes that a volume of a drive in memory may have room for
+abbrev pub most_capacity : ℕ
+most_capacity = 67108864
 
 -- from 1 to the greatest FileIndex, Stream, job, ticket and time
 abbrev pub IsNumber : ℕ → Type 0
@@ -86,11 +137,21 @@ IsConsoleWithin (JobMedia ticket) = IsNumber ticket
 IsConsoleWithin Status = Unit {0}
 IsConsoleWithin Requests = Unit {0}
 
+-- the numbers of a setting are within their limits
+abbrev pub IsSettingWithin : Setting → Type 0
+IsSettingWithin (setting.Block size) = (least_block_limit ≤ size) × (size ≤ most_block)
+IsSettingWithin (setting.Volume bytes) = bytes ≤ most_volume
+IsSettingWithin (setting.Spool bytes) = bytes ≤ most_volume
+IsSettingWithin (setting.Queue blocks) = (1 ≤ blocks) × (blocks ≤ most_queue)
+IsSettingWithin (setting.Time time) = IsNumber time
+IsSettingWithin (setting.Drive media lanes) = (1 ≤ lanes) × (lanes ≤ most_lanes)
+IsSettingWithin (setting.Capacity drive bytes) = IsDrive drive × (bytes ≤ most_capacity)
+IsSettingWithin (setting.Fail drive fail) = IsDrive drive × (1 ≤ fail.nth) × (fail.nth < 2 ^ 64)
+
 -- the numbers are within their limits, and so is the length of a text
 abbrev pub IsWithin : Line → Type 0
 IsWithin Empty = Unit {0}
-IsWithin (Set (Block size)) = (least_block_limit ≤ size) × (size ≤ most_block)
-IsWithin (Set (Time time)) = IsNumber time
+IsWithin (Set s) = IsSettingWithin s
 IsWithin (At moment) = (pos 0 ≤ℤ moment) × FitsSigned w64 moment
 IsWithin (Console command) = IsConsoleWithin command
 IsWithin (Seek drive) = IsDrive drive
@@ -107,7 +168,11 @@ IsWithin (Place drive) = IsDrive drive
 IsWithin (Sync drive) = IsDrive drive
 IsWithin (Close ticket) = IsNumber ticket
 IsWithin (Read ticket) = IsNumber ticket
+IsWithin (Again key) = IsNumber key.time × IsNumber key.id
 IsWithin Drain = Unit {0}
+IsWithin (Restart time None) = IsNumber time
+IsWithin (Restart time (Some tail)) =
+    IsNumber time × IsDrive tail.drive × (tail.count < 2 ^ 64)
 
 -- the fields of a console's line that stand in the place of a name
 abbrev pub console_names : ConsoleCmd → List (List ℕ)
@@ -119,7 +184,9 @@ console_names command = []
 -- the fields of a line that stand in the place of a name
 abbrev pub names : Line → List (List ℕ)
 names (Console command) = console_names command
+names (Set (setting.Drive media lanes)) = media ∷ []
 names (Open job pool media) = pool ∷ media ∷ []
+names (Restart time (Some tail)) = tail.volume ∷ []
 names line = []
 
 -- one character or more, none of them a blank
@@ -148,19 +215,28 @@ pub record HasForm (bytes : List ℕ) (line : Line) : Type 0 where
   pub within : IsWithin line
   pub names : AreNames line
 
+-- the line stands there: settings at the head alone, where `spool` is one and no step of a session
+abbrev pub StandsIn : Part → Line → Type 0
+StandsIn Head (Spool ticket) = ⊥
+StandsIn Head line = Unit {0}
+StandsIn Body (Set s) = ⊥
+StandsIn Body line = Unit {0}
+
 -- a console has the line too
 abbrev pub IsConsole : Line → Type 0
 IsConsole line = (command : ConsoleCmd) × (line ≡ Console command)
 
--- bytes that have a shape have one
+-- bytes that have a shape have one in each part of a script
 abbrev pub HaveOneShape : Type 0
-HaveOneShape = (bytes : List ℕ) (line other : Line)
-    → HasShape bytes line → HasShape bytes other → line ≡ other
+HaveOneShape = (part : Part) (bytes : List ℕ) (line other : Line)
+    → HasShape bytes line → StandsIn part line
+    → HasShape bytes other → StandsIn part other → line ≡ other
 
--- bytes that have a form have one
+-- bytes that have a form have one in each part of a script
 abbrev pub HaveOneForm : Type 0
-HaveOneForm = (bytes : List ℕ) (line other : Line)
-    → HasForm bytes line → HasForm bytes other → line ≡ other
+HaveOneForm = (part : Part) (bytes : List ℕ) (line other : Line)
+    → HasForm bytes line → StandsIn part line
+    → HasForm bytes other → StandsIn part other → line ≡ other
 
 -- the refusal that a line prints that is none
 abbrev pub line_refusal : LineFault → base.Refusal

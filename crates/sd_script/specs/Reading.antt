@@ -1,6 +1,11 @@
 -- What line the fields spell that are read one after another; apart from how lines are spelled.
-use Rattle.std.specs.Prelude.{◌≡◌, ℕ, nat_le, if◌then◌else◌, pos, length, Option, Some, None, Result, Err, MatchResult}
-use Rattle.sd_base.specs.Limits.{least_block_limit, most_block, most_data, most_number}
+use Rattle.std.specs.Prelude.{◌≡◌, ℕ, nat_le, if◌then◌else◌, pos, List, [], length, Option, Some, None, Result, Err, MatchResult}
+use Rattle.std.specs.Str.{bytes_eq}
+use Rattle.sd_base.specs.Limits.{least_block_limit, most_block, most_data, most_number, most_volume}
+use Rattle.sd_memdrive.specs.declared.plan.Call.{Call}
+use Rattle.sd_memdrive.specs.declared.plan.Call.TheVariants as call
+use Rattle.sd_memdrive.specs.declared.plan.When.{When}
+use Rattle.sd_memdrive.specs.declared.plan.When.TheVariants as «when»
 use Rattle.sd_script.specs.declared.line.Setting.TheVariants as setting
 use Rattle.sd_script.specs.declared.line.Line.{Line}
 use Rattle.sd_script.specs.declared.line.Line.TheVariants as line
@@ -8,14 +13,18 @@ use Rattle.sd_script.specs.declared.console.ConsoleCmd.TheVariants as console
 use Rattle.sd_script.specs.declared.line.LineFault.{LineFault}
 use Rattle.sd_script.specs.declared.line.LineFault.TheVariants.{BadCommand, BadName}
 use Rattle.sd_script.specs.declared.command.Command.{Command}
-use Rattle.sd_script.specs.declared.command.Command.TheVariants.{Block, Time, At, Label, Adopt, Mount, Unmount, Seek, Retire, Open, Rec, Fill, End, Cancel, Spool, Despool, Take, Place, Sync, Close, JobMedia, Read, Drain, Status, Requests}
-use Rattle.sd_script.specs.Grammar.{AreNames}
+use Rattle.sd_script.specs.declared.command.Command.TheVariants.{Block, Volume, SpoolLimit, Queue, Time, Drive, Capacity, Fail, At, Label, Adopt, Mount, Unmount, Seek, Retire, Open, Rec, Fill, End, Cancel, Spool, Despool, Take, Place, Sync, Close, JobMedia, Read, Again, Drain, Status, Requests, Restart}
+use Rattle.sd_script.specs.Grammar.{AreNames, call_text, most_capacity, most_lanes, most_queue, when_text}
 use Rattle.sd_words.specs.Fields.{Fields, joined}
 use Rattle.sd_words.specs.Reading.{◌>>=◌, number_at, word_at, all_read, only_number}
 
 -- the last moment, in microseconds
 abbrev pub most_moment : ℕ
 most_moment = 9223372036854775807
+
+-- the greatest number of 64 bits
+abbrev pub most_wide : ℕ
+most_wide = 18446744073709551615
 
 -- the line whose shape was read, where its names are names
 abbrev pub Gives : Result Line LineFault → Option Line → Type 0
@@ -74,6 +83,89 @@ fill_shape fs = do
   count ← only_number 0 most_data stream.1
   Some (line.Fill ticket.0 index.0 stream.0 count)
 
+-- the same of `drive`
+unfoldable pub drive_shape : Fields → Option Line
+drive_shape fs = do
+  media ← word_at fs
+  lanes ← only_number 1 most_lanes media.1
+  Some (line.Set (setting.Drive media.0 lanes))
+
+-- the same of `capacity`
+unfoldable pub capacity_shape : Fields → Option Line
+capacity_shape fs = do
+  drive ← number_at 1 8 fs
+  bytes ← only_number 0 most_capacity drive.1
+  Some (line.Set (setting.Capacity drive.0 bytes))
+
+-- the kind of call of a drive that the word spells
+abbrev pub call_in : List ℕ → Option Call
+call_in word =
+    if bytes_eq word (call_text call.Create) then Some call.Create
+    else if bytes_eq word (call_text call.Load) then Some call.Load
+    else if bytes_eq word (call_text call.Len) then Some call.Len
+    else if bytes_eq word (call_text call.Read) then Some call.Read
+    else if bytes_eq word (call_text call.Append) then Some call.Append
+    else if bytes_eq word (call_text call.Sync) then Some call.Sync
+    else if bytes_eq word (call_text call.Cut) then Some call.Cut
+    else None
+
+-- how a call fails, as the word spells it
+abbrev pub when_in : List ℕ → Option When
+when_in word =
+    if bytes_eq word (when_text «when».Before) then Some «when».Before
+    else if bytes_eq word (when_text «when».Half) then Some «when».Half
+    else if bytes_eq word (when_text «when».After) then Some «when».After
+    else None
+
+-- the next field, where it is a kind of call
+unfoldable pub call_at : Fields → Option (Call × Fields)
+call_at fs = do
+  word ← word_at fs
+  kind ← call_in word.0
+  Some (kind, word.1)
+
+-- the next field, where it says how a call fails
+unfoldable pub when_at : Fields → Option (When × Fields)
+when_at fs = do
+  word ← word_at fs
+  way ← when_in word.0
+  Some (way, word.1)
+
+-- the same of `fail`
+unfoldable pub fail_shape : Fields → Option Line
+fail_shape fs = do
+  drive ← number_at 1 8 fs
+  kind ← call_at drive.1
+  nth ← number_at 1 most_wide kind.1
+  way ← when_at nth.1
+  all_read (line.Set (setting.Fail drive.0 (record { call = kind.0; nth = nth.0; when = way.0 }))) way.1
+
+-- the same of `again`
+unfoldable pub again_shape : Fields → Option Line
+again_shape fs = do
+  time ← number_at 1 most_number fs
+  id ← only_number 1 most_number time.1
+  Some (line.Again (record { time = time.0; id = id }))
+
+-- the same of `restart` of that time, with what a stop leaves
+unfoldable pub behind_shape : ℕ → Fields → Option Line
+behind_shape time fs = do
+  drive ← number_at 1 8 fs
+  volume ← word_at drive.1
+  count ← only_number 0 most_wide volume.1
+  Some (line.Restart time (Some (record { drive = drive.0; volume = volume.0; count = count })))
+
+-- the same of `restart` of that time, whether a field is left or not
+abbrev pub restart_behind : ℕ → Fields → Option Line
+restart_behind time [] = Some (line.Restart time None)
+restart_behind time fs = behind_shape time fs
+
+-- the same of `restart`
+unfoldable pub restart_shape : Fields → Option Line
+restart_shape fs = do
+  time ← number_at 1 most_number fs
+  restart_behind time.0 time.1
+
 -- a line of one number
 abbrev pub one_number : ℕ → ℕ → (ℕ → Line) → Fields → Option Line
 one_number least most made fs = only_number least most fs >>= λ n. Some (made n)
@@ -81,7 +173,13 @@ one_number least most made fs = only_number least most fs >>= λ n. Some (made n
 -- the line of a command and the fields behind it
 abbrev pub shape : Command → Fields → Option Line
 shape Block fs = one_number least_block_limit most_block (λ n. line.Set (setting.Block n)) fs
+shape Volume fs = one_number 0 most_volume (λ n. line.Set (setting.Volume n)) fs
+shape SpoolLimit fs = one_number 0 most_volume (λ n. line.Set (setting.Spool n)) fs
+shape Queue fs = one_number 1 most_queue (λ n. line.Set (setting.Queue n)) fs
 shape Time fs = one_number 1 most_number (λ n. line.Set (setting.Time n)) fs
+shape Drive fs = drive_shape fs
+shape Capacity fs = capacity_shape fs
+shape Fail fs = fail_shape fs
 shape At fs = one_number 0 most_moment (λ n. line.At (pos n)) fs
 shape Label fs = label_shape fs
 shape Adopt fs = adopt_shape fs
@@ -102,6 +200,8 @@ shape Sync fs = one_number 1 8 line.Sync fs
 shape Close fs = one_number 1 most_number line.Close fs
 shape JobMedia fs = one_number 1 most_number (λ n. line.Console (console.JobMedia n)) fs
 shape Read fs = one_number 1 most_number line.Read fs
+shape Again fs = again_shape fs
 shape Drain fs = all_read line.Drain fs
 shape Status fs = all_read (line.Console console.Status) fs
 shape Requests fs = all_read (line.Console console.Requests) fs
+shape Restart fs = restart_shape fs

@@ -1,29 +1,16 @@
-// The lines of several fields, and those whose one field is no number of a drive or a session.
+// The lines of several fields, and those whose one field is no number of a drive or a session; those that
+// are no settings.
 ghost use Rattle.std.specs.Prelude.{◌≡◌};
-ghost use Rattle.sd_script.specs.Reading.{Gives, shape};
+ghost use Rattle.sd_script.specs.Reading.{Gives, behind_shape, shape};
 ghost use Rattle.sd_script.specs.declared.command.Command.TheVariants as commands;
 
 use crate::console::ConsoleCmd;
-use crate::line::{Line, LineFault, MOST_MOMENT, Setting, Text};
-use sd_base::{LEAST_BLOCK_LIMIT, MOST_BLOCK, MOST_DATA, MOST_NUMBER, Name};
+use crate::line::{Line, LineFault, MOST_MOMENT, Tail, Text};
+use sd_base::{MOST_DATA, MOST_NUMBER, Name, SessionKey};
 use sd_words::Words;
 
-/// The greatest FileIndex, Stream and time, as a number of the width that fields are read in.
+/// The greatest FileIndex, Stream and VolSessionId, as a number of the width that fields are read in.
 const MOST: u64 = MOST_NUMBER as u64;
-
-pub fn block(words: Words<'_>) -> Result<Line<'_>, LineFault>
-    ensures { Gives result (shape commands.Block words.entry) }
-{
-    let size = words.only_number(LEAST_BLOCK_LIMIT as u64, MOST_BLOCK as u64)?;
-    Ok(Line::Set(Setting::Block(size as usize)))
-}
-
-pub fn time(words: Words<'_>) -> Result<Line<'_>, LineFault>
-    ensures { Gives result (shape commands.Time words.entry) }
-{
-    let time = words.only_number(1, MOST)?;
-    Ok(Line::Set(Setting::Time(time as u32)))
-}
 
 pub fn at(words: Words<'_>) -> Result<Line<'_>, LineFault>
     ensures { Gives result (shape commands.At words.entry) }
@@ -122,6 +109,47 @@ pub fn fill(mut words: Words<'_>) -> Result<Line<'_>, LineFault>
         index: index as u32,
         stream: stream as u32,
         count: count as usize,
+    })
+}
+
+#[tactic(auto, unfolding(crate::specs::Reading::again_shape))]
+pub fn again(mut words: Words<'_>) -> Result<Line<'_>, LineFault>
+    ensures { Gives result (shape commands.Again words.entry) }
+{
+    let time = words.number(1, MOST)?;
+    let id = words.only_number(1, MOST)?;
+    Ok(Line::Again(SessionKey {
+        time: time as u32,
+        id: id as u32,
+    }))
+}
+
+#[tactic(auto, unfolding(crate::specs::Reading::restart_shape))]
+pub fn restart(mut words: Words<'_>) -> Result<Line<'_>, LineFault>
+    ensures { Gives result (shape commands.Restart words.entry) }
+{
+    let time = words.number(1, MOST)? as u32;
+    if words.end().is_ok() {
+        return Ok(Line::Restart { time, tail: None });
+    }
+    restart_behind(time, words)
+}
+
+/// The line `restart` of that time, with what a stop leaves.
+#[tactic(auto, unfolding(crate::specs::Reading::behind_shape))]
+fn restart_behind(time: u32, mut words: Words<'_>) -> Result<Line<'_>, LineFault>
+    ensures { Gives result (behind_shape time words.entry) }
+{
+    let drive = words.numbered()?;
+    let volume = words.word()?;
+    let count = words.only_number(0, u64::MAX)?;
+    Ok(Line::Restart {
+        time,
+        tail: Some(Tail {
+            drive,
+            volume: Name::parse(volume)?,
+            count,
+        }),
     })
 }
 

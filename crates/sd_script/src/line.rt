@@ -4,7 +4,8 @@ ghost use Rattle.sd_script.specs.Grammar.{line_refusal};
 ghost use Rattle.sd_script.specs.declared.line.LineFault.TheVariants.{BadCommand, BadName};
 
 use crate::console::ConsoleCmd;
-use sd_base::{BadName, DriveNo, JobId, MediaName, PoolName, Refusal, Ticket};
+use sd_base::{BadName, DriveNo, JobId, MediaName, PoolName, Refusal, SessionKey, Ticket, VolName};
+use sd_memdrive::Fail;
 use sd_words::BadField;
 use std::marker::Model;
 
@@ -47,16 +48,51 @@ pub enum Line<'a> {
     Sync(DriveNo),
     Close(Ticket),
     Read(Ticket),
+    /// Reads a session by the JobMedia text that its close printed, in this run or an earlier one.
+    Again(SessionKey),
     Drain,
+    /// A new world over the same drives, with that time of the run in seconds; first a tail is put on.
+    Restart {
+        time: u32,
+        tail: Option<Tail>,
+    },
 }
 
 /// A line that sets what the world is made with; it stands before all other lines.
-#[derive(Clone, Copy, Debug, PartialEq, Eq)]
+#[derive(Drop)]
 pub enum Setting {
     /// The limit of a block, in bytes.
     Block(usize),
+    /// The limit of a volume, in bytes.
+    Volume(u64),
+    /// The limit of a session's spool, in bytes; 0 for none.
+    Spool(u64),
+    /// How many blocks may wait before a drive.
+    Queue(usize),
     /// The time of the run, in seconds.
     Time(u32),
+    /// One more drive, with so many lanes.
+    Drive { media: MediaName, lanes: u32 },
+    /// How many bytes each volume of a drive has room for.
+    Capacity { drive: DriveNo, bytes: u64 },
+    /// A call of a drive that fails.
+    Fail { drive: DriveNo, fail: Fail },
+}
+
+/// What a stop may leave behind the end of a volume: here `count` bytes of zero.
+#[derive(Drop)]
+pub struct Tail {
+    pub drive: DriveNo,
+    pub volume: VolName,
+    pub count: u64,
+}
+
+/// Where a line stands in a script: at its head, where no line but settings came before it, or in its
+/// body, behind the first line that is no setting. That first line itself is the last one of the head.
+#[derive(Clone, Copy, Debug, PartialEq, Eq)]
+pub enum Part {
+    Head,
+    Body,
 }
 
 /// The text of a `rec` line, a slice of that line. In a contract it is the list of its bytes.

@@ -1,34 +1,37 @@
 // The lines of a script, read: what is read has the form of the line, and what has a form is read.
-ghost use Rattle.std.specs.Prelude.{◌≡◌, ◌<◌, ◌↔◌, ℕ, List, ◌∷◌, Ok, Err, IfOk, IfSome, IfNone, IsTrue, All};
-ghost use Rattle.sd_script.specs.Grammar.{HasForm, HasShape, AreNames, IsConsole};
-ghost use Rattle.sd_script.specs.Command.{command_text};
+ghost use Rattle.std.specs.Prelude.{◌≡◌, ◌<◌, ◌↔◌, ℕ, List, ◌∷◌, true, Ok, Err, IfOk, IfSome, IfNone, IsTrue, All};
+ghost use Rattle.sd_script.specs.Grammar.{HasForm, HasShape, AreNames, IsConsole, StandsIn};
+ghost use Rattle.sd_script.specs.Command.{command_text, stands};
 ghost use Rattle.sd_script.specs.Reading.{Gives, shape};
 ghost use Rattle.sd_script.specs.declared.console.ConsoleCmd.{ConsoleCmd as SpecConsole};
 ghost use Rattle.sd_script.specs.declared.line.Line.{Line as SpecLine};
 ghost use Rattle.sd_script.specs.declared.line.Line.TheVariants.{Console};
+ghost use Rattle.sd_script.specs.declared.line.Part.TheVariants.{Body};
 ghost use Rattle.sd_script.specs.declared.command.Command.{Command as SpecCommand};
 
 use crate::command::{Command, command_of};
 use crate::console::ConsoleCmd;
 use crate::forms::{
-    adopt, at, block, drain, fill, label, mount, open, rec, requests, status, time,
+    adopt, again, at, drain, fill, label, mount, open, rec, requests, restart, status,
 };
-use crate::line::{Line, LineFault};
+use crate::line::{Line, LineFault, Part};
+use crate::settings::{block, capacity, drive, fail, queue, spool_limit, time, volume};
 use sd_words::Words;
 use std::str;
 
-/// The line that `bytes` spell, without the newline behind it.
-pub fn read_line(bytes: &[u8]) -> Result<Line<'_>, LineFault>
-    // What is read has the form of that line,
-    ensures ok { IfOk result (λ line. HasForm bytes.now line) }
-    // and what has the form of a line is read as that.
-    ensures found { (line : SpecLine) → HasForm bytes.now line → result ≡ Ok line }
+/// The line that `bytes` spell in that part of a script, without the newline behind it.
+pub fn read_line(part: Part, bytes: &[u8]) -> Result<Line<'_>, LineFault>
+    // What is read has the form of that line, and stands there,
+    ensures ok { IfOk result (λ line. HasForm bytes.now line × StandsIn part line) }
+    // and what has the form of a line that stands there is read as that.
+    ensures found { (line : SpecLine) → HasForm bytes.now line → StandsIn part line
+        → result ≡ Ok line }
     // A bad name: the form is there, but for a word that is no name.
-    ensures bad_name { (result ≡ Err LineFault.BadName)
-        ↔ ((line : SpecLine) × HasShape bytes.now line × (AreNames line → ⊥)) }
+    ensures bad_name { (result ≡ Err LineFault.BadName) ↔ ((line : SpecLine)
+        × HasShape bytes.now line × StandsIn part line × (AreNames line → ⊥)) }
     // A bad command: there is no form, whatever the names are.
     ensures bad_command { (result ≡ Err LineFault.BadCommand)
-        ↔ ((line : SpecLine) → HasShape bytes.now line → ⊥) }
+        ↔ ((line : SpecLine) → HasShape bytes.now line → StandsIn part line → ⊥) }
 {
     if bytes.is_empty() {
         return Ok(Line::Empty);
@@ -37,7 +40,7 @@ pub fn read_line(bytes: &[u8]) -> Result<Line<'_>, LineFault>
         return Err(LineFault::BadCommand);
     };
     let mut words = Words::new(line);
-    let Some(command) = first_command(&mut words) else {
+    let Some(command) = first_command(part, &mut words) else {
         return Err(LineFault::BadCommand);
     };
     line_of(command, words)
@@ -61,7 +64,7 @@ pub fn read_console(bytes: &[u8]) -> Result<ConsoleCmd, LineFault>
     if !begins_as_console(bytes) {
         return Err(LineFault::BadCommand);
     }
-    match read_line(bytes) {
+    match read_line(Part::Body, bytes) {
         Ok(line) => console_of(line),
         Err(fault) => Err(fault),
     }
@@ -79,14 +82,15 @@ fn console_of(line: Line<'_>) -> Result<ConsoleCmd, LineFault>
 
 /// Whether the first word is of a line that a console has too.
 fn begins_as_console(bytes: &[u8]) -> bool
-    ensures yes { IsTrue result → (line : SpecLine) → HasShape bytes.now line → IsConsole line }
+    ensures yes { IsTrue result → (line : SpecLine)
+        → HasShape bytes.now line → StandsIn Body line → IsConsole line }
     ensures no { (command : SpecConsole) → HasShape bytes.now (Console command) → IsTrue result }
 {
     let Some(line) = ascii_text(bytes) else {
         return false;
     };
     let mut words = Words::new(line);
-    match first_command(&mut words) {
+    match first_command(Part::Body, &mut words) {
         Some(command) => command.is_console(),
         None => false,
     }
@@ -107,16 +111,17 @@ fn ascii_text(bytes: &[u8]) -> Option<&str>
     Some(text)
 }
 
-/// The command that the next field spells.
-fn first_command(words: &mut Words<'_>) -> Option<Command>
-    ensures found { IfSome result (λ command. words.old ≡ command_text command ∷ words.new) }
+/// The command that the next field spells in that part of a script.
+fn first_command(part: Part, words: &mut Words<'_>) -> Option<Command>
+    ensures found { IfSome result (λ command.
+        (words.old ≡ command_text command ∷ words.new) × (stands part command ≡ true)) }
     ensures none { IfNone result ((command : SpecCommand) (rest : List (List ℕ))
-        → words.old ≡ command_text command ∷ rest → ⊥) }
+        → words.old ≡ command_text command ∷ rest → stands part command ≡ true → ⊥) }
 {
     let Ok(word) = words.word() else {
         return None;
     };
-    command_of(word)
+    command_of(part, word)
 }
 
 /// The line of a command and the fields behind it.
@@ -125,7 +130,13 @@ fn line_of(command: Command, words: Words<'_>) -> Result<Line<'_>, LineFault>
 {
     match command {
         Command::Block => block(words),
+        Command::Volume => volume(words),
+        Command::SpoolLimit => spool_limit(words),
+        Command::Queue => queue(words),
         Command::Time => time(words),
+        Command::Drive => drive(words),
+        Command::Capacity => capacity(words),
+        Command::Fail => fail(words),
         Command::At => at(words),
         Command::Label => label(words),
         Command::Adopt => adopt(words),
@@ -146,8 +157,10 @@ fn line_of(command: Command, words: Words<'_>) -> Result<Line<'_>, LineFault>
         Command::Close => Ok(Line::Close(words.only()?)),
         Command::JobMedia => Ok(Line::Console(ConsoleCmd::JobMedia(words.only()?))),
         Command::Read => Ok(Line::Read(words.only()?)),
+        Command::Again => again(words),
         Command::Drain => drain(words),
         Command::Status => status(words),
         Command::Requests => requests(words),
+        Command::Restart => restart(words),
     }
 }

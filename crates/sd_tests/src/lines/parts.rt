@@ -1,6 +1,6 @@
 // A line that was read, as plain parts that a table can hold.
-use sd_base::VolName;
-use sd_script::{ConsoleCmd, Line, Setting};
+use sd_base::{SessionKey, VolName};
+use sd_script::{Call, ConsoleCmd, Fail, Line, Setting, Tail, When};
 use std::str;
 
 /// What a line does, its numbers in their order and 0 behind them, and its words or its text.
@@ -17,8 +17,7 @@ const NO_WORDS: [&str; 3] = ["", "", ""];
 pub fn parts_of<'a>(line: &'a Line<'_>) -> Parts<'a> {
     match line {
         Line::Empty => plain("nothing", 0),
-        Line::Set(Setting::Block(size)) => plain("sets the block limit", *size as u64),
-        Line::Set(Setting::Time(time)) => plain("sets the time", u64::from(*time)),
+        Line::Set(setting) => setting_parts(setting),
         Line::At(moment) => plain("moment", u64::try_from(*moment).unwrap_or(u64::MAX)),
         Line::Console(command) => command_parts(command),
         Line::Open { job, pool, media } => Parts {
@@ -26,7 +25,52 @@ pub fn parts_of<'a>(line: &'a Line<'_>) -> Parts<'a> {
             numbers: [u64::from(job.get()), 0, 0, 0],
             words: [pool.as_str(), media.as_str(), ""],
         },
+        Line::Again(key) => again_parts(*key),
+        Line::Restart { time, tail } => restart_parts(*time, tail),
         other => record_parts(other),
+    }
+}
+
+fn setting_parts(setting: &Setting) -> Parts<'_> {
+    match setting {
+        Setting::Block(size) => plain("sets the block limit", *size as u64),
+        Setting::Volume(bytes) => plain("sets the volume limit", *bytes),
+        Setting::Spool(bytes) => plain("sets the spool limit", *bytes),
+        Setting::Queue(blocks) => plain("sets the queue", *blocks as u64),
+        Setting::Time(time) => plain("sets the time", u64::from(*time)),
+        Setting::Drive { media, lanes } => Parts {
+            does: "adds a drive",
+            numbers: [u64::from(*lanes), 0, 0, 0],
+            words: [media.as_str(), "", ""],
+        },
+        Setting::Capacity { drive, bytes } => Parts {
+            does: "sets the capacity",
+            numbers: [u64::from(drive.get()), *bytes, 0, 0],
+            words: NO_WORDS,
+        },
+        Setting::Fail { drive, fail } => fail_parts(drive.get(), *fail),
+    }
+}
+
+fn fail_parts(drive: u32, fail: Fail) -> Parts<'static> {
+    let call = match fail.call {
+        Call::Create => "create",
+        Call::Load => "load",
+        Call::Len => "len",
+        Call::Read => "read",
+        Call::Append => "append",
+        Call::Sync => "sync",
+        Call::Cut => "cut",
+    };
+    let when = match fail.when {
+        When::Before => "before",
+        When::Half => "half",
+        When::After => "after",
+    };
+    Parts {
+        does: "lets a call fail",
+        numbers: [u64::from(drive), fail.nth, 0, 0],
+        words: [call, when, ""],
     }
 }
 
@@ -109,6 +153,25 @@ fn step_parts<'a>(line: &Line<'_>) -> Parts<'a> {
         Line::Place(drive) => plain("places", u64::from(drive.get())),
         Line::Sync(drive) => plain("syncs", u64::from(drive.get())),
         _ => plain("rounds", 0),
+    }
+}
+
+fn again_parts(key: SessionKey) -> Parts<'static> {
+    Parts {
+        does: "is read again",
+        numbers: [u64::from(key.time), u64::from(key.id), 0, 0],
+        words: NO_WORDS,
+    }
+}
+
+fn restart_parts(time: u32, tail: &Option<Tail>) -> Parts<'_> {
+    match tail {
+        Some(tail) => Parts {
+            does: "restarts with a tail",
+            numbers: [u64::from(time), u64::from(tail.drive.get()), tail.count, 0],
+            words: [tail.volume.as_str(), "", ""],
+        },
+        None => plain("restarts", u64::from(time)),
     }
 }
 

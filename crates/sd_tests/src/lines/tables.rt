@@ -9,29 +9,13 @@ pub struct Row {
     pub read: Parts<'static>,
 }
 
-pub static ROWS: [Row; 49] = [
+pub static ROWS: [Row; 50] = [
     // Each form.
     Row {
         line: "",
         read: Parts {
             does: "nothing",
             numbers: [0, 0, 0, 0],
-            words: ["", "", ""],
-        },
-    },
-    Row {
-        line: "block 64512",
-        read: Parts {
-            does: "sets the block limit",
-            numbers: [64_512, 0, 0, 0],
-            words: ["", "", ""],
-        },
-    },
-    Row {
-        line: "time 1000",
-        read: Parts {
-            does: "sets the time",
-            numbers: [1000, 0, 0, 0],
             words: ["", "", ""],
         },
     },
@@ -221,38 +205,6 @@ pub static ROWS: [Row; 49] = [
     },
     // Numbers at their limits.
     Row {
-        line: "block 1024",
-        read: Parts {
-            does: "sets the block limit",
-            numbers: [1024, 0, 0, 0],
-            words: ["", "", ""],
-        },
-    },
-    Row {
-        line: "block 1048576",
-        read: Parts {
-            does: "sets the block limit",
-            numbers: [1_048_576, 0, 0, 0],
-            words: ["", "", ""],
-        },
-    },
-    Row {
-        line: "time 1",
-        read: Parts {
-            does: "sets the time",
-            numbers: [1, 0, 0, 0],
-            words: ["", "", ""],
-        },
-    },
-    Row {
-        line: "time 2147483647",
-        read: Parts {
-            does: "sets the time",
-            numbers: [2_147_483_647, 0, 0, 0],
-            words: ["", "", ""],
-        },
-    },
-    Row {
         line: "at 9223372036854775807",
         read: Parts {
             does: "moment",
@@ -348,6 +300,62 @@ pub static ROWS: [Row; 49] = [
             words: ["", "", ""],
         },
     },
+    Row {
+        line: "again 1000 7",
+        read: Parts {
+            does: "is read again",
+            numbers: [1000, 7, 0, 0],
+            words: ["", "", ""],
+        },
+    },
+    Row {
+        line: "again 2147483647 2147483647",
+        read: Parts {
+            does: "is read again",
+            numbers: [2_147_483_647, 2_147_483_647, 0, 0],
+            words: ["", "", ""],
+        },
+    },
+    Row {
+        line: "restart 2000",
+        read: Parts {
+            does: "restarts",
+            numbers: [2000, 0, 0, 0],
+            words: ["", "", ""],
+        },
+    },
+    Row {
+        line: "restart 2147483647",
+        read: Parts {
+            does: "restarts",
+            numbers: [2_147_483_647, 0, 0, 0],
+            words: ["", "", ""],
+        },
+    },
+    Row {
+        line: "restart 2000 1 Vol-0001 500",
+        read: Parts {
+            does: "restarts with a tail",
+            numbers: [2000, 1, 500, 0],
+            words: ["Vol-0001", "", ""],
+        },
+    },
+    Row {
+        line: "restart 1 8 a 0",
+        read: Parts {
+            does: "restarts with a tail",
+            numbers: [1, 8, 0, 0],
+            words: ["a", "", ""],
+        },
+    },
+    Row {
+        line: "restart 1 1 a 18446744073709551615",
+        read: Parts {
+            does: "restarts with a tail",
+            numbers: [1, 1, 18_446_744_073_709_551_615, 0],
+            words: ["a", "", ""],
+        },
+    },
     // The text is all behind the fourth blank.
     Row {
         line: "rec 1 1 2",
@@ -407,8 +415,219 @@ pub static ROWS: [Row; 49] = [
     },
 ];
 
+/// Settings, as they are read at the head of a script.
+pub static SETTINGS: [Row; 25] = [
+    Row {
+        line: "block 64512",
+        read: Parts {
+            does: "sets the block limit",
+            numbers: [64_512, 0, 0, 0],
+            words: ["", "", ""],
+        },
+    },
+    Row {
+        line: "block 1024",
+        read: Parts {
+            does: "sets the block limit",
+            numbers: [1024, 0, 0, 0],
+            words: ["", "", ""],
+        },
+    },
+    Row {
+        line: "block 1048576",
+        read: Parts {
+            does: "sets the block limit",
+            numbers: [1_048_576, 0, 0, 0],
+            words: ["", "", ""],
+        },
+    },
+    Row {
+        line: "volume 2200",
+        read: Parts {
+            does: "sets the volume limit",
+            numbers: [2200, 0, 0, 0],
+            words: ["", "", ""],
+        },
+    },
+    Row {
+        line: "volume 0",
+        read: Parts {
+            does: "sets the volume limit",
+            numbers: [0, 0, 0, 0],
+            words: ["", "", ""],
+        },
+    },
+    Row {
+        line: "volume 68719476736",
+        read: Parts {
+            does: "sets the volume limit",
+            numbers: [68_719_476_736, 0, 0, 0],
+            words: ["", "", ""],
+        },
+    },
+    Row {
+        line: "spool 0",
+        read: Parts {
+            does: "sets the spool limit",
+            numbers: [0, 0, 0, 0],
+            words: ["", "", ""],
+        },
+    },
+    Row {
+        line: "spool 1",
+        read: Parts {
+            does: "sets the spool limit",
+            numbers: [1, 0, 0, 0],
+            words: ["", "", ""],
+        },
+    },
+    Row {
+        line: "spool 68719476736",
+        read: Parts {
+            does: "sets the spool limit",
+            numbers: [68_719_476_736, 0, 0, 0],
+            words: ["", "", ""],
+        },
+    },
+    Row {
+        line: "queue 1",
+        read: Parts {
+            does: "sets the queue",
+            numbers: [1, 0, 0, 0],
+            words: ["", "", ""],
+        },
+    },
+    Row {
+        line: "queue 1024",
+        read: Parts {
+            does: "sets the queue",
+            numbers: [1024, 0, 0, 0],
+            words: ["", "", ""],
+        },
+    },
+    Row {
+        line: "time 1000",
+        read: Parts {
+            does: "sets the time",
+            numbers: [1000, 0, 0, 0],
+            words: ["", "", ""],
+        },
+    },
+    Row {
+        line: "time 1",
+        read: Parts {
+            does: "sets the time",
+            numbers: [1, 0, 0, 0],
+            words: ["", "", ""],
+        },
+    },
+    Row {
+        line: "time 2147483647",
+        read: Parts {
+            does: "sets the time",
+            numbers: [2_147_483_647, 0, 0, 0],
+            words: ["", "", ""],
+        },
+    },
+    Row {
+        line: "drive File 1",
+        read: Parts {
+            does: "adds a drive",
+            numbers: [1, 0, 0, 0],
+            words: ["File", "", ""],
+        },
+    },
+    Row {
+        line: "drive Tape-2 32",
+        read: Parts {
+            does: "adds a drive",
+            numbers: [32, 0, 0, 0],
+            words: ["Tape-2", "", ""],
+        },
+    },
+    Row {
+        line: "capacity 1 0",
+        read: Parts {
+            does: "sets the capacity",
+            numbers: [1, 0, 0, 0],
+            words: ["", "", ""],
+        },
+    },
+    Row {
+        line: "capacity 8 67108864",
+        read: Parts {
+            does: "sets the capacity",
+            numbers: [8, 67_108_864, 0, 0],
+            words: ["", "", ""],
+        },
+    },
+    Row {
+        line: "fail 1 create 1 before",
+        read: Parts {
+            does: "lets a call fail",
+            numbers: [1, 1, 0, 0],
+            words: ["create", "before", ""],
+        },
+    },
+    Row {
+        line: "fail 2 load 2 half",
+        read: Parts {
+            does: "lets a call fail",
+            numbers: [2, 2, 0, 0],
+            words: ["load", "half", ""],
+        },
+    },
+    Row {
+        line: "fail 3 len 3 after",
+        read: Parts {
+            does: "lets a call fail",
+            numbers: [3, 3, 0, 0],
+            words: ["len", "after", ""],
+        },
+    },
+    Row {
+        line: "fail 4 read 4 before",
+        read: Parts {
+            does: "lets a call fail",
+            numbers: [4, 4, 0, 0],
+            words: ["read", "before", ""],
+        },
+    },
+    Row {
+        line: "fail 5 append 5 half",
+        read: Parts {
+            does: "lets a call fail",
+            numbers: [5, 5, 0, 0],
+            words: ["append", "half", ""],
+        },
+    },
+    Row {
+        line: "fail 6 sync 6 after",
+        read: Parts {
+            does: "lets a call fail",
+            numbers: [6, 6, 0, 0],
+            words: ["sync", "after", ""],
+        },
+    },
+    Row {
+        line: "fail 8 cut 18446744073709551615 after",
+        read: Parts {
+            does: "lets a call fail",
+            numbers: [8, 18_446_744_073_709_551_615, 0, 0],
+            words: ["cut", "after", ""],
+        },
+    },
+];
+
+/// Settings that have a form but for the name of a media type.
+pub const BAD_MEDIA: &str = "drive a/b 4\ndrive . 1\ndrive a,b 32";
+
+/// Settings behind the head of a script, where `spool` is no setting.
+pub const LATE: &str = "block 64512\nvolume 2200\nspool 0\nspool 2147483648\nqueue 8\ntime 1000
+drive File 4\ndrive a/b 4\ncapacity 1 2200\nfail 1 append 4 after";
+
 /// Lines that are refused, and how.
-pub static REFUSED: [(&str, LineFault); 8] = [
+pub static REFUSED: [(&str, LineFault); 13] = [
     // Numbers past their limits.
     (
         "block 0\nblock 1023\nblock 1048577\ntime 0\ntime 2147483648
@@ -420,6 +639,15 @@ rec 0 1 1 a\nrec 1 0 1 a\nrec 1 1 0 a\nrec 1 1 2147483648 a
 fill 0 1 1 1\nfill 1 2147483648 1 1\nfill 1 1 1 1000001\nfill 1 1 1 -1",
         LineFault::BadCommand,
     ),
+    (
+        "volume 68719476737\nvolume -1\nspool 68719476737\nqueue 0\nqueue 1025\ncapacity 0 1\ncapacity 9 1
+capacity 1 67108865\nfail 0 append 1 after\nfail 9 append 1 after\nfail 1 append 0 after
+fail 1 append 18446744073709551616 after\nagain 0 1\nagain 1 0\nagain 2147483648 1\nagain 1 2147483648
+restart 0\nrestart 2147483648\nrestart 0 1 a 1\nrestart 1 0 a 1\nrestart 1 9 a 1
+restart 1 1 a 18446744073709551616\nrestart 1 1 a -1",
+        LineFault::BadCommand,
+    ),
+    ("drive File 0\ndrive File 33", LineFault::BadCommand),
     // Numbers that are written another way.
     (
         "seek 01\nseek 00\nseek +1\nseek -1\nseek 0x1\nseek 1.\nseek 1\r\nseek 1\0\nseek one
@@ -436,10 +664,22 @@ open 1 a\nopen 1 a \nopen 1 a b c
 rec\nrec \nrec 1 1\nrec 1 1 \nrec  1 1 1 a\nfill 1 1 1 1 \nfill 1 1 1 1 1",
         LineFault::BadCommand,
     ),
+    (
+        "volume\nvolume 1 \nspool\nspool 1 1\nqueue\ndrive\ndrive 4\ndrive File\ndrive File \ndrive  4\ndrive File 4 4
+capacity 1\ncapacity 1 1 1\nfail 1 append 1\nfail 1 append 1 \nfail 1 append after\nfail 1 append 1 after 
+fail 1 append 1 after 1\nfail append 1 after\nagain 1\nagain 1 \nagain 1 1 1\nrestart\nrestart \nrestart 1 
+restart 1 1\nrestart 1 1 a\nrestart 1 1 a \nrestart 1 1  1\nrestart 1 1 a 1 1",
+        LineFault::BadCommand,
+    ),
+    // Calls that no drive has, and ways in which none fails.
+    (
+        "fail 1 unload 1 after\nfail 1 Append 1 after\nfail 1 appends 1 after\nfail 1 append 1 during
+fail 1 append 1 Half\nfail 1  1 after",
+        LineFault::BadCommand,
+    ),
     // Words that are no command.
     (
-        "Seek 1\nsee 1\nseeks 1\nvolume 2200\nqueue 8\ndrive File 4\ncapacity 1 2200
-fail 1 append 4 after\nagain 1000 1\nrestart 2000\npurge 1 Vol-0001\nhost backup1\nspool 0\n\r\n\0",
+        "Seek 1\nsee 1\nseeks 1\npurge 1 Vol-0001\nhost backup1\nspools 1\nfails 1 append 1 after\n\r\n\0",
         LineFault::BadCommand,
     ),
     // Words that are no name, the last one 128 characters, in lines that have a form but for them.
@@ -450,6 +690,10 @@ mount 1 a\0\nadopt 1 a/b\nadopt 8 .\nopen 7 . File\nopen 7 Default F\tile",
         LineFault::BadName,
     ),
     (
+        "restart 1 1 a/b 1\nrestart 2147483647 8 .. 0",
+        LineFault::BadName,
+    ),
+    (
         "mount 1 nnnnnnnnnnnnnnnnnnnnnnnnnnnnnnnnnnnnnnnnnnnnnnnnnnnnnnnnnnnnnnnn\
 nnnnnnnnnnnnnnnnnnnnnnnnnnnnnnnnnnnnnnnnnnnnnnnnnnnnnnnnnnnnnnnn",
         LineFault::BadName,
@@ -457,7 +701,7 @@ nnnnnnnnnnnnnnnnnnnnnnnnnnnnnnnnnnnnnnnnnnnnnnnnnnnnnnnnnnnnnnnn",
     // And in lines that have none.
     (
         "label 9 a/b Default File\nlabel 1 a/b Default\nlabel 1 a/b Default File more
-mount 1 a/b \nopen 0 . File\nopen 7 . ",
+mount 1 a/b \nopen 0 . File\nopen 7 . \ndrive a/b 33\nrestart 0 1 a/b 1\nrestart 1 1 a/b\nrestart 1 1 a/b x",
         LineFault::BadCommand,
     ),
 ];

@@ -7,9 +7,9 @@ returns-in-None-clause-no c =
     λ command has. absurd (no_console c.args.bytes.now c.in-Some.line.now c.new-words.result c.in-Some.ensures.found.0 c.new-words.ensures c.in-None.ensures.none command has)
 
 pub returns-in-Some-first_command-clause-yes : goal.returns-in-Some-first_command-clause-yes
-returns-in-Some-first_command-clause-yes c = λ own l has.
+returns-in-Some-first_command-clause-yes c = λ own l has there.
     kind_yes c.args.bytes.now c.in-Some.line.now c.new-words.result c.in-Some-first_command.command c.first_command.new.words c.in-Some.ensures.found.0 c.new-words.ensures
-    c.in-Some-first_command.ensures.found (sym c.is_console.ensures ∙ own) l has
+    c.in-Some-first_command.ensures.found (sym c.is_console.ensures ∙ own) l has there
 
 pub returns-in-Some-first_command-clause-no : goal.returns-in-Some-first_command-clause-no
 returns-in-Some-first_command-clause-no c = λ command has.
