@@ -1,9 +1,10 @@
 // The scenarios, each played by the world and, act by act, by the plain machine.
 use sd_scenarios::{
-    BAD_INDEX, CANCELLED, DRIVE_REFUSALS, FAULTS, FORGED, FRESH, FULL_QUEUE, HEADER_ALONE, HELLO,
-    LARGE_RECORD, Line, NO_ROOM_FOR_HEADER, OTHER_POOL, SESSION_REFUSALS, SEVERAL_RECORDS,
-    SMALL_SESSIONS, STEP_BY_STEP, Scenario, THREE_BLOCKS, look_at_jobmedia, look_at_sink, play,
-    play_lists,
+    ADOPT_AGAIN, BAD_INDEX, CANCELLED, DRIVE_REFUSALS, FAILED_APPEND, FAILED_SYNC, FAULTS, FORGED,
+    FRESH, FULL_QUEUE, HEADER_ALONE, HELLO, INTERLEAVED, LARGE_RECORD, Line, NO_ROOM,
+    NO_ROOM_FOR_HEADER, NO_ROOM_FOR_LABEL, OTHER_POOL, RESERVED_DRIVES, SESSION_REFUSALS,
+    SEVERAL_RECORDS, SMALL_SESSIONS, SPOOLED, STEP_BY_STEP, Scenario, THREE_BLOCKS, TWO_VOLUMES,
+    look_at_jobmedia, look_at_sink, play, play_lists,
 };
 use std::alloc::Global;
 use std::process::Abort;
@@ -17,59 +18,52 @@ fn assert_plays(rt: &impl Abort, alloc: Global, scenarios: &[&Scenario]) {
 }
 
 #[test]
-fn hello(rt: HostRuntime) {
-    assert_plays(&rt, rt.alloc(), &[&HELLO]);
+fn one_drive(rt: HostRuntime) {
+    assert_plays(
+        &rt,
+        rt.alloc(),
+        &[
+            &HELLO,
+            &STEP_BY_STEP,
+            &FULL_QUEUE,
+            &BAD_INDEX,
+            &SMALL_SESSIONS,
+            &SEVERAL_RECORDS,
+            &THREE_BLOCKS,
+            &HEADER_ALONE,
+            &NO_ROOM_FOR_HEADER,
+            &LARGE_RECORD,
+            &CANCELLED,
+        ],
+    );
 }
 
-// Event by event; also with nine closed bodies, of which the queue holds eight.
-#[test]
-fn step_by_step(rt: HostRuntime) {
-    assert_plays(&rt, rt.alloc(), &[&STEP_BY_STEP, &FULL_QUEUE]);
-}
-
-#[test]
-fn bad_index(rt: HostRuntime) {
-    assert_plays(&rt, rt.alloc(), &[&BAD_INDEX]);
-}
-
-// Also records of rising FileIndex over two blocks.
-#[test]
-fn small_sessions(rt: HostRuntime) {
-    assert_plays(&rt, rt.alloc(), &[&SMALL_SESSIONS, &SEVERAL_RECORDS]);
-}
-
-#[test]
-fn three_blocks(rt: HostRuntime) {
-    assert_plays(&rt, rt.alloc(), &[&THREE_BLOCKS]);
-}
-
-#[test]
-fn header_alone(rt: HostRuntime) {
-    assert_plays(&rt, rt.alloc(), &[&HEADER_ALONE]);
-}
-
-#[test]
-fn no_room_for_header(rt: HostRuntime) {
-    assert_plays(&rt, rt.alloc(), &[&NO_ROOM_FOR_HEADER]);
-}
-
-#[test]
-fn large_record(rt: HostRuntime) {
-    assert_plays(&rt, rt.alloc(), &[&LARGE_RECORD]);
-}
-
-#[test]
-fn cancelled(rt: HostRuntime) {
-    assert_plays(&rt, rt.alloc(), &[&CANCELLED]);
-}
-
-// Each refusal of an event of a session, of a drive, and of a session of another pool.
 #[test]
 fn refusals(rt: HostRuntime) {
     assert_plays(
         &rt,
         rt.alloc(),
         &[&SESSION_REFUSALS, &DRIVE_REFUSALS, &OTHER_POOL],
+    );
+}
+
+// Several volumes, sessions, drives and runs, spools, and devices that fail or have no room.
+#[test]
+fn rows(rt: HostRuntime) {
+    assert_plays(
+        &rt,
+        rt.alloc(),
+        &[
+            &INTERLEAVED,
+            &TWO_VOLUMES,
+            &NO_ROOM,
+            &NO_ROOM_FOR_LABEL,
+            &FAILED_APPEND,
+            &FAILED_SYNC,
+            &SPOOLED,
+            &ADOPT_AGAIN,
+            &RESERVED_DRIVES,
+        ],
     );
 }
 

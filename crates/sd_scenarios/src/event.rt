@@ -1,8 +1,7 @@
 // The event of an act.
-use crate::act::Act;
-use crate::record::record_of;
 use sd_base::{DriveNo, JobId, MediaName, PoolName, Ticket, VolName};
-use sd_core::Event;
+use sd_machine::Event;
+use sd_plain::{Act, record_of};
 use std::alloc::Global;
 
 /// The event that the act stands for; `None` where a number or a name in it is none, and for an act that is
@@ -16,16 +15,10 @@ pub fn event_of(alloc: Global, act: Act) -> Option<Event> {
             Some(Event::Append { ticket, rec })
         }
         Act::Label(drive, name, pool, media, moment) => label_of(drive, name, pool, media, moment),
-        Act::Mount(drive, name) => mount_of(drive, name),
-        Act::Take(drive) | Act::Place(drive) | Act::Sync(drive) | Act::Seek(drive) => {
-            turn_of(act, DriveNo::new(drive)?)
-        }
-        Act::End(ticket, _)
-        | Act::Close(ticket)
-        | Act::Cancel(ticket)
-        | Act::Spool(ticket)
-        | Act::Despool(ticket) => step_of(act, Ticket::new(ticket)?),
-        Act::Drain(_) | Act::Read(_) | Act::Status(_) => None,
+        _ => match act.ticket() {
+            Some(ticket) => step_of(act, Ticket::new(ticket)?),
+            None => turn_of(act, DriveNo::new(act.drive()?)?),
+        },
     }
 }
 
@@ -36,6 +29,7 @@ fn step_of(act: Act, ticket: Ticket) -> Option<Event> {
         Act::Cancel(_) => Some(Event::Cancel { ticket }),
         Act::Spool(_) => Some(Event::Spool { ticket }),
         Act::Despool(_) => Some(Event::Despool { ticket }),
+        Act::Media(_) => Some(Event::Media { ticket }),
         _ => None,
     }
 }
@@ -45,7 +39,17 @@ fn turn_of(act: Act, drive: DriveNo) -> Option<Event> {
         Act::Take(_) => Some(Event::Take { drive }),
         Act::Place(_) => Some(Event::Place { drive }),
         Act::Sync(_) => Some(Event::Sync { drive }),
+        Act::Unmount(_) => Some(Event::Unmount { drive }),
         Act::Seek(_) => Some(Event::Seek { drive }),
+        Act::Retire(_) => Some(Event::Retire { drive }),
+        Act::Adopt(_, name) => {
+            let name = VolName::parse(name).ok()?;
+            Some(Event::Adopt { drive, name })
+        }
+        Act::Mount(_, name) => {
+            let name = VolName::parse(name).ok()?;
+            Some(Event::Mount { drive, name })
+        }
         _ => None,
     }
 }
@@ -66,12 +70,5 @@ fn label_of(drive: u32, name: &str, pool: &str, media: &str, moment: i64) -> Opt
         pool: PoolName::parse(pool).ok()?,
         media: MediaName::parse(media).ok()?,
         moment,
-    })
-}
-
-fn mount_of(drive: u32, name: &str) -> Option<Event> {
-    Some(Event::Mount {
-        drive: DriveNo::new(drive)?,
-        name: VolName::parse(name).ok()?,
     })
 }

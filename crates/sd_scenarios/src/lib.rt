@@ -1,29 +1,25 @@
 //! Scenarios over the core of the storage daemon: lists of events with the reply to each, and what the
-//! sessions are read to then. A plain machine on lists alone plays generated lists beside the world, and
-//! tells every reply that nobody wrote down. `sd_plays` has the tests that play them.
+//! sessions are read to then. The plain machine plays generated lists beside the world, and tells every reply
+//! that nobody wrote down. `sd_plays` has the tests that play them.
 #![tactic(auto)]
 
-mod act;
 mod event;
-mod generator;
-mod line;
+mod ground;
 mod lists;
-mod machine;
-mod plain;
 mod played_world;
 mod player;
-mod record;
-mod reply_line;
 mod scenarios;
 mod tally;
 mod texts;
+mod volumes;
 
-pub use line::Line;
 pub use lists::play_lists;
 pub use player::play;
 pub use scenarios::{
-    BAD_INDEX, CANCELLED, DRIVE_REFUSALS, FAULTS, FORGED, FRESH, FULL_QUEUE, HEADER_ALONE, HELLO,
-    LARGE_RECORD, NO_ROOM_FOR_HEADER, OTHER_POOL, SESSION_REFUSALS, SEVERAL_RECORDS,
-    SMALL_SESSIONS, STEP_BY_STEP, Scenario, THREE_BLOCKS,
+    ADOPT_AGAIN, BAD_INDEX, CANCELLED, DRIVE_REFUSALS, FAILED_APPEND, FAILED_SYNC, FAULTS, FORGED,
+    FRESH, FULL_QUEUE, HEADER_ALONE, HELLO, INTERLEAVED, LARGE_RECORD, NO_ROOM, NO_ROOM_FOR_HEADER,
+    NO_ROOM_FOR_LABEL, OTHER_POOL, RESERVED_DRIVES, SESSION_REFUSALS, SEVERAL_RECORDS,
+    SMALL_SESSIONS, SPOOLED, STEP_BY_STEP, Scenario, THREE_BLOCKS, TWO_VOLUMES,
 };
+pub use sd_plain::Line;
 pub use texts::{look_at_jobmedia, look_at_sink};

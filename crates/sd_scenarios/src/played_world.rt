@@ -1,87 +1,135 @@
-// The world as a machine, with what it took and where it closed sessions.
-use crate::act::Act;
+// The world as a machine, with what it took and which spans it told.
 use crate::event::event_of;
-use crate::line::Line;
-use crate::machine::Machine;
-use crate::record::{Taken, are_first_of, record_of};
-use crate::reply_line::{put_fault, put_read, put_reply, status_words};
-use sd_base::{Items, SessionKey, Ticket};
-use sd_core::{ReadEnd, ReadFault, Reply, Span, World, WorldConf};
+use crate::ground::{ListWorld, make_first, make_world};
+use sd_base::{Items, Refusal, SessionKey, Ticket};
+use sd_machine::Reply;
+use sd_memdrive::MemDrive;
+use sd_plain::{
+    Act, Line, Machine, Settings, Taken, are_first_of, put_drive, put_fault, put_read, put_reply,
+    put_request, put_session, put_volume, record_of, status_words,
+};
+use sd_readback::ReadEnd;
+use sd_span::Span;
+use sd_view::{DriveLine, Loaded, View};
 use std::alloc::Global;
 
-/// The time of every run.
+/// The time of the first run.
 pub const TIME: u32 = 1000;
 
-/// Where a session was closed.
+/// Spans that the world told of the session with that place among all that were opened.
 #[derive(Drop)]
-struct Closed {
+struct Told {
+    session: u32,
     key: SessionKey,
     spans: Items<Span>,
 }
 
-/// A world, the records that it answered as taken, and its Closed replies.
+/// A world, the records that it answered as taken, and the spans that it told.
 #[derive(Drop)]
-pub struct PlayedWorld {
+pub struct PlayedWorld<'a> {
     alloc: Global,
-    pub world: World,
+    settings: Settings<'a>,
+    world: Option<ListWorld>,
+    time: u32,
+    /// A drive of it is offline.
+    offline: bool,
+    /// How many sessions were opened, and how many of them before this run.
+    opened: u32,
+    before: u32,
     taken: Vec<Taken>,
-    closed: Vec<Closed>,
+    told: Vec<Told>,
 }
 
-impl PlayedWorld {
-    /// A new world, with a block limit of 64,512 bytes, or of 1,024.
-    pub fn new(alloc: Global, wide: bool) -> Option<Self> {
-        let block = if wide { 64_512 } else { 1024 };
+impl<'a> PlayedWorld<'a> {
+    /// A new world.
+    pub fn new(alloc: Global, settings: Settings<'a>) -> Option<Self> {
         Some(PlayedWorld {
             alloc,
-            world: World::new(alloc, WorldConf { block }, TIME).ok()?,
+            settings,
+            world: Some(make_first(alloc, &settings, TIME)?),
+            time: TIME,
+            offline: false,
+            opened: 0,
+            before: 0,
             taken: Vec::new(alloc),
-            closed: Vec::new(alloc),
+            told: Vec::new(alloc),
         })
+    }
+
+    /// Its devices; it plays no more then.
+    pub fn into_devices(self) -> Option<Vec<MemDrive>> {
+        self.world?.into_drivers().ok()
     }
 
     fn step(&mut self, act: Act, line: &mut Line) {
         let Some(event) = event_of(self.alloc, act) else {
             return line.words("no event");
         };
-        let reply = self.world.step(event);
+        let Some(world) = &mut self.world else {
+            return line.words("no world");
+        };
+        let reply = world.step(event);
         put_reply(line, &reply);
         self.note(act, reply);
     }
 
     fn note(&mut self, act: Act, reply: Reply) {
+        let session = self.before.saturating_add(act.ticket().unwrap_or(0));
         match reply {
-            Reply::Closed { key, spans } => {
-                let _ = self.closed.push(Closed { key, spans });
-            }
-            Reply::Taken { .. } => self.note_taken(act),
+            Reply::Closed { key, spans } => self.note_told(session, key.id, spans),
+            Reply::Media { spans } => { self.note_told(session, act.ticket().unwrap_or(0), spans) }
+            Reply::Opened { .. } => self.opened = self.opened.saturating_add(1),
+            Reply::Retired => self.offline = true,
+            Reply::Taken { .. } => self.note_taken(act, session),
             _ => {}
         }
     }
 
-    fn note_taken(&mut self, act: Act) {
-        if let Act::Rec(ticket, index, stream, data) = act {
+    fn note_told(&mut self, session: u32, id: u32, spans: Items<Span>) {
+        let key = SessionKey {
+            time: self.time,
+            id,
+        };
+        let _ = self.told.push(Told {
+            session,
+            key,
+            spans,
+        });
+    }
+
+    fn note_taken(&mut self, act: Act, session: u32) {
+        if let Act::Rec(_, index, stream, data) = act {
             if let Some(rec) = record_of(self.alloc, index, stream, data) {
-                let _ = self.taken.push(Taken { ticket, rec });
+                let _ = self.taken.push(Taken { session, rec });
             }
         }
     }
 
-    // Reads a session by the spans of its Closed reply.
-    fn read(&self, ticket: u32, line: &mut Line) {
-        for closed in &self.closed {
-            if closed.key.id == ticket {
-                return self.read_spans(closed.key, closed.spans.as_slice(), line);
-            }
-        }
-        line.words("no spans");
-    }
-
-    /// Adds the line of what the session is read to from the spans; of a fault also how many records were
-    /// handed over before it.
-    pub fn read_spans(&self, key: SessionKey, spans: &[Span], line: &mut Line) {
+    // Reads the session of that place by the spans that were told last.
+    fn read(&mut self, session: u32, line: &mut Line) {
+        let Some(world) = &mut self.world else {
+            return line.words("no world");
+        };
+        let Some(told) = self.told.iter().rfind(|told| told.session == session) else {
+            return line.words("no spans");
+        };
         let mut got = Vec::new(self.alloc);
-        let end = self.world.read(key, spans, &mut got);
+        let end = world.read(told.key, told.spans.as_slice(), &mut got);
+        if are_first_of(&got, &self.taken, session) {
+            put_reading(line, end, got.len() as u64);
+        } else {
+            line.words("other records");
+        }
+    }
+
+    /// Adds the line of what a session of the first run is read to from the spans; of a fault also how many
+    /// records were handed over before it.
+    pub fn read_spans(&mut self, key: SessionKey, spans: &[Span], line: &mut Line) {
+        let Some(world) = &mut self.world else {
+            return line.words("no world");
+        };
+        let mut got = Vec::new(self.alloc);
+        let end = world.read(key, spans, &mut got);
         if are_first_of(&got, &self.taken, key.id) {
             put_reading(line, end, got.len() as u64);
         } else {
@@ -90,26 +138,102 @@ impl PlayedWorld {
     }
 
     fn status(&self, ticket: u32, line: &mut Line) {
-        if let Some(ticket) = Ticket::new(ticket) {
-            line.words(status_words(self.world.status(ticket)));
+        if let (Some(ticket), Some(world)) = (Ticket::new(ticket), &self.world) {
+            line.words(status_words(world.status(ticket)));
         }
+    }
+
+    fn restart(&mut self, time: u32, line: &mut Line) {
+        if self.offline {
+            return line.refuse(Refusal::DriveOffline);
+        }
+        self.before = self.opened;
+        self.time = time;
+        self.world = match self.world.take() {
+            None => None,
+            Some(world) => begin_again(self.alloc, &self.settings, time, world),
+        };
+        line.words("ok restarted");
     }
 }
 
-fn put_reading(line: &mut Line, end: Result<ReadEnd, ReadFault>, got: u64) {
+// A world of that time over the devices of another, where the first and the last change places.
+fn begin_again(
+    alloc: Global,
+    settings: &Settings<'_>,
+    time: u32,
+    world: ListWorld,
+) -> Option<ListWorld> {
+    let mut devices = world.into_drivers().ok()?;
+    let last = devices.len().checked_sub(1)?;
+    devices.swap(0, last);
+    make_world(alloc, settings, time, devices)
+}
+
+fn put_reading(line: &mut Line, end: Result<ReadEnd, Refusal>, got: u64) {
     match end {
         Ok(end) if end.records == got => put_read(line, end),
         Ok(_) => line.words("other count"),
-        Err(fault) => put_fault(line, fault.refusal(), got),
+        Err(why) => put_fault(line, why, got),
     }
 }
 
-impl Machine for PlayedWorld {
+impl Machine for PlayedWorld<'_> {
     fn play(&mut self, act: Act, line: &mut Line) {
         match act {
-            Act::Read(ticket) => self.read(ticket, line),
+            Act::Read(session) => self.read(session, line),
             Act::Status(ticket) => self.status(ticket, line),
+            Act::Restart(time) => self.restart(time, line),
             _ => self.step(act, line),
         }
     }
+
+    fn look(&self, line: &mut Line) {
+        let Some(world) = &self.world else {
+            return line.words("no world");
+        };
+        if let Ok(view) = world.view() {
+            put_view(line, &view);
+        }
+        line.words("on their way");
+        if let Ok(tickets) = world.tickets() {
+            for ticket in &tickets {
+                line.put("", &[u64::from(ticket.get())]);
+            }
+        }
+        line.words("\n");
+        for request in world.requests() {
+            let drive = u64::from(request.drive.get());
+            put_request(line, drive, request.pool.as_str(), request.media.as_str());
+        }
+    }
+}
+
+fn put_view(line: &mut Line, view: &View) {
+    for drive in view.drives.as_slice() {
+        put_drive_line(line, drive);
+    }
+    for volume in view.volumes.as_slice() {
+        let names = [
+            volume.name.as_str(),
+            volume.pool.as_str(),
+            volume.media.as_str(),
+        ];
+        put_volume(line, names, volume.status, volume.end);
+    }
+    for session in view.sessions.as_slice() {
+        let ticket = u64::from(session.ticket.get());
+        put_session(line, ticket, session.status, session.records);
+    }
+}
+
+fn put_drive_line(line: &mut Line, drive: &DriveLine) {
+    let loaded = match &drive.loaded {
+        Loaded::Offline => "offline",
+        Loaded::Nothing => "-",
+        Loaded::Volume(name) => name.as_str(),
+    };
+    let number = u64::from(drive.drive.get());
+    let media = drive.media.as_str();
+    put_drive(line, number, media, loaded, drive.sessions as u64);
 }

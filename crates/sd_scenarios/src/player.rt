@@ -1,36 +1,37 @@
 // Playing scenarios act by act.
-use crate::act::Act;
-use crate::line::Line;
-use crate::machine::Machine;
-use crate::plain::Plain;
 use crate::played_world::{PlayedWorld, TIME};
-use crate::reply_line::{put_fault, put_read};
 use crate::scenarios::{At, Reading, Scenario, VOLUME, Wanted};
+use crate::volumes::compare_volumes;
 use sd_base::VolName;
-use sd_core::{Span, World};
+use sd_plain::{Act, Line, Machine, Plain, put_fault, put_read};
+use sd_span::Span;
 use std::alloc::Global;
 
 /// The most rounds of a drain.
 const MOST_ROUNDS: u32 = 100;
 
 /// Plays the scenario on a new world and on a new plain machine, reads the sessions then, and looks at the
-/// volume. Adds to the report what comes to anything else than is wanted.
+/// volumes. Adds to the report what comes to anything else than is wanted.
 pub fn play(alloc: Global, scenario: &Scenario, report: &mut Line) {
-    match PlayedWorld::new(alloc, scenario.wide) {
-        Some(mut played) => play_on(alloc, &mut played, scenario, report),
+    match PlayedWorld::new(alloc, scenario.settings) {
+        Some(played) => play_on(alloc, played, scenario, report),
         None => report.words("no world\n"),
     }
 }
 
-fn play_on(alloc: Global, played: &mut PlayedWorld, scenario: &Scenario, report: &mut Line) {
-    play_moves(alloc, played, scenario, report);
-    play_readings(alloc, played, scenario, report);
-    if let Some(wanted) = scenario.volume {
-        compare_volume(report, scenario.name, &played.world, wanted);
-    }
-    let mut plain = Plain::new(alloc, scenario.wide, TIME);
+fn play_on<'a>(alloc: Global, played: PlayedWorld<'a>, scenario: &Scenario, report: &mut Line) {
+    let mut played = played;
+    play_moves(alloc, &mut played, scenario, report);
+    play_readings(alloc, &mut played, scenario, report);
+    let mut plain = Plain::new(alloc, &scenario.settings, TIME);
     play_moves(alloc, &mut plain, scenario, report);
-    compare_volume(report, scenario.name, &played.world, plain.volume_bytes());
+    compare_looks(alloc, &played, &plain, scenario, report);
+    if let Some(wanted) = scenario.volume {
+        if plain.bytes_of(VOLUME) != wanted {
+            report.put_named(scenario.name, "another volume", &[]);
+        }
+    }
+    compare_volumes(alloc, report, scenario.name, played, &plain);
 }
 
 fn play_moves<M: Machine>(alloc: Global, machine: &mut M, scenario: &Scenario, report: &mut Line) {
@@ -38,14 +39,19 @@ fn play_moves<M: Machine>(alloc: Global, machine: &mut M, scenario: &Scenario, r
     for (number, step) in scenario.moves.iter().enumerate() {
         got.clear();
         match step.0 {
-            Act::Drain(ticket) => drain(machine, ticket, &mut got),
+            Act::Drain(sessions, drives) => drain(machine, sessions, drives, &mut got),
             act => machine.play(act, &mut got),
         }
         compare(report, scenario.name, number, step.1, got.as_str());
     }
 }
 
-fn play_readings(alloc: Global, played: &PlayedWorld, scenario: &Scenario, report: &mut Line) {
+fn play_readings(
+    alloc: Global,
+    played: &mut PlayedWorld<'_>,
+    scenario: &Scenario,
+    report: &mut Line,
+) {
     let mut got = Line::new(alloc);
     let mut wanted = Line::new(alloc);
     for (number, reading) in scenario.readings.iter().enumerate() {
@@ -64,12 +70,18 @@ fn put_wanted(line: &mut Line, wanted: Wanted) {
     }
 }
 
-/// Adds to the report where the world's volume hasn't these bytes; a volume that isn't there has none.
-pub fn compare_volume(report: &mut Line, name: &str, world: &World, wanted: &[u8]) {
-    if world.volume_bytes().unwrap_or(&[]) != wanted {
-        report.words(name);
-        report.words(": another volume\n");
-    }
+fn compare_looks(
+    alloc: Global,
+    played: &PlayedWorld<'_>,
+    plain: &Plain,
+    scenario: &Scenario,
+    report: &mut Line,
+) {
+    let mut got = Line::new(alloc);
+    let mut wanted = Line::new(alloc);
+    played.look(&mut got);
+    plain.look(&mut wanted);
+    compare(report, scenario.name, 0, wanted.as_str(), got.as_str());
 }
 
 /// Adds to the report where the answer to the act, or reading, of that number isn't the one that is wanted.
@@ -85,15 +97,18 @@ pub fn compare(report: &mut Line, scenario: &str, number: usize, wanted: &str, g
     report.words("\n");
 }
 
-fn drain<M: Machine>(machine: &mut M, ticket: u32, line: &mut Line) {
+fn drain<M: Machine>(machine: &mut M, sessions: u32, drives: u32, line: &mut Line) {
     let mut placed = 0u64;
     for _ in 0..MOST_ROUNDS {
-        let sent = says(machine, Act::Despool(ticket), "ok sent", line);
-        let took = says(machine, Act::Take(1), "ok hand", line);
-        let wrote = place(machine, line);
-        let _ = says(machine, Act::Sync(1), "ok synced", line);
-        placed = placed.saturating_add(u64::from(wrote));
-        if !sent && !took && !wrote {
+        let mut moved = false;
+        for ticket in 1..sessions.saturating_add(1) {
+            moved |= says(machine, Act::Spool(ticket), "ok spooled", line);
+            moved |= says(machine, Act::Despool(ticket), "ok sent", line);
+        }
+        for drive in 1..drives.saturating_add(1) {
+            moved |= turn(machine, drive, &mut placed, line);
+        }
+        if !moved {
             break;
         }
     }
@@ -101,11 +116,23 @@ fn drain<M: Machine>(machine: &mut M, ticket: u32, line: &mut Line) {
     line.put("ok drained", &[placed]);
 }
 
-// Places what is in the hand; where that doesn't go, a volume is sought first.
-fn place<M: Machine>(machine: &mut M, line: &mut Line) -> bool {
-    says(machine, Act::Place(1), "ok placed", line)
-        || (says(machine, Act::Seek(1), "ok mounted", line)
-            && says(machine, Act::Place(1), "ok placed", line))
+// A drive's part of a round; whether something moved.
+fn turn<M: Machine>(machine: &mut M, drive: u32, placed: &mut u64, line: &mut Line) -> bool {
+    let took = says(machine, Act::Take(drive), "ok hand ", line) && line.as_str() != "ok hand full";
+    let mut moved = place(machine, drive, placed, line);
+    if line.as_str() == "ok need volume" && says(machine, Act::Seek(drive), "ok mounted", line) {
+        let _ = place(machine, drive, placed, line);
+        moved = true;
+    }
+    let _ = says(machine, Act::Sync(drive), "ok synced", line);
+    took || moved
+}
+
+// Places what is in the hand, and counts that; whether something moved.
+fn place<M: Machine>(machine: &mut M, drive: u32, placed: &mut u64, line: &mut Line) -> bool {
+    let is_placed = says(machine, Act::Place(drive), "ok placed", line);
+    *placed = placed.saturating_add(u64::from(is_placed));
+    is_placed || line.as_str().starts_with("ok volume")
 }
 
 // Whether the answer to the act begins with the words.
@@ -115,7 +142,7 @@ fn says<M: Machine>(machine: &mut M, act: Act, words: &str, line: &mut Line) -> 
     line.as_str().starts_with(words)
 }
 
-fn read(alloc: Global, played: &PlayedWorld, reading: &Reading, line: &mut Line) {
+fn read(alloc: Global, played: &mut PlayedWorld<'_>, reading: &Reading, line: &mut Line) {
     let mut spans = Vec::new(alloc);
     for at in reading.1 {
         if let Some(span) = span_of(*at) {

@@ -1,11 +1,9 @@
 // The JobMedia text, and a list as the end of a reading.
-use crate::act::Data;
-use crate::line::Line;
 use crate::player::{compare, span_of};
-use crate::record::record_of;
 use crate::scenarios::At;
 use sd_base::{Rec, SessionKey};
-use sd_core::Sink;
+use sd_plain::{Data, Line, record_of};
+use sd_readback::Sink;
 use std::alloc::Global;
 
 /// The JobMedia text of two spans, behind a line of something else.

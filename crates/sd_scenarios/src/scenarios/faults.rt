@@ -1,11 +1,11 @@
 // Readings from spans that are not the session's own.
 use super::{
-    At, BAD_SPAN, DAMAGED, ENDS_EARLY, FIRST, LABEL, NOT_ON_SHELF, OPEN, Reading, SECOND, Scenario,
-    THIRD, Wanted,
+    At, BAD_SPAN, DAMAGED, ENDS_EARLY, FIRST, LABEL, NARROW, NOT_ON_SHELF, OPEN, Reading, SECOND,
+    Scenario, THIRD, Wanted,
 };
-use crate::act::{Act, Data};
 use sd_base::{Refusal, SessionKey};
-use sd_core::ReadEnd;
+use sd_plain::{Act, Data};
+use sd_readback::ReadEnd;
 
 /// What the two sessions of `FAULTS` are read to.
 const HELLO: Wanted = Wanted::Read(ReadEnd {
@@ -40,13 +40,13 @@ const DAMAGED_BEHIND: Wanted = Wanted::Fault(Refusal::DamagedBlock, 1);
 /// records handed over before a fault are counted behind it.
 pub static FAULTS: Scenario = Scenario {
     name: "faults",
-    wide: false,
+    settings: NARROW,
     moves: &[
         (LABEL, "ok labelled"),
         (OPEN, "ok ticket 1 drive 1"),
         (Act::Rec(1, 1, 2, Data::Text(b"hello")), "ok taken 1"),
         (Act::End(1, 0), "ok ended"),
-        (Act::Drain(1), "ok drained 1"),
+        (Act::Drain(1, 1), "ok drained 1"),
         (
             Act::Close(1),
             "ok closed session 1000 1\nspan Vol-0001 1 1 1 82 249\n",
@@ -54,7 +54,7 @@ pub static FAULTS: Scenario = Scenario {
         (OPEN, "ok ticket 2 drive 1"),
         (Act::Rec(2, 1, 2, Data::Fill(2000)), "ok taken 1"),
         (Act::End(2, 0), "ok ended"),
-        (Act::Drain(2), "ok drained 3"),
+        (Act::Drain(2, 1), "ok drained 3"),
         (
             Act::Close(2),
             "ok closed session 1000 2\nspan Vol-0001 1 1 1 249 2483\n",
@@ -178,13 +178,13 @@ const FORGED_KEY: SessionKey = SessionKey { time: 1000, id: 7 };
 /// A closed session with that record, whose data lie from 171 on.
 pub static FORGED: Scenario = Scenario {
     name: "forged",
-    wide: false,
+    settings: NARROW,
     moves: &[
         (LABEL, "ok labelled"),
         (OPEN, "ok ticket 1 drive 1"),
         (Act::Rec(1, 1, 2, Data::Text(FORGERY)), "ok taken 1"),
         (Act::End(1, 0), "ok ended"),
-        (Act::Drain(1), "ok drained 1"),
+        (Act::Drain(1, 1), "ok drained 1"),
         (
             Act::Close(1),
             "ok closed session 1000 1\nspan Vol-0001 1 1 1 82 568\n",
@@ -230,7 +230,7 @@ pub static FORGED: Scenario = Scenario {
 /// A world in which nothing happened.
 pub static FRESH: Scenario = Scenario {
     name: "fresh",
-    wide: false,
+    settings: NARROW,
     moves: &[(Act::Status(1), "unknown"), (Act::Read(1), "no spans")],
     readings: &[
         Reading(FIRST, &[], BAD_SPAN),

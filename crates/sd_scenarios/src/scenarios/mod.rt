@@ -1,13 +1,18 @@
 // Lists of events with the reply to each, and what the sessions are read to then.
 mod faults;
 mod refusals;
+mod rows;
 mod worked;
 
-use crate::act::Act;
 pub use faults::{FAULTS, FORGED, FRESH};
 pub use refusals::{DRIVE_REFUSALS, FULL_QUEUE, OTHER_POOL, SESSION_REFUSALS};
+pub use rows::{
+    ADOPT_AGAIN, FAILED_APPEND, FAILED_SYNC, INTERLEAVED, NO_ROOM, NO_ROOM_FOR_LABEL,
+    RESERVED_DRIVES, SPOOLED, TWO_VOLUMES,
+};
 use sd_base::{Refusal, SessionKey};
-use sd_core::ReadEnd;
+use sd_plain::{Act, Settings};
+use sd_readback::ReadEnd;
 pub use worked::{
     BAD_INDEX, CANCELLED, HEADER_ALONE, HELLO, LARGE_RECORD, NO_ROOM_FOR_HEADER, SEVERAL_RECORDS,
     SMALL_SESSIONS, STEP_BY_STEP, THREE_BLOCKS,
@@ -33,15 +38,39 @@ pub enum Wanted {
 /// A reading: the session, the spans, and what it is to come to.
 pub struct Reading(pub SessionKey, pub &'static [At], pub Wanted);
 
-/// Acts with the answer to each, under the block limit of 1,024 bytes, or the wide one of 64,512; readings
-/// after them; and the volume's bytes then, where they are written down.
+/// Acts with the answer to each, in a world of these settings; readings after them; and the bytes of the volume of
+/// the scenarios then, where they are written down.
 pub struct Scenario {
     pub name: &'static str,
-    pub wide: bool,
+    pub settings: Settings<'static>,
     pub moves: &'static [(Act, &'static str)],
     pub readings: &'static [Reading],
     pub volume: Option<&'static [u8]>,
 }
+
+/// One drive of one lane, with blocks of at most 1,024 bytes.
+const NARROW: Settings<'static> = Settings {
+    block: 1024,
+    volume: 68_719_476_736,
+    spool: 0,
+    queue: 8,
+    capacity: 2_000_000,
+    drives: &[("File", 1)],
+    fails: &[],
+    spool_fails: &[],
+};
+
+/// The same with blocks of at most 64,512 bytes.
+const WIDE: Settings<'static> = Settings {
+    block: 64_512,
+    volume: 68_719_476_736,
+    spool: 0,
+    queue: 8,
+    capacity: 2_000_000,
+    drives: &[("File", 1)],
+    fails: &[],
+    spool_fails: &[],
+};
 
 /// The volume of most scenarios is labelled.
 const LABEL: Act = Act::Label(1, VOLUME, "Default", "File", 0);

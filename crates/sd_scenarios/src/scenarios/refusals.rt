@@ -1,13 +1,13 @@
 // Each refusal of an event that a world of one drive and one volume can come to.
-use super::{LABEL, OPEN, Scenario, VOLUME};
-use crate::act::{Act, Data};
+use super::{LABEL, NARROW, OPEN, Scenario, VOLUME};
+use sd_plain::{Act, Data};
 
 /// A record that every active session takes first.
 const RECORD: Act = Act::Rec(1, 1, 2, Data::Text(b"a"));
 
 pub static SESSION_REFUSALS: Scenario = Scenario {
     name: "session_refusals",
-    wide: false,
+    settings: NARROW,
     moves: &[
         (RECORD, "3902 Session not open"),
         (Act::End(1, 0), "3902 Session not open"),
@@ -39,7 +39,7 @@ pub static SESSION_REFUSALS: Scenario = Scenario {
         (Act::Spool(1), "ok no spool"),
         (Act::Close(1), "3907 Not yet"),
         (OPEN, "3911 No free lane"),
-        (Act::Drain(1), "ok drained 1"),
+        (Act::Drain(1, 1), "ok drained 1"),
         (Act::Despool(1), "ok nothing"),
         (OPEN, "3911 No free lane"),
         (
@@ -73,7 +73,7 @@ pub static SESSION_REFUSALS: Scenario = Scenario {
 
 pub static DRIVE_REFUSALS: Scenario = Scenario {
     name: "drive_refusals",
-    wide: false,
+    settings: NARROW,
     moves: &[
         (Act::Take(2), "3938 No such drive"),
         (Act::Place(2), "3938 No such drive"),
@@ -99,8 +99,8 @@ pub static DRIVE_REFUSALS: Scenario = Scenario {
             "3932 Other pool or media",
         ),
         (
-            Act::Label(1, "Vol-0002", "Default", "File", 0),
-            "3933 In use",
+            Act::Label(1, VOLUME, "Other", "File", 0),
+            "3935 Volume already labelled",
         ),
         (Act::Mount(1, "Vol-0002"), "3930 Volume not on the shelf"),
         (Act::Seek(1), "ok no need"),
@@ -115,7 +115,7 @@ pub static DRIVE_REFUSALS: Scenario = Scenario {
 /// A session whose pool is not the volume's gets no block onto it; one of the volume's pool does then.
 pub static OTHER_POOL: Scenario = Scenario {
     name: "other_pool",
-    wide: false,
+    settings: NARROW,
     moves: &[
         (Act::Open(7, "Other", "File", 0), "ok ticket 1 drive 1"),
         (Act::Seek(1), "ok requested"),
@@ -147,7 +147,7 @@ pub static OTHER_POOL: Scenario = Scenario {
 /// finds it full, and keeps the session from no record then.
 pub static FULL_QUEUE: Scenario = Scenario {
     name: "full_queue",
-    wide: false,
+    settings: NARROW,
     moves: &[
         (LABEL, "ok labelled"),
         (OPEN, "ok ticket 1 drive 1"),
@@ -170,7 +170,7 @@ pub static FULL_QUEUE: Scenario = Scenario {
         (Act::Despool(1), "ok nothing"),
         (Act::End(1, 0), "ok ended"),
         (Act::Despool(1), "ok queue full"),
-        (Act::Drain(1), "ok drained 10"),
+        (Act::Drain(1, 1), "ok drained 10"),
         (
             Act::Close(1),
             "ok closed session 1000 1\nspan Vol-0001 1 1 1 82 9581\n",

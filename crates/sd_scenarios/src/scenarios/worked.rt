@@ -1,21 +1,21 @@
 // The worked scenarios, event by event.
-use super::{At, FIRST, LABEL, OPEN, Reading, SECOND, Scenario, VOLUME, Wanted};
-use crate::act::{Act, Data};
-use sd_core::ReadEnd;
+use super::{At, FIRST, LABEL, NARROW, OPEN, Reading, SECOND, Scenario, VOLUME, WIDE, Wanted};
+use sd_plain::{Act, Data};
+use sd_readback::ReadEnd;
 
 /// The record of `hello`.
 const RECORD: Act = Act::Rec(1, 1, 2, Data::Text(b"hello"));
 
 pub static HELLO: Scenario = Scenario {
     name: "hello",
-    wide: false,
+    settings: NARROW,
     moves: &[
         (LABEL, "ok labelled"),
         (Act::Mount(1, VOLUME), "ok mounted Vol-0001"),
         (OPEN, "ok ticket 1 drive 1"),
         (RECORD, "ok taken 1"),
         (Act::End(1, 0), "ok ended"),
-        (Act::Drain(1), "ok drained 1"),
+        (Act::Drain(1, 1), "ok drained 1"),
         (
             Act::Close(1),
             "ok closed session 1000 1\nspan Vol-0001 1 1 1 82 249\n",
@@ -40,7 +40,7 @@ Default\0File\0\0\0\0\0\0\0\0\x01\0\0\0\0\0\0\0\x05\0\0\0\x54";
 
 pub static STEP_BY_STEP: Scenario = Scenario {
     name: "step_by_step",
-    wide: false,
+    settings: NARROW,
     moves: &[
         (LABEL, "ok labelled"),
         (OPEN, "ok ticket 1 drive 1"),
@@ -70,7 +70,7 @@ pub static STEP_BY_STEP: Scenario = Scenario {
 
 pub static BAD_INDEX: Scenario = Scenario {
     name: "bad_index",
-    wide: false,
+    settings: NARROW,
     moves: &[
         (LABEL, "ok labelled"),
         (OPEN, "ok ticket 1 drive 1"),
@@ -81,7 +81,7 @@ pub static BAD_INDEX: Scenario = Scenario {
         (Act::Rec(1, 1, 2, Data::Text(b"d")), "3903 Bad file index"),
         (Act::Rec(1, 2, 3, Data::Text(b"e")), "ok taken 3"),
         (Act::End(1, 0), "ok ended"),
-        (Act::Drain(1), "ok drained 1"),
+        (Act::Drain(1, 1), "ok drained 1"),
         (
             Act::Close(1),
             "ok closed session 1000 1\nspan Vol-0001 1 1 2 82 271\n",
@@ -95,12 +95,12 @@ pub static BAD_INDEX: Scenario = Scenario {
 /// No record, an empty one, one beside which the end label just fits, and one beside which it doesn't.
 pub static SMALL_SESSIONS: Scenario = Scenario {
     name: "small_sessions",
-    wide: false,
+    settings: NARROW,
     moves: &[
         (LABEL, "ok labelled"),
         (OPEN, "ok ticket 1 drive 1"),
         (Act::End(1, 0), "ok ended"),
-        (Act::Drain(1), "ok drained 1"),
+        (Act::Drain(1, 1), "ok drained 1"),
         (
             Act::Close(1),
             "ok closed session 1000 1\nspan Vol-0001 1 0 0 82 232\n",
@@ -108,7 +108,7 @@ pub static SMALL_SESSIONS: Scenario = Scenario {
         (OPEN, "ok ticket 2 drive 1"),
         (Act::Rec(2, 1, 2, Data::Text(b"")), "ok taken 1"),
         (Act::End(2, 0), "ok ended"),
-        (Act::Drain(2), "ok drained 1"),
+        (Act::Drain(2, 1), "ok drained 1"),
         (
             Act::Close(2),
             "ok closed session 1000 2\nspan Vol-0001 1 1 1 232 394\n",
@@ -116,7 +116,7 @@ pub static SMALL_SESSIONS: Scenario = Scenario {
         (OPEN, "ok ticket 3 drive 1"),
         (Act::Rec(3, 1, 2, Data::Fill(862)), "ok taken 1"),
         (Act::End(3, 0), "ok ended"),
-        (Act::Drain(3), "ok drained 1"),
+        (Act::Drain(3, 1), "ok drained 1"),
         (
             Act::Close(3),
             "ok closed session 1000 3\nspan Vol-0001 1 1 1 394 1418\n",
@@ -124,7 +124,7 @@ pub static SMALL_SESSIONS: Scenario = Scenario {
         (OPEN, "ok ticket 4 drive 1"),
         (Act::Rec(4, 1, 2, Data::Fill(863)), "ok taken 1"),
         (Act::End(4, 0), "ok ended"),
-        (Act::Drain(4), "ok drained 2"),
+        (Act::Drain(4, 1), "ok drained 2"),
         (
             Act::Close(4),
             "ok closed session 1000 4\nspan Vol-0001 1 1 1 1418 2467\n",
@@ -140,13 +140,13 @@ pub static SMALL_SESSIONS: Scenario = Scenario {
 
 pub static THREE_BLOCKS: Scenario = Scenario {
     name: "three_blocks",
-    wide: false,
+    settings: NARROW,
     moves: &[
         (LABEL, "ok labelled"),
         (OPEN, "ok ticket 1 drive 1"),
         (Act::Rec(1, 1, 2, Data::Fill(2000)), "ok taken 1"),
         (Act::End(1, 0), "ok ended"),
-        (Act::Drain(1), "ok drained 3"),
+        (Act::Drain(1, 1), "ok drained 3"),
         (
             Act::Close(1),
             "ok closed session 1000 1\nspan Vol-0001 1 1 1 82 2316\n",
@@ -173,7 +173,7 @@ pub static THREE_BLOCKS: Scenario = Scenario {
 /// step of its way.
 pub static SEVERAL_RECORDS: Scenario = Scenario {
     name: "several_records",
-    wide: false,
+    settings: NARROW,
     moves: &[
         (Act::Label(1, VOLUME, "Default", "File", 5), "ok labelled"),
         (
@@ -210,14 +210,14 @@ pub static SEVERAL_RECORDS: Scenario = Scenario {
 
 pub static HEADER_ALONE: Scenario = Scenario {
     name: "header_alone",
-    wide: false,
+    settings: NARROW,
     moves: &[
         (LABEL, "ok labelled"),
         (OPEN, "ok ticket 1 drive 1"),
         (Act::Rec(1, 1, 2, Data::Fill(923)), "ok taken 1"),
         (Act::Rec(1, 1, 2, Data::Text(b"abc")), "ok taken 2"),
         (Act::End(1, 0), "ok ended"),
-        (Act::Drain(1), "ok drained 2"),
+        (Act::Drain(1, 1), "ok drained 2"),
         (
             Act::Close(1),
             "ok closed session 1000 1\nspan Vol-0001 1 1 1 82 1218\n",
@@ -230,7 +230,7 @@ pub static HEADER_ALONE: Scenario = Scenario {
 
 pub static NO_ROOM_FOR_HEADER: Scenario = Scenario {
     name: "no_room_for_header",
-    wide: false,
+    settings: NARROW,
     moves: &[
         (LABEL, "ok labelled"),
         (OPEN, "ok ticket 1 drive 1"),
@@ -239,7 +239,7 @@ pub static NO_ROOM_FOR_HEADER: Scenario = Scenario {
         (Act::Rec(1, 1, 2, Data::Text(b"d")), "3908 Busy"),
         (Act::Rec(1, 3, 2, Data::Text(b"e")), "3903 Bad file index"),
         (Act::End(1, 0), "ok ended"),
-        (Act::Drain(1), "ok drained 2"),
+        (Act::Drain(1, 1), "ok drained 2"),
         (
             Act::Close(1),
             "ok closed session 1000 1\nspan Vol-0001 1 1 1 82 1207\n",
@@ -252,13 +252,13 @@ pub static NO_ROOM_FOR_HEADER: Scenario = Scenario {
 
 pub static LARGE_RECORD: Scenario = Scenario {
     name: "large_record",
-    wide: true,
+    settings: WIDE,
     moves: &[
         (LABEL, "ok labelled"),
         (OPEN, "ok ticket 1 drive 1"),
         (Act::Rec(1, 1, 2, Data::Fill(1_000_000)), "ok taken 1"),
         (Act::End(1, 0), "ok ended"),
-        (Act::Drain(1), "ok drained 16"),
+        (Act::Drain(1, 1), "ok drained 16"),
         (
             Act::Close(1),
             "ok closed session 1000 1\nspan Vol-0001 1 1 1 82 1000784\n",
@@ -272,15 +272,20 @@ pub static LARGE_RECORD: Scenario = Scenario {
 /// Two sessions that are cancelled in mid-record: with no record whole, and with one.
 pub static CANCELLED: Scenario = Scenario {
     name: "cancelled",
-    wide: false,
+    settings: NARROW,
     moves: &[
         (LABEL, "ok labelled"),
         (OPEN, "ok ticket 1 drive 1"),
         (Act::Rec(1, 1, 2, Data::Fill(2000)), "ok taken 1"),
-        (Act::Drain(1), "ok drained 2"),
+        (Act::Drain(1, 1), "ok drained 2"),
         (Act::Cancel(1), "ok cancelled"),
         (Act::Status(1), "cancelled"),
         (Act::Close(1), "3906 Session cancelled"),
+        (
+            Act::Media(1),
+            "ok media session 0 0\nspan Vol-0001 1 1 1 82 2130\n",
+        ),
+        (Act::Read(1), "ok read 0 0 cut"),
         (OPEN, "ok ticket 2 drive 1"),
         (Act::Rec(2, 1, 2, Data::Text(b"hello")), "ok taken 1"),
         (Act::Rec(2, 2, 2, Data::Fill(2000)), "ok taken 2"),

@@ -3,7 +3,7 @@ use std::alloc::Global;
 
 /// Bytes that grow. What finds no memory is left out.
 #[derive(Drop)]
-pub struct Written {
+pub(crate) struct Written {
     bytes: Vec<u8>,
 }
 
@@ -26,6 +26,10 @@ impl Written {
         let _ = self.bytes.extend_from_slice(bytes);
     }
 
+    pub fn cut(&mut self, to: usize) {
+        self.bytes.truncate(to);
+    }
+
     /// A number of four bytes, the highest first.
     pub fn u32(&mut self, value: u32) {
         self.put(&value.to_be_bytes());
@@ -43,19 +47,21 @@ impl Written {
         self.u32(stream);
         self.u32(size.try_into().unwrap_or(0));
     }
+}
 
-    /// A block with that body.
-    pub fn block(&mut self, alloc: Global, time: u32, id: u32, number: u32, body: &[u8]) {
-        let mut summed = Written::new(alloc);
-        summed.u32(body.len().saturating_add(24).try_into().unwrap_or(0));
-        summed.u32(number);
-        summed.put(b"BB02");
-        summed.u32(id);
-        summed.u32(time);
-        summed.put(body);
-        self.u32(checksum(summed.as_slice()));
-        self.put(summed.as_slice());
-    }
+/// The block with that body.
+pub(crate) fn block_image(alloc: Global, time: u32, id: u32, number: u32, body: &[u8]) -> Written {
+    let mut summed = Written::new(alloc);
+    summed.u32(body.len().saturating_add(24).try_into().unwrap_or(0));
+    summed.u32(number);
+    summed.put(b"BB02");
+    summed.u32(id);
+    summed.u32(time);
+    summed.put(body);
+    let mut image = Written::new(alloc);
+    image.u32(checksum(summed.as_slice()));
+    image.put(summed.as_slice());
+    image
 }
 
 // CRC-32, bit by bit.

@@ -24,18 +24,18 @@ fn fill(alloc: Global, seed: u32, count: usize) -> Bytes {
     Bytes::from_vec(bytes)
 }
 
-/// A record that the session of the ticket took.
+/// A record that a session took, which is named by its place among all that were opened.
 #[derive(Drop)]
 pub struct Taken {
-    pub ticket: u32,
+    pub session: u32,
     pub rec: Rec,
 }
 
 /// Whether the records are the first that the session took.
-pub fn are_first_of(got: &[Rec], taken: &[Taken], ticket: u32) -> bool {
+pub fn are_first_of(got: &[Rec], taken: &[Taken], session: u32) -> bool {
     let mut same = 0usize;
     for one in taken {
-        if one.ticket != ticket {
+        if one.session != session {
             continue;
         }
         match got.get(same) {

@@ -1,6 +1,6 @@
 // The lines that answers are compared by.
 use sd_base::{Refusal, SessionKey};
-use sd_core::{Span, put_jobmedia};
+use sd_span::{Span, put_jobmedia};
 use std::alloc::Global;
 
 /// A line of text, or several. What finds no memory is left out, so that the line is another one then.
@@ -38,6 +38,19 @@ impl Line {
         for number in numbers {
             let _ = write!(self.text, " {number}");
         }
+    }
+
+    /// Adds a blank and the word.
+    pub fn word(&mut self, word: &str) {
+        self.words(" ");
+        self.words(word);
+    }
+
+    /// Adds the words, the name behind a blank, and each number behind one.
+    pub fn put_named(&mut self, words: &str, name: &str, numbers: &[u64]) {
+        self.words(words);
+        self.word(name);
+        self.put("", numbers);
     }
 
     /// Adds the line of a refusal.

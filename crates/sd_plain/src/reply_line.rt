@@ -1,42 +1,40 @@
 // The lines of what the world answers.
 use crate::line::Line;
 use sd_base::{Refusal, SessionKey};
-use sd_core::{ReadEnd, Reply, Span, Status};
+use sd_machine::Reply;
+use sd_readback::ReadEnd;
+use sd_session::Status;
+use sd_span::Span;
+
+/// The key under which spans are written that were told without one.
+const NO_KEY: SessionKey = SessionKey { time: 0, id: 0 };
 
 /// Adds the line of a reply.
 pub fn put_reply(line: &mut Line, reply: &Reply) {
     match reply {
         Reply::Refused(why) => line.refuse(*why),
         Reply::Taken { count } => line.put("ok taken", &[*count]),
-        Reply::Closed { key, spans } => put_closed(line, *key, spans.as_slice()),
+        Reply::Closed { key, spans } => put_spans(line, "ok closed ", *key, spans.as_slice()),
+        Reply::Media { spans } => put_spans(line, "ok media ", NO_KEY, spans.as_slice()),
         Reply::Opened { ticket, drive } => put_opened(line, ticket.get(), drive.get()),
         Reply::InHand { ticket, seq } => line.put("ok hand", &[u64::from(ticket.get()), *seq]),
-        Reply::Mounted { name } => put_mounted(line, name.as_str()),
-        Reply::Placed { volume, start, end } => put_placed(line, volume.as_str(), *start, *end),
+        Reply::Mounted { name } => line.put_named("ok mounted", name.as_str(), &[]),
+        Reply::Placed { volume, start, end } => {
+            line.put_named("ok placed", volume.as_str(), &[*start, *end])
+        }
+        Reply::Adopted { end, next } => line.put("ok adopted", &[*end, u64::from(*next)]),
         _ => line.words(words_of(reply)),
     }
 }
 
-/// Adds the line of a session that was opened.
-pub fn put_opened(line: &mut Line, ticket: u32, drive: u32) {
+// Adds the line of a session that was opened.
+fn put_opened(line: &mut Line, ticket: u32, drive: u32) {
     line.put("ok ticket", &[u64::from(ticket)]);
     line.put(" drive", &[u64::from(drive)]);
 }
 
-/// Adds the line of a mounted volume.
-pub fn put_mounted(line: &mut Line, name: &str) {
-    line.words("ok mounted ");
-    line.words(name);
-}
-
-/// Adds the line of a body that was placed.
-pub fn put_placed(line: &mut Line, volume: &str, start: u64, end: u64) {
-    line.words("ok placed ");
-    line.put(volume, &[start, end]);
-}
-
-fn put_closed(line: &mut Line, key: SessionKey, spans: &[Span]) {
-    line.words("ok closed ");
+fn put_spans(line: &mut Line, words: &str, key: SessionKey, spans: &[Span]) {
+    line.words(words);
     line.jobmedia(key, spans);
 }
 
@@ -45,17 +43,24 @@ fn words_of(reply: &Reply) -> &'static str {
     match reply {
         Reply::Ended => "ok ended",
         Reply::Cancelled => "ok cancelled",
+        Reply::Spooled => "ok spooled",
+        Reply::SpoolFull => "ok spool full",
         Reply::Nothing => "ok nothing",
         Reply::NoSpool => "ok no spool",
         Reply::Sent => "ok sent",
         Reply::LaneFull => "ok queue full",
+        Reply::NotDue => "ok not due",
         Reply::HandFull => "ok hand full",
         Reply::Idle => "ok idle",
         Reply::NeedVolume => "ok need volume",
+        Reply::VolumeFull => "ok volume full",
+        Reply::VolumeError => "ok volume error",
         Reply::Synced => "ok synced",
         Reply::Labelled => "ok labelled",
+        Reply::Unmounted => "ok unmounted",
         Reply::Requested => "ok requested",
         Reply::NoNeed => "ok no need",
+        Reply::Retired => "ok retired",
         _ => "another reply",
     }
 }

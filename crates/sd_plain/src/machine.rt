@@ -6,4 +6,7 @@ use crate::line::Line;
 pub trait Machine {
     /// Adds the line of its answer to the act.
     fn play(&mut self, act: Act, line: &mut Line);
+
+    /// Adds the lines of its status, its requests for volumes, and the tickets that are on their way.
+    fn look(&self, line: &mut Line);
 }
