@@ -12,7 +12,6 @@ mod packets;
 mod session;
 mod stations;
 mod volumes;
-mod worlds;
 
 use anyhow::Result;
 
@@ -23,6 +22,5 @@ fn main(rt: HostRuntime) -> Result<()> {
     volumes::run(&rt)?;
     stations::run(&rt)?;
     jobs::run(&rt)?;
-    worlds::run(&rt)?;
     Ok(())
 }

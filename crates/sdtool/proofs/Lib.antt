@@ -1,5 +1,4 @@
-pub mod ClosedLemmas
-pub mod EndLemmas
-pub mod RoundLemmas
-pub mod SendLemmas
-pub mod StatusLemmas
+pub mod MakingLemmas
+pub mod PrintedLemmas
+pub mod SettingLemmas
+pub mod StageLemmas

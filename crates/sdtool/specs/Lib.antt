@@ -1,5 +1,10 @@
-pub mod ClosedSessions
+pub mod Doing
+pub mod Head
+pub mod Lines
+pub mod Making
+pub mod MemDrives
+pub mod Printed
 pub mod Refused
-pub mod Replies
-pub mod Rounds
+pub mod Restart
 pub mod Settings
+pub mod Stage

@@ -1,6 +1,8 @@
 // The lines of the input, one at a time, in memory that the longest line bounds.
 ghost use Rattle.std.specs.Prelude.{◌≡◌, ◌⊎◌, []};
+ghost use Rattle.sdtool.specs.Lines.{came_with};
 
+use crate::seen::Seen;
 use sd_base::MOST_DATA;
 use std::alloc::Global;
 use std::io::{BufRead, ErrorKind, Read};
@@ -27,38 +29,58 @@ pub enum Next {
     End,
 }
 
-/// The line that was read last. In a contract it is the list of its bytes.
+/// The line that was read last. In a contract it is a `LinesView`, which has all lines that were read; but nothing of the
+/// earlier ones is held.
 #[derive(Drop)]
 pub struct Lines {
     bytes: Vec<u8>,
+    came: Option<Seen<Vec<u8>>>,
 }
 
 impl Model for Lines {
-    ghost use Rattle.std.specs.Prelude.{List, ℕ};
+    ghost use Rattle.std.specs.Prelude.{List, ℕ, [], None, Some, map};
+    ghost use Rattle.sdtool.specs.Lines.{LinesView};
 
-    ghost Value = { List ℕ };
+    ghost Value = { LinesView };
 
-    ghost view = { λ l. l.bytes.items };
+    ghost view = { λ l. record {
+      bytes = l.bytes.items;
+      came = elim l.came as (λ _. List (List ℕ)) [ None ↦ [] | Some s ↦ map (λ v. v.items) s ];
+    } };
 }
 
 impl Lines {
     pub fn new(alloc: Global) -> Self
-        ensures { result ≡ [] }
+        ensures bytes { result.bytes ≡ [] }
+        ensures came { result.came ≡ [] }
     {
         Lines {
             bytes: Vec::new(alloc),
+            came: None,
         }
     }
 
     /// The bytes of the line, without the newline behind it.
     pub fn bytes(&self) -> &[u8]
-        ensures { result.now ≡ self.now }
+        ensures { result.now ≡ self.now.bytes }
     {
         &self.bytes
     }
 
     /// Reads the next line. The last one may lack its newline.
-    pub fn read_next<R: BufRead>(&mut self, reader: &mut R) -> Next {
+    pub fn read_next<R: BufRead>(&mut self, reader: &mut R) -> Next
+        ensures { self.new.came ≡ came_with result self.old.came self.new.bytes }
+    {
+        let next = self.read_bytes(reader);
+        if let Next::Line = next {
+            self.came = Some(Seen::with(&self.came, &self.bytes));
+        }
+        next
+    }
+
+    fn read_bytes<R: BufRead>(&mut self, reader: &mut R) -> Next
+        ensures { self.new.came ≡ self.old.came }
+    {
         self.bytes.clear();
         let mut limited = reader.by_ref().take(MOST_READ);
         match limited.read_until(b'\n', &mut self.bytes) {
@@ -72,7 +94,9 @@ impl Lines {
         }
     }
 
-    fn without_newline<R: BufRead>(&mut self, reader: &mut R) -> Next {
+    fn without_newline<R: BufRead>(&mut self, reader: &mut R) -> Next
+        ensures { self.new.came ≡ self.old.came }
+    {
         if self.bytes.last() == Some(&b'\n') {
             self.bytes.pop();
             return Next::Line;

@@ -3,20 +3,27 @@
 #![tactic(auto)]
 
 mod arguments;
-mod closed;
-mod drain;
-mod handed;
+mod drives;
+mod events;
+mod fits;
 mod lines;
+mod making;
 mod output;
+mod printed;
+mod reading;
 mod replies;
+mod restart;
 mod run;
-mod script_world;
+mod seen;
 mod settings;
 mod sink;
+mod stage;
 #[cfg(test)]
 mod tests;
+mod values;
 
 use arguments::{Task, status_of, task_of};
+use drives::memory_drives;
 use run::run_lines;
 use sd_base::Refusal;
 use settings::read_settings;
@@ -43,7 +50,7 @@ fn main(rt: HostRuntime) -> ExitCode {
     }
 }
 
-/// Runs the script on standard input.
+/// Runs the script on standard input, over drives in memory.
 fn run_script<R: Input + Print + AllocGlobal>(rt: &R) -> ExitCode {
     let alloc = rt.alloc();
     let Ok(mut reader) = BufReader::new(alloc, rt.reader()) else {
@@ -53,7 +60,10 @@ fn run_script<R: Input + Print + AllocGlobal>(rt: &R) -> ExitCode {
         return without_memory(rt);
     };
     let settings = read_settings(alloc, &mut reader);
-    let status = run_lines(alloc, settings, &mut reader, &mut writer);
+    let Ok(drivers) = memory_drives(alloc, &settings.values) else {
+        return without_memory(rt);
+    };
+    let status = run_lines(alloc, settings, drivers, &mut reader, &mut writer);
     // What could not be written is given up, and not tried again as the writer goes.
     let _ = writer.into_parts();
     ExitCode::from(status)

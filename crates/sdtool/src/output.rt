@@ -39,4 +39,16 @@ impl<W: Write + Drop> Output<W> {
             self.failed = true;
         }
     }
+
+    /// Prints whole lines, at once.
+    pub fn text(&mut self, lines: &str)
+        ensures { self.old.failed ≡ true → self.new ≡ self.old }
+    {
+        if self.failed {
+            return;
+        }
+        if self.writer.write_all(lines.as_bytes()).is_err() || self.writer.flush().is_err() {
+            self.failed = true;
+        }
+    }
 }

@@ -1,53 +1,71 @@
 // Running the lines of a script over a world.
-ghost use Rattle.std.specs.Prelude.{◌≡◌, ◌≢◌, ◌⊎◌, ◌-◌, replicate, true, false, IfOk, IfSome, IfNone};
-ghost use Rattle.sd_base.specs.Limits.{block_header};
-ghost use Rattle.sd_core.specs.World.{fresh_world};
-ghost use Rattle.sdtool.specs.Refused.{unheld_refusal, unread_refusal};
+ghost use Rattle.std.specs.Prelude.{◌≡◌, ◌≤◌, ◌⊎◌, false, true, length, replicate, IfOk};
+ghost use Rattle.sd_base.specs.Limits.{most_number};
+ghost use Rattle.sdtool.specs.Doing.{AnswersOrStays, Answers, AnswersSome, ConsoleDoes, LineDoes, moment_after, step_event};
+ghost use Rattle.sdtool.specs.Refused.{unheld_refusal};
+ghost use Rattle.sdtool.specs.Settings.{drives_due};
+ghost use Rattle.sd_machine.specs.declared.event.Event.TheVariants as event;
+ghost use Rattle.sd_script.specs.declared.line.Line.TheVariants as line;
 
-use crate::closed::{Closed, ClosedSessions};
-use crate::drain::drain;
+use crate::events::{console_event, step_event};
 use crate::lines::Next;
 use crate::output::Output;
-use crate::replies::print_reply;
-use crate::script_world::ScriptWorld;
-use crate::settings::{Settings, Values};
-use crate::sink::RecordLines;
-use sd_base::{Bytes, DriveNo, Items, Rec, Refusal, SessionKey, Ticket, VolName};
-use sd_core::{Event, ReadEnd, ReadFault, Reply, Span, Status, World, WorldConf};
-use sd_script::{ConsoleCmd, Line, read_line};
+use crate::printed::Printed;
+use crate::replies::{print_reply, print_requests, print_status};
+use crate::restart::{Restart, Restarted};
+use crate::settings::Settings;
+use crate::stage::Stage;
+use sd_base::{Bytes, DriveNo, Items, Rec, Refusal, Ticket, VolName};
+use sd_driver::Driver;
+use sd_machine::{Event, Reply};
+use sd_script::{ConsoleCmd, Line, Part, read_line};
+use sd_session::Status;
 use std::alloc::{AllocError, Global};
 use std::io::{BufRead, Write};
 
 /// The status of a run that came to the end of its script.
 const DONE: u8 = 0;
 
-/// The status of a run whose input could not be read or whose lines could not be written, or for which
-/// there was no memory to begin.
-const FAILED: u8 = 1;
+/// The status of a run whose settings don't go together, whose input could not be read, whose lines could not be
+/// written, or for which there was no memory to begin.
+pub const FAILED: u8 = 1;
 
 /// The letter that a `fill` line fills its record with.
 const FILLING: u8 = b'x';
 
 /// A script that is run.
 #[derive(Drop)]
-struct Script<W: Write + Drop> {
-    alloc: Global,
-    world: ScriptWorld,
+pub struct Script<D: Driver, W: Write + Drop> {
+    pub alloc: Global,
+    pub stage: Stage<D>,
     /// The moment of what happens now, in microseconds.
-    moment: i64,
-    closed: ClosedSessions,
-    out: Output<W>,
+    pub moment: i64,
+    pub printed: Printed,
+    pub out: Output<W>,
+}
+
+/// What a line of a script leaves to do.
+#[derive(Drop)]
+enum Came {
+    Nothing,
+    /// The run is over, with this status.
+    Over(u8),
+    /// A new world is to be made.
+    Restart(Restart),
 }
 
 /// Runs the script whose settings were read, from the line that they ended at to the end of the input,
-/// and prints what each line comes to. Answers the status of the run: 0 where the script came to its
-/// end, whatever was refused in it, and else 1.
-pub fn run_lines<R: BufRead, W: Write + Drop>(
+/// and prints what each line comes to. There is a driver for each drive of the settings, and none where they don't go
+/// together: then the fault is printed and nothing is run. Answers the status of the run: 0 where the script came to
+/// its end, whatever was refused in it, and else 1.
+pub fn run_lines<D: Driver + Drop, R: BufRead, W: Write + Drop>(
     alloc: Global,
     settings: Settings,
+    drivers: Vec<D>,
     reader: &mut R,
     writer: W,
 ) -> u8
+    requires { length drivers.items ≡ drives_due settings.values }
     ensures { (result ≡ 0) ⊎ (result ≡ 1) }
 {
     let Settings {
@@ -56,63 +74,123 @@ pub fn run_lines<R: BufRead, W: Write + Drop>(
         first,
     } = settings;
     let mut out = Output::new(writer);
-    let Ok(world) = new_world(alloc, &values) else {
+    if let Some(misfit) = values.misfit() {
+        out.line(format_args!("fault {} range", misfit.word()));
+        return FAILED;
+    }
+    let Ok(stage) = Stage::new(alloc, values, drivers) else {
         out.line(Refusal::Memory);
         return FAILED;
     };
     let mut script = Script {
         alloc,
-        world: ScriptWorld::new(world),
+        stage,
         moment: 0,
-        closed: ClosedSessions::new(alloc),
+        printed: Printed::new(alloc),
         out,
     };
+    let mut part = Part::Head;
     let mut next = first;
     for _ in 0..u64::MAX {
-        if let Some(status) = script.come(next, lines.bytes()) {
-            return status;
+        match script.come(part, next, lines.bytes()) {
+            Came::Nothing => {}
+            Came::Over(status) => return status,
+            Came::Restart(restart) => match script.restarted(restart) {
+                Some(again) => script = again,
+                None => return FAILED,
+            },
         }
+        part = Part::Body;
         next = lines.read_next(reader);
     }
     DONE
 }
 
-impl<W: Write + Drop> Script<W> {
-    /// Runs the line that came, which stands in `bytes`. Answers the status where the run is over.
-    fn come(&mut self, next: Next, bytes: &[u8]) -> Option<u8>
-        ensures over { IfSome result (λ status. ((status ≡ 0) × (next ≡ Next.End))
-            ⊎ ((status ≡ 1) × ((next ≡ Next.Fault) ⊎ (self.new.out.failed ≡ true)))) }
-        ensures goes_on { IfNone result ((next ≢ Next.End) × (next ≢ Next.Fault)
-            × (self.new.out.failed ≡ false)) }
+impl<D: Driver + Drop, W: Write + Drop> Script<D, W> {
+    /// Runs the line that came, which stands in `bytes`.
+    fn come(&mut self, part: Part, next: Next, bytes: &[u8]) -> Came
+        ensures restart { (restart : _) → result ≡ Came.Restart restart
+            → (1 ≤ restart.time) × (restart.time ≤ most_number) }
+        ensures over { (status : _) → result ≡ Came.Over status
+            → ((status ≡ 0) × (next ≡ Next.End))
+            ⊎ ((status ≡ 1) × ((next ≡ Next.Fault) ⊎ (self.new.out.failed ≡ true))) }
     {
+        let mut came = Came::Nothing;
         match next {
-            Next::Line => self.run(bytes),
+            Next::Line => came = self.run(part, bytes),
             Next::TooLong => self.refuse(Refusal::BadCommand),
             Next::NoMemory => self.refuse(Refusal::Memory),
             Next::Fault => {
                 self.out.line("fault input");
-                return Some(FAILED);
+                return Came::Over(FAILED);
             }
-            Next::End => return Some(DONE),
+            Next::End => return Came::Over(DONE),
         }
         if self.out.failed() {
-            return Some(FAILED);
+            return Came::Over(FAILED);
         }
-        None
+        came
     }
 
-    fn run(&mut self, bytes: &[u8]) {
-        match read_line(bytes) {
+    fn run(&mut self, part: Part, bytes: &[u8]) -> Came
+        ensures over { (status : _) → result ≡ Came.Over status → ⊥ }
+        ensures restart { (restart : _) → result ≡ Came.Restart restart
+            → (1 ≤ restart.time) × (restart.time ≤ most_number) }
+    {
+        match read_line(part, bytes) {
+            Ok(Line::Restart { time, tail }) => return Came::Restart(Restart { time, tail }),
             Ok(line) => self.obey(line),
             Err(fault) => self.refuse(fault.refusal()),
         }
+        Came::Nothing
     }
 
-    fn refuse(&mut self, why: Refusal) {
+    /// The script behind a line that makes a new world; `None` where there is no memory for it once the old one is gone,
+    /// or where a line can't be written.
+    fn restarted(self, restart: Restart) -> Option<Self>
+        requires time_least { 1 ≤ restart.time }
+        requires time_most { restart.time ≤ most_number }
+    {
+        let Script {
+            alloc,
+            stage,
+            moment,
+            printed,
+            mut out,
+        } = self;
+        let Ok(Restarted { stage, refused }) = stage.restarted(alloc, restart) else {
+            out.line(Refusal::Memory);
+            return None;
+        };
+        match refused {
+            None => out.line("ok restarted"),
+            Some(why) => out.line(why),
+        }
+        if out.failed() {
+            return None;
+        }
+        Some(Script {
+            alloc,
+            stage,
+            moment,
+            printed,
+            out,
+        })
+    }
+
+    pub fn refuse(&mut self, why: Refusal)
+        ensures stage { self.new.stage ≡ self.old.stage }
+        ensures moment { self.new.moment ≡ self.old.moment }
+        ensures printed { self.new.printed ≡ self.old.printed }
+    {
         self.out.line(why);
     }
 
-    fn obey(&mut self, line: Line<'_>) {
+    fn obey(&mut self, line: Line<'_>)
+        ensures does { LineDoes (λ d. D.meaning d) self.old.moment line.entry
+            self.old.stage.world self.new.stage.world }
+        ensures moment { self.new.moment ≡ moment_after line.entry self.old.moment }
+    {
         match line {
             Line::Empty => {}
             Line::Set(_) => self.refuse(Refusal::BadCommand),
@@ -135,74 +213,63 @@ impl<W: Write + Drop> Script<W> {
             Line::Console(command) => self.operate(command),
             Line::Close(ticket) => self.close(ticket),
             Line::Read(ticket) => self.read(ticket),
+            Line::Again(key) => self.again(key),
             Line::Drain => self.drain(),
             other => self.step_as(other),
         }
     }
 
     /// The lines that a console has too.
-    fn operate(&mut self, command: ConsoleCmd) {
-        let moment = self.moment;
+    fn operate(&mut self, command: ConsoleCmd)
+        ensures does { ConsoleDoes (λ d. D.meaning d) self.old.moment command
+            self.old.stage.world self.new.stage.world }
+        ensures moment { self.new.moment ≡ self.old.moment }
+    {
         match command {
-            ConsoleCmd::Label {
-                drive,
-                volume,
-                pool,
-                media,
-            } => self.step(Event::Label {
-                drive,
-                name: volume,
-                pool,
-                media,
-                moment,
-            }),
             ConsoleCmd::Mount { drive, volume } => self.mount(drive, volume),
-            ConsoleCmd::Cancel(ticket) => self.step(Event::Cancel { ticket }),
-            // The world has no such steps yet.
-            ConsoleCmd::Adopt { .. }
-            | ConsoleCmd::Unmount(_)
-            | ConsoleCmd::Retire(_)
-            | ConsoleCmd::JobMedia(_)
-            | ConsoleCmd::Status
-            | ConsoleCmd::Requests => self.refuse(Refusal::BadCommand),
+            ConsoleCmd::JobMedia(ticket) => self.jobmedia(ticket),
+            ConsoleCmd::Status => self.status(),
+            ConsoleCmd::Requests => print_requests(
+                self.alloc,
+                &mut self.out,
+                self.stage.requests(),
+            ),
+            other => {
+                if let Some(event) = console_event(other, self.moment) {
+                    self.step(event);
+                }
+            }
         }
     }
 
     /// The lines that are one step, and print its reply as it is.
-    fn step_as(&mut self, line: Line<'_>) {
-        let moment = self.moment;
-        match line {
-            Line::Open { job, pool, media } => self.step(Event::Open {
-                job,
-                pool,
-                media,
-                moment,
-            }),
-            Line::End(ticket) => self.step(Event::End { ticket, moment }),
-            Line::Spool(ticket) => self.step(Event::Spool { ticket }),
-            Line::Despool(ticket) => self.step(Event::Despool { ticket }),
-            Line::Seek(drive) => self.step(Event::Seek { drive }),
-            Line::Take(drive) => self.step(Event::Take { drive }),
-            Line::Place(drive) => self.step(Event::Place { drive }),
-            Line::Sync(drive) => self.step(Event::Sync { drive }),
-            _ => {}
+    fn step_as(&mut self, line: Line<'_>)
+        ensures does { AnswersSome (λ d. D.meaning d) (step_event line.entry self.old.moment)
+            self.old.stage.world self.new.stage.world }
+        ensures moment { self.new.moment ≡ self.old.moment }
+    {
+        if let Some(event) = step_event(line, self.moment) {
+            self.step(event);
         }
     }
 
-    fn step(&mut self, event: Event) {
-        let reply = self.world.step(event);
+    fn step(&mut self, event: Event)
+        ensures does { Answers (λ d. D.meaning d) event self.old.stage.world self.new.stage.world }
+        ensures moment { self.new.moment ≡ self.old.moment }
+    {
+        let reply = self.stage.step(event);
         print_reply(&mut self.out, &reply);
     }
 
-    fn append(
-        &mut self,
-        ticket: Ticket,
-        index: u32,
-        stream: u32,
-        bytes: Result<Bytes, AllocError>,
-    ) {
+    fn append(&mut self, ticket: Ticket, index: u32, stream: u32, bytes: Result<Bytes, AllocError>)
+        ensures does { (held : _) → IfOk bytes (λ given. given ≡ held)
+            → AnswersOrStays (λ d. D.meaning d)
+            (event.Append ticket (record { index = index; stream = stream; bytes = held }))
+            self.old.stage.world self.new.stage.world }
+        ensures moment { self.new.moment ≡ self.old.moment }
+    {
         let Ok(bytes) = bytes else {
-            let status = self.world.get().status(ticket);
+            let status = self.stage.status(ticket);
             return self.refuse(unheld(status));
         };
         match Rec::new(index, stream, bytes) {
@@ -211,53 +278,37 @@ impl<W: Write + Drop> Script<W> {
         }
     }
 
-    fn mount(&mut self, drive: DriveNo, name: VolName) {
-        match self.world.step(Event::Mount { drive, name }) {
+    fn mount(&mut self, drive: DriveNo, name: VolName)
+        ensures does { Answers (λ d. D.meaning d) (event.Mount drive name)
+            self.old.stage.world self.new.stage.world }
+        ensures moment { self.new.moment ≡ self.old.moment }
+    {
+        match self.stage.step(Event::Mount { drive, name }) {
             Reply::Mounted { .. } => self.out.line("ok mounted"),
             reply => print_reply(&mut self.out, &reply),
         }
     }
 
-    /// Closes a session, and keeps its spans for a later `read`. Room for them is made first.
-    fn close(&mut self, ticket: Ticket) {
-        if self.closed.reserve().is_err() {
-            return self.refuse(Refusal::Memory);
-        }
-        let reply = self.world.step(Event::Close { ticket });
-        print_reply(&mut self.out, &reply);
-        let Reply::Closed { key, spans } = reply else {
-            return;
-        };
-        print_jobmedia(&mut self.out, key, spans.as_slice());
-        self.closed.insert(Closed { ticket, key, spans });
-    }
-
-    fn read(&mut self, ticket: Ticket) {
-        let Some(closed) = self.closed.find(ticket) else {
-            let status = self.world.get().status(ticket);
-            return self.refuse(unread(status));
-        };
-        match read_back(self.world.get(), closed, &mut self.out) {
-            Ok(end) => print_end(&mut self.out, end),
-            Err(fault) => self.refuse(fault.refusal()),
+    fn status(&mut self)
+        ensures stays { self.new.stage.world ≡ self.old.stage.world }
+        ensures moment { self.new.moment ≡ self.old.moment }
+    {
+        match self.stage.view() {
+            Ok(view) => print_status(self.alloc, &mut self.out, &view),
+            Err(_) => self.refuse(Refusal::Memory),
         }
     }
 
-    fn drain(&mut self) {
-        let placed = drain(&mut self.world);
-        self.out.line(format_args!("ok drained {placed}"));
+    fn drain(&mut self)
+        ensures does { LineDoes (λ d. D.meaning d) self.old.moment line.Drain
+            self.old.stage.world self.new.stage.world }
+        ensures moment { self.new.moment ≡ self.old.moment }
+    {
+        match self.stage.drain() {
+            Ok(placed) => self.out.line(format_args!("ok drained {placed}")),
+            Err(_) => self.refuse(Refusal::Memory),
+        }
     }
-}
-
-/// A world with nothing in it yet, of these settings.
-fn new_world(alloc: Global, values: &Values) -> Result<World, AllocError>
-    ensures { IfOk result (λ world.
-        world ≡ fresh_world (values.now.block - block_header) values.now.time) }
-{
-    let conf = WorldConf {
-        block: values.block,
-    };
-    World::new(alloc, conf, values.time)
 }
 
 /// The bytes of a `fill` line's record: letters x.
@@ -265,35 +316,6 @@ fn filled(alloc: Global, count: usize) -> Result<Bytes, AllocError>
     ensures { IfOk result (λ bytes. bytes ≡ replicate count 120) }
 {
     Ok(Items::from_vec(vec![in alloc; FILLING; count]?))
-}
-
-/// Prints the JobMedia text of a closed session.
-pub fn print_jobmedia<W: Write + Drop>(out: &mut Output<W>, key: SessionKey, spans: &[Span]) {
-    out.line(format_args!("session {} {}", key.time, key.id));
-    for span in spans {
-        out.line(span);
-    }
-}
-
-/// Prints the records of a closed session as they are read back.
-fn read_back<W: Write + Drop>(
-    world: &World,
-    closed: &Closed,
-    out: &mut Output<W>,
-) -> Result<ReadEnd, ReadFault> {
-    let mut records = RecordLines::new(out);
-    world.read(closed.key, closed.spans.as_slice(), &mut records)
-}
-
-/// Prints the line of a session that was read to its end.
-fn print_end<W: Write + Drop>(out: &mut Output<W>, end: ReadEnd) {
-    let records = end.records;
-    let bytes = end.bytes;
-    if end.ended {
-        out.line(format_args!("ok read {records} {bytes} ended"));
-    } else {
-        out.line(format_args!("ok read {records} {bytes} cut"));
-    }
 }
 
 /// Why a record is refused for whose bytes there is no memory. What its session's status says comes first.
@@ -305,18 +327,5 @@ fn unheld(status: Option<Status>) -> Refusal
         Some(Status::Cancelled) => Refusal::SessionCancelled,
         Some(Status::Failed) => Refusal::SessionFailed,
         Some(Status::Ended | Status::Closed) | None => Refusal::SessionNotOpen,
-    }
-}
-
-/// Why a session that was never closed here can't be read.
-fn unread(status: Option<Status>) -> Refusal
-    ensures { result ≡ unread_refusal status }
-{
-    match status {
-        None => Refusal::SessionNotOpen,
-        Some(Status::Failed) => Refusal::SessionFailed,
-        // It never comes to this: room for the spans is made before a session is closed.
-        Some(Status::Closed) => Refusal::Memory,
-        Some(Status::Active | Status::Ended | Status::Cancelled) => Refusal::NotYet,
     }
 }

@@ -1,8 +1,8 @@
 // The records of a session that is read back, a line each.
-use crate::handed::Handed;
 use crate::output::Output;
+use crate::seen::Seen;
 use sd_base::Rec;
-use sd_core::Sink;
+use sd_readback::Sink;
 use std::alloc::AllocError;
 use std::fmt;
 use std::io::Write;
@@ -14,7 +14,7 @@ const SHOWN: usize = 16;
 #[derive(Drop)]
 pub struct RecordLines<'a, W: Write + Drop> {
     out: &'a mut Output<W>,
-    handed: Option<Handed>,
+    handed: Option<Seen<Rec>>,
 }
 
 impl<'a, W: Write + Drop> RecordLines<'a, W> {
@@ -30,11 +30,7 @@ impl<W: Write + Drop> Sink for RecordLines<'_, W> {
     ghost got = { λ s. elim s.handed as (λ _. List Record) [ None ↦ [] | Some h ↦ h ] };
 
     fn put(&mut self, rec: Rec) -> Result<(), AllocError> {
-        let handed = match &self.handed {
-            None => Handed::first(&rec),
-            Some(before) => before.with(&rec),
-        };
-        self.handed = Some(handed);
+        self.handed = Some(Seen::with(&self.handed, &rec));
         self.out.line(RecordLine { rec: &rec });
         Ok(())
     }

@@ -1,6 +1,6 @@
 // Scripts run from their bytes to what they print, and command lines.
-use closed_sessions::found_otherwise;
 use command_lines::{COMMAND_LINES, is_answered_so};
+use drive_rows::DRIVE_ROWS;
 use faults::{stops_at_write_fault, tells_read_fault};
 use jobmedia::prints_the_text;
 use player::{first_otherwise, prints, prints_long};
@@ -8,8 +8,8 @@ use refusals::REFUSALS;
 use rows::{LONG_SCRIPTS, ROWS, SCRIPT};
 use std::test::Fail;
 
-mod closed_sessions;
 mod command_lines;
+mod drive_rows;
 mod faults;
 mod jobmedia;
 mod player;
@@ -18,8 +18,12 @@ mod rows;
 
 #[test]
 fn scripts(rt: HostRuntime) -> Result<(), Fail> {
-    for row in &ROWS {
-        assert!(rt; prints(rt.alloc(), row.script, row.printed), "{}", row.name);
+    for row in ROWS.iter().chain(&DRIVE_ROWS) {
+        assert!(rt;
+            prints(rt.alloc(), row.script, row.printed, row.status)?,
+            "{}",
+            row.name
+        );
     }
     for long in &LONG_SCRIPTS {
         assert!(rt; prints_long(rt.alloc(), long)?, "{} letters", long.letters);
@@ -39,14 +43,13 @@ fn each_read_or_write_fails(rt: HostRuntime) -> Result<(), Fail> {
         assert!(rt; tells_read_fault(rt.alloc(), fault)?, "read {fault}");
     }
     for fault in 0..60usize {
-        assert!(rt; stops_at_write_fault(rt.alloc(), fault), "write {fault}");
+        assert!(rt; stops_at_write_fault(rt.alloc(), fault)?, "write {fault}");
     }
     Ok(())
 }
 
 #[test]
-fn sessions_are_found(rt: HostRuntime) -> Result<(), Fail> {
-    assert_eq!(rt; found_otherwise(rt.alloc())?, None);
+fn texts_are_printed(rt: HostRuntime) -> Result<(), Fail> {
     assert!(rt; prints_the_text(rt.alloc())?);
     Ok(())
 }

@@ -1,5 +1,6 @@
 // A reader and a writer that fail, each at a call of its own.
 use super::rows::{PRINTED, SCRIPT};
+use crate::drives::memory_drives;
 use crate::run::run_lines;
 use crate::settings::read_settings;
 use std::alloc::{AllocError, Global};
@@ -41,7 +42,8 @@ pub fn tells_read_fault(alloc: Global, fault: usize) -> Result<bool, AllocError>
     };
     let mut printed = Vec::new(alloc);
     let settings = read_settings(alloc, &mut reader);
-    let status = run_lines(alloc, settings, &mut reader, &mut printed);
+    let drivers = memory_drives(alloc, &settings.values)?;
+    let status = run_lines(alloc, settings, drivers, &mut reader, &mut printed);
     let text = str::from_utf8(&printed).unwrap_or("no text");
     let Some(before) = text.strip_suffix("fault input\n") else {
         return Ok(false);
@@ -80,7 +82,7 @@ impl Write for Refusing {
 
 /// Whether, where this write of what is printed fails, what was printed before stands, and nothing is
 /// written after it.
-pub fn stops_at_write_fault(alloc: Global, fault: usize) -> bool {
+pub fn stops_at_write_fault(alloc: Global, fault: usize) -> Result<bool, AllocError> {
     let mut reader = SCRIPT;
     let mut writer = Refusing {
         got: Vec::new(alloc),
@@ -90,8 +92,9 @@ pub fn stops_at_write_fault(alloc: Global, fault: usize) -> bool {
         went_on: false,
     };
     let settings = read_settings(alloc, &mut reader);
-    let status = run_lines(alloc, settings, &mut reader, &mut writer);
+    let drivers = memory_drives(alloc, &settings.values)?;
+    let status = run_lines(alloc, settings, drivers, &mut reader, &mut writer);
     let stands = PRINTED.as_bytes().starts_with(&writer.got);
     let whole = writer.got.len() == PRINTED.len();
-    stands && !writer.went_on && (status == 0) == whole
+    Ok(stands && !writer.went_on && (status == 0) == whole)
 }

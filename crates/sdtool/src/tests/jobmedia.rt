@@ -1,8 +1,8 @@
 // What `close` prints of a session is the text of the core.
 use crate::output::Output;
-use crate::run::print_jobmedia;
+use crate::reading::print_jobmedia;
 use sd_base::{SessionKey, VolName};
-use sd_core::{Span, put_jobmedia};
+use sd_span::{Span, put_jobmedia};
 use std::alloc::{AllocError, Global};
 
 /// Whether what is printed of two spans is their text.

@@ -1,5 +1,6 @@
 // Scripts run from their bytes to what they print.
 use super::rows::LongScript;
+use crate::drives::memory_drives;
 use crate::run::run_lines;
 use crate::settings::read_settings;
 use std::alloc::{AllocError, Global};
@@ -12,26 +13,27 @@ struct Outcome {
     status: u8,
 }
 
-fn ran(alloc: Global, script: &[u8]) -> Outcome {
+fn ran(alloc: Global, script: &[u8]) -> Result<Outcome, AllocError> {
     let mut reader = script;
     let mut printed = Vec::new(alloc);
     let settings = read_settings(alloc, &mut reader);
-    let status = run_lines(alloc, settings, &mut reader, &mut printed);
-    Outcome { printed, status }
+    let drivers = memory_drives(alloc, &settings.values)?;
+    let status = run_lines(alloc, settings, drivers, &mut reader, &mut printed);
+    Ok(Outcome { printed, status })
 }
 
-/// Whether the script prints this and comes to its end.
-pub fn prints(alloc: Global, script: &[u8], printed: &str) -> bool {
-    let ran = ran(alloc, script);
+/// Whether the script prints this and ends with this status.
+pub fn prints(alloc: Global, script: &[u8], printed: &str, status: u8) -> Result<bool, AllocError> {
+    let ran = ran(alloc, script)?;
     let same = ran.printed.as_slice() == printed.as_bytes();
-    same && ran.status == 0
+    Ok(same && ran.status == status)
 }
 
 /// Whether a long script prints what it should and comes to its end.
 pub fn prints_long(alloc: Global, long: &LongScript) -> Result<bool, AllocError> {
     let letters = "y".repeat(alloc, long.letters)?;
     let script = format!(in alloc; "{}{letters}{}", long.begin, long.end)?;
-    Ok(prints(alloc, script.as_bytes(), long.printed))
+    prints(alloc, script.as_bytes(), long.printed, 0)
 }
 
 /// The first of the lines that prints something else than the one line that stands beside it, or what
@@ -45,7 +47,7 @@ pub fn first_otherwise(
         script.push_str(line)?;
         script.push_str("\n")?;
     }
-    let ran = ran(alloc, script.as_bytes());
+    let ran = ran(alloc, script.as_bytes())?;
     let text = str::from_utf8(&ran.printed).unwrap_or("no text");
     let mut answers = text.lines();
     for (line, answer) in lines {

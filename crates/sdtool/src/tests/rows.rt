@@ -7,6 +7,7 @@ pub struct Row {
     pub name: &'static str,
     pub script: &'static [u8],
     pub printed: &'static str,
+    pub status: u8,
 }
 
 /// A session of two records, drained and closed.
@@ -60,6 +61,7 @@ span Vol-0001 1 1 1 82 249
 rec 1 2 5 68656c6c6f
 ok read 1 5 ended
 ",
+        status: 0,
     },
     Row {
         name: "small_no_record",
@@ -80,6 +82,7 @@ session 1000 1
 span Vol-0001 1 0 0 82 232
 ok read 0 0 ended
 ",
+        status: 0,
     },
     Row {
         name: "small_empty_record",
@@ -103,6 +106,7 @@ span Vol-0001 1 1 1 82 244
 rec 1 2 0 -
 ok read 1 0 ended
 ",
+        status: 0,
     },
     Row {
         name: "small_empty_record_no_blank",
@@ -126,6 +130,7 @@ span Vol-0001 1 1 1 82 244
 rec 1 2 0 -
 ok read 1 0 ended
 ",
+        status: 0,
     },
     Row {
         name: "small_fill_863",
@@ -149,6 +154,7 @@ span Vol-0001 1 1 1 82 1131
 rec 1 2 863 78787878787878787878787878787878
 ok read 1 863 ended
 ",
+        status: 0,
     },
     Row {
         name: "small_fill_862",
@@ -172,6 +178,7 @@ span Vol-0001 1 1 1 82 1106
 rec 1 2 862 78787878787878787878787878787878
 ok read 1 862 ended
 ",
+        status: 0,
     },
     Row {
         name: "three_blocks",
@@ -195,6 +202,7 @@ span Vol-0001 1 1 1 82 2316
 rec 1 2 2000 78787878787878787878787878787878
 ok read 1 2000 ended
 ",
+        status: 0,
     },
     Row {
         name: "header_alone",
@@ -221,6 +229,7 @@ rec 1 2 923 78787878787878787878787878787878
 rec 1 2 3 616263
 ok read 2 926 ended
 ",
+        status: 0,
     },
     Row {
         name: "no_room_for_header",
@@ -249,6 +258,7 @@ rec 1 2 924 78787878787878787878787878787878
 rec 1 2 3 616263
 ok read 2 927 ended
 ",
+        status: 0,
     },
     Row {
         name: "step_by_step",
@@ -283,6 +293,7 @@ ok closed 1
 session 1000 1
 span Vol-0001 1 1 1 82 249
 ",
+        status: 0,
     },
     Row {
         name: "bad_index",
@@ -299,6 +310,7 @@ ok taken 1
 3903 Bad file index
 ok taken 2
 ",
+        status: 0,
     },
     Row {
         name: "spooled_never",
@@ -322,6 +334,7 @@ span Vol-0001 1 1 1 82 4388
 rec 1 2 4000 78787878787878787878787878787878
 ok read 1 4000 ended
 ",
+        status: 0,
     },
     Row {
         name: "large_record",
@@ -347,6 +360,7 @@ span Vol-0001 1 1 1 82 1000784
 rec 1 2 1000000 78787878787878787878787878787878
 ok read 1 1000000 ended
 ",
+        status: 0,
     },
     Row {
         name: "settings_late",
@@ -360,6 +374,7 @@ drain
 3901 Bad command
 ok drained 0
 ",
+        status: 0,
     },
     Row {
         name: "settings_ended_by_refusal",
@@ -377,11 +392,13 @@ open 0 Default File
 3901 Bad command
 3901 Bad command
 ",
+        status: 0,
     },
     Row {
         name: "two_records",
         script: SCRIPT,
         printed: PRINTED,
+        status: 0,
     },
     // A closed session takes no more, and one that is Ended is not read.
     Row {
@@ -436,6 +453,7 @@ ok read 0 0 ended
 3902 Session not open
 ok ticket 2 drive 1
 ",
+        status: 0,
     },
     // A drain passes over sessions that are at their end, and comes to those opened after them.
     Row {
@@ -471,8 +489,9 @@ span Vol-0001 1 1 1 82 249
 ok drained 0
 rec 1 2 5 68656c6c6f
 ok read 1 5 ended
-3907 Not yet
+3950 Bad span
 ",
+        status: 0,
     },
     Row {
         name: "time",
@@ -491,6 +510,7 @@ ok closed 1
 session 5 1
 span Vol-0001 1 0 0 82 232
 ",
+        status: 0,
     },
     Row {
         name: "time_given_twice",
@@ -510,6 +530,7 @@ ok closed 1
 session 5 1
 span Vol-0001 1 0 0 82 232
 ",
+        status: 0,
     },
     Row {
         name: "block_given_twice",
@@ -532,6 +553,7 @@ ok closed 1
 session 5 1
 span Vol-0001 1 1 1 82 1131
 ",
+        status: 0,
     },
     // Blocks of 64,512 bytes, and the time 1000, where nothing else is set.
     Row {
@@ -552,11 +574,13 @@ ok closed 1
 session 1000 1
 span Vol-0001 1 1 1 82 1000784
 ",
+        status: 0,
     },
     Row {
         name: "no_line",
         script: b"",
         printed: "",
+        status: 0,
     },
     Row {
         name: "settings_alone",
@@ -564,6 +588,7 @@ span Vol-0001 1 1 1 82 1000784
 time 5
 ",
         printed: "",
+        status: 0,
     },
     Row {
         name: "time_behind_a_moment",
@@ -572,6 +597,7 @@ time 5
 ",
         printed: "3901 Bad command
 ",
+        status: 0,
     },
     Row {
         name: "time_behind_an_empty_line",
@@ -580,6 +606,7 @@ time 5
 ",
         printed: "3901 Bad command
 ",
+        status: 0,
     },
     // A script that ends within a line: that line is a line.
     Row {
@@ -593,6 +620,7 @@ drain
 close 1
 read 1",
         printed: PRINTED,
+        status: 0,
     },
     Row {
         name: "cut_in_mid_line",
@@ -615,6 +643,7 @@ session 1000 1
 span Vol-0001 1 1 2 82 266
 3901 Bad command
 ",
+        status: 0,
     },
     Row {
         name: "bytes_above_ascii",
@@ -630,6 +659,7 @@ ok ticket 1 drive 1
 3901 Bad command
 ok taken 1
 ",
+        status: 0,
     },
 ];
 
