@@ -1,5 +1,6 @@
 -- What a spool in a file is, as a store.
-use Rattle.std.specs.Prelude.{◌≡◌, ℕ, ◌+◌, ◌-◌, ◌^◌, min, false, [], Result, Ok, Err}
+use Rattle.std.specs.Prelude.{◌≡◌, ℕ, ◌<◌, ◌+◌, ◌-◌, ◌^◌, min, false, List, [], ◌++◌, None, codes, string_bytes, Result, Ok, Err}
+use Rattle.std.specs.Fmt.{decimal}
 use Rattle.sd_spool.specs.Meaning.{Meaning}
 use Rattle.sd_spool.specs.declared.file.FileSpool.{FileSpool}
 use Rattle.sd_spool.specs.declared.store.SpoolStoreFault.{SpoolStoreFault}
@@ -22,3 +23,26 @@ failures_after (Err Memory) failures = failures
 -- no further failure can be counted
 abbrev pub IsSpent : ℕ → Type 0
 IsSpent failures = failures ≡ 2 ^ 64 - 1
+
+-- the path of a spool's file
+abbrev pub path_of : {R F D : Type 0} → FileSpool R F D → List ℕ
+path_of spool = string_bytes spool.file.path
+
+-- the name of the file of a lane of a drive, behind its folder
+abbrev pub lane_file : ℕ → ℕ → List ℕ
+lane_file drive lane = codes "/spool~" ++ (decimal drive ++ (codes "~" ++ decimal lane))
+
+-- the file was not looked at yet
+abbrev pub IsUntouched : {R F D : Type 0} → FileSpool R F D → Type 0
+IsUntouched spool = spool.file.opened ≡ None
+
+-- how many bytes were written since the last clear, by the answers of the system
+abbrev pub written : {R F D : Type 0} → FileSpool R F D → ℕ
+written spool = spool.file.end
+
+-- no two lanes have one file: drives are numbered by one digit
+abbrev pub LaneFilesDiffer : Type 0
+LaneFilesDiffer = (drive lane other_drive other_lane : ℕ)
+    → drive < 10 → other_drive < 10 → lane < 2 ^ 64 → other_lane < 2 ^ 64
+    → lane_file drive lane ≡ lane_file other_drive other_lane
+    → (drive ≡ other_drive) × (lane ≡ other_lane)

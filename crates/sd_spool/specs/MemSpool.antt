@@ -1,9 +1,10 @@
 -- What a spool in memory is, as a store.
-use Rattle.std.specs.Prelude.{◌≡◌, ◌↔◌, ◌<◌, ◌+◌, ◌-◌, ◌^◌, ◌⊎◌, ℕ, true, false, List, [], length, IsSome, Result, IsErrOf}
+use Rattle.std.specs.Prelude.{◌≡◌, ◌↔◌, ◌<◌, ◌+◌, ◌-◌, ◌^◌, ◌⊎◌, ◌++◌, ℕ, true, false, List, [], length, IsSome, Result, IsErrOf}
 use Rattle.sd_spool.specs.Meaning.{Meaning}
-use Rattle.sd_spool.specs.Plan.{counted, due_of, works, Strikes}
+use Rattle.sd_spool.specs.Plan.{counted, due_of, part_of, works, Strikes}
 use Rattle.sd_spool.specs.declared.memory.MemSpool.{MemSpool}
 use Rattle.sd_spool.specs.declared.plan.SpoolCall.{SpoolCall}
+use Rattle.sd_spool.specs.declared.plan.SpoolCall.TheVariants.{Append, Clear}
 use Rattle.sd_spool.specs.declared.plan.SpoolFail.{SpoolFail}
 use Rattle.sd_spool.specs.declared.store.SpoolStoreFault.{SpoolStoreFault}
 use Rattle.sd_spool.specs.declared.store.SpoolStoreFault.TheVariants.{Device, Memory}
@@ -48,3 +49,15 @@ pub record FollowsPlan
       ↔ FailsAtOnce call old
       ⊎ own_cause
       ⊎ (IsSome (due_of call old.plan) × ¬ IsErrOf result Memory)
+
+-- What an append leaves that isn't refused for want of memory: nothing more where it fails at once; else as much of its
+-- bytes behind the others as its entry says, all where none is due.
+pub record AppendsPart (bytes : List ℕ) (old new : MemSpool) : Type 0 where
+  pub at_once : FailsAtOnce Append old → new.bytes.items ≡ old.bytes.items
+  pub part : ¬ FailsAtOnce Append old
+      → new.bytes.items ≡ old.bytes.items ++ part_of (due_of Append old.plan) bytes
+
+-- what a clear leaves: the same where it fails at once, else nothing
+pub record ClearsUnlessAtOnce (old new : MemSpool) : Type 0 where
+  pub at_once : FailsAtOnce Clear old → new.bytes.items ≡ old.bytes.items
+  pub none : ¬ FailsAtOnce Clear old → new.bytes.items ≡ []

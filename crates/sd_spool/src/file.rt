@@ -1,8 +1,8 @@
 // A spool in a file, as a store.
-ghost use Rattle.std.specs.Prelude.{◌≡◌, ◌≢◌, ◌↔◌, ◌≤◌, ◌-◌, ◌^◌, IsOk, IfOk, IfErr, IsErrOf};
+ghost use Rattle.std.specs.Prelude.{◌≡◌, ◌≢◌, ◌↔◌, ◌≤◌, ◌+◌, ◌-◌, ◌^◌, ◌++◌, [], codes, length, IsOk, IfOk, IfErr, OnOk, OnErr, IsErrOf};
 ghost use Rattle.sd_base.specs.Count.{Rose};
 ghost use Rattle.sd_spool.specs.Meaning.{CountsFailures};
-ghost use Rattle.sd_spool.specs.FileSpool.{meaning_of, unused, failures_after, IsSpent};
+ghost use Rattle.sd_spool.specs.FileSpool.{meaning_of, unused, failures_after, IsSpent, IsUntouched, LaneFilesDiffer, lane_file, path_of, written};
 
 use crate::spool_file::SpoolFile;
 use crate::store::{SpoolStore, SpoolStoreFault};
@@ -31,7 +31,13 @@ impl<R: Files + Drop> FileSpool<R> {
         drive: DriveNo,
         lane: LaneNo,
     ) -> Result<FileSpool<R>, AllocError>
-        ensures { IfOk result (λ spool. meaning_of spool ≡ unused) }
+        ensures unused { IfOk result (λ spool. meaning_of spool ≡ unused) }
+        ensures untouched { IfOk result IsUntouched }
+        ensures empty { IfOk result (λ spool. written spool ≡ 0) }
+        ensures there { IfOk result (λ spool. folder.now ≢ []
+            → path_of spool ≡ folder.now ++ lane_file drive lane) }
+        ensures here { IfOk result (λ spool. folder.now ≡ []
+            → path_of spool ≡ codes "." ++ lane_file drive lane) }
     {
         let folder = if folder.is_empty() { "." } else { folder };
         let (drive, lane) = (drive.get(), lane.get());
@@ -55,6 +61,8 @@ where
             ≡ failures_after result (meaning_of self.old).failures }
         ensures spent { IsSpent (meaning_of self.old).failures → self.new ≡ self.old }
         ensures faults { IfErr result (λ fault. fault ≡ SpoolStoreFault.Device) }
+        ensures adds { OnOk result (written self.new ≡ written self.old + length bytes.now) }
+        ensures adds_none { OnErr result (written self.new ≡ written self.old) }
     {
         if self.failures == u64::MAX {
             return Err(SpoolStoreFault::Device);
@@ -68,6 +76,8 @@ where
             ≡ failures_after result (meaning_of self.old).failures }
         ensures spent { IsSpent (meaning_of self.old).failures → self.new ≡ self.old }
         ensures faults { IfErr result (λ fault. fault ≡ SpoolStoreFault.Device) }
+        ensures within { OnOk result (at + length into.old ≤ written self.old) }
+        ensures reads { written self.new ≡ written self.old }
     {
         if self.failures == u64::MAX {
             return Err(SpoolStoreFault::Device);
@@ -81,6 +91,8 @@ where
             ≡ failures_after result (meaning_of self.old).failures }
         ensures spent { IsSpent (meaning_of self.old).failures → self.new ≡ self.old }
         ensures faults { IfErr result (λ fault. fault ≡ SpoolStoreFault.Device) }
+        ensures clears { OnOk result (written self.new ≡ 0) }
+        ensures clears_none { OnErr result (written self.new ≡ written self.old) }
     {
         if self.failures == u64::MAX {
             return Err(SpoolStoreFault::Device);
@@ -92,6 +104,12 @@ where
         self.failures
     }
 }
+
+/// No two lanes have one file.
+#[tactic(auto, using(crate::proofs::Files::lane_files_differ))]
+pub fn lane_files_differ()
+    ensures { LaneFilesDiffer }
+{}
 
 // What the system's answer is to the spool's caller; a failure is counted.
 fn answer(failures: &mut u64, answer: io::Result<()>) -> Result<(), SpoolStoreFault>

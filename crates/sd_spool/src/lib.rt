@@ -11,7 +11,7 @@ mod store;
 #[cfg(test)]
 mod tests;
 
-pub use file::FileSpool;
+pub use file::{FileSpool, lane_files_differ};
 pub use job::{JobSpool, NotCleared, PutFault};
 pub use memory::MemSpool;
 pub use plan::{SpoolCall, SpoolFail, SpoolWhen};

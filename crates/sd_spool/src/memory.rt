@@ -43,7 +43,7 @@ impl MemSpool {
 
 impl SpoolStore for MemSpool {
     ghost use Rattle.sd_spool.specs.Meaning.{IsHonest, CountsFailures, MayAppend, MayClear};
-    ghost use Rattle.sd_spool.specs.MemSpool.{meaning_of, FollowsPlan, IsShort};
+    ghost use Rattle.sd_spool.specs.MemSpool.{meaning_of, FollowsPlan, IsShort, AppendsPart, ClearsUnlessAtOnce};
 
     ghost meaning = { meaning_of };
 
@@ -57,6 +57,8 @@ impl SpoolStore for MemSpool {
             (MayAppend (meaning_of self.old).bytes (meaning_of self.new).bytes) }
 
         ensures plan { FollowsPlan SpoolCall.Append ⊥ result self.old self.new }
+        ensures part { ¬ IsErrOf result SpoolStoreFault.Memory
+            → AppendsPart bytes.now self.old self.new }
     {
         let due = self.plan.strike(SpoolCall::Append);
         begin(&mut self.failures, SpoolCall::Append, due)?;
@@ -98,6 +100,7 @@ impl SpoolStore for MemSpool {
             (MayClear (meaning_of self.old).bytes (meaning_of self.new).bytes) }
 
         ensures plan { FollowsPlan SpoolCall.Clear ⊥ result self.old self.new }
+        ensures clears { ClearsUnlessAtOnce self.old self.new }
     {
         let due = self.plan.strike(SpoolCall::Clear);
         begin(&mut self.failures, SpoolCall::Clear, due)?;

@@ -1,5 +1,5 @@
 // The file of a spool.
-ghost use Rattle.std.specs.Prelude.{◌≡◌, ◌+◌, ◌≤◌, false, None, length, IfOk, OnOk, OnErr};
+ghost use Rattle.std.specs.Prelude.{◌≡◌, ◌+◌, ◌≤◌, None, length, string_bytes, OnOk, OnErr};
 
 use std::fs::{self, Files, Metadata, OpenFile, OpenOptions};
 use std::io::{self, ErrorKind};
@@ -22,6 +22,7 @@ pub(crate) struct SpoolFile<R: Files + Drop> {
 impl<R: Files + Drop> SpoolFile<R> {
     /// The file at a path.
     pub(crate) fn new(system: R, path: String) -> SpoolFile<R>
+        ensures path { string_bytes result.path ≡ string_bytes path }
         ensures closed { result.opened ≡ None }
         ensures empty { result.end ≡ 0 }
     {
