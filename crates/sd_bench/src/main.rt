@@ -18,9 +18,14 @@ use anyhow::{Result, bail};
 use rate::Length;
 use sd_base::VolName;
 use sd_filedrive::FileDrive;
+use std::alloc::Global;
 use std::env;
 
+/// How much memory is taken and given back at the start.
+const KEPT: usize = 33_000_000;
+
 fn main(rt: HostRuntime) -> Result<()> {
+    keep_memory(rt.alloc());
     let mut arguments = env::args(&rt)?.skip(1);
     let mut length = Length::Once;
     if let Some(first) = arguments.next() {
@@ -56,4 +61,11 @@ fn files(rt: HostRuntime, folder: &str, blocks: u64) -> Result<()> {
         bail!("the file could not be written");
     }
     Ok(())
+}
+
+// Takes one large piece of memory and gives it back, untouched. From then on the C library's heap keeps what is given
+// back to it, up to twice that much, in place of handing each piece to the system (as: glibc, mallopt(3),
+// M_MMAP_THRESHOLD, which adjusts itself). So the byte path takes no fresh pages once it has run for a while.
+fn keep_memory(alloc: Global) {
+    let _piece = Vec::<u8>::with_capacity(alloc, KEPT);
 }

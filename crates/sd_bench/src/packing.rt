@@ -52,7 +52,8 @@ impl Work {
         start: Instant,
     ) -> Result<()> {
         let whole = self.size.wrapping_mul(self.count);
-        print_rate(rt, length, name, start, whole, self.rounds)
+        print_rate(rt, length, name, start, whole, self.rounds)?;
+        Ok(())
     }
 }
 
@@ -90,20 +91,23 @@ fn copy<R: Print + Clock + AllocGlobal>(
     work.print(rt, length, "copy of the records", start)
 }
 
-// The bodies of the last of the rounds.
+// Packs so many times, and lets each body go once it is closed, as a session does. The bodies of one time more.
 fn pack<R: Print + Clock + AllocGlobal>(
     rt: &R,
     length: Length,
     work: Work,
     rec: &Rec,
 ) -> Result<Vec<Body>> {
-    let mut bodies = packed(rt, rec, work.count)?;
     let start = Instant::now(rt)?;
+    let mut bytes = 0;
     for _ in 0..work.rounds {
-        bodies = packed(rt, rec, work.count)?;
+        bytes = passed_on(rt, rec, work.count)?;
     }
     work.print(rt, length, "pack", start)?;
-    Ok(bodies)
+    if bytes <= work.size.wrapping_mul(work.count) {
+        anyhow::bail!("bodies are missing");
+    }
+    packed(rt, rec, work.count)
 }
 
 // How many records came out in the last of the rounds.
@@ -120,6 +124,30 @@ fn unpack<R: Print + Clock + AllocGlobal>(
     }
     work.print(rt, length, "unpack", start)?;
     Ok(records)
+}
+
+// Packs a session of so many of this record, and lets its bodies go. How many bytes they had.
+fn passed_on<R: AllocGlobal>(rt: &R, rec: &Rec, count: usize) -> Result<usize> {
+    let mut packer = Packer::new(rt.alloc(), BLOCK)?;
+    packer.put_label(&start_label()?)?;
+    let mut bytes = 0usize;
+    for _ in 0..count {
+        packer.put(rec)?;
+        bytes = bytes.wrapping_add(take_all(&mut packer));
+    }
+    packer.finish();
+    Ok(bytes.wrapping_add(take_all(&mut packer)))
+}
+
+// Takes the bodies that wait. How many bytes they had.
+fn take_all(packer: &mut Packer) -> usize {
+    let mut bytes = 0usize;
+    for _ in 0..packer.waiting() {
+        if let Some(body) = packer.take_body() {
+            bytes = bytes.wrapping_add(body.bytes.len());
+        }
+    }
+    bytes
 }
 
 /// The bodies of a session of so many of this record, without its end label.

@@ -23,7 +23,8 @@ impl Length {
     }
 }
 
-/// Prints the rate of a job that went over so many bytes so many times since `start`, where it was timed.
+/// Prints the rate of a job that went over so many bytes so many times since `start`, where it was timed, and
+/// gives it in GB/s; 0 where it wasn't.
 pub fn print_rate<R: Print + Clock>(
     rt: &R,
     length: Length,
@@ -31,12 +32,13 @@ pub fn print_rate<R: Print + Clock>(
     start: Instant,
     bytes: usize,
     rounds: usize,
-) -> Result<()> {
-    if length == Length::Timed {
-        let seconds = start.elapsed(rt)?.as_secs_f64();
-        let whole = num::nearest_u64_to_f64(bytes as u64) * num::nearest_u64_to_f64(rounds as u64);
-        let rate = whole / seconds / 1e9;
-        println!(rt; "{name:<36} {rate:>7.2} GB/s")?;
+) -> Result<f64> {
+    if length == Length::Once {
+        return Ok(0.0);
     }
-    Ok(())
+    let seconds = start.elapsed(rt)?.as_secs_f64();
+    let whole = num::nearest_u64_to_f64(bytes as u64) * num::nearest_u64_to_f64(rounds as u64);
+    let rate = whole / seconds / 1e9;
+    println!(rt; "{name:<36} {rate:>7.2} GB/s")?;
+    Ok(rate)
 }

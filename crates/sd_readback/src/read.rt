@@ -40,8 +40,9 @@ pub struct ReadEnd {
 /// with more records or data bytes than a `u64` counts is damaged, since no such session is ever taken.
 ///
 /// Calls len once for each span, and then reads, each time at most the bytes of the greatest block. Held at a
-/// time are one such buffer, the records that one block makes whole, and what has come of the next. Volumes
-/// are not changed, loaded or not.
+/// time are one such buffer, which is taken before the device is called and kept from span to span, the records
+/// that one block makes whole, and what has come of the next, with room for all of its data: `MOST_DATA` bytes
+/// at most, whatever a block announces. Volumes are not changed, loaded or not.
 pub fn read_session<D: Driver, S: Sink>(
     alloc: Global,
     driver: &mut D,
@@ -86,18 +87,19 @@ pub fn read_session<D: Driver, S: Sink>(
     if !are_spans(spans) {
         return Err(ReadFault::BadSpan);
     }
+    let mut volume = VolumeReader::new(alloc, &spans[0].volume)?;
     let mut reader = Reader::new(alloc, key);
     for span in spans {
-        read_span(alloc, driver, span, &mut reader, sink)?;
+        read_span(driver, span, &mut volume, &mut reader, sink)?;
     }
     reader.finish()
 }
 
-/// Reads the part of a volume that the span names.
+/// Reads the part of a volume that the span names. `volume` is turned to it.
 fn read_span<D: Driver, S: Sink>(
-    alloc: Global,
     driver: &mut D,
     span: &Span,
+    volume: &mut VolumeReader,
     reader: &mut Reader,
     sink: &mut S,
 ) -> Result<(), ReadFault>
@@ -122,8 +124,8 @@ fn read_span<D: Driver, S: Sink>(
     if size < span.end {
         return Err(ReadFault::SpanEndsEarly);
     }
-    let mut volume = VolumeReader::new(alloc, &span.volume)?;
-    read_part(driver, &mut volume, span.start, span.end, reader, sink)
+    volume.turn_to_volume(&span.volume);
+    read_part(driver, volume, span.start, span.end, reader, sink)
 }
 
 /// Reads from `start` to `end` of the volume, which are to be whole blocks with numbers that rise by one.

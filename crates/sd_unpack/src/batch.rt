@@ -14,7 +14,7 @@ use crate::stage::{Due, Stage, totals_with};
 use sd_base::{Bytes, Rec};
 use sd_label::{END_LABEL, START_LABEL, Totals};
 use sd_record::Fragment;
-use std::alloc::Global;
+use std::alloc::{AllocError, Global};
 use std::collections::VecDeque;
 
 /// What the fragments of a body bring: the records that begin and end in it, the data of one that goes
@@ -129,7 +129,7 @@ impl Batch {
         let due = first_due(fragment)?;
         let part = fragment.part;
         if part.len() < due.left as usize {
-            self.so_far = part.to_vec(alloc)?;
+            self.so_far = begun(alloc, part, due.left as usize)?;
             self.stage = Stage::Partway(due.after(part.len()));
             return Ok(());
         }
@@ -142,4 +142,14 @@ impl Batch {
         self.totals = totals_with(self.totals, part.len());
         Ok(())
     }
+}
+
+// The first data of a record of `size` bytes, with room for all of them at once: what comes later moves none
+// of them. That is one record's room at a time, and a record has at most `MOST_DATA` bytes.
+fn begun(alloc: Global, part: &[u8], size: usize) -> Result<Vec<u8>, AllocError>
+    ensures { IfOk result (λ bytes. bytes.items ≡ part.now) }
+{
+    let mut bytes = Vec::with_capacity(alloc, size)?;
+    bytes.extend_from_slice(part)?;
+    Ok(bytes)
 }

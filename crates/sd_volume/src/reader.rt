@@ -60,6 +60,20 @@ impl VolumeReader {
         })
     }
 
+    /// Turns to the volume of this name, and holds nothing of it yet. Takes no memory.
+    pub fn turn_to_volume(&mut self, name: &VolName)
+        ensures name { self.new.name ≡ name.now }
+        ensures bytes { self.new.bytes ≡ [] }
+        ensures shown { self.new.shown ≡ [] }
+        ensures shows { (shelf : Shelf) → Shows self.new shelf }
+    {
+        self.name = name.copy();
+        self.from = 0;
+        self.held = 0;
+        self.start = 0;
+        self.count = 0;
+    }
+
     /// Makes the `count` bytes from `at` on be shown, or as many as there are before the volume's end. Asks
     /// the device for nothing where it holds them already, else once.
     pub fn fill<D: Driver>(

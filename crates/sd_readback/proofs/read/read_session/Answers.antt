@@ -16,6 +16,12 @@ pub returns-then-not-are_spans-clause-handed_over : goal.returns-then-not-are_sp
 returns-then-not-are_spans-clause-handed_over g c = λ honest.
     nothing_front (volumes_on (g.D.Driver.meaning c.args.driver.now).shelf) c.args.key c.args.spans.now (g.S.Sink.got c.args.sink.now)
 
+pub returns-in_err-volume-clause-handed_over : goal.returns-in_err-volume-clause-handed_over
+returns-in_err-volume-clause-handed_over g c = λ honest.
+    let p = err_from_is_err_and c.from_residual.result c.from_residual.ensures.1 in
+    if_err c.from_residual.result p.0 _ p.1
+    (nothing_front (volumes_on (g.D.Driver.meaning c.args.driver.now).shelf) c.args.key c.args.spans.now (g.S.Sink.got c.args.sink.now))
+
 pub loop-span-init : goal.loop-span-init
 loop-span-init g c = record {
   device = OnlyReads-refl (g.D.Driver.meaning c.args.driver.now);
@@ -28,7 +34,7 @@ read_span-requires-after_bounds g c κs within =
 
 pub returns-in_err-read_span-clause-device : goal.returns-in_err-read_span-clause-device
 returns-in_err-read_span-clause-device g c =
-    let p = err_from_is_err_and c.from_residual.result c.from_residual.ensures.1 in
+    let p = err_from_is_err_and c.from_residual-in_err-read_span.result c.from_residual-in_err-read_span.ensures.1 in
     rw (p.1, p.2) (OnlyReads-trans _ _ _ _ _ (λ n. n) c.loop-span.invariant.device (OnlyReads-as _ _ _ _ (λ f. cc) (λ f. cc) c.in_err-read_span.ensures.device))
 
 pub returns-in_err-read_span-clause-first : goal.returns-in_err-read_span-clause-first
@@ -41,21 +47,21 @@ returns-in_err-read_span-clause-first g c = λ honest.
     let inv = c.loop-span.invariant in
     let here = spans_there c.args.key (take i c.args.spans.now) c.loop-span.reader (g.S.Sink.got c.args.sink.now) (g.S.Sink.got c.loop-span.sink) (HasVolumes old) volumes inv.read has in
     let stops = c.in_err-read_span.ensures.stops volumes (volumes_still ⊥ old (g.D.Driver.meaning c.loop-span.driver) volumes inv.device has) in
-    let p = err_from_is_err_and c.from_residual.result c.from_residual.ensures.1 in
-    if_err c.from_residual.result p.0 _ p.1
+    let p = err_from_is_err_and c.from_residual-in_err-read_span.result c.from_residual-in_err-read_span.ensures.1 in
+    if_err c.from_residual-in_err-read_span.result p.0 _ p.1
     (λ of. spans_stop volumes c.args.key c.args.spans.now (take i c.args.spans.now) (drop (suc i) c.args.spans.now) s c.loop-span.reader (g.S.Sink.got c.args.sink.now) (g.S.Sink.got c.loop-span.sink) p.0
     (c.if-not-are_spans.ensures.0 refl) (spans_round c.args.spans.now i s c.span-item.is c.loop-span-test.true) here
     (λ earlier taken r. subst (λ fault. CantRead fault volumes c.args.key earlier s) (sym p.2) (stops (subst IsOfSpans p.2 of) c.args.key earlier taken r)))
 
 pub returns-in_err-read_span-clause-found : goal.returns-in_err-read_span-clause-found
 returns-in_err-read_span-clause-found g c = λ honest.
-    none_of_spans (volumes_on (g.D.Driver.meaning c.args.driver.now).shelf) c.args.key c.args.spans.now c.from_residual.result (returns-in_err-read_span-clause-first g c honest)
+    none_of_spans (volumes_on (g.D.Driver.meaning c.args.driver.now).shelf) c.args.key c.args.spans.now c.from_residual-in_err-read_span.result (returns-in_err-read_span-clause-first g c honest)
 
 pub returns-in_err-read_span-clause-met : goal.returns-in_err-read_span-clause-met
 returns-in_err-read_span-clause-met g c = λ honest.
-    let p = err_from_is_err_and c.from_residual.result c.from_residual.ensures.1 in
-    met_or_broken (volumes_on (g.D.Driver.meaning c.args.driver.now).shelf) c.args.key c.args.spans.now c.from_residual.result (returns-in_err-read_span-clause-first g c honest)
-    (if_ok_never c.from_residual.result p.0 _ p.1)
+    let p = err_from_is_err_and c.from_residual-in_err-read_span.result c.from_residual-in_err-read_span.ensures.1 in
+    met_or_broken (volumes_on (g.D.Driver.meaning c.args.driver.now).shelf) c.args.key c.args.spans.now c.from_residual-in_err-read_span.result (returns-in_err-read_span-clause-first g c honest)
+    (if_ok_never c.from_residual-in_err-read_span.result p.0 _ p.1)
 
 pub returns-in_err-read_span-clause-handed_over : goal.returns-in_err-read_span-clause-handed_over
 returns-in_err-read_span-clause-handed_over g c = λ honest.
@@ -67,8 +73,8 @@ returns-in_err-read_span-clause-handed_over g c = λ honest.
     let inv = c.loop-span.invariant in
     let here = spans_there c.args.key (take i c.args.spans.now) c.loop-span.reader (g.S.Sink.got c.args.sink.now) (g.S.Sink.got c.loop-span.sink) (HasVolumes old) volumes inv.read has in
     let more = c.in_err-read_span.ensures.handed_over volumes (volumes_still ⊥ old (g.D.Driver.meaning c.loop-span.driver) volumes inv.device has) in
-    let p = err_from_is_err_and c.from_residual.result c.from_residual.ensures.1 in
-    if_err c.from_residual.result p.0 _ p.1
+    let p = err_from_is_err_and c.from_residual-in_err-read_span.result c.from_residual-in_err-read_span.ensures.1 in
+    if_err c.from_residual-in_err-read_span.result p.0 _ p.1
     (span_stopped_front volumes c.args.key c.args.spans.now (take i c.args.spans.now) (drop (suc i) c.args.spans.now) s c.loop-span.reader (g.S.Sink.got c.args.sink.now) (g.S.Sink.got c.loop-span.sink)
     (g.S.Sink.got c.read_span.new.sink) (c.if-not-are_spans.ensures.0 refl) (spans_round c.args.spans.now i s c.span-item.is c.loop-span-test.true) here more)
 

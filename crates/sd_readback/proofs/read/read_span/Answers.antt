@@ -21,8 +21,8 @@ returns-clause-ok g c =
       read.0,
       read.3,
       λ volumes has.
-          let r = length_told _ _ c.in_ok-volume.volume volumes s.volume c.in_ok-size.size s.end _ has (only_reads_call _ _ _ told.counts (λ e. cc) told.passes told.stable told.loaded told.same)
-          (told.ok has.honest) c.in_ok-volume.ensures.name c.in_ok-volume.ensures.shows c.if-size-span.false in
+          let r = length_told _ _ c.turn_to_volume.new.self volumes s.volume c.in_ok-size.size s.end _ has (only_reads_call _ _ _ told.counts (λ e. cc) told.passes told.stable told.loaded told.same)
+          (told.ok has.honest) c.turn_to_volume.ensures.name c.turn_to_volume.ensures.shows c.if-size-span.false in
           span_holds volumes s r.bytes read.0 read.1 c.requires r.reading.long r.there (read.4 r.bytes r.reading) read.2,
     ))
     c.read_part.ensures.ok
@@ -31,8 +31,8 @@ pub returns-clause-stops : goal.returns-clause-stops
 returns-clause-stops g c = λ volumes has.
     let told = c.in_ok-size.ensures in
     let s = c.args.span.now in
-    let r = length_told _ _ c.in_ok-volume.volume volumes s.volume c.in_ok-size.size s.end _ has (only_reads_call _ _ _ told.counts (λ e. cc) told.passes told.stable told.loaded told.same)
-    (told.ok has.honest) c.in_ok-volume.ensures.name c.in_ok-volume.ensures.shows c.if-size-span.false in
+    let r = length_told _ _ c.turn_to_volume.new.self volumes s.volume c.in_ok-size.size s.end _ has (only_reads_call _ _ _ told.counts (λ e. cc) told.passes told.stable told.loaded told.same)
+    (told.ok has.honest) c.turn_to_volume.ensures.name c.turn_to_volume.ensures.shows c.if-size-span.false in
     IfErr-weaker c.read_part.result _ _
     (λ fault says of key before taken read. stops_cant fault volumes key before s r.bytes (stretch s.start s.end r.bytes) of r.there (part_is_stretch r.bytes s c.requires r.reading.long) (says of key before taken read))
     (c.read_part.ensures.stops r.bytes r.reading)
@@ -41,8 +41,8 @@ pub returns-clause-handed_over : goal.returns-clause-handed_over
 returns-clause-handed_over g c = λ volumes has.
     let told = c.in_ok-size.ensures in
     let s = c.args.span.now in
-    let r = length_told _ _ c.in_ok-volume.volume volumes s.volume c.in_ok-size.size s.end _ has (only_reads_call _ _ _ told.counts (λ e. cc) told.passes told.stable told.loaded told.same)
-    (told.ok has.honest) c.in_ok-volume.ensures.name c.in_ok-volume.ensures.shows c.if-size-span.false in
+    let r = length_told _ _ c.turn_to_volume.new.self volumes s.volume c.in_ok-size.size s.end _ has (only_reads_call _ _ _ told.counts (λ e. cc) told.passes told.stable told.loaded told.same)
+    (told.ok has.honest) c.turn_to_volume.ensures.name c.turn_to_volume.ensures.shows c.if-size-span.false in
     on_err_weaker c.read_part.result
     (λ part. inr (r.bytes, stretch s.start s.end r.bytes, r.there, part_is_stretch r.bytes s c.requires r.reading.long, part))
     (c.read_part.ensures.handed_over r.bytes r.reading)
