@@ -1,32 +1,22 @@
--- The bodies of a session that were placed, and those on the way, as bytes.
-use Rattle.std.proofs.Common.{◌≡◌, ◌≢◌, ℕ, Bool, true, false, true≢false, if◌then◌else◌, Option, Some, None, List, [], ◌∷◌, ◌++◌, map, refl, ap, sym, ◌∙◌}
+-- The bodies of a session that were placed, as bytes; and when all of its blocks are synced.
+use Rattle.std.proofs.Common.{◌≡◌, ◌≢◌, Bool, true, false, true≢false, if◌then◌else◌, List, [], ◌∷◌, map, refl, ap, sym}
 use Rattle.std.specs.Prelude.{IsTrue, ◌&&◌, ◌||◌, not}
 use Rattle.std.specs.List.{AllByRecursion}
-use Rattle.std.specs.Option.{option_to_list}
-use Rattle.std.proofs.lemmas.List.{append_assoc}
 use Rattle.std.proofs.lemmas.List.Elements.{All-from_recursion}
 use Rattle.sd_base.specs.Key.{is_key}
-use Rattle.sd_base.specs.Record.{Record}
 use Rattle.sd_base.specs.declared.number.SessionKey.{SessionKey}
 use Rattle.sd_driver.specs.Shelf.{Shelf}
 use Rattle.sd_drive.specs.Shelf.{block_at}
-use Rattle.sd_drive.specs.View.{DriveIs, item_of_piece, block_of_piece}
-use Rattle.sd_journal.specs.Journal.{Entry, Item, items_of, item_of, placements, placed_of, synced_of, is_synced}
+use Rattle.sd_journal.specs.Journal.{Entry, item_of, placed_of, synced_of, is_synced}
 use Rattle.sd_journal.specs.declared.mark.Mark.{Mark}
 use Rattle.sd_journal.specs.declared.mark.Mark.TheVariants.{Unsynced, Synced, Lost}
 use Rattle.sd_journal.proofs.EntryLemmas.{counting}
-use Rattle.sd_label.specs.Cutting.{Standing, Between, AtEnd, Holds}
-use Rattle.sd_lane.specs.Queue.{LanesView}
-use Rattle.sd_lane.specs.declared.piece.Piece.{Piece}
-use Rattle.sd_pack.specs.Body.{PackedBody}
-use Rattle.sd_pack.specs.Packing.{Packs, bytes_of}
-use Rattle.sd_pack.proofs.BodyLemmas.{same_body}
+use Rattle.sd_pack.specs.Packing.{bytes_of}
 use Rattle.sd_readback.specs.Reading.{blocks_of}
 use Rattle.sd_span.specs.Spans.{placements_of}
 use Rattle.sd_span.specs.declared.placement.Placement.{Placement}
-use Rattle.sd_span.proofs.SpanLemmas.{cond_more}
-use Rattle.sd_volume.specs.Image.{Block}
-use Rattle.sd_matches.specs.Matches.{SentBody, sent_body, sent_bodies, given_to, body_of_piece, queued_bodies, sent_to, bodies_with, IsUnsynced, PacksCutting}
+use Rattle.sd_matches.specs.Matches.{sent_body, bodies_with, IsUnsynced}
+use Rattle.sd_matches.proofs.Sent.{placed_bodies}
 
 -- Lists.
 
@@ -39,14 +29,6 @@ abbrev pub AreAlike : {X Y : Type 0} → List X → List Y → Type 0
 AreAlike xs ys = (xs ≡ [] → ys ≡ []) × (ys ≡ [] → xs ≡ [])
 
 -- Bodies that were placed.
-
--- the bodies at placements
-abbrev pub placed_bodies : Shelf → List Placement → List SentBody
-placed_bodies shelf ps = sent_bodies (items_of ps) (map (block_at shelf) ps)
-
-pub placed_more : (shelf : Shelf) (ps more : List Placement) → placed_bodies shelf (ps ++ more) ≡ placed_bodies shelf ps ++ placed_bodies shelf more
-placed_more shelf [] more = refl
-placed_more shelf (p ∷ ps) more = ap (λ l. sent_body (item_of p) (block_at shelf p) ∷ l) (placed_more shelf ps more)
 
 -- those of a session are its blocks' bodies
 pub placed_bytes : (key : SessionKey) (shelf : Shelf) (ps : List Placement) → bytes_of (bodies_with key (placed_bodies shelf ps)) ≡ blocks_of key (map (block_at shelf) ps)
@@ -69,49 +51,6 @@ placed_alike key shelf (p ∷ ps) =
       | true ↦ ((λ e. absurd (cc e)), (λ e. absurd (cc e)))
       | false ↦ placed_alike key shelf ps
     ]
-
--- All bodies that were sent.
-
-pub bodies_with-append : (key : SessionKey) (xs ys : List SentBody) → bodies_with key (xs ++ ys) ≡ bodies_with key xs ++ bodies_with key ys
-bodies_with-append key [] ys = refl
-bodies_with-append key (x ∷ xs) ys =
-    cond_more (is_key key x.key) x.body (bodies_with key xs) (bodies_with key ys) (bodies_with key (xs ++ ys)) (bodies_with-append key xs ys)
-
-sent_front : (shelf : Shelf) (ps : List Placement) (is : List Item) (bs : List Block)
-    → sent_bodies (items_of ps ++ is) (map (block_at shelf) ps ++ bs) ≡ placed_bodies shelf ps ++ sent_bodies is bs
-sent_front shelf [] is bs = refl
-sent_front shelf (p ∷ ps) is bs = ap (λ l. sent_body (item_of p) (block_at shelf p) ∷ l) (sent_front shelf ps is bs)
-
-in_hand : (hand : Option Piece) → sent_bodies (map item_of_piece (option_to_list hand)) (map block_of_piece (option_to_list hand)) ≡ map body_of_piece (option_to_list hand)
-in_hand None = refl
-in_hand (Some p) =
-    let one : PackedBody → SentBody = λ b. record { key = p.key; body = b } in
-    ap (λ b. one b ∷ []) (same_body (sent_body (item_of_piece p) (block_of_piece p)).body p.body refl refl refl)
-
--- the bodies on the way: in the hand, then in the queue
-abbrev pub coming : {D : Type 0} → DriveIs D → LanesView → List SentBody
-coming d queue = map body_of_piece (option_to_list d.hand) ++ queued_bodies queue
-
-pub sent_are : {D : Type 0} (key : SessionKey) (shelf : Shelf) (d : DriveIs D) (queue : LanesView)
-    → bodies_with key (sent_to shelf d queue) ≡ bodies_with key (placed_bodies shelf (placements d.journal)) ++ bodies_with key (coming d queue)
-sent_are key shelf d queue =
-    let ps = placements d.journal in
-    let hand = map body_of_piece (option_to_list d.hand) in
-    let given : given_to shelf d ≡ placed_bodies shelf ps ++ hand =
-    sent_front shelf ps (map item_of_piece (option_to_list d.hand)) (map block_of_piece (option_to_list d.hand)) ∙ ap (λ l. placed_bodies shelf ps ++ l) (in_hand d.hand) in
-    ap (λ l. bodies_with key (l ++ queued_bodies queue)) given
-    ∙ ap (bodies_with key) (append_assoc (placed_bodies shelf ps) hand (queued_bodies queue))
-    ∙ bodies_with-append key (placed_bodies shelf ps) (coming d queue)
-
--- a packed cutting is a cutting
-pub packed_holds : (room : ℕ) (bodies : List PackedBody) (records : List Record) (standing : Standing) → Packs room bodies records standing
-    → Holds (bytes_of bodies) records standing
-packed_holds room bodies records standing p = record { fragments = p.fragments; holds_by = p.holds_by }
-
-pub cutting_holds : (room : ℕ) (bodies : List PackedBody) (records : List Record) (ended : Bool) → PacksCutting room bodies records ended
-    → (standing : Standing) × Holds (bytes_of bodies) records standing
-cutting_holds room bodies records false p = (Between, packed_holds room bodies records Between p)
-cutting_holds room bodies records true p = (AtEnd, packed_holds room bodies records AtEnd p)
 
 -- Blocks that are synced.
 

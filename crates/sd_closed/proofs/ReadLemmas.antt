@@ -35,7 +35,9 @@ use Rattle.sd_matches.specs.Matches.{Matches, SessionMatches, SessionsMatch, Has
 use Rattle.sd_closed.specs.Grows.{AllGrow}
 use Rattle.sd_closed.specs.Seats.{SeatsStay}
 use Rattle.sd_closed.specs.Reads.{HasHonestDrive, HasCancelled, ReadsToAll, ReadsToFront, ClosedIsCountable}
-use Rattle.sd_closed.proofs.BodyLemmas.{none_of, placed_bodies, placed_more, placed_bytes, placed_alike, bodies_with-append, coming, sent_are, packed_holds, cutting_holds, all_synced}
+use Rattle.sd_matches.proofs.Bodies.{bodies_with-append}
+use Rattle.sd_matches.proofs.Sent.{placed_bodies, placed_more, coming, sent_are, packed_holds, cutting_holds}
+use Rattle.sd_closed.proofs.BodyLemmas.{none_of, placed_bytes, placed_alike, all_synced}
 use Rattle.sd_closed.proofs.ClaimLemmas.{closed_spans, one_drive}
 
 -- Sessions.

@@ -1,5 +1,4 @@
 pub mod Bays
-pub mod Claims
 pub mod ClosedRead
 pub mod Devices
 pub mod DrivesKept
@@ -11,5 +10,6 @@ pub mod ReadKeeps
 pub mod Runs
 pub mod Shown
 pub mod Standing
+pub mod Steps
 pub mod Tickets
 pub mod Told

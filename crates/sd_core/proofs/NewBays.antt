@@ -79,10 +79,18 @@ bay_made store d queue stores bay media none lanes is same lanes_are empty =
     ∙ ap (λ m. record { media = m; drive = Some d; lanes = lanes; queue = queue }) same
     ∙ ap (λ l. record { media = d.media; drive = Some d; lanes = l; queue = queue }) (lanes_are ∙ ap (λ l. l ++ (new_bay store d queue stores).lanes) empty)
 
--- devices that were left alone stay
+-- a device that was left alone stays
+pub same_device : {D : Type 0} (meaning : D → Meaning) (x : D) → StaysDevice meaning x x
+same_device meaning x = record {
+  counts = record { honest = refl; failures = refl; told = refl };
+  same = λ honest name. refl;
+  later = λ since name bytes lasts. lasts;
+}
+
+-- so do several
 pub all_stay : {D : Type 0} (meaning : D → Meaning) (devices : List D) → AllZip (StaysDevice meaning) devices devices
 all_stay meaning [] = tt
-all_stay meaning (x ∷ xs) = (record { honest = refl; later = λ since name bytes lasts. lasts }, all_stay meaning xs)
+all_stay meaning (x ∷ xs) = (same_device meaning x, all_stay meaning xs)
 
 -- what is so anyway is so where a call was refused
 pub where_refused : {A E : Type 0} (r : Result A E) (X : Type 0) → X → OnErr r X

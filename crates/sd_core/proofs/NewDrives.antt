@@ -3,19 +3,20 @@ use Rattle.std.proofs.Common.{◌≡◌, ◌<◌, ℕ, zero, suc, ◌++◌, ◌�
 use Rattle.std.specs.List.{AllZip}
 use Rattle.std.proofs.lemmas.List.Elements.{AllZip-push}
 use Rattle.std.proofs.lemmas.Option.{slice_get_read}
-use Rattle.sd_driver.specs.Meaning.{Meaning}
-use Rattle.sd_driver.specs.Shelf.{StillLasts}
+use Rattle.sd_driver.specs.Meaning.{Meaning, IsHonest}
+use Rattle.sd_drive.specs.Shelf.{LeavesStable}
 use Rattle.sd_drive.specs.View.{DriveIs}
 use Rattle.sd_drive.specs.declared.limits.Limits.{Limits}
 use Rattle.sd_core.specs.Fresh.{StaysDevice, IsNewDrive, AreNewDrives}
+use Rattle.sd_core.proofs.NewBays.{same_device}
 
 -- the drive that was made, with the media that was copied from its place
 pub is_new : {D : Type 0} (meaning : D → Meaning) (limits : Limits) (media media' : List ℕ) (device : D) (d : DriveIs D)
     → d ≡ record { device = d.device; media = media; limits = limits; volumes = []; loaded = None; pool = None; hand = None; journal = [] }
-    → media ≡ media' → (meaning d.device).honest ≡ (meaning device).honest → StillLasts (meaning device).shelf (meaning d.device).shelf
+    → media ≡ media' → StaysDevice meaning device d.device → (IsHonest (meaning device) → LeavesStable (meaning device).shelf)
     → IsNewDrive meaning limits media' device d
-is_new meaning limits media media' device d is same honest later =
-    subst (λ m. IsNewDrive meaning limits m device d) same (record { is = is; stays = record { honest = honest; later = later } })
+is_new meaning limits media media' device d is same stays stable =
+    subst (λ m. IsNewDrive meaning limits m device d) same (record { is = is; stays = stays; stable = stable })
 
 -- one drive more
 new_push : {D : Type 0} (meaning : D → Meaning) (limits : Limits) (medias : List (List ℕ × ℕ)) (devices : List D) (drives : List (DriveIs D))
@@ -59,6 +60,6 @@ pub again_push : {D : Type 0} (meaning : D → Meaning) (given front again all :
     → given ≡ front ++ x ∷ [] → all ≡ again ++ y ∷ [] → AllZip (StaysDevice meaning) front again → y ≡ x
     → AllZip (StaysDevice meaning) given all
 again_push meaning given front again all x y given_is all_is stay same =
-    let own : StaysDevice meaning x y = subst (λ z. StaysDevice meaning x z) (sym same) (record { honest = refl; later = λ since name bytes lasts. lasts }) in
+    let own : StaysDevice meaning x y = subst (StaysDevice meaning x) (sym same) (same_device meaning x) in
     subst (λ l. AllZip (StaysDevice meaning) l all) (sym given_is)
     (subst (λ l. AllZip (StaysDevice meaning) (front ++ x ∷ []) l) (sym all_is) (AllZip-push (StaysDevice meaning) front again x y stay own))

@@ -17,7 +17,10 @@ use Rattle.sd_closed.specs.Grows.{Grows, AllGrow}
 use Rattle.sd_closed.specs.Seats.{SeatsStay}
 use Rattle.sd_closed.proofs.GrowLemmas.{journals_grow, growths_join}
 use Rattle.sd_closed.proofs.SeatLemmas.{moves_keep_seats}
-use Rattle.sd_core.specs.Runs.{RunsTo}
+use Rattle.sd_moves.proofs.FailSteps.{fail_by_cause}
+use Rattle.sd_moves.proofs.MoveLeaves.{moves_keep_claims}
+use Rattle.sd_core.specs.Kept.{ClaimsLast}
+use Rattle.sd_core.specs.Runs.{FailsAlong, RunsTo}
 
 -- the moves are a run of each machine that the world matches
 pub along_runs : {D : Type 0} (meaning : D → Meaning) (w w' : WorldView D) (events : List Event) (replies : List Reply) (m : Machine) → IsWorld w
@@ -31,11 +34,22 @@ along_runs meaning w w' (e ∷ es) (r ∷ rs) m h along pairs =
     let rest = along_runs meaning mid w' es rs s.0 (moves_keep_rules meaning w mid e r h along.1) along.2 s.2 in
     (rest.0, (newly_failed w.sessions mid.sessions, s.0, s.1, rest.1), rest.2)
 
+-- and in each exactly the sessions fail that have a cause
+pub along_fails : {D : Type 0} (meaning : D → Meaning) (w w' : WorldView D) (events : List Event) (replies : List Reply) → IsWorld w
+    → MovesAlong meaning w events replies w' → FailsAlong meaning w events replies w'
+along_fails meaning w w' [] [] h along = along
+along_fails meaning w w' [] (r ∷ rs) h along = absurd along
+along_fails meaning w w' (e ∷ es) [] h along = absurd along
+along_fails meaning w w' (e ∷ es) (r ∷ rs) h along =
+    let mid = along.0 in
+    (mid, along.1, fail_by_cause meaning w mid e r h along.1, along_fails meaning mid w' es rs (moves_keep_rules meaning w mid e r h along.1) along.2)
+
 -- closed sessions stay closed, sessions keep their drives, and journals grow
 pub record KeptAlong {D : Type 0} (w w' : WorldView D) : Type 0 where
   pub statuses : StatusesStay w w'
   pub seats : SeatsStay w w'
   pub grow : AllGrow w w'
+  pub claims : ClaimsLast w w'
 
 same_growth : (journal : List Entry) → Grows journal journal
 same_growth journal = ([], sym (append-nil (placements journal)))
@@ -45,6 +59,7 @@ none_kept w = record {
   statuses = λ key h. h;
   seats = λ ticket e there. (e, there, record { key_is = refl; drive_is = refl });
   grow = λ drive at bay d online. (bay, d, online, same_growth d.journal);
+  claims = λ name drive claimed. claimed;
 }
 
 pub along_keeps : {D : Type 0} (meaning : D → Meaning) (w w' : WorldView D) (events : List Event) (replies : List Reply) → IsWorld w
@@ -64,6 +79,7 @@ along_keeps meaning w w' (e ∷ es) (r ∷ rs) h along =
           let b = rest.seats ticket a.0 a.1 in
           (b.0, b.1, record { key_is = b.2.key_is ∙ a.2.key_is; drive_is = b.2.drive_is ∙ a.2.drive_is });
       grow = growths_join w mid w' (journals_grow meaning w mid e r along.1) rest.grow;
+      claims = λ name drive claimed. rest.claims name drive (moves_keep_claims meaning w mid e r along.1 name drive claimed);
     }
 
 -- there are as many replies as events

@@ -10,7 +10,7 @@ use Rattle.sd_moves.specs.Drives.{is_running}
 use Rattle.sd_moves.specs.Rules.{IsWorld, NumbersRise}
 use Rattle.sd_moves.specs.World.{WorldView, WorldSession, BayView, LaneView, session_at}
 use Rattle.sd_moves.proofs.Lookups.{one_or_two, session_id}
-use Rattle.sd_matches.proofs.Failing.{of_running}
+use Rattle.sd_moves.proofs.Views.{running_is}
 use Rattle.sd_core.specs.Listing.{EndsBelow, GoesOn, KeepLanes, TicketsRise, IsListed, AreRunning, ListsHolder, ListsLanes, StayListed}
 use Rattle.sd_core.specs.View.{running_tickets}
 
@@ -167,7 +167,7 @@ pub keep_lanes : {D : Type 0} (w : WorldView D) → IsWorld w → KeepLanes w.se
 keep_lanes w h t g =
     let s = h.seated t g.0 g.1 in
     let id : g.0.session.key.id ≡ t = session_id t w.sessions g.0 g.1 in
-    (s.at, s.bay, s.place, s.lane, s.bay_there, s.lane_there, s.holds (of_running g.0.session.status g.2) ∙ ap Some id)
+    (s.at, s.bay, s.place, s.lane, s.bay_there, s.lane_there, s.holds (running_is g.0.session.status g.2) ∙ ap Some id)
 
 -- A place among tickets.
 

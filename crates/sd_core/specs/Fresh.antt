@@ -1,7 +1,8 @@
 -- A world that was just made, of its configuration and of the devices, queues and stores that it was given.
 use Rattle.std.specs.Prelude.{◌≡◌, ℕ, ◌≤◌, None, Some, List, [], ◌∷◌, map, length, Vec, vec_capacity}
-use Rattle.sd_driver.specs.Meaning.{Meaning}
-use Rattle.sd_driver.specs.Shelf.{StillLasts}
+use Rattle.sd_driver.specs.Meaning.{Meaning, IsHonest, SameCounts}
+use Rattle.sd_driver.specs.Shelf.{SameShelf, StillLasts}
+use Rattle.sd_drive.specs.Shelf.{LeavesStable}
 use Rattle.sd_drive.specs.View.{DriveIs}
 use Rattle.sd_drive.specs.declared.limits.Limits.{Limits}
 use Rattle.sd_spool.specs.Job.{state_of}
@@ -10,15 +11,18 @@ use Rattle.sd_desk.specs.Desk.{claimed_by}
 use Rattle.sd_lane.specs.Queue.{LanesView}
 use Rattle.sd_moves.specs.World.{WorldView, BayView, LaneView}
 
--- a device is as honest as it was, and what lasted lasts
+-- A device is as honest as it was, its counts are as they were, and what lasted lasts; an honest one holds what it held.
 pub record StaysDevice {D : Type 0} (meaning : D → Meaning) (old new : D) : Type 0 where
-  pub honest : (meaning new).honest ≡ (meaning old).honest
+  pub counts : SameCounts (meaning old) (meaning new)
+  pub same : IsHonest (meaning old) → SameShelf (meaning old).shelf (meaning new).shelf
   pub later : StillLasts (meaning old).shelf (meaning new).shelf
 
--- a drive over the device that has no volume and served no session yet
+-- A drive over the device that has no volume and served no session yet. Where the device is honest, a stop before would
+-- have left what was stable.
 pub record IsNewDrive {D : Type 0} (meaning : D → Meaning) (limits : Limits) (media : List ℕ) (device : D) (d : DriveIs D) : Type 0 where
   pub is : d ≡ record { device = d.device; media = media; limits = limits; volumes = []; loaded = None; pool = None; hand = None; journal = [] }
   pub stays : StaysDevice meaning device d.device
+  pub stable : IsHonest (meaning device) → LeavesStable (meaning device).shelf
 
 -- so each of them, with the media at its place
 abbrev pub AreNewDrives : {D : Type 0} → (D → Meaning) → Limits → List (List ℕ × ℕ) → List D → List (DriveIs D) → Type 0

@@ -6,4 +6,5 @@ pub mod Kept
 pub mod Listing
 pub mod Reading
 pub mod Runs
+pub mod Steps
 pub mod View

@@ -3,7 +3,7 @@ ghost use Rattle.std.specs.Prelude.{◌<◌, ◌^◌, ℕ, IfSome};
 ghost use Rattle.sd_drive.specs.Shelf.{Kept};
 ghost use Rattle.sd_moves.specs.Rules.{NumbersRise};
 ghost use Rattle.sd_core.specs.Closed.{CountsFit, NumbersAreTickets};
-ghost use Rattle.sd_core.specs.Drives.{DrivesKeep, WhereCloses};
+ghost use Rattle.sd_core.specs.Drives.{DrivesKeep, WhereTells};
 
 use sd_base::{SessionKey, Ticket};
 use sd_driver::Driver;
@@ -31,12 +31,13 @@ fn know_drive<D: Driver, Q: Lanes, S: SpoolStore>(bay: &Bay<D, Q, S>)
     }
 }
 
-/// The same, where a reply closed a session. Does nothing.
-pub(crate) fn know_closing<D: Driver, Q: Lanes, S: SpoolStore>(bays: &[Bay<D, Q, S>], reply: &Reply)
-    ensures { WhereCloses reply.now (DrivesKeep (λ d. D.meaning d) bays.now) }
+/// The same, where a reply tells spans. Does nothing.
+pub(crate) fn know_telling<D: Driver, Q: Lanes, S: SpoolStore>(bays: &[Bay<D, Q, S>], reply: &Reply)
+    ensures { WhereTells reply.now (DrivesKeep (λ d. D.meaning d) bays.now) }
 {
-    if let Reply::Closed { .. } = reply {
-        know_drives(bays);
+    match reply {
+        Reply::Closed { .. } | Reply::Media { .. } => know_drives(bays),
+        _ => {}
     }
 }
 

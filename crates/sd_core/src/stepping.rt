@@ -2,9 +2,9 @@
 ghost use Rattle.sd_moves.specs.Moves.{Moves};
 ghost use Rattle.sd_moves.specs.Rules.{IsWorld};
 ghost use Rattle.sd_parts.specs.View.{world_of};
-ghost use Rattle.sd_core.specs.Drives.{DrivesKeep, WhereCloses};
+ghost use Rattle.sd_core.specs.Drives.{DrivesKeep, WhereTells};
 
-use crate::knowing::know_closing;
+use crate::knowing::know_telling;
 use sd_driver::Driver;
 use sd_lane::Lanes;
 use sd_machine::{Event, Reply};
@@ -20,10 +20,10 @@ pub(crate) fn answer<D: Driver + Drop, Q: Lanes, S: SpoolStore + Drop>(
 ) -> Reply
     requires world { IsWorld (world_of parts.old) }
     ensures moves { Moves (λ d. D.meaning d) (world_of parts.old) event result (world_of parts.new) }
-    ensures keep { WhereCloses result (DrivesKeep (λ d. D.meaning d) (world_of parts.new).bays) }
+    ensures keep { WhereTells result (DrivesKeep (λ d. D.meaning d) (world_of parts.new).bays) }
 {
     let reply = apply(parts, event);
-    know_closing(&parts.bays, &reply);
+    know_telling(&parts.bays, &reply);
     reply
 }
 

@@ -3,10 +3,10 @@ ghost use Rattle.std.specs.Prelude.{◌≡◌, ◌≢◌, ◌≤◌, [], length,
 ghost use Rattle.std.specs.List.{AllZip};
 ghost use Rattle.sd_base.specs.Limits.{most_number};
 ghost use Rattle.sd_machine.specs.Machine.{Machine, empty_machine};
-ghost use Rattle.sd_moves.specs.Kept.{ClosedStands, StatusesStay};
-ghost use Rattle.sd_moves.specs.Moves.{Moves};
+ghost use Rattle.sd_machine.specs.declared.event.Event.TheVariants.{Append};
+ghost use Rattle.sd_moves.specs.Kept.{StatusesStay};
+ghost use Rattle.sd_moves.specs.Rules.{IsWorld};
 ghost use Rattle.sd_matches.specs.Matches.{Matches};
-ghost use Rattle.sd_matches.specs.Steps.{StepsTo};
 ghost use Rattle.sd_closed.specs.Along.{MovesAlong};
 ghost use Rattle.sd_closed.specs.Grows.{AllGrow};
 ghost use Rattle.sd_closed.specs.Reads.{HasCancelled};
@@ -15,9 +15,10 @@ ghost use Rattle.sd_moves.specs.World.{WorldView};
 ghost use Rattle.sd_core.specs.Closed.{IsHonestFor, IsThere, ReadsClosed, ReadsCancelled, WereTold};
 ghost use Rattle.sd_core.specs.Conf.{IsConf, AreQueues, AreStores, limits_of};
 ghost use Rattle.sd_core.specs.Fresh.{IsFresh, StaysDevice};
-ghost use Rattle.sd_core.specs.Kept.{IsFoundClosed, IsRetired, ReplyStands, RepliesStand, ClosedLast};
+ghost use Rattle.sd_core.specs.Kept.{ClaimsLast, IsFoundClosed, IsRetired, RepliesStand, ClosedLast};
 ghost use Rattle.sd_core.specs.Reading.{ReadsWorld};
-ghost use Rattle.sd_core.specs.Runs.{RunsTo};
+ghost use Rattle.sd_core.specs.Runs.{FailsAlong, RunsTo};
+ghost use Rattle.sd_core.specs.Steps.{IsStep};
 ghost use Rattle.sd_core.specs.View.{status_at, devices_of, running_tickets, view_of};
 
 use crate::conf::{NotMade, WorldConf};
@@ -27,7 +28,7 @@ use crate::listing::list_running;
 use crate::reading::read_knowing;
 use crate::showing::{show_drives, show_sessions, show_volumes};
 use crate::stepping::answer;
-use sd_base::{Refusal, SessionKey, Ticket};
+use sd_base::{Rec, Refusal, SessionKey, Ticket};
 use sd_desk::{Desk, Request};
 use sd_drive::Limits;
 use sd_driver::Driver;
@@ -36,6 +37,7 @@ use sd_machine::{Event, Reply};
 use sd_parts::{Parts, find};
 use sd_readback::{ReadEnd, Sink};
 use sd_session::Status;
+use sd_sessions::append;
 use sd_span::Span;
 use sd_spool::SpoolStore;
 use sd_view::View;
@@ -147,17 +149,16 @@ impl<D: Driver + Drop, Q: Lanes, S: SpoolStore + Drop> World<D, Q, S> {
     /// step looks at one session and one drive; an open looks at the drives, and at the lanes of the one that it chooses.
     /// Take, Sync, Unmount and Cancel take no memory.
     pub fn step(&mut self, event: Event) -> Reply
-        ensures moves { Moves (λ d. D.meaning d) self.old event result self.new }
-        ensures follows { (m : Machine) → Matches (λ d. D.meaning d) self.old m
-            → StepsTo (λ d. D.meaning d) m self.old event result self.new }
-        ensures closed { ClosedStands self.new result }
-        ensures stands { ReplyStands self.new result }
-        ensures closed_last { ClosedLast self.old self.new }
-        ensures status_stays { StatusesStay self.old self.new }
-        ensures seats_stay { SeatsStay self.old self.new }
-        ensures journals_grow { AllGrow self.old self.new }
+        ensures { IsStep (λ d. D.meaning d) self.old event result self.new }
     {
         answer(&mut self.parts, event)
+    }
+
+    /// The event `Append`, of a record that stays with the caller: who appends again once a body was sent needs no copy.
+    pub fn append(&mut self, ticket: Ticket, rec: &Rec) -> Reply
+        ensures { IsStep (λ d. D.meaning d) self.old (Append ticket rec.now) result self.new }
+    {
+        append(&mut self.parts, ticket, rec)
     }
 
     /// All the events, in order, with the reply to each; it costs what its steps do. An `Err` comes before the first.
@@ -166,8 +167,11 @@ impl<D: Driver + Drop, Q: Lanes, S: SpoolStore + Drop> World<D, Q, S> {
             self.old events.items replies.items self.new) }
         ensures follows { IfOk result (λ replies. (m : Machine) → Matches (λ d. D.meaning d) self.old m
             → RunsTo (λ d. D.meaning d) m events.items replies.items self.new) }
+        ensures fails { IfOk result (λ replies. FailsAlong (λ d. D.meaning d)
+            self.old events.items replies.items self.new) }
         ensures stand { IfOk result (λ replies. RepliesStand self.new replies.items) }
         ensures closed_last { ClosedLast self.old self.new }
+        ensures claims_last { ClaimsLast self.old self.new }
         ensures status_stays { StatusesStay self.old self.new }
         ensures seats_stay { SeatsStay self.old self.new }
         ensures journals_grow { AllGrow self.old self.new }
@@ -185,6 +189,21 @@ impl<D: Driver + Drop, Q: Lanes, S: SpoolStore + Drop> World<D, Q, S> {
 }
 
 impl<D: Driver, Q: Lanes, S: SpoolStore + Drop> World<D, Q, S> {
+    /// What every world keeps. Does nothing.
+    pub fn know(&self)
+        ensures { IsWorld self.now }
+    {
+        let _ = &self.parts;
+    }
+
+    /// The time of the run, in seconds.
+    pub fn time(&self) -> u32
+        ensures { result ≡ self.now.limits.time }
+    {
+        let parts = &self.parts;
+        parts.limits.time
+    }
+
     /// The tickets of the sessions that are on their way, active or ended, by rising number. It costs what is on its way:
     /// only the sessions that used a lane last are looked at.
     pub fn tickets(&self) -> Result<Vec<Ticket>, AllocError>
@@ -228,7 +247,8 @@ impl<D: Driver, Q: Lanes, S: SpoolStore + Drop> World<D, Q, S> {
     /// fault stay, and they are the first of the session's, in order. No spans are a bad span; then the first span's
     /// volume must be at a drive, that drive online, and all spans on its volumes; then comes what the drive's reader
     /// says. A closed session's own spans read to all of its records, and a cancelled one's to the first of them, as long
-    /// as the devices return what was written. Changes no session, no volume and no list.
+    /// as the devices return what was written; once its drive was retired, either is answered that the drive is offline.
+    /// Changes no session, no volume and no list.
     pub fn read<K: Sink>(
         &mut self,
         key: SessionKey,
@@ -249,6 +269,7 @@ impl<D: Driver, Q: Lanes, S: SpoolStore + Drop> World<D, Q, S> {
             → IsHonestFor (λ d. D.meaning d) self.old key
             → ReadsCancelled m key (K.got sink.old) (K.got sink.new) result }
         ensures closed_last { ClosedLast self.old self.new }
+        ensures claims_last { ClaimsLast self.old self.new }
         ensures status_stays { StatusesStay self.old self.new }
         ensures seats_stay { SeatsStay self.old self.new }
         ensures journals_grow { AllGrow self.old self.new }

@@ -1,6 +1,6 @@
 -- What the names of a desk's claims say, as its map has them.
-use Rattle.std.proofs.Common.{◌≡◌, ℕ, cond, Option, Some, OnOk, Result, Ok, Err, List, [], ◌∷◌, String, refl, ap}
-use Rattle.std.specs.BTreeMap.{BTreeMap, is_at, get_by_text}
+use Rattle.std.proofs.Common.{◌≡◌, ℕ, cond, Some, OnOk, Result, Ok, Err, List, [], ◌∷◌, String, refl, ap}
+use Rattle.std.specs.BTreeMap.{is_at}
 use Rattle.std.specs.Cmp.Lexicographic.{slice_cmp}
 use Rattle.std.specs.Map.{lookup}
 use Rattle.std.specs.Ordering.{nat_cmp}

@@ -7,3 +7,4 @@ pub mod Places
 pub mod Stays
 pub mod SyncLemmas
 pub mod VolumeLists
+pub mod StableLemmas

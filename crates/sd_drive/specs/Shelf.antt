@@ -6,7 +6,7 @@ use Rattle.std.specs.Option.{option_to_list}
 use Rattle.sd_base.specs.Limits.{block_header, most_block}
 use Rattle.sd_block.specs.Image.{IsBlockImage}
 use Rattle.sd_driver.specs.Meaning.{Meaning, IsHonest}
-use Rattle.sd_driver.specs.Shelf.{Shelf, Held, Lasts}
+use Rattle.sd_driver.specs.Shelf.{Shelf, Held, Lasts, stable_bytes}
 use Rattle.sd_journal.specs.Journal.{Entry, placements}
 use Rattle.sd_journal.specs.declared.mark.Mark.TheVariants.{Unsynced, Synced}
 use Rattle.sd_label.specs.declared.label.VolumeLabel.{VolumeLabel}
@@ -137,3 +137,7 @@ pub record KeepsPieces (old new : Meaning)
   pub honest : new.honest ≡ old.honest
   pub items : items journal' hand' ≡ items journal hand
   pub blocks : IsHonest old → blocks new.shelf journal' hand' ≡ blocks old.shelf journal hand
+
+-- what a stop now leaves of the shelf is what is stable now; it is so after every call of a device
+abbrev pub LeavesStable : Shelf → Type 0
+LeavesStable shelf = (name : List ℕ) → shelf.kept shelf.moment name ≡ stable_bytes (shelf.volume name)

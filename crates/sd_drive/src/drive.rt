@@ -2,11 +2,11 @@
 ghost use Rattle.std.specs.Prelude.{◌≡◌, ◌↔◌, ◌≤◌, ◌<◌, ◌⊎◌, [], None, Some, IfOk, IfErr, OnOk, OnErr, IsTrue, List, ℕ};
 ghost use Rattle.std.specs.Option.{option_copied};
 ghost use Rattle.sd_base.specs.Limits.{most_volume};
-ghost use Rattle.sd_driver.specs.Meaning.{IsHonest};
-ghost use Rattle.sd_driver.specs.Shelf.{StillLasts};
+ghost use Rattle.sd_driver.specs.Meaning.{IsHonest, SameCounts};
+ghost use Rattle.sd_driver.specs.Shelf.{SameShelf, StillLasts};
 ghost use Rattle.sd_journal.specs.Journal.{placements, progress_of};
 ghost use Rattle.sd_span.specs.Spans.{spans_of};
-ghost use Rattle.sd_drive.specs.Shelf.{Kept, KeepsPieces};
+ghost use Rattle.sd_drive.specs.Shelf.{Kept, KeepsPieces, LeavesStable};
 ghost use Rattle.sd_drive.specs.View.{DriveIs};
 
 use crate::limits::Limits;
@@ -71,8 +71,9 @@ impl<D: Driver> Model for Drive<D> {
 }
 
 impl<D: Driver> Drive<D> {
-    /// A drive with no volume, which served no session yet. Unloads the device. Where memory is wanted the device
-    /// comes back.
+    /// A drive with no volume, which served no session yet. Unloads the device; what an honest one answers to that shows
+    /// that a stop before left what was stable. Where memory is wanted the device comes back.
+    #[tactic(auto, using(crate::proofs::StableLemmas::shown_by_unload))]
     pub fn new(
         alloc: Global,
         driver: D,
@@ -96,6 +97,11 @@ impl<D: Driver> Drive<D> {
             (D.meaning driver).shelf.moment ≤ (D.meaning drive.device).shelf.moment) }
         ensures later { IfOk result
             (λ drive. StillLasts (D.meaning driver).shelf (D.meaning drive.device).shelf) }
+        ensures same { IfOk result (λ drive. IsHonest (D.meaning driver)
+            → SameShelf (D.meaning driver).shelf (D.meaning drive.device).shelf) }
+        ensures counts { IfOk result (λ drive. SameCounts (D.meaning driver) (D.meaning drive.device)) }
+        ensures given_stable { IfOk result (λ drive.
+            IsHonest (D.meaning driver) → LeavesStable (D.meaning driver).shelf) }
         ensures err { IfErr result (λ kept. kept.driver ≡ driver) }
     {
         let Ok(image) = Vec::with_capacity(alloc, limits.block) else {

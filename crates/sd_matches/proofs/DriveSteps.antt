@@ -19,7 +19,7 @@ use Rattle.sd_machine.specs.declared.reply.Reply.TheVariants.{Refused, InHand, H
 use Rattle.sd_session.specs.Session.{IsRunning}
 use Rattle.sd_span.specs.declared.placement.Placement.{Placement}
 use Rattle.sd_moves.specs.Drives.{DriveMissing, CallsDrive, TakesPiece, LosesBlocks, FailsWhere, FailExactly, loses_by}
-use Rattle.sd_moves.specs.Moves.{Moves, MissingOr}
+use Rattle.sd_moves.specs.Moves.{Moves, MissingOr, PlacesNone}
 use Rattle.sd_moves.specs.Rules.{IsWorld}
 use Rattle.sd_moves.specs.World.{WorldView, WorldSession, BayView, IsOnline, with_bay}
 use Rattle.sd_moves.proofs.Lookups.{get_set-tells}
@@ -115,11 +115,11 @@ unplaced_settles : {D : Type 0} (d after : DriveIs D) → Places {E = Unit {0}} 
 unplaced_settles {D} d after c = settles_same d after c.on.2 (ap (λ (x : DriveIs D). x.hand) c.becomes)
 
 place_refused : {D : Type 0} (meaning : D → Meaning) (old new : WorldView D) (drive : ℕ) (why : Refusal) (m : Machine)
-    → MissingOr old drive why new ((why ≡ Memory) × CallsDrive meaning old drive new (Places {E = Unit {0}} (Err tt))) → Matches meaning old m
+    → MissingOr old drive why new ((why ≡ Memory) × PlacesNone meaning old drive new) → Matches meaning old m
     → StepsTo meaning m old (Place drive) (Refused why) new
 place_refused meaning old new drive why m (inl c) h = missing meaning old new m (Place drive) drive why c.0 (λ r no. inl no) refl refl h c.1
 place_refused meaning old new drive why m (inr c) h =
-    call_step meaning old new m (Place drive) (Refused why) drive (Places {E = Unit {0}} (Err tt)) c.1 unplaced_settles (inr c.0, refl) refl h
+    call_step meaning old new m (Place drive) (Refused why) drive _ c.1 (λ d after p. unplaced_settles d after p.0) (inr c.0, refl) refl h
 
 pub place_steps : {D : Type 0} (meaning : D → Meaning) (old new : WorldView D) (drive : ℕ) (reply : Reply) (m : Machine) → IsWorld old
     → Moves meaning old (Place drive) reply new → Matches meaning old m → StepsTo meaning m old (Place drive) reply new

@@ -20,7 +20,6 @@ use Rattle.sd_moves.specs.World.{WorldView, WorldSession, session_at, with_sessi
 use Rattle.sd_moves.proofs.Lookups.{session_id}
 use Rattle.sd_moves.proofs.Pairs.{is_numbered}
 use Rattle.sd_moves.proofs.Views.{runs, running_is}
-pub use Rattle.sd_moves.proofs.Views.{running_is as of_running}
 use Rattle.sd_matches.specs.Matches.{SessionMatches, SessionsMatch, Matches}
 use Rattle.sd_matches.specs.Steps.{is_failed, newly_failed, StepsTo}
 use Rattle.sd_matches.proofs.Frames.{Framed, same_session}

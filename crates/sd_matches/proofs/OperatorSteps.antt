@@ -171,8 +171,8 @@ seek_refused : {D : Type 0} (meaning : D → Meaning) (old new : WorldView D) (d
     → MissingOr old drive why new (SeekRefused meaning old drive why new) → Matches meaning old m → StepsTo meaning m old (Seek drive) (Refused why) new
 seek_refused meaning old new drive why m rules (inl c) h = missing meaning old new m (Seek drive) drive why c.0 (λ r no. inl no) refl refl h c.1
 seek_refused meaning old new drive why m rules (inr (inl c)) h =
-    subst (λ (x : Refusal). StepsTo meaning m old (Seek drive) (Refused x) new) (sym c.1)
-    (desk_step meaning old new m (Seek drive) (Refused Memory) c.2.0 (inr (inr (inr refl)), refl) refl h c.2.2)
+    subst (λ (x : Refusal). StepsTo meaning m old (Seek drive) (Refused x) new) (sym c.2)
+    (desk_step meaning old new m (Seek drive) (Refused Memory) c.3.0 (inr (inr (inr refl)), refl) refl h c.3.2)
 seek_refused meaning old new drive why m rules (inr (inr c)) h = elim c.2 [
   | inl l ↦ device_fault meaning old new m (Seek drive) drive why rules l.1 l.2 (inr (inr (inl refl))) (λ failing are. are) h
   | inr l ↦ load_step meaning old new m (Seek drive) drive c.0 why l (inr (inl refl)) (inr (inr (inl refl))) (inr (inr (inr refl))) refl tt refl h

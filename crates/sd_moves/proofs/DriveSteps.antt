@@ -1,5 +1,5 @@
 -- What each call of a drive leaves of it: its pieces, its names, and who fails.
-use Rattle.std.proofs.Common.{◌≡◌, ◌⊎◌, ℕ, refl, sym, ap, subst, ◌∙◌, inl, inr, true, false, Bool, Option, Some, None, Result, Ok, Err, List, [], ◌∷◌, ◌++◌, slice_get, slice_set}
+use Rattle.std.proofs.Common.{◌≡◌, ◌⊎◌, ℕ, refl, sym, ap, subst, ◌∙◌, inl, inr, true, false, Bool, Option, Some, None, Result, Ok, Err, List, [], ◌∷◌, ◌++◌, slice_get, slice_set, append-nil}
 use Rattle.std.specs.Prelude.{◌||◌}
 use Rattle.sd_base.specs.Key.{is_key}
 use Rattle.sd_base.specs.declared.number.SessionKey.{SessionKey}
@@ -74,6 +74,10 @@ places {D} result d after h kept =
           | inr p ↦ subst (λ es. (placements_of key (placements es) ≡ placements_of key (placements d.journal)) ⊎ ((x : Piece) × (d.hand ≡ Some x) × (is_key key x.key ≡ true)))
               (sym p.2) (own_of key h.piece d.hand d.journal p.0 (is_key key p.0.key) h.ready.hand p.1 refl)
         ];
+        grows = elim told.1 [
+          | inl same ↦ ([], ap placements same ∙ sym (append-nil (placements d.journal)))
+          | inr p ↦ (p.0 ∷ [], ap placements p.2 ∙ placements_more d.journal (noted p.0))
+        ];
       };
       fails = λ key none. elim told.1 [
         | inl same ↦ ap (fails key) same ∙ none
@@ -100,6 +104,7 @@ marks d after media limits hand placed = record {
   limits_are = limits;
   items_are = ap (λ ps. items_of ps ++ in_hand after.hand) placed ∙ ap (items d.journal) hand;
   own = λ key. inl (ap (placements_of key) placed);
+  grows = ([], placed ∙ sym (append-nil (placements d.journal)));
 }
 
 settles : {D : Type 0} (d after : DriveIs D) → after.media ≡ d.media → after.limits ≡ d.limits → after.hand ≡ d.hand → after.volumes ≡ d.volumes

@@ -25,11 +25,12 @@ use Rattle.sd_moves.proofs.Worlds.{pair_map, world_with}
 -- the session is as it was, but that one of this lane may have lost its store
 pub record LosesStore (drive lane : ℕ) (x y : WorldSession) : Type 0 where
   pub drive_is : y.drive ≡ x.drive
+  pub status_is : y.session.status ≡ x.session.status
   pub stays : SessionStays x.session y.session
   pub store : (x.drive ≡ drive → x.session.lane ≡ lane → ⊥) → StoreStays x.session y.session
 
 loses_none : (drive lane : ℕ) (x : WorldSession) → LosesStore drive lane x x
-loses_none drive lane x = record { drive_is = refl; stays = same_stays x.session; store = λ other h. h }
+loses_none drive lane x = record { drive_is = refl; status_is = refl; stays = same_stays x.session; store = λ other h. h }
 
 -- the session that used a lane last
 pub holder_of : (sessions : List WorldSession) (drive place : ℕ) (lane : LaneView) (ticket : ℕ) → IsLane sessions drive place lane → lane.holder ≡ Some ticket
@@ -62,7 +63,7 @@ taken_from w at place bay lane store es' h there stands (inr p) =
     let in_lane : e.session.lane ≡ place + 1 = ap (λ (x : WorldSession). x.session.lane) (sym one) ∙ held.3 in
     let id : f.session.key.id ≡ ticket = ap (λ (k : SessionKey). k.id) back.key_is ∙ session_id ticket w.sessions e found in
     let numbered = is_numbered w.limits.time 1 w.next ticket w.sessions e h.numbers found in
-    let own : LosesStore (at + 1) (place + 1) e f = record { drive_is = refl; stays = back; store = λ other. absurd (other on in_lane) } in
+    let own : LosesStore (at + 1) (place + 1) e f = record { drive_is = refl; status_is = ap (λ (s : SessionView). s.status) p.6.is; stays = back; store = λ other. absurd (other on in_lane) } in
     subst (TakenFrom w.sessions w.limits.time w.next (at + 1) (place + 1)) (sym p.7) (record {
       pairs = λ other. pair_map (WithOne ticket e f) (LosesStore (at + 1) (place + 1)) (session_at other w.sessions) (session_at other (with_session f w.sessions))
           (λ x y seen q. elim q [

@@ -1,5 +1,5 @@
 -- What a world keeps of a session, its lane and its drive's bay, when one of them changes.
-use Rattle.std.proofs.Common.{◌≡◌, ◌≢◌, ◌⊎◌, ℕ, ◌+◌, ◌≤◌, refl, sym, ap, subst, ◌∙◌, arith, inl, inr, true, false, Some, IsSome, List, length, slice_get, slice_set}
+use Rattle.std.proofs.Common.{◌≡◌, ◌≢◌, ◌⊎◌, ℕ, ◌+◌, ◌≤◌, refl, sym, ap, subst, ◌∙◌, arith, inl, inr, true, false, Some, IsSome, List, ◌++◌, length, slice_get, slice_set}
 use Rattle.std.proofs.lemmas.Option.{IfSome_then}
 use Rattle.sd_base.specs.Key.{is_key}
 use Rattle.sd_base.specs.declared.number.SessionKey.{SessionKey}
@@ -12,6 +12,7 @@ use Rattle.sd_lane.specs.declared.piece.Piece.{Piece}
 use Rattle.sd_session.specs.Session.{IsRunning}
 use Rattle.sd_session.specs.declared.status.Status.TheVariants.{Closed}
 use Rattle.sd_span.specs.Spans.{placements_of}
+use Rattle.sd_span.specs.declared.placement.Placement.{Placement}
 use Rattle.sd_volume.specs.Volume.{VolumeView}
 use Rattle.sd_moves.specs.World.{WorldView, WorldSession, BayView, LaneView, session_at, items_before, items_with}
 use Rattle.sd_moves.specs.Rules.{IsSeated, IsLane, IsBay, AreOfOpened}
@@ -130,12 +131,17 @@ abbrev pub NamesStay : {D : Type 0} → DriveIs D → DriveIs D → Type 0
 NamesStay d after = (place : ℕ) (v : VolumeView) → slice_get after.volumes place ≡ Some v
     → (before : ℕ) × (u : VolumeView) × (slice_get d.volumes before ≡ Some u) × (v.name ≡ u.name)
 
+-- the journal has the placements that it had, and then perhaps others
+abbrev pub JournalGrows : {D : Type 0} → DriveIs D → DriveIs D → Type 0
+JournalGrows d after = (more : List Placement) × (placements after.journal ≡ placements d.journal ++ more)
+
 -- what every call of a drive leaves of it
 pub record DriveStays {D : Type 0} (d after : DriveIs D) : Type 0 where
   pub media_is : after.media ≡ d.media
   pub limits_are : after.limits ≡ d.limits
   pub items_are : items after.journal after.hand ≡ items d.journal d.hand
   pub own : PlacesOwn d after
+  pub grows : JournalGrows d after
 
 -- a session fails by the change of the drive only if it did
 abbrev pub FailsStay : {D : Type 0} → SessionKey → DriveIs D → DriveIs D → Type 0

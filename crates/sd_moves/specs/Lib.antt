@@ -1,5 +1,7 @@
 pub mod Drives
+pub mod Fails
 pub mod Kept
+pub mod Memory
 pub mod Moves
 pub mod Operators
 pub mod Rules

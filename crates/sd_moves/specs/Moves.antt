@@ -2,7 +2,7 @@
 use Rattle.std.specs.Prelude.{◌≡◌, ◌⊎◌, ℕ, ◌+◌, false, None, List, Ok, Err}
 use Rattle.sd_base.specs.declared.refusal.Refusal.{Refusal}
 use Rattle.sd_base.specs.declared.refusal.Refusal.TheVariants.{DeviceFault, Memory}
-use Rattle.sd_driver.specs.Meaning.{Meaning}
+use Rattle.sd_driver.specs.Meaning.{Meaning, Unchanged}
 use Rattle.sd_drive.specs.Moves.{Places, Syncs, Unmounts, LimitAllows, awaits_sync}
 use Rattle.sd_drive.specs.declared.place.Placed.TheVariants as place
 use Rattle.sd_machine.specs.declared.event.Event.{Event}
@@ -30,6 +30,11 @@ PlacesAt meaning old drive volume start end new = (p : Placement)
 abbrev pub FindsFull : {D : Type 0} → (D → Meaning) → WorldView D → ℕ → WorldView D → Type 0
 FindsFull meaning old drive new = ChangesDrive old drive new
     (λ d after. Places {E = Unit {0}} (Ok place.VolumeFull) d after × Calls meaning ⊥ (LimitAllows d) d after)
+
+-- memory is wanted: the piece stays in the hand, and the drive's device is as it was
+abbrev pub PlacesNone : {D : Type 0} → (D → Meaning) → WorldView D → ℕ → WorldView D → Type 0
+PlacesNone meaning old drive new = CallsDrive meaning old drive new
+    (λ d after. Places {E = Unit {0}} (Err tt) d after × Unchanged (meaning d.device) (meaning after.device))
 
 -- the device failed, and the volume has status Error now
 abbrev pub FindsError : {D : Type 0} → (D → Meaning) → WorldView D → ℕ → WorldView D → Type 0
@@ -78,7 +83,7 @@ Moves meaning old (Place drive) VolumeFull new = FindsFull meaning old drive new
 Moves meaning old (Place drive) VolumeError new = FindsError meaning old drive new
 Moves meaning old (Place drive) Idle new = OnDrive old drive (λ d. d.hand ≡ None) × StaysAs old new
 Moves meaning old (Place drive) (Refused why) new = MissingOr old drive why new
-    ((why ≡ Memory) × CallsDrive meaning old drive new (Places {E = Unit {0}} (Err tt)))
+    ((why ≡ Memory) × PlacesNone meaning old drive new)
 Moves meaning old (Sync drive) Synced new = SyncsLoaded meaning old drive new
 Moves meaning old (Sync drive) (Refused why) new = MissingOr old drive why new ((why ≡ DeviceFault) × LosesBlocks meaning old drive new)
 Moves meaning old (Label drive name pool media moment) Labelled new = LabelsVolume meaning old drive name pool media moment new

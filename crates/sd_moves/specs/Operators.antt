@@ -232,10 +232,10 @@ pub record AsksFor {D : Type 0} (old : WorldView D) (drive : ℕ) (new : WorldVi
   pub asks : AsksOnce (record { drive = drive; pool = pool; media = d.media }) old.desk desk
   pub new_is : new ≡ record old { desk = desk }
 
--- why a drive finds no volume: memory is wanted for its request, or the mount of the next one fails
+-- why a drive finds no volume: memory is wanted for its request, where it has none yet; or the mount of the next one fails
 abbrev pub SeekRefused : {D : Type 0} → (D → Meaning) → WorldView D → ℕ → Refusal → WorldView D → Type 0
 SeekRefused meaning old drive why new =
-    (OnDrive old drive (λ d. (pool : List ℕ) × HasNoNext pool d) × (why ≡ Memory) × StaysKnowing old new)
+    (OnDrive old drive (λ d. (pool : List ℕ) × HasNoNext pool d) × HasNotAsked drive old.desk.requests × (why ≡ Memory) × StaysKnowing old new)
     ⊎ ((name : List ℕ) × OnDrive old drive (NextIs name) × MountFails meaning old drive name why new)
 
 -- Retiring.

@@ -92,3 +92,8 @@ asked_once drive pool media copy old desk new desked same claims first again =
       first = λ not_yet. first not_yet ∙ ap (λ m. desk.requests ++ record { drive = drive; pool = pool; media = m } ∷ []) same;
       again = again;
     })
+
+-- where it can't be that the desk was asked, it wasn't
+pub not_asked : (drive : ℕ) (old desk : DeskView) → old ≡ desk → ((HasNotAsked drive desk.requests → ⊥) → ⊥) → HasNotAsked drive old.requests
+not_asked drive old desk desked not_not at r within same =
+    not_not (λ none. subst (λ (k : DeskView). HasNotAsked drive k.requests) (sym desked) none at r within same)

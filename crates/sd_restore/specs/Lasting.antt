@@ -2,8 +2,8 @@
 use Rattle.std.specs.Prelude.{◌≡◌, ℕ, ◌≤◌, All, List, [], take, Option}
 use Rattle.sd_base.specs.declared.number.SessionKey.{SessionKey}
 use Rattle.sd_driver.specs.Meaning.{Meaning, IsHonest}
-use Rattle.sd_driver.specs.Shelf.{Shelf, Lasts, StillLastsBelow, AfterStop, stable_bytes, low_mark}
-use Rattle.sd_drive.specs.Shelf.{Kept}
+use Rattle.sd_driver.specs.Shelf.{Shelf, Lasts, StillLastsBelow, AfterStop, low_mark}
+use Rattle.sd_drive.specs.Shelf.{Kept, LeavesStable}
 use Rattle.sd_journal.specs.Journal.{Entry, placements, placed_of, synced_of}
 use Rattle.sd_label.specs.declared.label.VolumeLabel.{VolumeLabel}
 use Rattle.sd_readback.specs.Reading.{Volumes, KeepSpans, volumes_on}
@@ -31,10 +31,6 @@ pub record SpanLasts (since : ℕ) (volumes : Volumes) (shelf : Shelf) (s : Span
 -- so it is with each of the spans
 abbrev pub SpansLast : ℕ → Volumes → Shelf → List Span → Type 0
 SpansLast since volumes shelf spans = All (λ s. SpanLasts since volumes shelf s) spans
-
--- what a stop now leaves of the shelf is what is stable now; it is so after every call of a device
-abbrev pub LeavesStable : Shelf → Type 0
-LeavesStable shelf = (name : List ℕ) → shelf.kept shelf.moment name ≡ stable_bytes (shelf.volume name)
 
 -- Laws.
 

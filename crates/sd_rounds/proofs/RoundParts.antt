@@ -1,5 +1,5 @@
 -- The parts of a round, and rounds one after another.
-use Rattle.std.proofs.Common.{◌≡◌, ◌≢◌, ℕ, zero, suc, ◌+◌, ◌-◌, ◌^◌, ◌≤◌, ◌<◌, ◌||◌, true, false, Bool, inl, inr, length, List, [], ◌∷◌, ◌++◌, Some, None, Option, is_some, filter, take, slice_get, get_or, refl, sym, ap, subst, ◌∙◌, arith, add-zero, append-nil, append_assoc}
+use Rattle.std.proofs.Common.{◌≡◌, ℕ, zero, suc, ◌+◌, ◌-◌, ◌^◌, ◌≤◌, ◌<◌, ◌||◌, true, false, Bool, inl, inr, length, List, [], ◌∷◌, ◌++◌, Some, None, is_some, filter, take, slice_get, get_or, refl, sym, ap, subst, ◌∙◌, arith, add-zero, append-nil, append_assoc}
 use Rattle.std.specs.Option.{option_map}
 use Rattle.std.specs.List.{sum_by, range_with_len}
 use Rattle.std.proofs.lemmas.List.Sums.{sum_by-append}
@@ -8,7 +8,7 @@ use Rattle.std.proofs.lemmas.Option.{slice_get-map}
 use Rattle.std.proofs.lemmas.List.Elements.{All-append, All-nil, All-cons, filter-append}
 use Rattle.sd_driver.specs.Meaning.{Meaning}
 use Rattle.sd_machine.specs.declared.event.Event.{Event}
-use Rattle.sd_machine.specs.declared.event.Event.TheVariants.{Open, Append, End, Close, Cancel, Spool, Despool, Take, Place, Sync, Label, Adopt, Mount, Unmount, Seek, Retire, Media}
+use Rattle.sd_machine.specs.declared.event.Event.TheVariants.{Spool, Despool, Take, Sync, Retire}
 use Rattle.sd_machine.specs.declared.reply.Reply.{Reply}
 use Rattle.sd_machine.specs.declared.reply.Reply.TheVariants.{Refused, InHand, HandFull, Idle, Retired, NeedVolume, Mounted}
 use Rattle.sd_closed.specs.Along.{MovesAlong}
@@ -16,7 +16,7 @@ use Rattle.sd_moves.specs.Drives.{DriveMissing}
 use Rattle.sd_moves.specs.Moves.{Moves}
 use Rattle.sd_moves.specs.World.{WorldView, BayView, IsOnline}
 use Rattle.sd_rounds.specs.declared.headway.Round.{Round}
-use Rattle.sd_rounds.specs.Rounds.{AllMove, AreSends, AreTurns, Drains, EndStill, IsRound, IsTurn, Moved, PlaysMoving, PlaysOn, PlaysOne, PlaysRound, PlaysRounds, Tells, counted, drives_online, is_online, is_set, online_flags, placed_in, placing, sends}
+use Rattle.sd_rounds.specs.Rounds.{AllMove, AreSends, AreTurns, Drains, IsRound, IsTurn, Moved, PlaysOn, PlaysOne, PlaysRound, PlaysRounds, Tells, counted, drives_online, is_online, is_set, online_flags, placed_in, placing, sends}
 use Rattle.sd_rounds.proofs.Online.{DrivesStay, IsNoRetiring, drives_same, drives_then, moves_stay}
 use Rattle.sd_rounds.proofs.Played.{counted_sum, on_and, on_none}
 use Rattle.sd_core.specs.View.{running_tickets}

@@ -9,6 +9,7 @@ use Rattle.sd_base.specs.declared.number.SessionKey.{SessionKey}
 use Rattle.sd_base.specs.declared.refusal.Refusal.{Refusal}
 use Rattle.sd_desk.specs.Desk.{DeskView, claimed_by}
 use Rattle.sd_driver.specs.Meaning.{Meaning, IsHonest}
+use Rattle.sd_drive.specs.Shelf.{LeavesStable}
 use Rattle.sd_drive.specs.View.{DriveIs}
 use Rattle.sd_drive.specs.declared.limits.Limits.{Limits}
 use Rattle.sd_label.specs.Cutting.{total_bytes}
@@ -32,7 +33,7 @@ use Rattle.sd_core.specs.Fresh.{StaysDevice, AreNewDrives, new_bay, new_bays}
 use Rattle.sd_core.specs.Reading.{ReadsDrive, ReadsWorld, read_due, due_at, due_in, due_with, are_at_drive, is_at_drive}
 use Rattle.sd_stops.specs.Runs.{FreshIsMade}
 use Rattle.sd_stops.specs.Stops.{GivesAll, ClosedIsRead, shelf_then}
-use Rattle.sd_stops.proofs.RunLemmas.{run_keeps, run_honest, survive_all, kept_reads_to_all}
+use Rattle.sd_stops.proofs.RunLemmas.{found_stable, run_keeps, run_honest, survive_all, kept_reads_to_all}
 
 -- Which drive reads.
 
@@ -115,7 +116,7 @@ pub closed_is_read : {D : Type 0} → ClosedIsRead D
 closed_is_read meaning m key spans w again after left last others got got' result c stop runs r claimed reads =
     let shelf = (meaning r.d_now.device).shelf in
     let survives = survive_all meaning m key spans w left last others c stop runs in
-    let lasts = run_keeps meaning (volumes_on (shelf_then c)) spans last again r (survives.last r.stable) in
+    let lasts = run_keeps meaning (volumes_on (shelf_then c)) spans last again r (survives.last (found_stable meaning last again r)) in
     let kept = lasting_spans_kept last.moment (volumes_on (shelf_then c)) shelf shelf spans lasts (λ name bytes lasts. lasts.now) in
     let all = kept_reads_to_all meaning m key spans w (volumes_on shelf) c kept in (
       all,
@@ -138,19 +139,21 @@ bay_of queue store (x ∷ drives) (q ∷ queues) (s ∷ spools) (suc at) bay d t
 
 -- and the drives are those of the devices
 device_of : {D : Type 0} (meaning : D → Meaning) (limits : Limits) (medias : List (List ℕ × ℕ)) (devices : List D) (drives : List (DriveIs D)) (at : ℕ) (device : D) (d : DriveIs D)
-    → AreNewDrives meaning limits medias devices drives → slice_get devices at ≡ Some device → slice_get drives at ≡ Some d → StaysDevice meaning device d.device
+    → AreNewDrives meaning limits medias devices drives → slice_get devices at ≡ Some device → slice_get drives at ≡ Some d
+    → StaysDevice meaning device d.device × (IsHonest (meaning device) → LeavesStable (meaning device).shelf)
 device_of meaning limits medias [] drives at device d made there here = absurd (cc there)
 device_of meaning limits medias (x ∷ xs) [] at device d made there here = absurd made
 device_of meaning limits [] (x ∷ xs) (y ∷ ys) at device d made there here = absurd made
 device_of meaning limits (b ∷ bs) (x ∷ xs) (y ∷ ys) zero device d made there here =
     let one : x ≡ device = cc there in
-    let other : y ≡ d = cc here in
-    subst (λ (z : DriveIs _). StaysDevice meaning device z.device) other (subst (λ z. StaysDevice meaning z y.device) one made.0.stays)
+    let other : y ≡ d = cc here in (
+      subst (λ (z : DriveIs _). StaysDevice meaning device z.device) other (subst (λ z. StaysDevice meaning z y.device) one made.0.stays),
+      subst (λ z. IsHonest (meaning z) → LeavesStable (meaning z).shelf) one made.0.stable,
+    )
 device_of meaning limits (b ∷ bs) (x ∷ xs) (y ∷ ys) (suc at) device d made there here = device_of meaning limits bs xs ys at device d made.1 there here
 
 pub fresh_is_made : {D Q S Z : Type 0} → FreshIsMade D Q S Z
-fresh_is_made meaning queue store limits room medias devices queues spools w device drive at bay d fresh there online = record {
-  online = online;
-  stays = device_of meaning limits medias devices fresh.drives at device d fresh.drives_are there
-      (bay_of queue store fresh.drives queues spools at bay d (ap (λ bs. slice_get bs at) (sym fresh.bays_are) ∙ online.there) online.online);
-}
+fresh_is_made meaning queue store limits room medias devices queues spools w device drive at bay d fresh there online =
+    let of = device_of meaning limits medias devices fresh.drives at device d fresh.drives_are there
+    (bay_of queue store fresh.drives queues spools at bay d (ap (λ bs. slice_get bs at) (sym fresh.bays_are) ∙ online.there) online.online) in
+    record { online = online; stays = of.0; stable = of.1 }

@@ -1,5 +1,4 @@
 pub mod AgainLemmas
-pub mod ClaimSteps
 pub mod LeadLemmas
 pub mod RunLemmas
 pub mod StayLemmas

@@ -9,7 +9,8 @@ use Rattle.sd_machine.specs.Machine.{Machine}
 use Rattle.sd_readback.specs.Reading.{Volumes, KeepSpans, volumes_on}
 use Rattle.sd_readback.proofs.ReadingLemmas.{kept_read}
 use Rattle.sd_span.specs.declared.span.Span.{Span}
-use Rattle.sd_restore.specs.Lasting.{SpansLast, LeavesStable}
+use Rattle.sd_drive.specs.Shelf.{LeavesStable}
+use Rattle.sd_restore.specs.Lasting.{SpansLast}
 use Rattle.sd_restore.proofs.LastLemmas.{lasting_spans_stay, lasting_spans_mark, lasting_spans_kept, lasting_spans_survive}
 use Rattle.sd_moves.specs.World.{WorldView, BayView, IsOnline}
 use Rattle.sd_closed.specs.Devices.{GoesOn}
@@ -54,13 +55,17 @@ run_keeps meaning volumes spans found w r last =
     let given : SpansLast found.moment volumes own spans = subst (λ shelf. SpansLast found.moment volumes shelf spans) (sym r.shelf_is) last in
     let made = lasting_spans_stay found.moment volumes own first spans (λ since name bytes label blocks is lasts. r.made.stays.later since name bytes lasts) given in
     let goes = goes_on_since meaning r.first w r.others r.drive r.at r.at_now r.bay r.bay_now r.d r.d_now r.leads r.made.online r.online in
-    lasting_spans_stay found.moment volumes first (meaning r.d_now.device).shelf spans (goes.blocks (subst IsTrue (sym r.made.stays.honest) r.honest)) made
+    lasting_spans_stay found.moment volumes first (meaning r.d_now.device).shelf spans (goes.blocks (subst IsTrue (sym r.made.stays.counts.honest) r.honest)) made
 
 -- and the device is honest still
 pub run_honest : {D : Type 0} (meaning : D → Meaning) (found : Shelf) (w : WorldView D) → (r : RunsOn meaning found w) → IsHonest (meaning r.d_now.device)
 run_honest meaning found w r =
     let goes = goes_on_since meaning r.first w r.others r.drive r.at r.at_now r.bay r.bay_now r.d r.d_now r.leads r.made.online r.online in
-    subst IsTrue (sym goes.honest) (subst IsTrue (sym r.made.stays.honest) r.honest)
+    subst IsTrue (sym goes.honest) (subst IsTrue (sym r.made.stays.counts.honest) r.honest)
+
+-- the shelf that was found leaves stable what it said
+pub found_stable : {D : Type 0} (meaning : D → Meaning) (found : Shelf) (w : WorldView D) → (r : RunsOn meaning found w) → LeavesStable found
+found_stable meaning found w r = subst LeavesStable r.shelf_is (r.made.stable r.honest)
 
 -- what holds of a shelf that a stop left: it has the bytes of the spans, and they last there
 pub record Survive (volumes : Volumes) (spans : List Span) (left : Shelf) : Type 0 where
@@ -79,7 +84,7 @@ survive_runs meaning volumes spans found left [] same s = subst (Survive volumes
 survive_runs meaning volumes spans found left (next ∷ others) runs s =
     let r = runs.0 in
     survive_runs meaning volumes spans next left others runs.1
-    (survive_stop found.moment volumes spans (meaning r.runs.d_now.device).shelf next (run_keeps meaning volumes spans found r.w r.runs (s.last r.runs.stable)) r.stop)
+    (survive_stop found.moment volumes spans (meaning r.runs.d_now.device).shelf next (run_keeps meaning volumes spans found r.w r.runs (s.last (found_stable meaning found r.w r.runs))) r.stop)
 
 -- from the close on, over stops
 pub survive_all : {D : Type 0} (meaning : D → Meaning) (m : Machine) (key : SessionKey) (spans : List Span) (w : WorldView D) (left last : Shelf) (others : List Shelf)

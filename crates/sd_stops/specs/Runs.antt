@@ -6,16 +6,18 @@ use Rattle.sd_drive.specs.View.{DriveIs}
 use Rattle.sd_drive.specs.declared.limits.Limits.{Limits}
 use Rattle.sd_lane.specs.Queue.{LanesView}
 use Rattle.sd_spool.specs.Meaning.{Meaning as StoreMeaning}
-use Rattle.sd_restore.specs.Lasting.{LeavesStable}
+use Rattle.sd_drive.specs.Shelf.{LeavesStable}
 use Rattle.sd_moves.specs.World.{WorldView, BayView, IsOnline}
 use Rattle.sd_core.specs.Fresh.{IsFresh, StaysDevice}
 use Rattle.sd_stops.specs.Leads.{LeadsTo}
 
--- the drive of this number has the device that a world was made with, and what lasted on the device lasts
+-- The drive of this number has the device that a world was made with, and what lasted on the device lasts. Where the
+-- device is honest, a stop before would have left what was stable.
 pub record IsMadeWith {D : Type 0} (meaning : D → Meaning) (device : D) (w : WorldView D)
     (drive at : ℕ) (bay : BayView D) (d : DriveIs D) : Type 0 where
   pub online : IsOnline w drive at bay d
   pub stays : StaysDevice meaning device d.device
+  pub stable : IsHonest (meaning device) → LeavesStable (meaning device).shelf
 
 -- A run of the daemon on a shelf, as it was found, has come to this world: an honest device with that shelf was given
 -- to a new world, which did one thing after another; the drive with the device is still online.
@@ -23,7 +25,6 @@ pub record RunsOn {D : Type 0} (meaning : D → Meaning) (found : Shelf) (w : Wo
   pub device : D
   pub shelf_is : (meaning device).shelf ≡ found
   pub honest : IsHonest (meaning device)
-  pub stable : LeavesStable found
   pub first : WorldView D
   pub drive : ℕ
   pub at : ℕ

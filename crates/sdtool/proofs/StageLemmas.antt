@@ -10,12 +10,12 @@ use Rattle.sd_drive.specs.View.{DriveIs}
 use Rattle.sd_drive.specs.declared.limits.Limits.{Limits}
 use Rattle.sd_lane.specs.Queue.{LanesView}
 use Rattle.sd_machine.specs.declared.event.Event.{Event}
-use Rattle.sd_machine.specs.declared.event.Event.TheVariants.{Retire}
 use Rattle.sd_machine.specs.declared.reply.Reply.{Reply}
 use Rattle.sd_machine.specs.declared.reply.Reply.TheVariants.{Retired}
 use Rattle.sd_moves.specs.Moves.{Moves}
 use Rattle.sd_moves.specs.World.{WorldView, BayView}
-use Rattle.sd_rounds.proofs.Online.{DrivesStay, IsNoRetiring, drives_same, moves_stay, online_still, retires_limits}
+use Rattle.sd_moves.proofs.MoveLeaves.{leaves}
+use Rattle.sd_rounds.proofs.Online.{DrivesStay, IsNoRetiring, drives_same, moves_stay, online_still}
 use Rattle.sd_rounds.proofs.RoundParts.{rounds_stay}
 use Rattle.sd_rounds.specs.Rounds.{Drains, PlaysMoving, online_flags}
 use Rattle.sd_script.specs.declared.console.ConsoleCmd.{ConsoleCmd}
@@ -32,9 +32,7 @@ use Rattle.sdtool.specs.Restart.{unfit}
 
 -- whatever a step answers, the limits stay
 pub moves_limits : {D : Type 0} (meaning : D → Meaning) (w w' : WorldView D) (event : Event) (reply : Reply) → Moves meaning w event reply w' → w'.limits ≡ w.limits
-moves_limits meaning w w' (Retire drive) Retired m = retires_limits w w' drive m
-moves_limits meaning w w' event Retired m = absurd m
-moves_limits meaning w w' event reply m = (moves_stay meaning w w' event reply tt m).limits
+moves_limits meaning w w' event reply m = (leaves meaning w w' event reply m).limits
 
 -- where it is no retirement, the drives stay as they are
 pub moves_online : {D : Type 0} (meaning : D → Meaning) (w w' : WorldView D) (event : Event) (reply : Reply) → (reply ≡ Retired → ⊥) → Moves meaning w event reply w'

@@ -4,7 +4,7 @@ use Rattle.sd_moves.specs.World.{WorldSession, session_at}
 use Rattle.sd_moves.proofs.Lookups.{session_id}
 use Rattle.sd_moves.proofs.Pairs.{is_numbered}
 use Rattle.sd_parts.proofs.Found.{read_found}
-use Rattle.sd_core.proofs.Told.{found_within}
+use Rattle.sd_parts.proofs.Found.{found_within}
 use Rattle.sd_core.proofs.knowing.know_counts.Goals as goal
 
 -- each session has a ticket

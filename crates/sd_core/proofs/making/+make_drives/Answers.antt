@@ -13,7 +13,8 @@ returns-in-Err-clause-again g t c =
 pub returns-in-Ok-clause-made : goal.returns-in-Ok-clause-made
 returns-in-Ok-clause-made g t c =
     let new = is_new (λ d. g.D.Driver.meaning d) c.args.limits c.copy-media.result c.index-medias-len.result.0 c.in-Some.driver c.in-Ok.drive
-    c.in-Ok.ensures.ok (c.copy-media.ensures ∙ ap (λ (m : List ℕ × ℕ). m.0) (sym c.index-medias-len.is)) c.in-Ok.ensures.honest c.in-Ok.ensures.later in
+    c.in-Ok.ensures.ok (c.copy-media.ensures ∙ ap (λ (m : List ℕ × ℕ). m.0) (sym c.index-medias-len.is))
+    (record { counts = c.in-Ok.ensures.counts; same = c.in-Ok.ensures.same; later = c.in-Ok.ensures.later }) c.in-Ok.ensures.given_stable in
     made_push (λ d. g.D.Driver.meaning d) c.args.limits c.args.medias.now c.args.drivers.now.items c.pop.new.self.items
     c.make_drives.new.drives.items c.push_reserved-in-Ok.new.self.items c.len.result c.index-medias-len.result c.in-Some.driver c.in-Ok.drive
     c.in_default-make_drives.ensures.made c.in-Some.ensures.items c.push_reserved-in-Ok.ensures.items

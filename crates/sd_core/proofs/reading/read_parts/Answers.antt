@@ -1,6 +1,7 @@
-use Rattle.std.proofs.Common.{◌≡◌, ◌-◌, suc, sym, ◌∙◌, arith}
+use Rattle.std.proofs.Common.{◌-◌, sym, ◌∙◌, arith}
 use Rattle.sd_parts.specs.View.{world_of}
-use Rattle.sd_core.proofs.Bays.{read_bay, reads_offline, reads_elsewhere, reads_there}
+use Rattle.sd_moves.proofs.Bays.{read_bay}
+use Rattle.sd_core.proofs.Bays.{reads_offline, reads_elsewhere, reads_there}
 use Rattle.sd_core.proofs.reading.read_parts.Goals as goal
 
 pub returns-in_default-drive : goal.returns-in_default-drive
@@ -8,8 +9,8 @@ returns-in_default-drive g c =
     let w = world_of c.args.parts.now in
     let number = c.in-Some-drive_of.number in
     let at = c.get.result - 1 in
-    let rises : number ≡ suc at = omega (arith, c.get.ensures.value, c.get.ensures.least) in
-    let b = read_bay w number at _ c.index_mut-bay.result.now rises (omega (arith, c.if-at-len.false, c.len.ensures)) c.index_mut-bay.ensures.value c.bay.view_is in
+    let b = read_bay w number c.get.result c.len.result _ c.index_mut-bay.result.now (omega (arith, c.len.ensures)) c.get.ensures.value c.get.ensures.least c.if-at-len.false
+    c.index_mut-bay.ensures.value c.bay.view_is in
     record {
       reads = reads_offline (λ d. g.D.Driver.meaning d) c.args.key (g.K.Sink.got c.args.sink.now) w c.args.spans.now c.in-Some.first.now
           number at _ c.in-Some.ensures.value c.in-Some-drive_of.ensures b c.in_default-drive.is;
@@ -20,8 +21,8 @@ returns-then-not-all g c =
     let w = world_of c.args.parts.now in
     let number = c.in-Some-drive_of.number in
     let at = c.get.result - 1 in
-    let rises : number ≡ suc at = omega (arith, c.get.ensures.value, c.get.ensures.least) in
-    let b = read_bay w number at _ c.index_mut-bay.result.now rises (omega (arith, c.if-at-len.false, c.len.ensures)) c.index_mut-bay.ensures.value c.bay.view_is in
+    let b = read_bay w number c.get.result c.len.result _ c.index_mut-bay.result.now (omega (arith, c.len.ensures)) c.get.ensures.value c.get.ensures.least c.if-at-len.false
+    c.index_mut-bay.ensures.value c.bay.view_is in
     record {
       reads = reads_elsewhere (λ d. g.D.Driver.meaning d) c.args.key (g.K.Sink.got c.args.sink.now) w c.args.spans.now c.in-Some.first.now
           number at _ c.in-Some-drive.drive c.in-Some.ensures.value c.in-Some-drive_of.ensures b c.in-Some-drive.is
@@ -33,8 +34,8 @@ returns g c =
     let w = world_of c.args.parts.now in
     let number = c.in-Some-drive_of.number in
     let at = c.get.result - 1 in
-    let rises : number ≡ suc at = omega (arith, c.get.ensures.value, c.get.ensures.least) in
-    let b = read_bay w number at _ c.index_mut-bay.result.now rises (omega (arith, c.if-at-len.false, c.len.ensures)) c.index_mut-bay.ensures.value c.bay.view_is in
+    let b = read_bay w number c.get.result c.len.result _ c.index_mut-bay.result.now (omega (arith, c.len.ensures)) c.get.ensures.value c.get.ensures.least c.if-at-len.false
+    c.index_mut-bay.ensures.value c.bay.view_is in
     record {
       reads = reads_there (λ d. g.D.Driver.meaning d) c.args.key (g.K.Sink.got c.args.sink.now) (g.K.Sink.got c.read_drive.new.sink) c.read_drive.result
           w c.args.spans.now c.in-Some.first.now number at _ c.in-Some-drive.drive c.read_drive.new.drive

@@ -1,6 +1,6 @@
 use Rattle.std.proofs.Common.{refl, ◌∙◌, inl, inr}
 use Rattle.sd_operators.proofs.DeskLemmas.{knows_same}
-use Rattle.sd_operators.proofs.SeekLemmas.{next_free, fails_later, all_alone, all_stays, asked_once}
+use Rattle.sd_operators.proofs.SeekLemmas.{next_free, fails_later, all_alone, all_stays, asked_once, not_asked}
 use Rattle.sd_operators.proofs.seeking.seek_on.Goals as goal
 
 pub returns-in_default : goal.returns-in_default
@@ -51,6 +51,7 @@ returns-in-Err-ask g c = λ w at bay world on laned had desked.
     let e = c.in-Err-ask.ensures in
     inr (inl (
       (at, bay, c.args.at.now, on, (c.in-Some.pool, (wants.0, wants.1, none))),
+      not_asked c.args.drive w.desk c.args.desk.now desked (λ asked. let never = e.again_ok asked in cc never),
       refl,
       (
         c.ask.new.self,

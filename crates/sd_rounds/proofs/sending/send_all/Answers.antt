@@ -1,5 +1,4 @@
-use Rattle.std.proofs.Common.{refl, ap}
-use Rattle.sd_rounds.specs.Rounds.{AreSends}
+use Rattle.std.proofs.Common.{refl}
 use Rattle.sd_rounds.proofs.Played.{on_none}
 use Rattle.sd_rounds.proofs.RoundParts.{sent_more}
 use Rattle.sd_rounds.proofs.sending.send_all.Goals as goal

@@ -44,6 +44,7 @@ returns g c =
       cancelled = λ m before pairs told cancelled there honest.
           reads_cancelled meaning before old new m key spans got got' result h pairs told cancelled there keep honest fit r;
       closed_last = stands_on old new leaves;
+      claims_last = leaves.claims;
       status_stays = leaves.statuses;
       seats_stay = leaves.seats;
       journals_grow = leaves.grow;

@@ -7,7 +7,7 @@ use Rattle.sd_moves.specs.Rules.{IsWorld}
 use Rattle.sd_moves.specs.World.{WorldView}
 use Rattle.sd_closed.specs.Along.{MovesAlong}
 use Rattle.sd_core.specs.Kept.{RepliesStand}
-use Rattle.sd_core.proofs.Runs.{along_runs, along_keeps, along_long, none_kept}
+use Rattle.sd_core.proofs.Runs.{along_runs, along_fails, along_keeps, along_long, none_kept}
 use Rattle.sd_core.proofs.Standing.{replies_more}
 use Rattle.sd_driver.specs.Meaning.{Meaning}
 use Rattle.sd_core.proofs.world.World.run.Goals as goal
@@ -35,8 +35,10 @@ returns g c =
     record {
       moves = along;
       follows = λ m pairs. along_runs meaning old new events replies m h along pairs;
+      fails = along_fails meaning old new events replies h along;
       stand = i.stand;
       closed_last = i.last;
+      claims_last = kept.claims;
       status_stays = kept.statuses;
       seats_stay = kept.seats;
       journals_grow = kept.grow;

@@ -1,6 +1,7 @@
 use Rattle.std.proofs.Common.{ap, arith}
 use Rattle.sd_moves.specs.World.{WorldView}
-use Rattle.sd_core.proofs.Told.{found_within, status_read}
+use Rattle.sd_parts.proofs.Found.{found_within}
+use Rattle.sd_core.proofs.Told.{status_read}
 use Rattle.sd_core.proofs.world.World.status.Goals as goal
 
 pub index-requires : goal.index-requires

@@ -1,7 +1,7 @@
-use Rattle.std.proofs.Common.{◌≡◌, ◌≢◌, ℕ, List, Some, OnOk, Ok, Err, sym, ap, ◌∙◌, arith}
+use Rattle.std.proofs.Common.{◌≡◌, ◌≢◌, ℕ, List, Some, OnOk, sym, ap, ◌∙◌, arith}
 use Rattle.std.proofs.lemmas.Map.Text.{text_keys}
 use Rattle.std.specs.BTreeMap.{get_by_text}
-use Rattle.sd_desk.specs.Desk.{DeskView, claimed_by, OtherClaimsStay}
+use Rattle.sd_desk.specs.Desk.{DeskView, claimed_by}
 use Rattle.sd_desk.proofs.Claims.{claims_lookup, on_ok}
 use Rattle.sd_desk.proofs.desk.Desk.claim.Goals as goal
 

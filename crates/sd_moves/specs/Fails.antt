@@ -1,0 +1,54 @@
+-- Who fails by an event.
+use Rattle.std.specs.Prelude.{◌≡◌, ◌≢◌, ◌⊎◌, ◌↔◌, ℕ, true, Some}
+use Rattle.sd_base.specs.declared.refusal.Refusal.TheVariants.{SpoolFault, DeviceFault}
+use Rattle.sd_drive.specs.Moves.{FailsToSync}
+use Rattle.sd_drive.specs.View.{DriveIs}
+use Rattle.sd_journal.specs.Journal.{fails_with}
+use Rattle.sd_machine.specs.declared.event.Event.{Event}
+use Rattle.sd_machine.specs.declared.event.Event.TheVariants.{Spool, Despool, Sync, Mount, Unmount, Seek}
+use Rattle.sd_machine.specs.declared.reply.Reply.{Reply}
+use Rattle.sd_machine.specs.declared.reply.Reply.TheVariants.{Refused}
+use Rattle.sd_session.specs.Session.{IsRunning}
+use Rattle.sd_session.specs.declared.status.Status.TheVariants.{Failed}
+use Rattle.sd_moves.specs.World.{WorldView, WorldSession, BayView, IsOnline, session_at}
+
+-- the event is a step of this session's own spool: into it, or out of it
+abbrev pub IsOfSpool : Event → ℕ → Type 0
+IsOfSpool (Spool ticket) own = ticket ≡ own
+IsOfSpool (Despool ticket) own = ticket ≡ own
+IsOfSpool event own = ⊥
+
+-- the event may sync the loaded volume of this drive: it is a sync, or takes the volume out
+abbrev pub IsOfSync : Event → ℕ → Type 0
+IsOfSync (Sync drive) own = drive ≡ own
+IsOfSync (Mount drive name) own = drive ≡ own
+IsOfSync (Unmount drive) own = drive ≡ own
+IsOfSync (Seek drive) own = drive ≡ own
+IsOfSync event own = ⊥
+
+-- the session's own spool failed: a step of it was answered with spool fault
+abbrev pub SpoolFailed : Event → Reply → WorldSession → Type 0
+SpoolFailed event reply e = IsOfSpool event e.session.key.id × (reply ≡ Refused SpoolFault)
+
+-- a sync in the session's drive failed, which was answered with device fault, and a block of the session on that volume
+-- wasn't synced
+pub record SyncFailed {D : Type 0} (old : WorldView D) (event : Event) (reply : Reply) (new : WorldView D) (e : WorldSession) : Type 0 where
+  pub of_sync : IsOfSync event e.drive
+  pub fault : reply ≡ Refused DeviceFault
+  pub at : ℕ
+  pub bay : BayView D
+  pub bay' : BayView D
+  pub d : DriveIs D
+  pub after : DriveIs D
+  pub was : IsOnline old e.drive at bay d
+  pub is : IsOnline new e.drive at bay' after
+  pub sync : FailsToSync d after
+  pub loses : fails_with e.session.key sync.volume.name d.journal ≡ true
+
+-- Of the sessions exactly those fail that went on, and whose own spool failed or who lost a block by a sync: not failed
+-- before, failed after.
+abbrev pub FailByCause : {D : Type 0} → WorldView D → Event → Reply → WorldView D → Type 0
+FailByCause old event reply new = (ticket : ℕ) (e e' : WorldSession)
+    → session_at ticket old.sessions ≡ Some e → session_at ticket new.sessions ≡ Some e'
+    → ((e.session.status ≢ Failed) × (e'.session.status ≡ Failed))
+    ↔ (IsRunning e.session.status × (SpoolFailed event reply e ⊎ SyncFailed old event reply new e))
