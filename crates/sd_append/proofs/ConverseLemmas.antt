@@ -1,12 +1,11 @@
 -- Packets of a talk, one after another.
-use Rattle.std.proofs.Common.{◌≡◌, refl, sym, ap, ap₂, subst, ◌∙◌, List, [], ◌∷◌, ◌++◌}
+use Rattle.std.proofs.Common.{refl, sym, ap, subst, ◌∙◌, List, [], ◌∷◌, ◌++◌}
 use Rattle.std.proofs.lemmas.List.{append_assoc, append-nil}
-use Rattle.sd_bnet.specs.Stream.{stream_of}
 use Rattle.sd_bnet.specs.declared.packet.Packet.{Packet}
 use Rattle.sd_append.specs.declared.stage.Stage.{Stage}
 use Rattle.sd_append.specs.Conversation.{Converses}
 use Rattle.sd_append.specs.Does.{Does}
-use Rattle.sd_append.specs.Out.{OutView, Puts}
+use Rattle.sd_append.specs.Out.{OutView}
 use Rattle.sd_append.specs.Port.{Exchange}
 use Rattle.sd_append.specs.Talk.{Takes}
 use Rattle.sd_append.proofs.OutLemmas.{puts_none}
@@ -38,6 +37,25 @@ converses-more old (p ∷ ps) packet a b x y mid new (between, first, more, says
   ap (λ (l : List Packet). l ++ y) says_is ∙ append_assoc says later y,
 )
 
+-- packets behind others
+converses-append : (old : Stage) (ps qs : List Packet) (a b : List Exchange) (x y : List Packet) (mid new : Stage) → Converses old ps a x mid → Converses mid qs b y new
+    → Converses old (ps ++ qs) (a ++ b) (x ++ y) new
+converses-append old [] qs a b x y mid new (asked, says, stands) more =
+    subst (λ (s : Stage). Converses s qs (a ++ b) (x ++ y) new) stands
+    (subst (λ (l : List Exchange). Converses mid qs l (x ++ y) new) (sym (ap (λ (l : List Exchange). l ++ b) asked))
+    (subst (λ (l : List Packet). Converses mid qs b l new) (sym (ap (λ (l : List Packet). l ++ y) says)) more))
+converses-append old (p ∷ ps) qs a b x y mid new (between, first, more, says, later, taken, rest, asked_is, says_is) next = (
+  between,
+  first,
+  more ++ b,
+  says,
+  later ++ y,
+  taken,
+  converses-append between ps qs more b later y mid new rest next,
+  ap (λ (l : List Exchange). l ++ b) asked_is ∙ append_assoc first more b,
+  ap (λ (l : List Packet). l ++ y) says_is ∙ append_assoc says later y,
+)
+
 -- no packet yet
 pub converses_none : (stage : Stage) (asked : List Exchange) (v : OutView) → Does (λ more out. Converses stage [] more out stage) asked asked v v
 converses_none stage asked v = record { asked = []; out = []; outcome_is = (refl, refl, refl); after_is = sym (append-nil asked); puts = puts_none v }
@@ -50,6 +68,18 @@ converses_then old mid new packets packet before between after a b c first next 
   asked = first.asked ++ next.asked;
   out = first.out ++ next.out;
   outcome_is = converses-more old packets packet first.asked next.asked first.out next.out mid new first.outcome_is next.outcome_is;
+  after_is = next.after_is ∙ ap (λ (l : List Exchange). l ++ next.asked) first.after_is ∙ append_assoc before first.asked next.asked;
+  puts = says_then a b c first.out next.out first.puts next.puts;
+}
+
+-- packets behind others
+pub does_then : (old mid new : Stage) (ps qs : List Packet) (before between after : List Exchange) (a b c : OutView)
+    → Does (λ asked out. Converses old ps asked out mid) before between a b → Does (λ asked out. Converses mid qs asked out new) between after b c
+    → Does (λ asked out. Converses old (ps ++ qs) asked out new) before after a c
+does_then old mid new ps qs before between after a b c first next = record {
+  asked = first.asked ++ next.asked;
+  out = first.out ++ next.out;
+  outcome_is = converses-append old ps qs first.asked next.asked first.out next.out mid new first.outcome_is next.outcome_is;
   after_is = next.after_is ∙ ap (λ (l : List Exchange). l ++ next.asked) first.after_is ∙ append_assoc before first.asked next.asked;
   puts = says_then a b c first.out next.out first.puts next.puts;
 }

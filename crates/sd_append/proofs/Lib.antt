@@ -3,7 +3,9 @@ pub mod ConverseLemmas
 pub mod HeaderLemmas
 pub mod OutLemmas
 pub mod ReadLemmas
+pub mod StandingLemmas
 pub mod TakeLemmas
 pub mod TalkLemmas
+pub mod TalksLemmas
 pub mod TextLemmas
 pub mod TurnLemmas

@@ -29,7 +29,7 @@ sends_more a b c bytes rest n s more =
 
 puts_none_by : (written : Option (List ℕ)) (failed : Bool) (waiting : List ℕ) → PutsBy written written failed failed waiting waiting []
 puts_none_by None failed waiting = tt
-puts_none_by (Some xs) false waiting = sym (append-nil (xs ++ waiting))
+puts_none_by (Some xs) false waiting = ([], sym (append-nil xs), sym (append-nil waiting))
 puts_none_by (Some xs) true waiting = refl
 
 pub puts_none : (v : OutView) → Puts v v []
@@ -42,13 +42,20 @@ puts_then_by (Some is) (Some js) None false false h u v w x y p q = absurd q
 puts_then_by (Some is) (Some js) None false true h u v w x y p q = absurd q
 puts_then_by (Some is) (Some js) None true false h u v w x y p q = absurd p
 puts_then_by (Some is) (Some js) None true true h u v w x y p q = absurd q
-puts_then_by (Some is) (Some js) (Some ks) false false false u v w x y p q =
-    q ∙ ap (λ l. l ++ y) p ∙ append_assoc (is ++ u) x y
-puts_then_by (Some is) (Some js) (Some ks) false false true u v w x y p q =
-    (q.0, sym (append_assoc (is ++ u) x y) ∙ ap (λ l. l ++ y) (sym p) ∙ q.1)
+puts_then_by (Some is) (Some js) (Some ks) false false false u v w x y (s, first, before) (t, second, behind) = (
+  s ++ t,
+  second ∙ ap (λ l. l ++ t) first ∙ append_assoc is s t,
+  append_assoc s t w ∙ ap (λ l. s ++ l) behind ∙ sym (append_assoc s v y) ∙ ap (λ l. l ++ y) before ∙ append_assoc u x y,
+)
+puts_then_by (Some is) (Some js) (Some ks) false false true u v w x y (s, first, before) (t, rest, second, behind) = (
+  s ++ t,
+  rest,
+  second ∙ ap (λ l. l ++ t) first ∙ append_assoc is s t,
+  sym (append_assoc u x y) ∙ ap (λ l. l ++ y) (sym before) ∙ append_assoc s v y ∙ ap (λ l. s ++ l) behind ∙ sym (append_assoc s t rest),
+)
 puts_then_by (Some is) (Some js) (Some ks) false true false u v w x y p q = absurd q
-puts_then_by (Some is) (Some js) (Some ks) false true true u v w x y p q =
-    (p.0 ++ y, sym (append_assoc (is ++ u) x y) ∙ ap (λ l. l ++ y) p.1 ∙ append_assoc js p.0 y ∙ ap (λ l. l ++ (p.0 ++ y)) (sym q))
+puts_then_by (Some is) (Some js) (Some ks) false true true u v w x y (s, rest, first, before) q =
+    (s, rest ++ y, q ∙ first, sym (append_assoc u x y) ∙ ap (λ l. l ++ y) before ∙ append_assoc s rest y)
 puts_then_by (Some is) (Some js) (Some ks) true false h u v w x y p q = absurd p
 puts_then_by (Some is) (Some js) (Some ks) true true false u v w x y p q = absurd q
 puts_then_by (Some is) (Some js) (Some ks) true true true u v w x y p q = q ∙ p
@@ -70,23 +77,36 @@ puts_failed (Some xs) waiting waits bytes = refl
 -- where it fails, nothing of what was to come is written
 pub puts_dropped : (written : Option (List ℕ)) (failed : Bool) (waiting waits bytes : List ℕ) → PutsBy written written failed true waiting waits bytes
 puts_dropped None failed waiting waits bytes = tt
-puts_dropped (Some xs) false waiting waits bytes = (waiting ++ bytes, append_assoc xs waiting bytes)
+puts_dropped (Some xs) false waiting waits bytes = ([], waiting ++ bytes, sym (append-nil xs), refl)
 puts_dropped (Some xs) true waiting waits bytes = refl
 
 pub puts_kept : (written : Option (List ℕ)) (waiting bytes : List ℕ) → PutsBy written written false false waiting (waiting ++ bytes) bytes
 puts_kept None waiting bytes = tt
-puts_kept (Some xs) waiting bytes = sym (append_assoc xs waiting bytes)
+puts_kept (Some xs) waiting bytes = ([], sym (append-nil xs), refl)
 
 pub puts_written : (a b : Option (List ℕ)) (waiting : List ℕ) → Appends a b waiting → PutsBy a b false false waiting [] []
 puts_written None b waiting p = tt
 puts_written (Some xs) None waiting p = absurd p
-puts_written (Some xs) (Some ys) waiting p = append-nil ys ∙ p ∙ sym (append-nil (xs ++ waiting))
+puts_written (Some xs) (Some ys) waiting p = (waiting, p, refl)
 
 pub puts_cut : (a b : Option (List ℕ)) (waiting rest : List ℕ) → Sends a b waiting rest → PutsBy a b false true waiting [] []
 puts_cut None b waiting rest s = tt
 puts_cut (Some xs) None waiting rest s = absurd s.2
-puts_cut (Some xs) (Some ys) waiting rest s =
-    (rest, append-nil (xs ++ waiting) ∙ ap (λ l. xs ++ l) s.1 ∙ sym (append_assoc xs s.0 rest) ∙ ap (λ l. l ++ rest) (sym s.2))
+puts_cut (Some xs) (Some ys) waiting rest s = (s.0, rest, s.2, append-nil waiting ∙ s.1)
+
+-- Where nothing waited at first and nothing waits at last.
+
+-- all of it was written
+pub puts_all : (a b : Option (List ℕ)) (bytes : List ℕ) → PutsBy a b false false [] [] bytes → Appends a b bytes
+puts_all None b bytes p = tt
+puts_all (Some xs) None bytes p = absurd p
+puts_all (Some xs) (Some ys) bytes (sent, more, same) = more ∙ ap (λ l. xs ++ l) (sym (append-nil sent) ∙ same)
+
+-- a front of it was
+pub puts_front : (a b : Option (List ℕ)) (bytes : List ℕ) → PutsBy a b false true [] [] bytes → (rest : List ℕ) × Sends a b bytes rest
+puts_front None b bytes p = (bytes, ([], refl, tt))
+puts_front (Some xs) None bytes p = absurd p
+puts_front (Some xs) (Some ys) bytes (sent, rest, more, same) = (rest, (sent, same, more))
 
 -- What a line is written to, where it holds nothing yet.
 

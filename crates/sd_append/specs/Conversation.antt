@@ -1,11 +1,11 @@
 -- A talk as a whole: what the packets of a client came to, one after another, and how it ended.
-use Rattle.std.specs.Prelude.{◌≡◌, ◌≢◌, ◌⊎◌, ℕ, List, [], ◌∷◌, ◌++◌, Option, Some, None, Result, Ok}
+use Rattle.std.specs.Prelude.{◌≡◌, ◌⊎◌, ℕ, List, [], ◌∷◌, ◌++◌, Option, Some, None, Result, Ok, Err}
 use Rattle.std.specs.declared.alloc.AllocError.{AllocError}
 use Rattle.sd_base.specs.declared.refusal.Refusal.TheVariants.{PacketTooLong}
-use Rattle.sd_bnet.specs.Stream.{IsTooLong}
+use Rattle.sd_bnet.specs.Stream.{IsFront, IsTooLong, IsUnfinished}
 use Rattle.sd_bnet.specs.declared.packet.Packet.{Packet}
 use Rattle.sd_append.specs.declared.end.TalkEnd.{TalkEnd}
-use Rattle.sd_append.specs.declared.end.TalkEnd.TheVariants.{Finished, Truncated, TooLong}
+use Rattle.sd_append.specs.declared.end.TalkEnd.TheVariants.{Finished, Truncated, TooLong, ReadFault, WriteFault, OutOfTurns}
 use Rattle.sd_append.specs.declared.stage.Own.{Own}
 use Rattle.sd_append.specs.declared.stage.Stage.{Stage}
 use Rattle.sd_append.specs.declared.stage.Stage.TheVariants.{Command, Over}
@@ -41,18 +41,23 @@ abbrev pub end_says : Result TalkEnd AllocError → List Packet
 end_says (Ok TooLong) = refused PacketTooLong ∷ []
 end_says end = []
 
--- How a talk that stands so, with these bytes behind its last packet, may end: finished by the client, or where the
--- input ends between two commands; cut off where it ends elsewhere; by a length above the limit; or, at any place,
--- by a fault, by its last turn, or for want of memory.
-abbrev pub MayEnd : Result TalkEnd AllocError → Stage → List ℕ → Type 0
-MayEnd (Ok Finished) stage rest = IsOver stage ⊎ (IsCommandDue stage × (rest ≡ []))
-MayEnd (Ok Truncated) stage rest = (IsOver stage → ⊥) × ((IsCommandDue stage → ⊥) ⊎ (rest ≢ []))
-MayEnd (Ok TooLong) stage rest = (IsOver stage → ⊥) × IsTooLong rest
-MayEnd end stage rest = Unit {0}
+-- How a talk that stands so may end, with these bytes behind its last packet, and where the input may have ended behind
+-- them: finished by the client, or where the input ended between two commands; cut off where it ended elsewhere, within
+-- a packet or where no command was due; by a length above the limit; or, before any of these, by a fault of the reader
+-- or by its last turn; or, at any place, by a fault of the writer or for want of memory.
+abbrev pub MayEnd : Result TalkEnd AllocError → Stage → List ℕ → Type 0 → Type 0
+MayEnd (Ok Finished) stage rest ended = IsOver stage ⊎ (IsCommandDue stage × (rest ≡ []) × ended)
+MayEnd (Ok Truncated) stage rest ended =
+    (IsOver stage → ⊥) × IsUnfinished rest × ((IsCommandDue stage → ⊥) ⊎ IsFront rest) × ended
+MayEnd (Ok TooLong) stage rest ended = (IsOver stage → ⊥) × IsTooLong rest
+MayEnd (Ok ReadFault) stage rest ended = (IsOver stage → ⊥) × IsUnfinished rest
+MayEnd (Ok OutOfTurns) stage rest ended = (IsOver stage → ⊥) × IsUnfinished rest
+MayEnd (Ok WriteFault) stage rest ended = Unit {0}
+MayEnd (Err e) stage rest ended = Unit {0}
 
--- A conversation: packets came, with these bytes behind them; the port was asked this and answered so; these packets
--- went out; and the talk ended so.
-pub record Conversation (packets : List Packet) (rest : List ℕ) (asked : List Exchange) (out : List Packet) (end : Result TalkEnd AllocError) : Type 0 where
+-- A conversation: packets came, with these bytes behind them, and there the input may have ended; the port was asked
+-- this and answered so; these packets went out; and the talk ended so.
+pub record Conversation (packets : List Packet) (rest : List ℕ) (ended : Type 0) (asked : List Exchange) (out : List Packet) (end : Result TalkEnd AllocError) : Type 0 where
   pub last : Stage
   pub before : List Exchange
   pub giving : List Exchange
@@ -61,4 +66,4 @@ pub record Conversation (packets : List Packet) (rest : List ℕ) (asked : List 
   pub gives_up : GivesUpLast (own_of last) giving
   pub asked_is : asked ≡ before ++ giving
   pub out_is : out ≡ says ++ end_says end
-  pub ends : MayEnd end last rest
+  pub ends : MayEnd end last rest ended

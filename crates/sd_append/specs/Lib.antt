@@ -8,5 +8,7 @@ pub mod Port
 pub mod Reader
 pub mod Reading
 pub mod Stage
+pub mod Standing
 pub mod Talk
+pub mod Talks
 pub mod Text

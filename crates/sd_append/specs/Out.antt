@@ -21,12 +21,14 @@ Sends old new bytes rest = (front : List ℕ) × (bytes ≡ front ++ rest) × Ap
 abbrev pub PutsBy : Option (List ℕ) → Option (List ℕ) → Bool → Bool → List ℕ → List ℕ → List ℕ → Type 0
 PutsBy None new failed fails waiting waits bytes = ⊤
 PutsBy (Some xs) None failed fails waiting waits bytes = ⊥
-PutsBy (Some xs) (Some ys) false false waiting waits bytes = ys ++ waits ≡ xs ++ waiting ++ bytes
-PutsBy (Some xs) (Some ys) false true waiting waits bytes = (rest : List ℕ) × (xs ++ waiting ++ bytes ≡ ys ++ rest)
+PutsBy (Some xs) (Some ys) false false waiting waits bytes =
+    (sent : List ℕ) × (ys ≡ xs ++ sent) × (sent ++ waits ≡ waiting ++ bytes)
+PutsBy (Some xs) (Some ys) false true waiting waits bytes =
+    (sent : List ℕ) × (rest : List ℕ) × (ys ≡ xs ++ sent) × (waiting ++ bytes ≡ sent ++ rest)
 PutsBy (Some xs) (Some ys) true false waiting waits bytes = ⊥
 PutsBy (Some xs) (Some ys) true true waiting waits bytes = ys ≡ xs
 
--- These bytes were put behind what waited: what is written and what waits now are what they were, and then the
--- bytes. Where writing fails, what is written is a front of that, and from then on it stays.
+-- These bytes were put behind what waited: what was written since, and then what waits now, is what waited and then
+-- the bytes. Where writing fails, a front of that was written, and from then on nothing is.
 abbrev pub Puts : OutView → OutView → List ℕ → Type 0
 Puts old new bytes = PutsBy old.written new.written old.failed new.failed old.waiting new.waiting bytes

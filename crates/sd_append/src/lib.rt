@@ -4,6 +4,7 @@
 
 mod answers;
 mod command;
+mod conversation;
 mod data;
 mod end;
 mod handed;
@@ -18,6 +19,7 @@ mod reading;
 mod signal;
 mod spans;
 mod stage;
+mod standing;
 mod take;
 #[cfg(test)]
 mod tests;
@@ -25,6 +27,7 @@ mod text;
 mod turn;
 
 pub use command::{Command, CommandFault};
+pub use conversation::{READ_BYTES, Talked, talk};
 pub use end::TalkEnd;
 pub use header::{Header, read_header};
 pub use line::Line;

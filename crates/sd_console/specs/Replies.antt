@@ -50,9 +50,11 @@ reply_line (Adopted end next) =
 reply_line (Mounted name) = joined (codes "ok" ∷ codes "mounted" ∷ name ∷ [])
 reply_line reply = plain_words reply
 
--- all lines of a reply, as one text; spans that are told alone are those of the session with that key
+-- All lines of a console's reply, as one text. A volume that was asked for by name isn't named again; spans that are
+-- told alone are those of the session with that key.
 abbrev pub reply_lines : SessionKey → Reply → List ℕ
 reply_lines key (Media spans) = jobmedia_text key spans
 reply_lines key (Closed own spans) =
     line (reply_line (Closed own spans)) ++ jobmedia_text own spans
+reply_lines key (Mounted name) = line (codes "ok mounted")
 reply_lines key reply = line (reply_line reply)

@@ -9,9 +9,10 @@ use sd_span::put_jobmedia;
 use std::alloc::{AllocError, Global};
 use std::fmt;
 
-/// A reply, displayed as the line that a script or a console prints for it, without the newline. Of a
-/// closed session that is the first of its lines, and `Media` has none: what stands there is its JobMedia
-/// text. Displaying takes no memory.
+/// A reply, displayed as the line that a script prints for it, without the newline. Of a closed session that
+/// is the first of its lines, and `Media` has none: what stands there is its JobMedia text. A volume that is
+/// mounted is named, as a seek has it; a line `mount`, which names the volume itself, prints no name.
+/// Displaying takes no memory.
 #[derive(Clone, Copy)]
 pub struct ReplyLine<'a>(pub &'a Reply);
 
@@ -57,8 +58,9 @@ impl fmt::Display for ReplyLine<'_> {
     }
 }
 
-/// All lines of a reply, each with a newline: behind the line of a closed session its JobMedia text. The
-/// spans of `Media` are those of the session with this key; what stands for them is its JobMedia text.
+/// All lines that a console answers for a reply, each with a newline: behind the line of a closed session its
+/// JobMedia text. The spans of `Media` are those of the session with this key; what stands for them is its
+/// JobMedia text. A console mounts by name only, so a volume that is mounted isn't named.
 pub fn reply_text(alloc: Global, key: SessionKey, reply: &Reply) -> Result<String, AllocError>
     ensures { IfOk result (λ text. string_bytes text ≡ reply_lines key reply.now) }
 {
@@ -70,6 +72,7 @@ pub fn reply_text(alloc: Global, key: SessionKey, reply: &Reply) -> Result<Strin
             writeln!(text, "{line}")?;
             put_jobmedia(&mut text, *key, spans.as_slice())?;
         }
+        Reply::Mounted { .. } => text.push_str("ok mounted\n")?,
         other => {
             let line = ReplyLine(other);
             writeln!(text, "{line}")?;

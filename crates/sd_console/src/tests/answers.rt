@@ -126,7 +126,7 @@ pub static REPLIES: [&str; 10] = [
     "ok hand 1 4\n",
     "ok placed Vol-0001 82 249\n",
     "ok adopted 249 2\n",
-    "ok mounted Vol-0001\n",
+    "ok mounted\n",
     "3908 Busy\n",
     "ok queue full\n",
     "ok closed 1\nsession 1000 1\nspan Vol-0001 1 1 1 82 249\n",

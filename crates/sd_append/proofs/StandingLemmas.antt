@@ -1,0 +1,311 @@
+-- Where a talk stands from one read to the next.
+use Rattle.std.proofs.Common.{◌≡◌, ◌≢◌, ℕ, ◌<◌, ◌≤◌, refl, sym, ap, subst, ◌∙◌, arith, inl, inr, Bool, List, [], ◌∷◌, ◌++◌, length, take, Option, Some, None, Result, Ok, Err, pos, length-append}
+use Rattle.std.specs.Prelude.{◌↔◌, IsNone, IsTrue}
+use Rattle.std.specs.declared.alloc.AllocError.{AllocError}
+use Rattle.std.specs.Io.KnownBytes.{Consumes, IsAtEnd, Keeps}
+use Rattle.std.proofs.lemmas.List.{append_assoc, append-nil, length-take-le}
+use Rattle.sd_base.specs.Field.{i32_bytes}
+use Rattle.sd_bnet.specs.Feeder.{FeederState, Fits, IsMidway}
+use Rattle.sd_bnet.specs.Feeder.FeederState.{Waiting, Failed}
+use Rattle.sd_bnet.specs.Stream.{IsFront, IsTooLong, IsUnfinished, Packets, stream_of}
+use Rattle.sd_bnet.specs.declared.packet.Packet.{Packet}
+use Rattle.sd_bnet.proofs.PacketLemmas.{length-i32_bytes}
+use Rattle.sd_append.specs.declared.end.TalkEnd.{TalkEnd}
+use Rattle.sd_append.specs.declared.end.TalkEnd.TheVariants.{Finished, Truncated, TooLong, ReadFault, WriteFault, OutOfTurns}
+use Rattle.sd_append.specs.declared.outbox.OutFault.{OutFault}
+use Rattle.sd_append.specs.declared.outbox.OutFault.TheVariants as faults
+use Rattle.sd_append.specs.declared.stage.Stage.{Stage}
+use Rattle.sd_append.specs.declared.stage.Stage.TheVariants.{Command}
+use Rattle.sd_append.specs.Conversation.{Converses}
+use Rattle.sd_append.specs.Does.{Does}
+use Rattle.sd_append.specs.Out.{OutView, Puts}
+use Rattle.sd_append.specs.Port.{Exchange}
+use Rattle.sd_append.specs.Standing.{Around, Comes, EndsBehind, EndsInput, Halts, Stands, around, fault_end}
+use Rattle.sd_append.proofs.ConverseLemmas.{converses_none, does_then}
+use Rattle.sd_append.proofs.OutLemmas.{puts_then_nothing}
+
+-- What a reader loses.
+
+pub consumes_none : (a : Option (List ℕ)) → Consumes a a []
+consumes_none None = tt
+consumes_none (Some xs) = refl
+
+consumes_then : (a b c : Option (List ℕ)) (x y : List ℕ) → Consumes a b x → Consumes b c y → Consumes a c (x ++ y)
+consumes_then None b c x y p q = tt
+consumes_then (Some xs) None c x y p q = absurd p
+consumes_then (Some xs) (Some ys) None x y p q = absurd q
+consumes_then (Some xs) (Some ys) (Some zs) x y p q = p ∙ ap (λ l. x ++ l) q ∙ sym (append_assoc x y zs)
+
+pub keeps_all : (a b : Option (List ℕ)) → Keeps a b → Consumes a b []
+keeps_all None b p = tt
+keeps_all (Some xs) None p = absurd p
+keeps_all (Some xs) (Some ys) p = sym p
+
+consumes_nothing_more : (a b c : Option (List ℕ)) (x : List ℕ) → Consumes a b x → Consumes b c [] → Consumes a c x
+consumes_nothing_more a b c x p q = subst (Consumes a c) (append-nil x) (consumes_then a b c x [] p q)
+
+-- What a feeder keeps.
+
+-- some bytes stand behind its packets
+parts : (state : FeederState) (bytes : List ℕ) (packets : List Packet) → Fits state bytes packets → (rest : List ℕ) × Packets bytes packets rest
+parts (Waiting begun) bytes packets fits = (begun, fits.0)
+parts Failed bytes packets fits = (fits.0, fits.1)
+
+-- where it hasn't failed, they are nothing or the front of a packet
+waits : (state : FeederState) (bytes : List ℕ) (packets : List Packet) → state ≢ Failed → Fits state bytes packets → (rest : List ℕ) × Packets bytes packets rest × IsUnfinished rest
+waits (Waiting begun) bytes packets well fits = (begun, fits.0, fits.1)
+waits Failed bytes packets well fits = absurd (well refl)
+
+-- the front of a packet where one has begun
+waits_midway : (state : FeederState) (bytes : List ℕ) (packets : List Packet) → state ≢ Failed → IsMidway state → Fits state bytes packets
+    → (rest : List ℕ) × Packets bytes packets rest × IsUnfinished rest × IsFront rest
+waits_midway (Waiting begun) bytes packets well midway fits = (begun, fits.0, fits.1, midway)
+waits_midway Failed bytes packets well midway fits = absurd (well refl)
+
+nothing_of : (begun : List ℕ) → (IsFront begun → ⊥) → IsUnfinished begun → begun ≡ []
+nothing_of begun none (inl e) = e
+nothing_of begun none (inr front) = absurd (none front)
+
+-- nothing where none has begun
+waits_between : (state : FeederState) (bytes : List ℕ) (packets : List Packet) → state ≢ Failed → (IsMidway state → ⊥) → Fits state bytes packets → Packets bytes packets []
+waits_between (Waiting begun) bytes packets well none fits = subst (Packets bytes packets) (nothing_of begun none fits.1) fits.0
+waits_between Failed bytes packets well none fits = absurd (well refl)
+
+-- too long a length is no empty list
+not_too_long : (remainder : List ℕ) → [] ≡ remainder → IsTooLong remainder → ⊥
+not_too_long remainder e long =
+    omega (arith, length-append (i32_bytes (pos long.0)) long.1, length-i32_bytes (pos long.0), ap length (e ∙ long.4))
+
+-- a new feeder hasn't failed
+new_waits : (state : FeederState) → Fits state [] [] → state ≢ Failed
+new_waits (Waiting begun) fits = λ wrong. cc wrong
+new_waits Failed fits = λ same. not_too_long fits.0 fits.1.joined fits.2
+
+-- Going on.
+
+-- a talk begins
+pub stands_first : (left : Option (List ℕ)) (asked : List Exchange) (out : OutView) (state : FeederState) → Fits state [] []
+    → Stands (around left asked out) (around left asked out) state (Command None) []
+stands_first left asked out state fits = record {
+  packets = [];
+  read = consumes_none left;
+  fits = fits;
+  takes = converses_none (Command None) asked out;
+  goes_on = ((λ over. over), new_waits state fits);
+}
+
+does_written : (f : List Exchange → List Packet → Type 0) (before after : List Exchange) (a b c : OutView) → Does f before after a b → Puts b c [] → Does f before after a c
+does_written f before after a b c does puts = record {
+  asked = does.asked;
+  out = does.out;
+  outcome_is = does.outcome_is;
+  after_is = does.after_is;
+  puts = puts_then_nothing a b c (stream_of does.out) does.puts puts;
+}
+
+-- what waited was written out
+pub stands_written : (start : Around) (left : Option (List ℕ)) (asked : List Exchange) (old new : OutView) (state : FeederState) (stage : Stage) (bytes : List ℕ) → Puts old new []
+    → Stands start (around left asked old) state stage bytes → Stands start (around left asked new) state stage bytes
+stands_written start left asked old new state stage bytes puts h = record {
+  packets = h.packets;
+  read = h.read;
+  fits = h.fits;
+  takes = does_written (λ more out. Converses (Command None) h.packets more out stage) start.asked asked start.out old new h.takes puts;
+  goes_on = h.goes_on;
+}
+
+-- Pieces of the input.
+
+-- memory was wanted for the packets of a piece
+pub piece_lost : (start : Around) (left remains : Option (List ℕ)) (asked : List Exchange) (out : OutView) (state next : FeederState) (stage : Stage) (bytes piece : List ℕ) (e : AllocError)
+    → Consumes left remains piece → Stands start (around left asked out) state stage bytes → Comes (Some (Err e)) start (around remains asked out) next stage (bytes ++ piece)
+piece_lost start left remains asked out state next stage bytes piece e more h =
+    let p = parts state bytes h.packets h.fits in (
+      record {
+        packets = h.packets;
+        rest = p.0;
+        read = consumes_then start.left left remains bytes piece h.read more;
+        parted = (bytes, piece, refl, p.1);
+        takes = h.takes;
+        ends = tt;
+      },
+      λ wrong. cc wrong,
+    )
+
+-- the packets of a piece were taken
+pub piece_taken : (end : Option (Result TalkEnd AllocError)) (start : Around) (left remains : Option (List ℕ)) (asked asks : List Exchange) (old new : OutView)
+    (state next : FeederState) (stage stands : Stage) (bytes piece : List ℕ) (found : List Packet) (failed : Bool)
+    → Consumes left remains piece → Stands start (around left asked old) state stage bytes
+    → ((front : List ℕ) (before : List Packet) → Fits state front before → Fits next (front ++ piece) (before ++ found))
+    → IsTrue failed ↔ (next ≡ Failed) → Does (λ more out. Converses stage found more out stands) asked asks old new → EndsBehind end failed stands
+    → Comes end start (around remains asks new) next stands (bytes ++ piece)
+piece_taken None start left remains asked asks old new state next stage stands bytes piece found failed more h feeds fails takes ends = record {
+  packets = h.packets ++ found;
+  read = consumes_then start.left left remains bytes piece h.read more;
+  fits = feeds bytes h.packets h.fits;
+  takes = does_then (Command None) stage stands h.packets found start.asked asked asks start.out old new h.takes takes;
+  goes_on = (ends.0, λ is. ends.1 (fails.1 is));
+}
+piece_taken (Some (Ok Finished)) start left remains asked asks old new state next stage stands bytes piece found failed more h feeds fails takes ends =
+    let p = parts next (bytes ++ piece) (h.packets ++ found) (feeds bytes h.packets h.fits) in (
+      record {
+        packets = h.packets ++ found;
+        rest = p.0;
+        read = consumes_then start.left left remains bytes piece h.read more;
+        parted = p.1;
+        takes = does_then (Command None) stage stands h.packets found start.asked asked asks start.out old new h.takes takes;
+        ends = inl ends;
+      },
+      λ wrong. cc wrong,
+    )
+piece_taken (Some (Ok TooLong)) start left remains asked asks old new state next stage stands bytes piece found failed more h feeds fails takes ends =
+    let f = subst (λ (s : FeederState). Fits s (bytes ++ piece) (h.packets ++ found)) (fails.0 ends.1) (feeds bytes h.packets h.fits) in (
+      record {
+        packets = h.packets ++ found;
+        rest = f.0;
+        read = consumes_then start.left left remains bytes piece h.read more;
+        parted = f.1;
+        takes = does_then (Command None) stage stands h.packets found start.asked asked asks start.out old new h.takes takes;
+        ends = (ends.0, f.2);
+      },
+      λ wrong. cc wrong,
+    )
+piece_taken (Some (Ok Truncated)) start left remains asked asks old new state next stage stands bytes piece found failed more h feeds fails takes ends = absurd ends
+piece_taken (Some (Ok ReadFault)) start left remains asked asks old new state next stage stands bytes piece found failed more h feeds fails takes ends = absurd ends
+piece_taken (Some (Ok WriteFault)) start left remains asked asks old new state next stage stands bytes piece found failed more h feeds fails takes ends = absurd ends
+piece_taken (Some (Ok OutOfTurns)) start left remains asked asks old new state next stage stands bytes piece found failed more h feeds fails takes ends = absurd ends
+piece_taken (Some (Err e)) start left remains asked asks old new state next stage stands bytes piece found failed more h feeds fails takes ends = absurd ends
+
+-- Ends without a piece.
+
+-- nothing was read
+pub no_piece : (end : Result TalkEnd AllocError) (start now : Around) (state : FeederState) (stage : Stage) (bytes : List ℕ) (room : ℕ) → Comes (Some end) start now state stage bytes
+    → (piece : List ℕ) × (length piece ≤ room) × (IsNone (Some end) → 0 < length piece) × Comes (Some end) start now state stage (bytes ++ piece)
+no_piece end start now state stage bytes room comes =
+    ([], omega arith, (λ none. absurd (cc none)), subst (λ (l : List ℕ). Comes (Some end) start now state stage l) (sym (append-nil bytes)) comes)
+
+-- writing has failed
+pub writing_failed : (fault : OutFault) (start : Around) (left : Option (List ℕ)) (asked : List Exchange) (out : OutView) (state : FeederState) (stage : Stage) (bytes : List ℕ)
+    → Stands start (around left asked out) state stage bytes → Comes (Some (fault_end fault)) start (around left asked out) state stage bytes
+writing_failed faults.Write start left asked out state stage bytes h =
+    let p = parts state bytes h.packets h.fits in
+    (record { packets = h.packets; rest = p.0; read = h.read; parted = p.1; takes = h.takes; ends = tt }, λ wrong. cc wrong)
+writing_failed faults.Memory start left asked out state stage bytes h =
+    let p = parts state bytes h.packets h.fits in
+    (record { packets = h.packets; rest = p.0; read = h.read; parted = (bytes, [], sym (append-nil bytes), p.1); takes = h.takes; ends = tt }, λ wrong. cc wrong)
+
+-- reading has failed
+pub reading_failed : (start : Around) (left remains : Option (List ℕ)) (asked : List Exchange) (out : OutView) (state : FeederState) (stage : Stage) (bytes : List ℕ)
+    → Keeps left remains → Stands start (around left asked out) state stage bytes → Comes (Some (Ok ReadFault)) start (around remains asked out) state stage bytes
+reading_failed start left remains asked out state stage bytes keeps h =
+    let w = waits state bytes h.packets h.goes_on.1 h.fits in (
+      record {
+        packets = h.packets;
+        rest = w.0;
+        read = consumes_nothing_more start.left left remains bytes h.read (keeps_all left remains keeps);
+        parted = w.1;
+        takes = h.takes;
+        ends = (h.goes_on.0, w.2);
+      },
+      λ wrong. cc wrong,
+    )
+
+-- the input has ended
+pub input_ended : (end : TalkEnd) (start : Around) (left remains : Option (List ℕ)) (asked : List Exchange) (out : OutView) (state : FeederState) (stage : Stage) (bytes : List ℕ)
+    → EndsInput end state stage → Consumes left remains [] → IsAtEnd remains → Stands start (around left asked out) state stage bytes
+    → Comes (Some (Ok end)) start (around remains asked out) state stage bytes
+input_ended Finished start left remains asked out state stage bytes ends more empty h = (
+  record {
+    packets = h.packets;
+    rest = [];
+    read = consumes_nothing_more start.left left remains bytes h.read more;
+    parted = waits_between state bytes h.packets h.goes_on.1 ends.1 h.fits;
+    takes = h.takes;
+    ends = inr (ends.0, refl, empty);
+  },
+  λ wrong. cc wrong,
+)
+input_ended Truncated start left remains asked out state stage bytes (inl undue) more empty h =
+    let w = waits state bytes h.packets h.goes_on.1 h.fits in (
+      record {
+        packets = h.packets;
+        rest = w.0;
+        read = consumes_nothing_more start.left left remains bytes h.read more;
+        parted = w.1;
+        takes = h.takes;
+        ends = (h.goes_on.0, w.2, inl undue, empty);
+      },
+      λ wrong. cc wrong,
+    )
+input_ended Truncated start left remains asked out state stage bytes (inr midway) more empty h =
+    let w = waits_midway state bytes h.packets h.goes_on.1 midway h.fits in (
+      record {
+        packets = h.packets;
+        rest = w.0;
+        read = consumes_nothing_more start.left left remains bytes h.read more;
+        parted = w.1;
+        takes = h.takes;
+        ends = (h.goes_on.0, w.2, inr w.3, empty);
+      },
+      λ wrong. cc wrong,
+    )
+input_ended TooLong start left remains asked out state stage bytes ends more empty h = absurd ends
+input_ended ReadFault start left remains asked out state stage bytes ends more empty h = absurd ends
+input_ended WriteFault start left remains asked out state stage bytes ends more empty h = absurd ends
+input_ended OutOfTurns start left remains asked out state stage bytes ends more empty h = absurd ends
+
+-- the turns ran out
+pub turns_ended : (start : Around) (left : Option (List ℕ)) (asked : List Exchange) (out : OutView) (state : FeederState) (stage : Stage) (bytes : List ℕ)
+    → Stands start (around left asked out) state stage bytes → Halts start (around left asked out) stage (Ok OutOfTurns) bytes
+turns_ended start left asked out state stage bytes h =
+    let w = waits state bytes h.packets h.goes_on.1 h.fits in
+    record { packets = h.packets; rest = w.0; read = h.read; parted = w.1; takes = h.takes; ends = (h.goes_on.0, w.2) }
+
+-- Turns.
+
+-- one more turn comes to this
+abbrev pub TurnComes : Option (Result TalkEnd AllocError) → Around → Around → FeederState → Stage → List ℕ → ℕ → Type 0
+TurnComes end start now state stage bytes room =
+    (piece : List ℕ) × (length piece ≤ room) × (IsNone end → 0 < length piece) × Comes end start now state stage (bytes ++ piece)
+
+-- what waited could not be written out
+pub turn_unwritten : (fault : OutFault) (end : Result TalkEnd AllocError) (start : Around) (left : Option (List ℕ)) (asked : List Exchange) (old new : OutView) (state : FeederState) (stage : Stage) (bytes : List ℕ) (room : ℕ)
+    → end ≡ fault_end fault → Puts old new [] → Stands start (around left asked old) state stage bytes → TurnComes (Some end) start (around left asked new) state stage bytes room
+turn_unwritten fault end start left asked old new state stage bytes room is puts h =
+    no_piece end start (around left asked new) state stage bytes room
+    (subst (λ (e : Result TalkEnd AllocError). Comes (Some e) start (around left asked new) state stage bytes) (sym is)
+    (writing_failed fault start left asked new state stage bytes (stands_written start left asked old new state stage bytes puts h)))
+
+take_none : (xs : List ℕ) → take 0 xs ≡ []
+take_none [] = refl
+take_none (x ∷ xs) = refl
+
+-- the reader gave nothing
+pub turn_at_end : (end : TalkEnd) (start : Around) (left remains : Option (List ℕ)) (asked : List Exchange) (old new : OutView) (state : FeederState) (stage : Stage) (bytes gave : List ℕ) (count room : ℕ)
+    → count ≡ 0 → 0 < length gave → (Consumes left remains (take count gave) × (count ≡ 0 → 0 < length gave → IsAtEnd remains)) → EndsInput end state stage
+    → Puts old new [] → Stands start (around left asked old) state stage bytes → TurnComes (Some (Ok end)) start (around remains asked new) state stage bytes room
+turn_at_end end start left remains asked old new state stage bytes gave count room none some_there read ends puts h =
+    no_piece (Ok end) start (around remains asked new) state stage bytes room
+    (input_ended end start left remains asked new state stage bytes ends
+    (subst (Consumes left remains) (ap (λ (n : ℕ). take n gave) none ∙ take_none gave) read.0) (read.1 none some_there)
+    (stands_written start left asked old new state stage bytes puts h))
+
+-- the reader failed
+pub turn_unread : (start : Around) (left remains : Option (List ℕ)) (asked : List Exchange) (old new : OutView) (state : FeederState) (stage : Stage) (bytes : List ℕ) (room : ℕ)
+    → Keeps left remains → Puts old new [] → Stands start (around left asked old) state stage bytes → TurnComes (Some (Ok ReadFault)) start (around remains asked new) state stage bytes room
+turn_unread start left remains asked old new state stage bytes room keeps puts h =
+    no_piece (Ok ReadFault) start (around remains asked new) state stage bytes room
+    (reading_failed start left remains asked new state stage bytes keeps (stands_written start left asked old new state stage bytes puts h))
+
+-- the reader gave a piece
+pub turn_taken : (end : Option (Result TalkEnd AllocError)) (start now : Around) (left remains : Option (List ℕ)) (asked : List Exchange) (old new : OutView) (state next : FeederState) (stage stands : Stage)
+    (bytes gave : List ℕ) (count room : ℕ) → 0 < count → count ≤ length gave → length gave ≤ room → (Consumes left remains (take count gave) × (count ≡ 0 → 0 < length gave → IsAtEnd remains))
+    → Puts old new [] → Stands start (around left asked old) state stage bytes
+    → (Consumes left remains (take count gave) → Stands start (around left asked new) state stage bytes → Comes end start now next stands (bytes ++ take count gave))
+    → TurnComes end start now next stands bytes room
+turn_taken end start now left remains asked old new state next stage stands bytes gave count room some_there within fits read puts h comes = (
+  take count gave,
+  omega (arith, length-take-le count gave within),
+  (λ none. omega (arith, length-take-le count gave within)),
+  comes read.0 (stands_written start left asked old new state stage bytes puts h),
+)

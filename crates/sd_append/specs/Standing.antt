@@ -1,0 +1,83 @@
+-- Where a talk stands between two reads, and what it has come to until then.
+use Rattle.std.specs.Prelude.{◌≡◌, ◌≢◌, ◌⊎◌, ℕ, List, ◌++◌, Bool, Option, Some, None, Result, Ok, Err, IsTrue, alloc_error}
+use Rattle.std.specs.Io.KnownBytes.{Consumes, IsAtEnd}
+use Rattle.std.specs.declared.alloc.AllocError.{AllocError}
+use Rattle.sd_bnet.specs.Feeder.{FeederState, Fits, IsMidway}
+use Rattle.sd_bnet.specs.Feeder.FeederState.{Failed}
+use Rattle.sd_bnet.specs.Stream.{Packets}
+use Rattle.sd_bnet.specs.declared.packet.Packet.{Packet}
+use Rattle.sd_append.specs.declared.end.TalkEnd.{TalkEnd}
+use Rattle.sd_append.specs.declared.end.TalkEnd.TheVariants.{Finished, Truncated, TooLong, OutOfTurns, WriteFault}
+use Rattle.sd_append.specs.declared.outbox.OutFault.{OutFault}
+use Rattle.sd_append.specs.declared.outbox.OutFault.TheVariants as faults
+use Rattle.sd_append.specs.declared.stage.Stage.{Stage}
+use Rattle.sd_append.specs.declared.stage.Stage.TheVariants.{Command}
+use Rattle.sd_append.specs.Conversation.{Converses, IsCommandDue, IsOver, MayEnd}
+use Rattle.sd_append.specs.Does.{Does}
+use Rattle.sd_append.specs.Out.{OutView}
+use Rattle.sd_append.specs.Port.{Exchange}
+
+-- around a talk: the bytes that its reader has left, where they are known; what its port was asked; what it has put out
+pub record Around : Type 0 where
+  pub left : Option (List ℕ)
+  pub asked : List Exchange
+  pub out : OutView
+
+-- the same, its parts given
+abbrev pub around : Option (List ℕ) → List Exchange → OutView → Around
+around left asked out = record { left = left; asked = asked; out = out }
+
+-- the client hasn't ended the talk, and no length was too great
+abbrev pub GoesOn : FeederState → Stage → Type 0
+GoesOn state stage = (IsOver stage → ⊥) × (state ≢ Failed)
+
+-- A talk goes on that has read these bytes and taken their packets, one after another.
+pub record Stands (start now : Around) (state : FeederState) (stage : Stage) (bytes : List ℕ) : Type 0 where
+  pub packets : List Packet
+  pub read : Consumes start.left now.left bytes
+  pub fits : Fits state bytes packets
+  pub takes : Does (λ asked out. Converses (Command None) packets asked out stage) start.asked now.asked start.out now.out
+  pub goes_on : GoesOn state stage
+
+-- The packets of what was read, and what stands behind them. Where memory was wanted for those of the last piece, they
+-- are those of what was read before it.
+abbrev pub AreRead : Result TalkEnd AllocError → List ℕ → List Packet → List ℕ → Type 0
+AreRead (Ok end) bytes packets rest = Packets bytes packets rest
+AreRead (Err e) bytes packets rest = (front : List ℕ) × (piece : List ℕ) × (bytes ≡ front ++ piece) × Packets front packets rest
+
+-- A talk has come to this end that has read these bytes and taken their packets, one after another.
+pub record Halts (start now : Around) (stage : Stage) (end : Result TalkEnd AllocError) (bytes : List ℕ) : Type 0 where
+  pub packets : List Packet
+  pub rest : List ℕ
+  pub read : Consumes start.left now.left bytes
+  pub parted : AreRead end bytes packets rest
+  pub takes : Does (λ asked out. Converses (Command None) packets asked out stage) start.asked now.asked start.out now.out
+  pub ends : MayEnd end stage rest (IsAtEnd now.left)
+
+-- a talk goes on, or it has come to an end that isn't its last turn
+abbrev pub Comes : Option (Result TalkEnd AllocError) → Around → Around → FeederState → Stage → List ℕ → Type 0
+Comes None start now state stage bytes = Stands start now state stage bytes
+Comes (Some end) start now state stage bytes = Halts start now stage end bytes × (end ≢ Ok OutOfTurns)
+
+-- how a talk ends that stands so behind a piece of its input, and whether the piece left its feeder failed; if it ends
+abbrev pub EndsBehind : Option (Result TalkEnd AllocError) → Bool → Stage → Type 0
+EndsBehind None failed stage = (IsOver stage → ⊥) × (IsTrue failed → ⊥)
+EndsBehind (Some (Ok Finished)) failed stage = IsOver stage
+EndsBehind (Some (Ok TooLong)) failed stage = (IsOver stage → ⊥) × IsTrue failed
+EndsBehind (Some end) failed stage = ⊥
+
+-- how a talk ends that stands so where its input ends
+abbrev pub EndsInput : TalkEnd → FeederState → Stage → Type 0
+EndsInput Finished state stage = IsCommandDue stage × (IsMidway state → ⊥)
+EndsInput Truncated state stage = (IsCommandDue stage → ⊥) ⊎ IsMidway state
+EndsInput end state stage = ⊥
+
+-- the end of a talk whose writing fails so
+abbrev pub fault_end : OutFault → Result TalkEnd AllocError
+fault_end faults.Write = Ok WriteFault
+fault_end faults.Memory = Err alloc_error
+
+-- the end of a talk whose writing may have failed, where this is its end otherwise
+abbrev pub written_end : Option OutFault → Result TalkEnd AllocError → Result TalkEnd AllocError
+written_end None end = end
+written_end (Some fault) end = fault_end fault

@@ -1,0 +1,171 @@
+// Talks by rows: a client's packets, what is to go out, and what the port is to be asked.
+use crate::port::{Port, RecordRow};
+use crate::wire::{Kept, Pieces};
+use sd_append::{TalkEnd, talk};
+use sd_base::{Bytes, Refusal};
+use sd_bnet::{Packet, Payload, SignalNo, put_packet};
+use std::alloc::Global;
+use std::test::Fail;
+
+/// What stands on a connection.
+#[derive(Clone, Copy)]
+pub enum Sent {
+    /// A packet of this text.
+    Text(&'static str),
+    /// The same with a newline.
+    Line(&'static str),
+    /// A packet of so many letters `x`.
+    Many(usize),
+    Signal(i32),
+    /// Bytes that are no whole packet.
+    Raw(&'static [u8]),
+}
+
+/// A client's packets, the end of the talk, the packets out, what the port is asked, which of its events is
+/// refused and how, and the records that it has to be read.
+#[derive(Drop)]
+pub struct Row {
+    pub input: &'static [Sent],
+    pub end: TalkEnd,
+    pub out: &'static [Sent],
+    pub told: &'static str,
+    pub refused: (u32, Refusal),
+    pub records: &'static [RecordRow],
+}
+
+/// How a connection cuts what goes over it, and where it fails.
+#[derive(Clone, Copy)]
+pub struct Line {
+    pub first: usize,
+    pub size: usize,
+    pub read_fails: u64,
+    pub write_size: usize,
+    pub write_fails: u64,
+    pub mute: bool,
+    pub turns: u64,
+}
+
+/// A connection that cuts nothing and never fails.
+pub const WHOLE: Line = Line {
+    first: 65_536,
+    size: 65_536,
+    read_fails: 0,
+    write_size: 65_536,
+    write_fails: 0,
+    mute: false,
+    turns: 10_000_000,
+};
+
+/// What a talk came to.
+#[derive(Drop)]
+pub struct Came {
+    /// Its end, or `None` where memory was wanted.
+    pub end: Option<TalkEnd>,
+    pub out: Vec<u8>,
+    pub told: String,
+    pub reads: u64,
+    pub writes: u64,
+}
+
+/// The bytes on a connection.
+pub fn bytes_of(alloc: Global, sent: &[Sent]) -> Result<Vec<u8>, Fail> {
+    let mut bytes = Vec::new(alloc);
+    for one in sent {
+        put(alloc, &mut bytes, *one)?;
+    }
+    Ok(bytes)
+}
+
+fn put(alloc: Global, bytes: &mut Vec<u8>, one: Sent) -> Result<(), Fail> {
+    match one {
+        Sent::Text(text) => put_payload(alloc, bytes, text.as_bytes(), b""),
+        Sent::Line(text) => put_payload(alloc, bytes, text.as_bytes(), b"\n"),
+        Sent::Many(count) => {
+            let many = vec![in alloc; b'x'; count]?;
+            put_payload(alloc, bytes, many.as_slice(), b"")
+        }
+        Sent::Signal(number) => {
+            let signal = SignalNo::new(number).ok_or("a signal")?;
+            Ok(put_packet(bytes, &Packet::Signal(signal))?)
+        }
+        Sent::Raw(raw) => Ok(bytes.extend_from_slice(raw)?),
+    }
+}
+
+fn put_payload(alloc: Global, bytes: &mut Vec<u8>, front: &[u8], end: &[u8]) -> Result<(), Fail> {
+    let mut text = Vec::new(alloc);
+    text.extend_from_slice(front)?;
+    text.extend_from_slice(end)?;
+    let payload = Payload::new(Bytes::from_vec(text)).ok_or("a payload")?;
+    Ok(put_packet(bytes, &Packet::Bytes(payload))?)
+}
+
+/// Holds a talk over some bytes and a connection, with a port that refuses an event and reads these records.
+pub fn hold(
+    alloc: Global,
+    refused: (u32, Refusal),
+    records: &'static [RecordRow],
+    input: &[u8],
+    line: Line,
+) -> Result<Came, Fail> {
+    let mut reader = Pieces::new(input, line.first, line.size, line.read_fails);
+    let mut port = Port::new(alloc, refused, records);
+    let writer = Kept::new(
+        Vec::new(alloc),
+        line.write_size,
+        line.write_fails,
+        line.mute,
+    );
+    let talked = talk(alloc, &mut reader, writer, &mut port, line.turns);
+    let mut out = Vec::new(alloc);
+    out.extend_from_slice(talked.writer.bytes())?;
+    Ok(Came {
+        end: talked.end.ok(),
+        out,
+        told: String::from_str(alloc, port.told())?,
+        reads: reader.reads(),
+        writes: talked.writer.writes(),
+    })
+}
+
+/// Whether a talk over these bytes comes to what the row has.
+pub fn comes(alloc: Global, row: &Row, input: &[u8], line: Line) -> Result<bool, Fail> {
+    let came = hold(alloc, row.refused, row.records, input, line)?;
+    let out = bytes_of(alloc, row.out)?;
+    Ok(
+        came.end == Some(row.end)
+            && came.out.as_slice() == out.as_slice()
+            && came.told.as_str() == row.told,
+    )
+}
+
+/// Whether the row's talk comes so whole and cut in pieces of these sizes.
+pub fn comes_cut(alloc: Global, row: &Row, sizes: &[usize]) -> Result<bool, Fail> {
+    let input = bytes_of(alloc, row.input)?;
+    for size in sizes {
+        let line = Line {
+            first: *size,
+            size: *size,
+            ..WHOLE
+        };
+        if !comes(alloc, row, input.as_slice(), line)? {
+            return Ok(false);
+        }
+    }
+    Ok(true)
+}
+
+/// The first place where the row's talk, cut there alone, comes otherwise, if there is one.
+pub fn first_cut_otherwise(alloc: Global, row: &Row) -> Result<Option<usize>, Fail> {
+    let input = bytes_of(alloc, row.input)?;
+    for cut in 1..input.len() {
+        let line = Line {
+            first: cut,
+            ..WHOLE
+        };
+        if !comes(alloc, row, input.as_slice(), line)? {
+            return Ok(Some(cut));
+        }
+    }
+    Ok(None)
+}
