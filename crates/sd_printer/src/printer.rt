@@ -1,0 +1,122 @@
+// What a listing or a reading prints, as it comes.
+ghost use Rattle.std.specs.Prelude.{◌≡◌, ℕ, List, [], OnOk, OnErr, IfSome, Some, true, false};
+ghost use Rattle.std.specs.Io.KnownBytes.{Appends};
+ghost use Rattle.sd_words.specs.Lines.{line};
+ghost use Rattle.sd_printer.specs.Says.{Says, SendsFront, said_view};
+
+use arrayvec::ArrayString;
+use std::fmt::{Display, Write as _};
+use std::io::Write;
+
+/// For how many bytes of a line there is room: the longest says four names.
+const LINE_BYTES: usize = 1024;
+
+/// A writer that is printed to. After something that can't be written, nothing more is: what stands in the
+/// writer then is a front of what was to be printed.
+#[derive(Drop)]
+pub struct Printer<W> {
+    writer: W,
+    failed: bool,
+}
+
+impl<W> Printer<W> {
+    pub fn new(writer: W) -> Self
+        ensures writer { result.writer ≡ writer }
+        ensures failed { result.failed ≡ false }
+    {
+        Printer {
+            writer,
+            failed: false,
+        }
+    }
+
+    /// Whether something could not be written.
+    pub fn failed(&self) -> bool
+        ensures { result ≡ self.now.failed }
+    {
+        self.failed
+    }
+
+    pub fn into_writer(self) -> W
+        ensures { result ≡ self.writer }
+    {
+        let Printer { writer, failed: _ } = self;
+        writer
+    }
+}
+
+impl<W: Write> Printer<W> {
+    /// Prints a line.
+    pub fn line<D: Display + Drop>(&mut self, text: D)
+        ensures { IfSome (D.output text) (λ said.
+            Says (said_view W.contents self.old) (said_view W.contents self.new) (line said)) }
+    {
+        match line_of(text) {
+            Some(said) => self.bytes(said.as_str().as_bytes()),
+            None => self.fail(),
+        }
+    }
+
+    /// Nothing more is printed, and nothing of what was to come.
+    fn fail(&mut self)
+        ensures { (bytes : List ℕ)
+            → Says (said_view W.contents self.old) (said_view W.contents self.new) bytes }
+    {
+        self.failed = true;
+    }
+
+    /// Prints bytes as they are.
+    pub fn bytes(&mut self, bytes: &[u8])
+        ensures { Says (said_view W.contents self.old) (said_view W.contents self.new) bytes.now }
+    {
+        if self.failed {
+            return;
+        }
+        if write_all(&mut self.writer, bytes).is_err() {
+            self.failed = true;
+        }
+    }
+
+    /// Has the writer pass on what it holds back.
+    pub fn flush(&mut self)
+        ensures { Says (said_view W.contents self.old) (said_view W.contents self.new) [] }
+    {
+        if self.failed {
+            return;
+        }
+        if self.writer.flush().is_err() {
+            self.failed = true;
+        }
+    }
+}
+
+/// The writer failed, or took no byte.
+#[derive(Drop)]
+struct WriteFault;
+
+fn write_all<W: Write>(writer: &mut W, bytes: &[u8]) -> Result<(), WriteFault>
+    ensures ok { OnOk result (Appends (W.contents writer.old) (W.contents writer.new) bytes.now) }
+    ensures err { OnErr result
+        (SendsFront (W.contents writer.old) (W.contents writer.new) bytes.now) }
+{
+    let mut rest = bytes;
+    while !rest.is_empty() {
+        match writer.write(rest) {
+            Ok(0) => return Err(WriteFault),
+            Ok(count) => rest = rest.split_at(count).1,
+            Err(_) => return Err(WriteFault),
+        }
+    }
+    Ok(())
+}
+
+/// The bytes of a text and a newline, where there is room for them.
+fn line_of<D: Display + Drop>(text: D) -> Option<ArrayString<LINE_BYTES>>
+    ensures { IfSome result (λ said. IfSome (D.output text) (λ bytes. said.bytes ≡ line bytes)) }
+{
+    let mut said = ArrayString::new();
+    match said.writeln(text) {
+        Ok(()) => Some(said),
+        Err(_) => None,
+    }
+}

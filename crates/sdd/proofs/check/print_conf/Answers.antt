@@ -1,0 +1,8 @@
+use Rattle.sd_printer.specs.Says.{said_view}
+use Rattle.sdd.proofs.CheckLemmas.{says_conf}
+use Rattle.sdd.proofs.check.print_conf.Goals as goal
+
+pub returns : goal.returns
+returns g c =
+    says_conf c.args.conf.now c.as_slice.result.now _ (said_view g.W.Write.contents c.line.new.self) (said_view g.W.Write.contents c.line-2.new.self) (said_view g.W.Write.contents c.line-3.new.self)
+    (said_view g.W.Write.contents c.line-4.new.self) (said_view g.W.Write.contents c.line-5.new.self) _ c.as_slice.ensures c.line.ensures c.line-2.ensures c.line-3.ensures c.line-4.ensures c.line-5.ensures c.print_drives.ensures

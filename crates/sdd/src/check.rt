@@ -1,0 +1,118 @@
+// A configuration that is read from the input and printed.
+ghost use Rattle.std.specs.Prelude.{◌≡◌};
+ghost use Rattle.sd_printer.specs.Says.{Says, said_view};
+ghost use Rattle.sdd.specs.Check.{Input, PrintsCheck, ReadsConf, checked_lines, conf_lines, drive_lines, status_of};
+
+use crate::conf_line::{ConfLine, DriveLine, KeyLine};
+use sd_base::Refusal;
+use sd_conf::{Conf, ConfFault, DriveConf, read_conf};
+use sd_printer::Printer;
+use std::alloc::Global;
+use std::io::{ErrorKind, Read, Write};
+use std::str;
+
+/// The status of a check whose configuration was printed.
+const DONE: u8 = 0;
+
+/// The status of a check that was refused, or could not be printed.
+const FAILED: u8 = 1;
+
+/// Why no configuration was read.
+#[derive(Drop)]
+pub enum CheckFault {
+    /// The input can't be read.
+    Input,
+    /// What it holds is none.
+    Conf(ConfFault),
+}
+
+/// Reads a configuration, up to the end of the input, and prints its values, a line each, or what is wrong with it.
+/// Answers the status: 0 where a configuration was printed, and else 1.
+pub fn check_conf<R: Read, W: Write>(alloc: Global, reader: &mut R, out: &mut Printer<W>) -> u8
+    ensures { PrintsCheck (R.remaining reader.old)
+        (said_view W.contents out.old) (said_view W.contents out.new) result }
+{
+    let checked = read_input(alloc, reader);
+    print_checked(&checked, out);
+    out.flush();
+    status_of(&checked, out.failed())
+}
+
+// The status of a check that came to this.
+fn status_of(checked: &Result<Conf, CheckFault>, failed: bool) -> u8
+    ensures { result ≡ status_of checked.now failed }
+{
+    if checked.is_err() || failed {
+        return FAILED;
+    }
+    DONE
+}
+
+// The configuration that the input holds.
+fn read_input<R: Read>(alloc: Global, reader: &mut R) -> Result<Conf, CheckFault>
+    ensures { ReadsConf (R.remaining reader.old) result }
+{
+    let mut bytes = Vec::new(alloc);
+    match reader.read_to_end(&mut bytes) {
+        Ok(_) => conf_in(alloc, &bytes),
+        Err(fault) if fault.kind() == ErrorKind::OutOfMemory => {
+            Err(CheckFault::Conf(ConfFault::Memory))
+        }
+        Err(_) => Err(CheckFault::Input),
+    }
+}
+
+// The configuration that these bytes are.
+fn conf_in(alloc: Global, bytes: &[u8]) -> Result<Conf, CheckFault>
+    ensures { Input bytes.now result }
+{
+    let Ok(text) = str::from_utf8(bytes) else {
+        return Err(CheckFault::Conf(ConfFault::Text));
+    };
+    match read_conf(alloc, text) {
+        Ok(conf) => Ok(conf),
+        Err(fault) => Err(CheckFault::Conf(fault)),
+    }
+}
+
+// Prints the values of a configuration, or the line of what is wrong.
+fn print_checked<W: Write>(checked: &Result<Conf, CheckFault>, out: &mut Printer<W>)
+    ensures { Says (said_view W.contents out.old) (said_view W.contents out.new)
+        (checked_lines checked.now) }
+{
+    match checked {
+        Ok(conf) => print_conf(conf, out),
+        Err(CheckFault::Input) => out.line(ConfLine::NoInput),
+        Err(CheckFault::Conf(ConfFault::Text)) => out.line(ConfLine::NoDocument),
+        Err(CheckFault::Conf(ConfFault::Key { key, kind })) => {
+            let kind = *kind;
+            out.line(KeyLine { key, kind });
+        }
+        Err(CheckFault::Conf(ConfFault::Memory)) => out.line(ConfLine::Refused(Refusal::Memory)),
+    }
+}
+
+// Prints the values of a configuration.
+fn print_conf<W: Write>(conf: &Conf, out: &mut Printer<W>)
+    ensures { Says (said_view W.contents out.old) (said_view W.contents out.new)
+        (conf_lines conf.now) }
+{
+    out.line(ConfLine::Block(conf.block));
+    out.line(ConfLine::Volume(conf.volume));
+    out.line(ConfLine::Spool(conf.spool));
+    out.line(ConfLine::Queue(conf.queue));
+    out.line(ConfLine::Port(conf.port));
+    print_drives(conf.drives.as_slice(), out);
+}
+
+// Prints the lines of the drives 1, 2 and on.
+fn print_drives<W: Write>(drives: &[DriveConf], out: &mut Printer<W>)
+    ensures { Says (said_view W.contents out.old) (said_view W.contents out.new)
+        (drive_lines 1 drives.now) }
+{
+    let mut number = 0;
+    for drive in drives {
+        number += 1;
+        out.line(DriveLine { number, drive });
+    }
+}

@@ -1,0 +1,15 @@
+// Configurations, each with all that is printed of it.
+mod player;
+mod table;
+
+use player::is_checked_so;
+use std::test::Fail;
+use table::ROWS;
+
+#[test]
+fn configurations(rt: HostRuntime) -> Result<(), Fail> {
+    for row in &ROWS {
+        assert!(rt; is_checked_so(rt.alloc(), row)?, "{}", row.printed);
+    }
+    Ok(())
+}
