@@ -1,0 +1,18 @@
+-- What holds of events that are given again.
+use Rattle.std.specs.Prelude.{ℕ, List}
+use Rattle.sd_core.specs.Runs.{RunsTo}
+use Rattle.sd_driver.specs.Meaning.{Meaning}
+use Rattle.sd_machine.specs.Machine.{Machine}
+use Rattle.sd_machine.specs.declared.event.Event.{Event}
+use Rattle.sd_machine.specs.declared.reply.Reply.{Reply}
+use Rattle.sd_matches.specs.Matches.{Matches}
+use Rattle.sd_moves.specs.Rules.{IsWorld}
+use Rattle.sd_moves.specs.World.{WorldView}
+use Rattle.sd_port.specs.Tries.{Answers}
+
+-- However often an event is given, its world keeps its rules; and from each machine that the world matched, all events
+-- that it was given, with the replies, are a run to one that it matches then: those of rounds among them.
+abbrev pub AnswersAreARun : Type 0 → Type 0
+AnswersAreARun D = (meaning : D → Meaning) (rounds : ℕ) (old new : WorldView D) (event : Event) (reply : Reply) (events : List Event) (replies : List Reply)
+    → IsWorld old → Answers meaning rounds old event reply events replies new
+    → IsWorld new × ((m : Machine) → Matches meaning old m → RunsTo meaning m events replies new)

@@ -1,0 +1,4 @@
+pub mod Again
+pub mod Laws
+pub mod Lines
+pub mod Tries
