@@ -1,6 +1,6 @@
 // Playing scenarios act by act.
 use crate::played_world::{PlayedWorld, TIME};
-use crate::scenarios::{At, Reading, Scenario, VOLUME, Wanted};
+use crate::scenarios::{At, Move, Reading, Scenario, VOLUME, Wanted};
 use crate::volumes::compare_volumes;
 use sd_base::VolName;
 use sd_plain::{Act, Line, Machine, Plain, put_fault, put_read};
@@ -9,6 +9,9 @@ use std::alloc::Global;
 
 /// The most rounds of a drain.
 const MOST_ROUNDS: u32 = 100;
+
+/// More bytes than any answer of the scenarios has.
+const ROOM: u32 = 200;
 
 /// Plays the scenario on a new world and on a new plain machine, reads the sessions then, and looks at the
 /// volumes. Adds to the report what comes to anything else than is wanted.
@@ -21,10 +24,10 @@ pub fn play(alloc: Global, scenario: &Scenario, report: &mut Line) {
 
 fn play_on<'a>(alloc: Global, played: PlayedWorld<'a>, scenario: &Scenario, report: &mut Line) {
     let mut played = played;
-    play_moves(alloc, &mut played, scenario, report);
+    play_moves(alloc, &mut played, scenario.name, scenario.moves, report);
     play_readings(alloc, &mut played, scenario, report);
     let mut plain = Plain::new(alloc, &scenario.settings, TIME);
-    play_moves(alloc, &mut plain, scenario, report);
+    play_moves(alloc, &mut plain, scenario.name, scenario.moves, report);
     compare_looks(alloc, &played, &plain, scenario, report);
     if let Some(wanted) = scenario.volume {
         if plain.bytes_of(VOLUME) != wanted {
@@ -34,15 +37,38 @@ fn play_on<'a>(alloc: Global, played: PlayedWorld<'a>, scenario: &Scenario, repo
     compare_volumes(alloc, report, scenario.name, played, &plain);
 }
 
-fn play_moves<M: Machine>(alloc: Global, machine: &mut M, scenario: &Scenario, report: &mut Line) {
-    let mut got = Line::new(alloc);
-    for (number, step) in scenario.moves.iter().enumerate() {
+/// Plays the moves, and adds to the report which of them come to anything else than is wanted. An answer's line has its
+/// room before the first move.
+pub fn play_moves<M: Machine>(
+    alloc: Global,
+    machine: &mut M,
+    name: &str,
+    moves: &[Move],
+    report: &mut Line,
+) {
+    let mut got = roomy_line(alloc);
+    for (number, step) in moves.iter().enumerate() {
         got.clear();
-        match step.0 {
-            Act::Drain(sessions, drives) => drain(machine, sessions, drives, &mut got),
-            act => machine.play(act, &mut got),
-        }
-        compare(report, scenario.name, number, step.1, got.as_str());
+        play_move(machine, step.0, &mut got);
+        compare(report, name, number, step.1, got.as_str());
+    }
+}
+
+// A line with room for any answer of the scenarios.
+fn roomy_line(alloc: Global) -> Line {
+    let mut line = Line::new(alloc);
+    for _ in 0..ROOM {
+        line.words(" ");
+    }
+    line.clear();
+    line
+}
+
+/// Adds the line of the machine's answer to the act, which may be a drain.
+pub fn play_move<M: Machine>(machine: &mut M, act: Act, line: &mut Line) {
+    match act {
+        Act::Drain(sessions, drives) => drain(machine, sessions, drives, line),
+        act => machine.play(act, line),
     }
 }
 

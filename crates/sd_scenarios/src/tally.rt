@@ -6,7 +6,7 @@ use std::alloc::Global;
 pub type Floor = (&'static str, u64);
 
 /// The answers that the generated lists are to come to.
-static FLOORS: &[Floor] = &[
+pub static LIST_FLOORS: &[Floor] = &[
     ("open ok ticket", 2180),
     ("open 3910", 130),
     ("open 3911", 1430),
@@ -116,6 +116,12 @@ static FLOORS: &[Floor] = &[
     ("restart 3912", 120),
 ];
 
+/// The answers that the scenarios with a call that fails are to come to.
+pub static FAILING_FLOORS: &[Floor] = &[("read ok read", 1)];
+
+/// What the answers begin with that tell of a call of a device, or of a spool, that failed.
+static FAULTS: [&str; 3] = ["3920", "3940", "ok volume error"];
+
 /// The acts with their answers, a line each.
 #[derive(Drop)]
 pub struct Tally {
@@ -136,9 +142,26 @@ impl Tally {
         self.answers.words("\n");
     }
 
+    /// Adds the answers of another.
+    pub fn add(&mut self, other: &Tally) {
+        self.answers.words(other.answers.as_str());
+    }
+
+    /// Whether an answer tells of a call of a device, or of a spool, that failed.
+    pub fn has_fault(&self) -> bool {
+        for line in self.answers.as_str().split('\n') {
+            if let Some((_, answer)) = line.split_once(' ') {
+                if FAULTS.iter().any(|fault| answer.starts_with(*fault)) {
+                    return true;
+                }
+            }
+        }
+        false
+    }
+
     /// Adds each floor that was not reached, with the count that was.
-    pub fn report(&self, report: &mut Line) {
-        for floor in FLOORS {
+    pub fn report(&self, floors: &[Floor], report: &mut Line) {
+        for floor in floors {
             let count = self.count(floor.0);
             if count < floor.1 {
                 report.put(floor.0, &[count, floor.1]);

@@ -38,14 +38,28 @@ pub enum Wanted {
 /// A reading: the session, the spans, and what it is to come to.
 pub struct Reading(pub SessionKey, pub &'static [At], pub Wanted);
 
+/// An act with the answer to it.
+pub type Move = (Act, &'static str);
+
 /// Acts with the answer to each, in a world of these settings; readings after them; and the bytes of the volume of
 /// the scenarios then, where they are written down.
 pub struct Scenario {
     pub name: &'static str,
     pub settings: Settings<'static>,
-    pub moves: &'static [(Act, &'static str)],
+    pub moves: &'static [Move],
     pub readings: &'static [Reading],
     pub volume: Option<&'static [u8]>,
+}
+
+impl Scenario {
+    /// The moves before those of a drive that is retired: no session is read from it.
+    pub fn moves_online(&self) -> &'static [Move] {
+        let retired = self.moves.iter().position(|step| step.1 == "ok retired");
+        let (online, _) = self
+            .moves
+            .split_at(retired.unwrap_or(self.moves.len()).min(self.moves.len()));
+        online
+    }
 }
 
 /// One drive of one lane, with blocks of at most 1,024 bytes.
