@@ -9,9 +9,11 @@
 mod devices;
 mod jobs;
 mod packets;
+mod scarce;
 mod session;
 mod stations;
 mod volumes;
+mod worlds;
 
 use anyhow::Result;
 
@@ -22,5 +24,6 @@ fn main(rt: HostRuntime) -> Result<()> {
     volumes::run(&rt)?;
     stations::run(&rt)?;
     jobs::run(&rt)?;
+    worlds::run(&rt)?;
     Ok(())
 }
