@@ -4,7 +4,7 @@ use sd_scenarios::{
     FRESH, FULL_QUEUE, HEADER_ALONE, HELLO, INTERLEAVED, LARGE_RECORD, Line, NO_ROOM,
     NO_ROOM_FOR_HEADER, NO_ROOM_FOR_LABEL, OTHER_POOL, RESERVED_DRIVES, SESSION_REFUSALS,
     SEVERAL_RECORDS, SMALL_SESSIONS, SPOOLED, STEP_BY_STEP, Scenario, THREE_BLOCKS, TWO_VOLUMES,
-    look_at_jobmedia, look_at_sink, play, play_lists,
+    look_at_jobmedia, look_at_sink, play, play_failing, play_lists,
 };
 use std::alloc::Global;
 use std::process::Abort;
@@ -71,6 +71,14 @@ fn rows(rt: HostRuntime) {
 #[test]
 fn read_faults(rt: HostRuntime) {
     assert_plays(&rt, rt.alloc(), &[&FAULTS, &FORGED, &FRESH]);
+}
+
+// Two volumes, two sessions and a spool, with each call of the device and of the spools failing in turn.
+#[test]
+fn failing_calls(rt: HostRuntime) {
+    let mut report = Line::new(rt.alloc());
+    play_failing(rt.alloc(), &mut report);
+    assert!(rt; report.is_empty(), "{}", report.as_str());
 }
 
 #[test]
