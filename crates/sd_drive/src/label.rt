@@ -6,7 +6,7 @@ ghost use Rattle.sd_driver.specs.Shelf.{StillLasts, MayCreate};
 ghost use Rattle.sd_volume.specs.Device.{Counted};
 ghost use Rattle.sd_volume.specs.Fault.{label_refusal};
 ghost use Rattle.sd_volume.specs.declared.fault.LabelFault.{LabelFault as SpecFault};
-ghost use Rattle.sd_volume.specs.Label.{Labels, new_volume};
+ghost use Rattle.sd_volume.specs.Label.{Labels, MayCreateEmpty, new_volume};
 ghost use Rattle.sd_drive.specs.Shelf.{KeepsPieces};
 ghost use Rattle.sd_drive.specs.View.{names};
 ghost use Rattle.sd_drive.specs.Moves.{AddsVolume, AddsNone, label_due, label_of};
@@ -43,6 +43,9 @@ impl<D: Driver> Drive<D> {
             (D.meaning self.old.device).shelf (D.meaning self.new.device).shelf) }
         ensures fails { IsHonest (D.meaning self.old.device) → OnErr result (MayCreate name.now
             (D.meaning self.old.device).shelf (D.meaning self.new.device).shelf) }
+        ensures memory { IsHonest (D.meaning self.old.device) → IsErrOf result Refusal.Memory
+            → MayCreateEmpty name.now
+            (D.meaning self.old.device).shelf (D.meaning self.new.device).shelf }
         ensures already { IsHonest (D.meaning self.old.device)
             → label_due self.old name.now media.now ≡ None
             → IsErrOf result Refusal.AlreadyLabelled
@@ -97,6 +100,9 @@ impl<D: Driver> Drive<D> {
             (D.meaning self.old.device).shelf (D.meaning self.new.device).shelf) }
         ensures fails { IsHonest (D.meaning self.old.device) → OnErr result (MayCreate label.now.name
             (D.meaning self.old.device).shelf (D.meaning self.new.device).shelf) }
+        ensures memory { IsHonest (D.meaning self.old.device) → IsErrOf result Refusal.Memory
+            → MayCreateEmpty label.now.name
+            (D.meaning self.old.device).shelf (D.meaning self.new.device).shelf }
         ensures already { IsHonest (D.meaning self.old.device)
             → IsErrOf result Refusal.AlreadyLabelled
             → IsSome ((D.meaning self.old.device).shelf.volume label.now.name) }

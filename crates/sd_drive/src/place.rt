@@ -4,7 +4,7 @@ ghost use Rattle.sd_base.specs.Limits.{most_volume};
 ghost use Rattle.sd_driver.specs.Meaning.{IsHonest, Unchanged};
 ghost use Rattle.sd_driver.specs.Shelf.{StillLasts};
 ghost use Rattle.sd_volume.specs.declared.volume.VolumeStatus.TheVariants.{Append};
-ghost use Rattle.sd_volume.specs.Device.{Counted};
+ghost use Rattle.sd_volume.specs.Device.{Counted, OthersStay};
 ghost use Rattle.sd_drive.specs.Shelf.{KeepsPieces};
 ghost use Rattle.sd_drive.specs.Moves.{Places, PlacesOn, TakesOn, IsWithin, LimitAllows, hand_after};
 ghost use Rattle.sd_drive.specs.Placing.{PlacesAt};
@@ -47,6 +47,11 @@ impl<D: Driver> Drive<D> {
         ensures later { StillLasts (D.meaning self.old.device).shelf (D.meaning self.new.device).shelf }
         ensures unchanged { OnErr result
             (Unchanged (D.meaning self.old.device) (D.meaning self.new.device)) }
+        ensures not_asked { ¬ LimitAllows self.old
+            → Unchanged (D.meaning self.old.device) (D.meaning self.new.device) }
+        ensures others { IsHonest (D.meaning self.old.device)
+            → OthersStay (D.meaning self.old.device).loaded
+            (D.meaning self.old.device).shelf (D.meaning self.new.device).shelf }
     {
         let Some(piece) = &self.hand else {
             return Ok(Placed::Idle);
@@ -115,6 +120,8 @@ fn place_on<D: Driver>(
     ensures loaded { (D.meaning driver.new).loaded ≡ (D.meaning driver.old).loaded }
     ensures later { StillLasts (D.meaning driver.old).shelf (D.meaning driver.new).shelf }
     ensures unchanged { OnErr result (Unchanged (D.meaning driver.old) (D.meaning driver.new)) }
+    ensures not_asked { ¬ IsWithin limit piece.now volume.old
+        → Unchanged (D.meaning driver.old) (D.meaning driver.new) }
 
     ensures at { IsHonest (D.meaning driver.old) → PlacesAt result piece.now
         volume.old (D.meaning driver.old).shelf volume.new (D.meaning driver.new).shelf }

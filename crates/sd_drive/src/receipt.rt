@@ -1,5 +1,5 @@
 // What tells that the blocks of a session are synced.
-ghost use Rattle.std.specs.Prelude.{◌≡◌, ◌↔◌, IfOk, IfSome, IsSome};
+ghost use Rattle.std.specs.Prelude.{◌≡◌, ◌↔◌, IfOk, OnErr, IfSome, IsSome};
 ghost use Rattle.sd_journal.specs.Journal.{placements, placed_of, synced_of};
 ghost use Rattle.sd_span.specs.Spans.{spans_of};
 
@@ -49,7 +49,7 @@ impl Receipt {
 
 impl<D: Driver> Drive<D> {
     /// A receipt for that many blocks of a session, exactly where the journal has so many entries of it and all of
-    /// them are synced.
+    /// them are synced. Takes memory there alone.
     pub fn receipt(&self, key: SessionKey, blocks: u64) -> Result<Option<Receipt>, AllocError>
         ensures exactly { IfOk result (λ receipt. IsSome receipt
             ↔ ((placed_of key self.now.journal ≡ blocks) × (synced_of key self.now.journal ≡ blocks))) }
@@ -58,6 +58,8 @@ impl<D: Driver> Drive<D> {
           spans = spans_of key (placements self.now.journal);
           blocks = blocks;
         })) }
+        ensures err { OnErr result
+            ((placed_of key self.now.journal ≡ blocks) × (synced_of key self.now.journal ≡ blocks)) }
     {
         let progress = self.progress(key);
         if progress.placed != blocks || progress.synced != blocks {

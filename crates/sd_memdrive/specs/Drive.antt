@@ -1,15 +1,16 @@
 -- What a drive in memory is, as a device.
 use Rattle.std.specs.Prelude.{◌≡◌, ◌↔◌, ◌≤◌, ◌<◌, ◌+◌, ◌-◌, ◌^◌, ◌⊎◌, ℕ, true, false, List, length, None, Some, IsSome, Result, IsErrOf}
-use Rattle.sd_driver.specs.Shelf.{Shelf, Held, stable_bytes}
+use Rattle.sd_driver.specs.Shelf.{Shelf, Held, SameShelf, Appends, stable_bytes}
 use Rattle.sd_driver.specs.Meaning.{Meaning, IsHonest}
 use Rattle.sd_memdrive.specs.ChangeLog.{shelf_of}
 use Rattle.sd_memdrive.specs.declared.store.Store.{Store}
 use Rattle.sd_memdrive.specs.declared.drive.MemDrive.{MemDrive}
 use Rattle.sd_memdrive.specs.declared.plan.Call.{Call}
+use Rattle.sd_memdrive.specs.declared.plan.Call.TheVariants.{Append}
 use Rattle.sd_memdrive.specs.declared.plan.Fail.{Fail}
 use Rattle.sd_driver.specs.declared.driver.DriverFault.{DriverFault}
 use Rattle.sd_driver.specs.declared.driver.DriverFault.TheVariants.{Device, Memory}
-use Rattle.sd_memdrive.specs.Plan.{counted, due_of, works, Strikes}
+use Rattle.sd_memdrive.specs.Plan.{counted, due_of, part_of, works, Strikes}
 
 -- the shelf of a store
 abbrev pub store_shelf : Store → Shelf
@@ -81,3 +82,11 @@ pub record FollowsPlan
   pub device : IsErrOf result Device
       ↔ FailsAtOnce call old
       ⊎ (IsSome (due_of call old.plan) × ¬ own_cause × ¬ IsErrOf result Memory)
+
+-- What an append leaves that isn't refused for want of memory: the same where it fails at once, or where the volume lacks
+-- the room; else as much of its bytes at the end of the loaded volume as its entry says, all where none is due.
+pub record AppendsPart (bytes : List ℕ) (old new : MemDrive) : Type 0 where
+  pub at_once : FailsAtOnce Append old → SameShelf (store_shelf old.store) (store_shelf new.store)
+  pub no_room : LacksRoom bytes old → SameShelf (store_shelf old.store) (store_shelf new.store)
+  pub part : ¬ FailsAtOnce Append old → ¬ LacksRoom bytes old
+      → Appends (part_of (due_of Append old.plan) bytes) old.loaded (store_shelf old.store) (store_shelf new.store)

@@ -105,7 +105,7 @@ impl MemDrive {
 impl Driver for MemDrive {
     ghost use Rattle.sd_driver.specs.Shelf.{SameShelf, Passes, KeepsStable, KeepsStableTo, Creates, MayCreate, Appends, MayAppend, Syncs, MaySync, Truncates, MayTruncate};
     ghost use Rattle.sd_driver.specs.Meaning.{IsHonest, CountsFailures, SameCounts, Unchanged, TellsLength, TellsBytes};
-    ghost use Rattle.sd_memdrive.specs.Drive.{meaning_of, capacity_of, HasRoom, LacksRoom, FollowsPlan, KeepsPlan};
+    ghost use Rattle.sd_memdrive.specs.Drive.{meaning_of, capacity_of, HasRoom, LacksRoom, AppendsPart, FollowsPlan, KeepsPlan};
 
     ghost meaning = { meaning_of };
 
@@ -285,6 +285,7 @@ impl Driver for MemDrive {
         ensures no_room { IsErrOf result DriverFault.NoRoom → LacksRoom bytes.now self.old }
         ensures plan { FollowsPlan Call.Append (LacksRoom bytes.now self.old)
             result self.old self.new }
+        ensures part { ¬ IsErrOf result DriverFault.Memory → AppendsPart bytes.now self.old self.new }
         ensures capacity { capacity_of self.new ≡ capacity_of self.old }
     {
         let due = self.plan.strike(Call::Append);

@@ -41,8 +41,5 @@ fn take_spooled<S: SpoolStore>(spool: &mut JobSpool<S>) -> Result<Option<Body>, 
     ensures memory { IsErrOf result SpoolStoreFault.Memory → spool.new ≡ spool.old }
     ensures device { IsErrOf result SpoolStoreFault.Device → HasFailed spool.old.store spool.new.store }
 {
-    if spool.is_empty() {
-        return Ok(None);
-    }
     spool.next_body()
 }

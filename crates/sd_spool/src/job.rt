@@ -1,5 +1,5 @@
 // The spool of one session.
-ghost use Rattle.std.specs.Prelude.{◌≡◌, ◌↔◌, ◌+◌, ◌<◌, [], length, IfOk, IfErr, OnOk, IsErrOf, IsTrue, MatchOption};
+ghost use Rattle.std.specs.Prelude.{◌≡◌, ◌≢◌, ◌↔◌, ◌+◌, ◌<◌, [], length, IfOk, IfErr, OnOk, OnErr, IsErrOf, IsTrue, MatchOption};
 ghost use Rattle.sd_spool.specs.Job.{state_of, empty_on, HasCause, FailsToClear, Puts, FailsToPut, Takes, FailsToTake};
 
 use crate::entry::{Entry, Extent};
@@ -137,6 +137,7 @@ impl<S: SpoolStore> JobSpool<S> {
         ensures ok { IfOk result (λ found. MatchOption found
             ((self.old.shapes ≡ []) × (self.new ≡ self.old))
             (λ body. Takes body self.old self.new)) }
+        ensures some { OnErr result (self.old.shapes ≢ []) }
         ensures memory { IsErrOf result SpoolStoreFault.Memory → self.new ≡ self.old }
         ensures device { IsErrOf result SpoolStoreFault.Device → FailsToTake self.old self.new }
     {

@@ -77,6 +77,7 @@ impl SpoolStore for MemSpool {
         ensures same { IsHonest (meaning_of self.old)
             → (meaning_of self.new).bytes ≡ (meaning_of self.old).bytes }
 
+        ensures faults { IfErr result (λ fault. fault ≡ SpoolStoreFault.Device) }
         ensures plan { FollowsPlan SpoolCall.Read (IsShort at (length into.old) self.old)
             result self.old self.new }
     {
@@ -99,6 +100,7 @@ impl SpoolStore for MemSpool {
         ensures err { IsHonest (meaning_of self.old) → OnErr result
             (MayClear (meaning_of self.old).bytes (meaning_of self.new).bytes) }
 
+        ensures faults { IfErr result (λ fault. fault ≡ SpoolStoreFault.Device) }
         ensures plan { FollowsPlan SpoolCall.Clear ⊥ result self.old self.new }
         ensures clears { ClearsUnlessAtOnce self.old self.new }
     {

@@ -1,5 +1,5 @@
 -- What labelling leaves of an honest device.
-use Rattle.std.specs.Prelude.{◌≡◌, ◌≢◌, List, ℕ, [], length, None, Some}
+use Rattle.std.specs.Prelude.{◌≡◌, ◌≢◌, ◌⊎◌, List, ℕ, [], length, None, Some}
 use Rattle.sd_driver.specs.Shelf.{Shelf, Lasts}
 use Rattle.sd_label.specs.declared.label.VolumeLabel.{VolumeLabel}
 use Rattle.sd_volume.specs.declared.volume.VolumeStatus.TheVariants.{Append}
@@ -33,3 +33,9 @@ pub record Labels (label : VolumeLabel) (old new : Shelf) : Type 0 where
   pub stands : StandsOn (new_volume label) new label [] []
   pub lasts : Lasts new.moment label.name (label_block label) new
   pub others : (other : List ℕ) → other ≢ label.name → new.volume other ≡ old.volume other
+
+-- nothing changes, but that a name which the shelf lacked may stand now, with no byte
+pub record MayCreateEmpty (name : List ℕ) (old new : Shelf) : Type 0 where
+  pub here : (new.volume name ≡ old.volume name)
+      ⊎ ((old.volume name ≡ None) × (new.volume name ≡ Some (record { bytes = []; stable = 0 })))
+  pub others : (other : List ℕ) → other ≢ name → new.volume other ≡ old.volume other

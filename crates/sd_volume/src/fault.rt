@@ -15,7 +15,7 @@ pub enum LabelFault {
     NoRoom,
     /// The device failed. The name may stand on the shelf now, with any bytes.
     Device,
-    /// Memory was wanted. Where the device wanted it, the name may stand on the shelf now, with any bytes.
+    /// Memory was wanted. Where the device wanted it, the name may stand on the shelf now, with no byte.
     Memory,
 }
 

@@ -2,12 +2,12 @@
 ghost use Rattle.std.specs.Prelude.{◌≡◌, ◌≢◌, ℕ, List, ◌++◌, ◌≤◌, ◌⊎◌, length, IfOk, IfErr, OnOk, OnErr, IsErrOf, IsSome, None, Some};
 ghost use Rattle.sd_base.specs.Limits.{most_block};
 ghost use Rattle.sd_block.specs.Image.{IsBlockImage};
-ghost use Rattle.sd_driver.specs.Meaning.{IsHonest};
+ghost use Rattle.sd_driver.specs.Meaning.{IsHonest, Unchanged};
 ghost use Rattle.sd_driver.specs.Shelf.{MayCreate, StillLasts};
 ghost use Rattle.sd_label.specs.Label.{IsVolumeLabel, volume_label_bytes};
 ghost use Rattle.sd_volume.specs.Device.{Counted, Writes, OthersStay};
 ghost use Rattle.sd_volume.specs.Image.{no_session, label_block};
-ghost use Rattle.sd_volume.specs.Label.{new_volume, Stores, Labels};
+ghost use Rattle.sd_volume.specs.Label.{new_volume, Stores, Labels, MayCreateEmpty};
 
 use crate::fault::LabelFault;
 use crate::volume::{Volume, VolumeStatus};
@@ -38,6 +38,8 @@ pub fn label_new<D: Driver>(
         (Labels label.now (D.meaning driver.old).shelf (D.meaning driver.new).shelf) }
     ensures err { IsHonest (D.meaning driver.old) → OnErr result
         (MayCreate label.now.name (D.meaning driver.old).shelf (D.meaning driver.new).shelf) }
+    ensures memory { IsHonest (D.meaning driver.old) → IsErrOf result LabelFault.Memory
+        → MayCreateEmpty label.now.name (D.meaning driver.old).shelf (D.meaning driver.new).shelf }
     ensures already { IsHonest (D.meaning driver.old) → IsErrOf result LabelFault.AlreadyLabelled
         → IsSome ((D.meaning driver.old).shelf.volume label.now.name) }
     ensures taken { IsHonest (D.meaning driver.old)
@@ -81,6 +83,8 @@ fn store<D: Driver>(driver: &mut D, name: &VolName, bytes: &[u8]) -> Result<(), 
         (Stores name.now bytes.now (D.meaning driver.old).shelf (D.meaning driver.new).shelf) }
     ensures err { IsHonest (D.meaning driver.old) → OnErr result
         (MayCreate name.now (D.meaning driver.old).shelf (D.meaning driver.new).shelf) }
+    ensures memory { IsHonest (D.meaning driver.old) → IsErrOf result LabelFault.Memory
+        → MayCreateEmpty name.now (D.meaning driver.old).shelf (D.meaning driver.new).shelf }
     ensures already { IsHonest (D.meaning driver.old) → IsErrOf result LabelFault.AlreadyLabelled
         → IsSome ((D.meaning driver.old).shelf.volume name.now) }
     ensures taken { IsHonest (D.meaning driver.old)
@@ -101,6 +105,8 @@ fn write<D: Driver>(driver: &mut D, bytes: &[u8]) -> Result<(), LabelFault>
         (D.meaning driver.old) (D.meaning driver.new) }
     ensures lasts { StillLasts (D.meaning driver.old).shelf (D.meaning driver.new).shelf }
     ensures faults { IfErr result (λ fault. fault ≢ LabelFault.AlreadyLabelled) }
+    ensures memory { IsErrOf result LabelFault.Memory
+        → Unchanged (D.meaning driver.old) (D.meaning driver.new) }
 
     ensures ok { IsHonest (D.meaning driver.old) → OnOk result (Writes bytes.now
         (D.meaning driver.old).loaded (D.meaning driver.old).shelf (D.meaning driver.new).shelf) }

@@ -1,7 +1,8 @@
-use Rattle.std.proofs.Common.{rules, refl}
+use Rattle.std.proofs.Common.{rules, refl, ap, sym, ◌∙◌, Some}
 use Rattle.std.proofs.lemmas.Option.{slice_get_read}
 use Rattle.sd_volume.proofs.DeviceLemmas.{Counted-as}
 use Rattle.sd_drive.proofs.PlaceLemmas.{kept_placing, pieces_placing, places_of, takes_here, limit_allows, limit_allowed}
+use Rattle.sd_drive.proofs.SyncLemmas.{loaded_name_is}
 use Rattle.sd_drive.proofs.drive.Drive.place.Goals as goal
 
 pub invariant_of-self : goal.invariant_of-self
@@ -48,3 +49,21 @@ returns-clause-keeps g c =
 
 pub returns-clause-later : goal.returns-clause-later
 returns-clause-later g c = rw (← c.self.view_is) c.place_on-placed.ensures.later
+
+pub returns-clause-not_asked : goal.returns-clause-not_asked
+returns-clause-not_asked g c =
+    let e = c.place_on-placed.ensures in
+    let vs = c.self.inside.volumes.items in
+    let v = c.index_mut.result.now in
+    let there = slice_get_read vs _ _ v refl (rw c.deref.ensures.value at c.in-Some-open_place.ensures.within) c.index_mut.ensures.value in
+    let takes = takes_here vs c.self.inside.loaded c.self.inside.pool _ v (rw c.deref.ensures.value at c.in-Some-open_place.ensures.open) there in
+    rw (← c.self.view_is) (λ none. e.not_asked (λ within. none (limit_allows _ c.in-Some.piece _ v c.in-Some.is takes within)))
+
+pub returns-clause-others : goal.returns-clause-others
+returns-clause-others g c =
+    let e = c.place_on-placed.ensures in
+    let vs = c.self.inside.volumes.items in
+    let v = c.index_mut.result.now in
+    let there = slice_get_read vs _ _ v refl (rw c.deref.ensures.value at c.in-Some-open_place.ensures.within) c.index_mut.ensures.value in
+    let takes = takes_here vs c.self.inside.loaded c.self.inside.pool _ v (rw c.deref.ensures.value at c.in-Some-open_place.ensures.open) there in
+    rw (← c.self.view_is) (λ honest name apart. e.others honest name (λ is. apart (c.self.invariant.kept.tied ∙ loaded_name_is vs c.self.inside.loaded _ v takes.loaded_is there ∙ ap (λ n. Some n) (sym is))))

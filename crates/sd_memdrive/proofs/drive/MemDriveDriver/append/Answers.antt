@@ -45,3 +45,14 @@ returns-clause-plan c =
     let fits : LacksRoom c.args.bytes.now c.args.self.now → ⊥ = λ full.
     (let t = full _ _ c.loaded_place-name.ensures.loaded here.1 in omega (arith, room)) in
     search rules
+
+pub returns-then-not-has_room-clause-part : goal.returns-then-not-has_room-clause-part
+returns-then-not-has_room-clause-part c = let full : LacksRoom c.args.bytes.now c.args.self.now = lacks c refl in search rules
+
+pub returns-clause-part : goal.returns-clause-part
+returns-clause-part c =
+    let here = read_at _ _ _ _ c.loaded_place-name.ensures.place c.index.ensures in
+    let room = c.has_room.ensures.0 c.if-not-has_room.false in
+    let fits : LacksRoom c.args.bytes.now c.args.self.now → ⊥ = λ full.
+    (let t = full _ _ c.loaded_place-name.ensures.loaded here.1 in omega (arith, room)) in
+    search rules
