@@ -7,11 +7,17 @@ use crate::status::{FAILED, list_on};
 use sd_base::{Refusal, VolName};
 use sd_filedrive::FileDrive;
 use sd_printer::Printer;
+use sd_progress::{Progress, Watched};
 use std::io::Write;
 
 /// Prints the listing of the volume in the file at `path`, whose name is the volume's: see `list_on`. A last word of the
 /// path that is no name is refused as such. The file is only read, and none is made. Answers the status.
-pub fn list_volume<W: Write + Drop>(rt: &HostRuntime, path: &str, writer: W) -> u8
+pub fn list_volume<W: Write + Drop>(
+    rt: &HostRuntime,
+    path: &str,
+    progress: Progress,
+    writer: W,
+) -> u8
     ensures { (result ≡ 0) ⊎ (result ≡ 1) }
 {
     let alloc = rt.alloc();
@@ -23,9 +29,13 @@ pub fn list_volume<W: Write + Drop>(rt: &HostRuntime, path: &str, writer: W) -> 
     let Ok(system) = rt.clone() else {
         return refused(&mut out, Refusal::Memory);
     };
-    let Ok(mut drive) = FileDrive::new(system, alloc, place.folder) else {
+    let Ok(teller) = rt.clone() else {
         return refused(&mut out, Refusal::Memory);
     };
+    let Ok(drive) = FileDrive::new(system, alloc, place.folder) else {
+        return refused(&mut out, Refusal::Memory);
+    };
+    let mut drive = Watched::new(drive, teller, progress);
     list_on(alloc, &mut drive, &name, &mut out)
 }
 

@@ -1,12 +1,12 @@
 -- What is printed, one thing after another.
-use Rattle.std.proofs.Common.{◌≡◌, ℕ, refl, sym, ap, subst, ◌∙◌, ◌∷◌, Bool, true, false, List, [], ◌++◌, take, drop, Option, Some, None}
+use Rattle.std.proofs.Common.{◌≡◌, ◌≢◌, ◌<◌, ℕ, refl, sym, ap, subst, ◌∙◌, arith, ◌∷◌, Bool, true, false, List, [], ◌++◌, length, length-append, take, drop, Option, Some, None}
 use Rattle.std.proofs.lemmas.List.{append_assoc, append-nil, take-append-drop}
 use Rattle.std.specs.Prelude.{IfSome}
 use Rattle.std.specs.Fmt.{WritesText, with_newline}
 use Rattle.std.specs.Io.KnownBytes.{Appends, Keeps}
 use Rattle.std.proofs.lemmas.Fmt.{contents_after_writes}
 use Rattle.sd_words.specs.Lines.{line}
-use Rattle.sd_printer.specs.Says.{SaidView, Sends, SendsFront, Says, SaysBy}
+use Rattle.sd_printer.specs.Says.{SaidView, Sends, SendsFront, Says, SaysBy, CutsShort, CutsShortBy}
 
 pub appends_none : (a : Option (List ℕ)) → Appends a a []
 appends_none None = tt
@@ -76,9 +76,34 @@ says_written (Some xs) (Some ys) bytes p = p
 
 pub says_cut : (a b : Option (List ℕ)) (bytes : List ℕ) → SendsFront a b bytes → SaysBy a b false true bytes
 says_cut None b bytes s = tt
-says_cut (Some xs) None bytes s = absurd s.1.2
-says_cut (Some xs) (Some ys) bytes s =
-    (s.0, ap (λ l. xs ++ l) s.1.1 ∙ sym (append_assoc xs s.1.0 s.0) ∙ ap (λ l. l ++ s.0) (sym s.1.2))
+says_cut (Some xs) None bytes (rest, left, (front, bytes_are, sent)) = absurd sent
+says_cut (Some xs) (Some ys) bytes (rest, left, (front, bytes_are, sent)) =
+    (rest, ap (λ l. xs ++ l) bytes_are ∙ sym (append_assoc xs front rest) ∙ ap (λ l. l ++ rest) (sym sent))
+
+-- so not all of it was written
+pub cuts_short : (a b : Option (List ℕ)) (bytes : List ℕ) → SendsFront a b bytes → CutsShortBy a b false true bytes
+cuts_short None b bytes s = tt
+cuts_short (Some xs) None bytes s = tt
+cuts_short (Some xs) (Some ys) bytes (rest, left, (front, bytes_are, sent)) = λ all.
+    absurd (omega (arith, left, ap length sent, ap length all, ap length bytes_are, length-append xs front, length-append xs bytes, length-append front rest))
+
+-- nothing was written
+pub cuts_dropped : (written : Option (List ℕ)) (failed : Bool) (bytes : List ℕ) → 0 < length bytes → CutsShortBy written written failed true bytes
+cuts_dropped None failed bytes some_there = tt
+cuts_dropped (Some xs) true bytes some_there = tt
+cuts_dropped (Some xs) false bytes some_there = λ all. absurd (omega (arith, some_there, ap length all, length-append xs bytes))
+
+-- what writes all, or had failed before, cuts nothing
+pub cuts_none : (a b : Option (List ℕ)) (failed : Bool) (bytes : List ℕ) → CutsShortBy a b failed false bytes
+cuts_none None b failed bytes = tt
+cuts_none (Some xs) None failed bytes = tt
+cuts_none (Some xs) (Some ys) true bytes = tt
+cuts_none (Some xs) (Some ys) false bytes = tt
+
+pub cuts_failed : (a b : Option (List ℕ)) (fails : Bool) (bytes : List ℕ) → CutsShortBy a b true fails bytes
+cuts_failed None b fails bytes = tt
+cuts_failed (Some xs) None fails bytes = tt
+cuts_failed (Some xs) (Some ys) fails bytes = tt
 
 pub says_kept : (a b : Option (List ℕ)) (fails : Bool) → Keeps a b → SaysBy a b false fails []
 says_kept None b fails p = tt
@@ -101,3 +126,12 @@ says_line a b (Some said) bytes is says = subst (λ (l : List ℕ). Says a b l) 
 pub no_line : (written : Option (List ℕ)) (failed : Bool) (o : Option (List ℕ)) → IfSome o (λ said. SaysBy written written failed true (line said))
 no_line written failed None = tt
 no_line written failed (Some said) = says_dropped written failed (line said)
+
+-- the same of where it was cut short
+pub cuts_line : (a b : SaidView) (o : Option (List ℕ)) (bytes : List ℕ) → IfSome o (λ said. bytes ≡ line said) → CutsShort a b bytes → IfSome o (λ said. CutsShort a b (line said))
+cuts_line a b None bytes is cut = tt
+cuts_line a b (Some said) bytes is cut = subst (λ (l : List ℕ). CutsShort a b l) is cut
+
+-- a line has its newline at least
+pub some_in_line : (said : List ℕ) → 0 < length (line said)
+some_in_line said = omega (arith, length-append said (10 ∷ []))

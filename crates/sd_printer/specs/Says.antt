@@ -1,5 +1,5 @@
 -- What is printed to a writer, and what a fault of the writer leaves of it.
-use Rattle.std.specs.Prelude.{◌≡◌, ℕ, Bool, true, false, List, ◌++◌, Option, Some, None, ⊤}
+use Rattle.std.specs.Prelude.{◌≡◌, ◌≢◌, ◌<◌, ℕ, Bool, true, false, List, ◌++◌, length, Option, Some, None, ⊤}
 use Rattle.std.specs.Io.KnownBytes.{Appends}
 use Rattle.sd_printer.specs.declared.printer.Printer.{Printer}
 
@@ -16,9 +16,9 @@ said_view contents p = record { written = contents p.writer; failed = p.failed }
 abbrev pub Sends : Option (List ℕ) → Option (List ℕ) → List ℕ → List ℕ → Type 0
 Sends old new bytes rest = (front : List ℕ) × (bytes ≡ front ++ rest) × Appends old new front
 
--- some first bytes of these were appended to what is known
+-- some first bytes of these were appended to what is known, and some are left
 abbrev pub SendsFront : Option (List ℕ) → Option (List ℕ) → List ℕ → Type 0
-SendsFront old new bytes = (rest : List ℕ) × Sends old new bytes rest
+SendsFront old new bytes = (rest : List ℕ) × (0 < length rest) × Sends old new bytes rest
 
 -- `Says`, by what is known of the writer before and after, and by whether writing had failed and has failed
 abbrev pub SaysBy : Option (List ℕ) → Option (List ℕ) → Bool → Bool → List ℕ → Type 0
@@ -33,3 +33,12 @@ SaysBy (Some xs) (Some ys) true true bytes = ys ≡ xs
 -- from then on nothing more is written.
 abbrev pub Says : SaidView → SaidView → List ℕ → Type 0
 Says old new bytes = SaysBy old.written new.written old.failed new.failed bytes
+
+-- `CutsShort`, by what is known of the writer before and after, and by whether writing had failed and has failed
+abbrev pub CutsShortBy : Option (List ℕ) → Option (List ℕ) → Bool → Bool → List ℕ → Type 0
+CutsShortBy (Some xs) (Some ys) false true bytes = ys ≢ xs ++ bytes
+CutsShortBy old new failed fails bytes = ⊤
+
+-- Writing these bytes fails only where they were not all written.
+abbrev pub CutsShort : SaidView → SaidView → List ℕ → Type 0
+CutsShort old new bytes = CutsShortBy old.written new.written old.failed new.failed bytes

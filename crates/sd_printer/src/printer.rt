@@ -1,8 +1,8 @@
 // What a listing or a reading prints, as it comes.
-ghost use Rattle.std.specs.Prelude.{◌≡◌, ℕ, List, [], OnOk, OnErr, IfSome, Some, true, false};
+ghost use Rattle.std.specs.Prelude.{◌≡◌, ◌<◌, ℕ, List, [], length, OnOk, OnErr, IfSome, Some, true, false};
 ghost use Rattle.std.specs.Io.KnownBytes.{Appends};
 ghost use Rattle.sd_words.specs.Lines.{line};
-ghost use Rattle.sd_printer.specs.Says.{Says, SendsFront, said_view};
+ghost use Rattle.sd_printer.specs.Says.{CutsShort, Says, SendsFront, said_view};
 
 use arrayvec::ArrayString;
 use std::fmt::{Display, Write as _};
@@ -46,10 +46,12 @@ impl<W> Printer<W> {
 }
 
 impl<W: Write> Printer<W> {
-    /// Prints a line.
+    /// Prints a line. One for which there is no room is not printed, and nothing is from then on.
     pub fn line<D: Display + Drop>(&mut self, text: D)
-        ensures { IfSome (D.output text) (λ said.
+        ensures says { IfSome (D.output text) (λ said.
             Says (said_view W.contents self.old) (said_view W.contents self.new) (line said)) }
+        ensures cut { IfSome (D.output text) (λ said.
+            CutsShort (said_view W.contents self.old) (said_view W.contents self.new) (line said)) }
     {
         match line_of(text) {
             Some(said) => self.bytes(said.as_str().as_bytes()),
@@ -59,20 +61,25 @@ impl<W: Write> Printer<W> {
 
     /// Nothing more is printed, and nothing of what was to come.
     fn fail(&mut self)
-        ensures { (bytes : List ℕ)
+        ensures says { (bytes : List ℕ)
             → Says (said_view W.contents self.old) (said_view W.contents self.new) bytes }
+        ensures cut { (bytes : List ℕ) → 0 < length bytes
+            → CutsShort (said_view W.contents self.old) (said_view W.contents self.new) bytes }
     {
         self.failed = true;
     }
 
     /// Prints bytes as they are.
     pub fn bytes(&mut self, bytes: &[u8])
-        ensures { Says (said_view W.contents self.old) (said_view W.contents self.new) bytes.now }
+        ensures says { Says (said_view W.contents self.old) (said_view W.contents self.new)
+            bytes.now }
+        ensures cut { CutsShort (said_view W.contents self.old) (said_view W.contents self.new)
+            bytes.now }
     {
         if self.failed {
             return;
         }
-        if write_all(&mut self.writer, bytes).is_err() {
+        if let Err(WriteFault) = write_all(&mut self.writer, bytes) {
             self.failed = true;
         }
     }

@@ -13,7 +13,7 @@ use Rattle.sd_conf.specs.declared.fault.FaultKind.{FaultKind}
 use Rattle.sd_printer.specs.Says.{SaidView, Says}
 use Rattle.sd_printer.proofs.SaysLemmas.{says_then}
 use Rattle.sd_words.specs.Lines.{line}
-use Rattle.sdd.specs.Check.{Input, conf_lines, drive_lines, drive_text}
+use Rattle.sdd.specs.Check.{Input, conf_lines, drive_lines, drive_text, fault_text, kind_word}
 use Rattle.sdd.specs.declared.check.CheckFault.{CheckFault}
 use Rattle.sdd.specs.declared.check.CheckFault.TheVariants.{Conf as Bad}
 
@@ -54,3 +54,26 @@ pub says_conf : (conf : Conf) (drives : List DriveConf) (a b c d e f g : SaidVie
     → Says d e (line (codes "queue " ++ decimal conf.queue)) → Says e f (line (codes "port " ++ decimal conf.port)) → Says f g (drive_lines 1 drives) → Says a g (conf_lines conf)
 says_conf conf drives a b c d e f g is p q r s t u =
     says_then a b g _ _ p (says_then b c g _ _ q (says_then c d g _ _ r (says_then d e g _ _ s (says_then e f g _ _ t (subst (λ (ds : List DriveConf). Says f g (drive_lines 1 ds)) is u)))))
+
+-- the pieces of a drive's line
+drive_pieces : (number media lanes folder : List ℕ)
+    → codes "drive " ++ (number ++ (codes " " ++ (media ++ (codes " " ++ (lanes ++ (codes " " ++ (folder ++ codes "\n")))))))
+    ≡ line (codes "drive " ++ number ++ codes " " ++ media ++ codes " " ++ lanes ++ codes " " ++ folder)
+drive_pieces number media lanes folder = simp append_assoc
+
+pub says_drive_line : (number : ℕ) (drive : DriveConf) (media folder : List ℕ) (a b c d e f g h i j : SaidView) → media ≡ drive.media → folder ≡ drive.folder
+    → Says a b (codes "drive ") → Says b c (decimal number) → Says c d (codes " ") → Says d e media → Says e f (codes " ") → Says f g (decimal drive.lanes) → Says g h (codes " ")
+    → Says h i folder → Says i j (codes "\n") → Says a j (line (drive_text number drive))
+says_drive_line number drive media folder a b c d e f g h i j media_is folder_is p q r s t u v w x =
+    rw drive_pieces at
+    (rw (media_is, folder_is) at
+    (says_then a b j _ _ p (says_then b c j _ _ q (says_then c d j _ _ r (says_then d e j _ _ s (says_then e f j _ _ t (says_then f g j _ _ u (says_then g h j _ _ v (says_then h i j _ _ w x)))))))))
+
+-- the pieces of the line of a key that is wrong
+fault_pieces : (key word : List ℕ) → codes "fault " ++ (key ++ (codes " " ++ (word ++ codes "\n"))) ≡ line (codes "fault " ++ key ++ codes " " ++ word)
+fault_pieces key word = simp append_assoc
+
+pub says_fault_line : (key word text : List ℕ) (kind : FaultKind) (a b c d e f : SaidView) → text ≡ key → word ≡ kind_word kind
+    → Says a b (codes "fault ") → Says b c text → Says c d (codes " ") → Says d e word → Says e f (codes "\n") → Says a f (line (fault_text key kind))
+says_fault_line key word text kind a b c d e f text_is word_is p q r s t =
+    rw fault_pieces at (rw (text_is, word_is) at (says_then a b f _ _ p (says_then b c f _ _ q (says_then c d f _ _ r (says_then d e f _ _ s t)))))

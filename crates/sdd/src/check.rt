@@ -1,11 +1,14 @@
 // A configuration that is read from the input and printed.
 ghost use Rattle.std.specs.Prelude.{◌≡◌};
 ghost use Rattle.sd_printer.specs.Says.{Says, said_view};
-ghost use Rattle.sdd.specs.Check.{Input, PrintsCheck, ReadsConf, checked_lines, conf_lines, drive_lines, status_of};
+ghost use Rattle.std.specs.Fmt.{decimal};
+ghost use Rattle.sd_words.specs.Lines.{line};
+ghost use Rattle.sdd.specs.Check.{Input, PrintsCheck, ReadsConf, checked_lines, conf_lines, drive_lines, drive_text, fault_text, kind_word, status_of};
 
-use crate::conf_line::{ConfLine, DriveLine, KeyLine};
+use crate::conf_line::ConfLine;
+use itoa::Buffer;
 use sd_base::Refusal;
-use sd_conf::{Conf, ConfFault, DriveConf, read_conf};
+use sd_conf::{Conf, ConfFault, DriveConf, FaultKind, Text, read_conf};
 use sd_printer::Printer;
 use std::alloc::Global;
 use std::io::{ErrorKind, Read, Write};
@@ -84,10 +87,7 @@ fn print_checked<W: Write>(checked: &Result<Conf, CheckFault>, out: &mut Printer
         Ok(conf) => print_conf(conf, out),
         Err(CheckFault::Input) => out.line(ConfLine::NoInput),
         Err(CheckFault::Conf(ConfFault::Text)) => out.line(ConfLine::NoDocument),
-        Err(CheckFault::Conf(ConfFault::Key { key, kind })) => {
-            let kind = *kind;
-            out.line(KeyLine { key, kind });
-        }
+        Err(CheckFault::Conf(ConfFault::Key { key, kind })) => print_fault(key, *kind, out),
         Err(CheckFault::Conf(ConfFault::Memory)) => out.line(ConfLine::Refused(Refusal::Memory)),
     }
 }
@@ -113,6 +113,54 @@ fn print_drives<W: Write>(drives: &[DriveConf], out: &mut Printer<W>)
     let mut number = 0;
     for drive in drives {
         number += 1;
-        out.line(DriveLine { number, drive });
+        print_drive(number, drive, out);
+    }
+}
+
+// Prints the line of a drive, piece by piece: its folder has any length.
+fn print_drive<W: Write>(number: usize, drive: &DriveConf, out: &mut Printer<W>)
+    ensures { Says (said_view W.contents out.old) (said_view W.contents out.new)
+        (line (drive_text number drive.now)) }
+{
+    out.bytes(b"drive ");
+    print_number(number, out);
+    out.bytes(b" ");
+    out.bytes(drive.media.as_str().as_bytes());
+    out.bytes(b" ");
+    print_number(drive.lanes as usize, out);
+    out.bytes(b" ");
+    out.bytes(drive.folder.as_str().as_bytes());
+    out.bytes(b"\n");
+}
+
+fn print_number<W: Write>(number: usize, out: &mut Printer<W>)
+    ensures { Says (said_view W.contents out.old) (said_view W.contents out.new)
+        (decimal number) }
+{
+    let mut digits = Buffer::new();
+    out.bytes(digits.format(number).as_bytes());
+}
+
+// Prints the line of a key that is wrong, piece by piece: the key has any length.
+fn print_fault<W: Write>(key: &Text, kind: FaultKind, out: &mut Printer<W>)
+    ensures { Says (said_view W.contents out.old) (said_view W.contents out.new)
+        (line (fault_text key.now kind)) }
+{
+    out.bytes(b"fault ");
+    out.bytes(key.as_str().as_bytes());
+    out.bytes(b" ");
+    out.bytes(kind_word(kind).as_bytes());
+    out.bytes(b"\n");
+}
+
+/// The word for what is wrong with a key.
+fn kind_word(kind: FaultKind) -> &'static str
+    ensures { result.now ≡ kind_word kind }
+{
+    match kind {
+        FaultKind::Unknown => "unknown",
+        FaultKind::Missing => "missing",
+        FaultKind::Kind => "kind",
+        FaultKind::Range => "range",
     }
 }

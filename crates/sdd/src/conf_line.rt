@@ -1,9 +1,5 @@
-// The lines that say a configuration, or what is wrong with it.
-ghost use Rattle.std.specs.Prelude.{◌≡◌, Some};
-ghost use Rattle.sdd.specs.Check.{kind_word};
-
+// The lines of a configuration that are short, whatever it says.
 use sd_base::Refusal;
-use sd_conf::{DriveConf, FaultKind, Text};
 use std::fmt;
 
 /// A line about a configuration. Displays it without the newline.
@@ -38,59 +34,5 @@ impl fmt::Display for ConfLine {
             ConfLine::NoInput => write!(f, "fault input"),
             ConfLine::Refused(why) => write!(f, "{} {}", why.number(), why.text()),
         }
-    }
-}
-
-/// The line of a drive. Displays it without the newline.
-#[derive(Drop)]
-pub struct DriveLine<'a> {
-    pub number: usize,
-    pub drive: &'a DriveConf,
-}
-
-impl fmt::Display for DriveLine<'_> {
-    ghost use Rattle.std.specs.Prelude.{Some};
-    ghost use Rattle.sdd.specs.Check.{drive_text};
-
-    ghost output = { λ l. Some (drive_text l.number l.drive.now) };
-
-    fn fmt<W: fmt::Write>(&self, f: &mut fmt::Formatter<W>) -> fmt::Result {
-        let number = self.number;
-        let media = self.drive.media.as_str();
-        let lanes = self.drive.lanes;
-        let folder = self.drive.folder.as_str();
-        write!(f, "drive {number} {media} {lanes} {folder}")
-    }
-}
-
-/// The line of a key that is wrong. Displays it without the newline.
-#[derive(Drop)]
-pub struct KeyLine<'a> {
-    pub key: &'a Text,
-    pub kind: FaultKind,
-}
-
-impl fmt::Display for KeyLine<'_> {
-    ghost use Rattle.std.specs.Prelude.{Some};
-    ghost use Rattle.sdd.specs.Check.{fault_text};
-
-    ghost output = { λ l. Some (fault_text l.key.now l.kind) };
-
-    fn fmt<W: fmt::Write>(&self, f: &mut fmt::Formatter<W>) -> fmt::Result {
-        let key = self.key.as_str();
-        let word = kind_word(self.kind);
-        write!(f, "fault {key} {word}")
-    }
-}
-
-/// The word for what is wrong with a key.
-fn kind_word(kind: FaultKind) -> &'static str
-    ensures { result.now ≡ kind_word kind }
-{
-    match kind {
-        FaultKind::Unknown => "unknown",
-        FaultKind::Missing => "missing",
-        FaultKind::Kind => "kind",
-        FaultKind::Range => "range",
     }
 }

@@ -70,3 +70,34 @@ pub static ROWS: [Row; 12] = [
         status: 1,
     },
 ];
+
+/// A text with so many letters in it, and what its check prints and ends with: `printed`, and behind it the letters
+/// and `printed_end`.
+#[derive(Clone, Copy)]
+pub struct LongRow {
+    pub begin: &'static str,
+    pub letters: usize,
+    pub end: &'static str,
+    pub printed: &'static str,
+    pub printed_end: &'static str,
+    pub status: u8,
+}
+
+pub static LONG_ROWS: [LongRow; 2] = [
+    LongRow {
+        begin: "[[drive]]\nmedia = \"File\"\nfolder = \"",
+        letters: 3000,
+        end: "\"\n",
+        printed: "block 64512\nvolume 68719476736\nspool 0\nqueue 8\nport 9103\ndrive 1 File 4 ",
+        printed_end: "\n",
+        status: 0,
+    },
+    LongRow {
+        begin: "",
+        letters: 3000,
+        end: " = 1\n",
+        printed: "fault ",
+        printed_end: " unknown\n",
+        status: 1,
+    },
+];

@@ -85,7 +85,7 @@ returns-in_err-end-clause-lists g c =
     let then = (g.D.Driver.meaning c.read_label.new.driver).shelf in
     rw (p.1, p.2) (
       line (label_text found.label) ++ lists.0,
-      says_then _ (said_view g.W.Write.contents c.line.new.self) _ (line (label_text found.label)) lists.0 c.line.ensures lists.1,
+      says_then _ (said_view g.W.Write.contents c.line.new.self) _ (line (label_text found.label)) lists.0 c.line.ensures.says lists.1,
       λ honest. (
           let tells = len.ok honest in
           let honest_1 = subst IsTrue (sym len.counts.honest) honest in
@@ -120,8 +120,8 @@ returns-clause-lists g c =
     let mid = (g.D.Driver.meaning c.len.new.self).shelf in
     let then = (g.D.Driver.meaning c.read_label.new.driver).shelf in (
       line (label_text found.label) ++ (lists.0 ++ line (tail_text count)),
-      says_then _ (said_view g.W.Write.contents c.line.new.self) _ (line (label_text found.label)) (lists.0 ++ line (tail_text count)) c.line.ensures
-          (says_then _ (said_view g.W.Write.contents c.list_blocks.new.out) _ lists.0 (line (tail_text count)) lists.1 c.line-2.ensures),
+      says_then _ (said_view g.W.Write.contents c.line.new.self) _ (line (label_text found.label)) (lists.0 ++ line (tail_text count)) c.line.ensures.says
+          (says_then _ (said_view g.W.Write.contents c.list_blocks.new.out) _ lists.0 (line (tail_text count)) lists.1 c.line-2.ensures.says),
       λ honest. (
           let tells = len.ok honest in
           let honest_1 = subst IsTrue (sym len.counts.honest) honest in

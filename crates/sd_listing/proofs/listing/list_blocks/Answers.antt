@@ -37,7 +37,7 @@ loop-head-preserved g c =
       shows = λ honest shows. ensures.shows (subst IsTrue (sym so_far.device.counted.honest) honest) (so_far.shows honest shows);
       lists = (
         so_far.lists.0 ++ line (head_text c.loop-head.end c.in-Some.head),
-        says_then _ (said_view g.W.Write.contents c.loop-head.out) _ so_far.lists.0 (line (head_text c.loop-head.end c.in-Some.head)) so_far.lists.1 c.line.ensures,
+        says_then _ (said_view g.W.Write.contents c.loop-head.out) _ so_far.lists.0 (line (head_text c.loop-head.end c.in-Some.head)) so_far.lists.1 c.line.ensures.says,
         λ honest shows held there label is first begins. (
             let there_still : volume c.loop-head.reader.name ≡ Some held = ap volume so_far.name ∙ (so_far.device.same honest _ ∙ there) in
             let stands = rw c.in-Some.is at (ensures.there (subst IsTrue (sym so_far.device.counted.honest) honest) (so_far.shows honest shows) held there_still) in
