@@ -2,8 +2,8 @@
 ghost use Rattle.std.specs.Prelude.{◌≡◌, ◌⊎◌, []};
 ghost use Rattle.sdtool.specs.Lines.{came_with};
 
-use crate::seen::Seen;
 use sd_base::MOST_DATA;
+use sd_readback::Seen;
 use std::alloc::Global;
 use std::io::{BufRead, ErrorKind, Read};
 use std::marker::Model;

@@ -1,5 +1,5 @@
-//! Runs scripts over the core of the storage daemon: `sdtool run` reads a script on standard input and
-//! prints what each line of it comes to.
+//! The storage daemon's tool. `sdtool run` reads a script on standard input, runs it over the core and prints what each
+//! line of it comes to; `sdtool ls` lists a volume; `sdtool read` reads a session back from its volumes.
 #![tactic(auto)]
 
 mod arguments;
@@ -8,13 +8,11 @@ mod events;
 mod fits;
 mod lines;
 mod making;
-mod output;
 mod printed;
 mod reading;
 mod replies;
 mod restart;
 mod run;
-mod seen;
 mod settings;
 mod sink;
 mod stage;
@@ -26,6 +24,9 @@ use arguments::{Task, status_of, task_of};
 use drives::memory_drives;
 use run::run_lines;
 use sd_base::Refusal;
+use sd_extract::read_back;
+use sd_listing::list_volume;
+use sd_progress::Progress;
 use settings::read_settings;
 use std::io::{BufReader, BufWriter};
 use std::process::ExitCode;
@@ -42,6 +43,12 @@ fn main(rt: HostRuntime) -> ExitCode {
     };
     match task_of(alloc, words.as_slice()) {
         Task::Run => run_script(&rt),
+        Task::List { volume, progress } => list(&rt, volume, progress),
+        Task::Read {
+            spans,
+            folder,
+            progress,
+        } => read(&rt, spans, folder, progress),
         Task::Print(told) => match told.print(&rt) {
             Ok(()) => ExitCode::from(status_of(&told)),
             Err(_) => ExitCode::FAILURE,
@@ -65,6 +72,27 @@ fn run_script<R: Input + Print + AllocGlobal>(rt: &R) -> ExitCode {
     };
     let status = run_lines(alloc, settings, drivers, &mut reader, &mut writer);
     // What could not be written is given up, and not tried again as the writer goes.
+    let _ = writer.into_parts();
+    ExitCode::from(status)
+}
+
+/// Lists the volume in the file at this path.
+fn list(rt: &HostRuntime, volume: &str, progress: Progress) -> ExitCode {
+    let Ok(mut writer) = BufWriter::new(rt.alloc(), io::writer(rt)) else {
+        return without_memory(rt);
+    };
+    let status = list_volume(rt, volume, progress, &mut writer);
+    // What could not be written is given up, and not tried again as the writer goes.
+    let _ = writer.into_parts();
+    ExitCode::from(status)
+}
+
+/// Reads a session back by the text in the file `spans`, from the volumes in `folder`.
+fn read(rt: &HostRuntime, spans: &str, folder: &str, progress: Progress) -> ExitCode {
+    let Ok(mut writer) = BufWriter::new(rt.alloc(), io::writer(rt)) else {
+        return without_memory(rt);
+    };
+    let status = read_back(rt, spans, folder, progress, &mut writer);
     let _ = writer.into_parts();
     ExitCode::from(status)
 }

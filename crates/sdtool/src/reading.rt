@@ -6,7 +6,6 @@ ghost use Rattle.sd_span.specs.declared.span.Span.{Span as SpecSpan};
 ghost use Rattle.sdtool.specs.Doing.{Answers, AnswersOrStays, ReadsBack, ReadsNow};
 ghost use Rattle.sdtool.specs.Refused.{unread_refusal};
 
-use crate::output::Output;
 use crate::printed::Closed;
 use crate::replies::print_reply;
 use crate::run::Script;
@@ -15,6 +14,7 @@ use crate::stage::Stage;
 use sd_base::{Items, Refusal, SessionKey, Ticket};
 use sd_driver::Driver;
 use sd_machine::{Event, Reply};
+use sd_printer::Printer;
 use sd_readback::ReadEnd;
 use sd_session::Status;
 use sd_span::Span;
@@ -116,7 +116,7 @@ fn read_back<D: Driver + Drop, W: Write + Drop>(
     stage: &mut Stage<D>,
     key: SessionKey,
     spans: &[Span],
-    out: &mut Output<W>,
+    out: &mut Printer<W>,
 ) -> Result<ReadEnd, Refusal>
     ensures { ReadsBack (λ d. D.meaning d) key spans.now stage.old.world stage.new.world }
 {
@@ -125,7 +125,7 @@ fn read_back<D: Driver + Drop, W: Write + Drop>(
 }
 
 /// Prints the JobMedia text of a session.
-pub fn print_jobmedia<W: Write + Drop>(out: &mut Output<W>, key: SessionKey, spans: &[Span]) {
+pub fn print_jobmedia<W: Write + Drop>(out: &mut Printer<W>, key: SessionKey, spans: &[Span]) {
     out.line(format_args!("session {} {}", key.time, key.id));
     for span in spans {
         out.line(span);
@@ -133,7 +133,7 @@ pub fn print_jobmedia<W: Write + Drop>(out: &mut Output<W>, key: SessionKey, spa
 }
 
 /// Prints the line of a session that was read to its end.
-fn print_end<W: Write + Drop>(out: &mut Output<W>, end: ReadEnd) {
+fn print_end<W: Write + Drop>(out: &mut Printer<W>, end: ReadEnd) {
     let records = end.records;
     let bytes = end.bytes;
     if end.ended {

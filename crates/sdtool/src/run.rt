@@ -9,7 +9,6 @@ ghost use Rattle.sd_script.specs.declared.line.Line.TheVariants as line;
 
 use crate::events::{console_event, step_event};
 use crate::lines::Next;
-use crate::output::Output;
 use crate::printed::Printed;
 use crate::replies::{print_reply, print_requests, print_status};
 use crate::restart::{Restart, Restarted};
@@ -18,6 +17,7 @@ use crate::stage::Stage;
 use sd_base::{Bytes, DriveNo, Items, Rec, Refusal, Ticket, VolName};
 use sd_driver::Driver;
 use sd_machine::{Event, Reply};
+use sd_printer::Printer;
 use sd_script::{ConsoleCmd, Line, Part, read_line};
 use sd_session::Status;
 use std::alloc::{AllocError, Global};
@@ -41,7 +41,7 @@ pub struct Script<D: Driver, W: Write + Drop> {
     /// The moment of what happens now, in microseconds.
     pub moment: i64,
     pub printed: Printed,
-    pub out: Output<W>,
+    pub out: Printer<W>,
 }
 
 /// What a line of a script leaves to do.
@@ -73,13 +73,15 @@ pub fn run_lines<D: Driver + Drop, R: BufRead, W: Write + Drop>(
         mut lines,
         first,
     } = settings;
-    let mut out = Output::new(writer);
+    let mut out = Printer::new(writer);
     if let Some(misfit) = values.misfit() {
         out.line(format_args!("fault {} range", misfit.word()));
+        out.flush();
         return FAILED;
     }
     let Ok(stage) = Stage::new(alloc, values, drivers) else {
         out.line(Refusal::Memory);
+        out.flush();
         return FAILED;
     };
     let mut script = Script {
@@ -122,10 +124,13 @@ impl<D: Driver + Drop, W: Write + Drop> Script<D, W> {
             Next::NoMemory => self.refuse(Refusal::Memory),
             Next::Fault => {
                 self.out.line("fault input");
+                self.out.flush();
                 return Came::Over(FAILED);
             }
             Next::End => return Came::Over(DONE),
         }
+        // What a line comes to is seen at once.
+        self.out.flush();
         if self.out.failed() {
             return Came::Over(FAILED);
         }
@@ -160,12 +165,14 @@ impl<D: Driver + Drop, W: Write + Drop> Script<D, W> {
         } = self;
         let Ok(Restarted { stage, refused }) = stage.restarted(alloc, restart) else {
             out.line(Refusal::Memory);
+            out.flush();
             return None;
         };
         match refused {
             None => out.line("ok restarted"),
             Some(why) => out.line(why),
         }
+        out.flush();
         if out.failed() {
             return None;
         }

@@ -1,8 +1,7 @@
 // The records of a session that is read back, a line each.
-use crate::output::Output;
-use crate::seen::Seen;
 use sd_base::Rec;
-use sd_readback::Sink;
+use sd_printer::Printer;
+use sd_readback::{Seen, Sink};
 use std::alloc::AllocError;
 use std::fmt;
 use std::io::Write;
@@ -13,12 +12,12 @@ const SHOWN: usize = 16;
 /// Prints the line of each record as it comes, and lets the record go.
 #[derive(Drop)]
 pub struct RecordLines<'a, W: Write + Drop> {
-    out: &'a mut Output<W>,
+    out: &'a mut Printer<W>,
     handed: Option<Seen<Rec>>,
 }
 
 impl<'a, W: Write + Drop> RecordLines<'a, W> {
-    pub fn new(out: &'a mut Output<W>) -> Self {
+    pub fn new(out: &'a mut Printer<W>) -> Self {
         RecordLines { out, handed: None }
     }
 }

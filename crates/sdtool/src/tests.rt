@@ -1,5 +1,5 @@
 // Scripts run from their bytes to what they print, and command lines.
-use command_lines::{COMMAND_LINES, is_answered_so};
+use command_lines::{COMMAND_LINES, is_answered_so, words_are_taken};
 use drive_rows::DRIVE_ROWS;
 use faults::{stops_at_write_fault, tells_read_fault};
 use jobmedia::prints_the_text;
@@ -59,5 +59,6 @@ fn command_lines_are_answered(rt: HostRuntime) -> Result<(), Fail> {
     for line in &COMMAND_LINES {
         assert!(rt; is_answered_so(rt.alloc(), line)?, "{}", line.words);
     }
+    assert!(rt; words_are_taken(rt.alloc())?);
     Ok(())
 }

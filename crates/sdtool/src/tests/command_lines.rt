@@ -1,18 +1,20 @@
 // What the command line asks for, and what is told of it.
 use crate::arguments::{Task, status_of, task_of};
+use sd_progress::Progress;
 use std::alloc::{AllocError, Global};
 
-/// A command line, and where it does not run a script the status and the first line of what is told. What
-/// is told with status 2 goes to standard error, and the rest to standard output.
+/// A command line, and where it is told something the status and the first line of that. What is told with
+/// status 2 goes to standard error, and the rest to standard output.
 #[derive(Clone, Copy)]
 pub struct CommandLine {
     pub words: &'static str,
     told: Option<(u8, &'static str)>,
 }
 
-const ABOUT: &str = "Runs scripts over the core of the storage daemon";
+const ABOUT: &str =
+    "Runs scripts over the core of the storage daemon, lists volumes and reads sessions back";
 
-pub static COMMAND_LINES: [CommandLine; 8] = [
+pub static COMMAND_LINES: [CommandLine; 13] = [
     CommandLine {
         words: "",
         told: Some((2, ABOUT)),
@@ -28,6 +30,38 @@ pub static COMMAND_LINES: [CommandLine; 8] = [
     CommandLine {
         words: "sdtool run script",
         told: Some((2, "error: unexpected argument 'script' found")),
+    },
+    CommandLine {
+        words: "sdtool ls",
+        told: Some((
+            2,
+            "error: the following required arguments were not provided:",
+        )),
+    },
+    CommandLine {
+        words: "sdtool read spans",
+        told: Some((
+            2,
+            "error: the following required arguments were not provided:",
+        )),
+    },
+    CommandLine {
+        words: "sdtool ls a b",
+        told: Some((2, "error: unexpected argument 'b' found")),
+    },
+    CommandLine {
+        words: "sdtool ls --help",
+        told: Some((
+            0,
+            "Lists a volume: its label, its blocks, and how many bytes stand behind them",
+        )),
+    },
+    CommandLine {
+        words: "sdtool read --help",
+        told: Some((
+            0,
+            "Reads a session back from its volumes, and writes its records",
+        )),
     },
     CommandLine {
         words: "sdtool frob",
@@ -50,18 +84,20 @@ pub static COMMAND_LINES: [CommandLine; 8] = [
     },
 ];
 
-fn asked(alloc: Global, line: &str) -> Result<Task, AllocError> {
+fn split(alloc: Global, line: &str) -> Result<Vec<String>, AllocError> {
     let mut words = Vec::new(alloc);
     for word in line.split_whitespace() {
         words.push(String::from_str(alloc, word)?)?;
     }
-    Ok(task_of(alloc, &words))
+    Ok(words)
 }
 
 /// Whether the command line is answered as it should be.
 pub fn is_answered_so(alloc: Global, line: &CommandLine) -> Result<bool, AllocError> {
-    match asked(alloc, line.words)? {
+    let words = split(alloc, line.words)?;
+    match task_of(alloc, &words) {
         Task::Run => Ok(line.told.is_none()),
+        Task::List { .. } | Task::Read { .. } => Ok(false),
         Task::Print(told) => {
             let status = status_of(&told);
             let text = told.to_string(alloc)?;
@@ -71,4 +107,23 @@ pub fn is_answered_so(alloc: Global, line: &CommandLine) -> Result<bool, AllocEr
         }
         Task::NoMemory => Err(AllocError),
     }
+}
+
+/// Whether the words of these command lines reach the task that they ask for.
+pub fn words_are_taken(alloc: Global) -> Result<bool, AllocError> {
+    let words = split(alloc, "sdtool ls v/Vol-0001")?;
+    let listed = match task_of(alloc, &words) {
+        Task::List { volume, progress } => volume == "v/Vol-0001" && progress == Progress::Silent,
+        _ => false,
+    };
+    let words = split(alloc, "sdtool read --progress spans v")?;
+    let read = match task_of(alloc, &words) {
+        Task::Read {
+            spans,
+            folder,
+            progress,
+        } => spans == "spans" && folder == "v" && progress == Progress::Told,
+        _ => false,
+    };
+    Ok(listed && read)
 }

@@ -1,7 +1,7 @@
 // What `close` prints of a session is the text of the core.
-use crate::output::Output;
 use crate::reading::print_jobmedia;
 use sd_base::{SessionKey, VolName};
+use sd_printer::Printer;
 use sd_span::{Span, put_jobmedia};
 use std::alloc::{AllocError, Global};
 
@@ -15,7 +15,7 @@ pub fn prints_the_text(alloc: Global) -> Result<bool, AllocError> {
     let mut text = String::new(alloc);
     put_jobmedia(&mut text, key, &spans)?;
     let mut printed = Vec::new(alloc);
-    let mut out = Output::new(&mut printed);
+    let mut out = Printer::new(&mut printed);
     print_jobmedia(&mut out, key, &spans);
     drop(out);
     Ok(printed.as_slice() == text.as_bytes())

@@ -1,0 +1,2 @@
+pub mod ExtractLemmas
+pub mod TextLemmas

@@ -1,0 +1,51 @@
+-- What is printed of a reading: two lines for each record, and one for how it ended.
+use Rattle.std.specs.Prelude.{ℕ, Bool, true, false, List, ◌++◌, length, Result, Ok, Err, codes}
+use Rattle.std.specs.List.{flat_map}
+use Rattle.std.specs.Fmt.{decimal}
+use Rattle.sd_base.specs.Record.{Record}
+use Rattle.sd_base.specs.Refusal.{number_of, text_of}
+use Rattle.sd_base.specs.declared.refusal.Refusal.{Refusal}
+use Rattle.sd_readback.specs.Faults.{fault_refusal}
+use Rattle.sd_readback.specs.declared.fault.ReadFault.{ReadFault}
+use Rattle.sd_readback.specs.declared.read.ReadEnd.{ReadEnd}
+use Rattle.sd_words.specs.Lines.{line}
+use Rattle.sd_extract.specs.declared.lines.Line.{Line}
+use Rattle.sd_extract.specs.declared.lines.Line.TheVariants as lines
+
+-- a record: its FileIndex, its Stream, and how many bytes it has
+abbrev pub record_text : ℕ → ℕ → ℕ → List ℕ
+record_text index stream size = codes "rec " ++ decimal index ++ codes " " ++ decimal stream ++ codes " " ++ decimal size
+
+-- whether the end label of the session was there
+abbrev pub ended_text : Bool → List ℕ
+ended_text true = codes "ended"
+ended_text false = codes "cut"
+
+-- what a session was read to: how many records, how many data bytes, and whether to its end label
+abbrev pub end_text : ReadEnd → List ℕ
+end_text end =
+    codes "ok read " ++ decimal end.records ++ codes " " ++ decimal end.bytes ++ codes " " ++ ended_text end.ended
+
+-- a refusal: its number and its text
+abbrev pub refusal_text : Refusal → List ℕ
+refusal_text why = decimal (number_of why) ++ codes " " ++ text_of why
+
+-- a line without its newline
+abbrev pub line_text : Line → List ℕ
+line_text (lines.Record index stream size) = record_text index stream size
+line_text (lines.End end) = end_text end
+line_text lines.NoFile = codes "fault file"
+line_text (lines.Refused why) = refusal_text why
+
+-- what is printed of a record: its line, its bytes as they are, and a newline
+abbrev pub record_lines : Record → List ℕ
+record_lines r = line (record_text r.index r.stream (length r.bytes)) ++ line r.bytes
+
+-- what is printed of records, one after another
+abbrev pub records_lines : List Record → List ℕ
+records_lines records = flat_map record_lines records
+
+-- the line of how a reading ended: what the session was read to, or the refusal of the fault that was met
+abbrev pub ending_text : Result ReadEnd ReadFault → List ℕ
+ending_text (Ok end) = end_text end
+ending_text (Err fault) = refusal_text (fault_refusal fault)
