@@ -1,6 +1,7 @@
 pub mod CommandLemmas
 pub mod ConverseLemmas
 pub mod HeaderLemmas
+pub mod LogLemmas
 pub mod OutLemmas
 pub mod ReadLemmas
 pub mod StandingLemmas

@@ -7,6 +7,7 @@ pub mod Out
 pub mod Port
 pub mod Reader
 pub mod Reading
+pub mod Seen
 pub mod Stage
 pub mod Standing
 pub mod Talk

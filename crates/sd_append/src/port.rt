@@ -9,6 +9,13 @@ use sd_machine::{Event, Reply};
 use sd_readback::{ReadEnd, Sink};
 use sd_span::Span;
 
+/// What a reading came to: the sink, with the records that it got, and the answer.
+#[derive(Drop)]
+pub struct ReadBack<S> {
+    pub sink: S,
+    pub answer: Result<ReadEnd, Refusal>,
+}
+
 /// The daemon as a talk sees it. In a contract `asked` is the list of what it was asked, with the answers, in
 /// order.
 pub trait SessionPort {
@@ -19,16 +26,11 @@ pub trait SessionPort {
         ensures { asked self.new ≡ asked self.old ++ Stepped event result ∷ [] };
 
     /// Reads a session back by its spans. Each record goes to the sink as it comes; those before a fault
-    /// stay there.
-    fn read<S: Sink>(
-        &mut self,
-        key: SessionKey,
-        spans: &[Span],
-        sink: &mut S,
-    ) -> Result<ReadEnd, Refusal>
+    /// stay there. The sink comes back with the answer.
+    fn read<S: Sink>(&mut self, key: SessionKey, spans: &[Span], sink: S) -> ReadBack<S>
         ensures { (records : List Record)
-            × (S.got sink.new ≡ S.got sink.old ++ records)
-            × (asked self.new ≡ asked self.old ++ WasRead key spans.now records result ∷ []) };
+            × (S.got result.sink ≡ S.got sink ++ records)
+            × (asked self.new ≡ asked self.old ++ WasRead key spans.now records result.answer ∷ []) };
 
     /// The lines that answer a console's line, each with its newline, or the refusal.
     fn console(&mut self, line: &[u8]) -> Result<Items<Payload>, Refusal>

@@ -11,7 +11,7 @@ ghost use Rattle.sd_append.specs.Talk.{record_said};
 use crate::answers::say_record;
 use crate::handed::Handed;
 use crate::outbox::Outbox;
-use crate::port::SessionPort;
+use crate::port::{ReadBack, SessionPort};
 use sd_base::{Rec, Refusal, SessionKey};
 use sd_readback::{ReadEnd, Sink};
 use sd_span::Span;
@@ -92,12 +92,12 @@ pub(crate) fn read_out<K: Before, W: Write, P: SessionPort>(
         × Puts K.before (out_view W.contents result.outbox)
         (stream_of (flat_map record_said records)) }
 {
-    let mut sink: RecordPackets<K, W> = RecordPackets {
+    let sink: RecordPackets<K, W> = RecordPackets {
         outbox,
         handed: None,
         of: PhantomData,
     };
-    let answer = port.read(key, spans, &mut sink);
+    let ReadBack { sink, answer } = port.read(key, spans, sink);
     let RecordPackets {
         outbox,
         handed: _,

@@ -12,6 +12,7 @@ mod packing;
 mod rate;
 mod readback;
 mod spools;
+mod talk;
 mod volumes;
 
 use anyhow::{Result, bail};
@@ -47,7 +48,8 @@ fn main(rt: HostRuntime) -> Result<()> {
     blocks::run(&rt, length)?;
     packing::run(&rt, length)?;
     volumes::run(&rt, length)?;
-    readback::run(&rt, length)
+    readback::run(&rt, length)?;
+    talk::run(&rt, length)
 }
 
 // Writes so many blocks to a file of the folder.

@@ -1,2 +1,5 @@
 pub mod AlongLemmas
+pub mod ConsoleLemmas
+pub mod DeedLemmas
+pub mod RunLemmas
 pub mod TryLemmas

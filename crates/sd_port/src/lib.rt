@@ -1,10 +1,17 @@
-//! What a port of a talk does with a world: an event is given again after rounds, and a text is shown in packets.
+//! A world as the port of talks: an event waits for rounds, a console's line is obeyed, and all that the world is given is
+//! one run.
 #![tactic(auto)]
 
+mod adopted;
+mod console;
 mod laws;
 mod lines;
+mod port;
+mod ports;
 mod tries;
+mod watched;
 
-pub use laws::answers_are_a_run;
+pub use laws::{answers_are_a_run, deeds_are_a_run};
 pub use lines::{one_line, packet_of, show};
+pub use port::WorldPort;
 pub use tries::answer;

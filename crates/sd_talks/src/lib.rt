@@ -3,22 +3,18 @@
 #![tactic(auto)]
 
 mod generated;
-mod log;
 mod plain;
 mod port;
 mod rows;
-mod shown;
 mod talks;
 #[cfg(test)]
 mod tests;
 mod wire;
 
 pub use generated::{EVERY, acts_of, comes_as_plainly, refused_as_plainly, refused_of};
-pub use log::{Log, Seen};
 pub use plain::{Act, PlainCame, hold_plainly, sent_of};
 pub use port::{Port, RecordRow, sum_of};
 pub use rows::{DIALOGUE, DIALOGUE_CUT, LARGE, ROWS};
-pub use shown::Shown;
 pub use talks::{
     Came, Line, Row, Sent, WHOLE, bytes_of, comes, comes_cut, first_cut_otherwise, hold,
 };

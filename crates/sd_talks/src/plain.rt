@@ -298,10 +298,10 @@ impl Plain {
         }
         let key = SessionKey { time: 9, id: 9 };
         let none: [Span; 0] = [];
-        let mut got: Vec<Rec> = Vec::new(self.alloc);
-        let answer = self.port.read(key, &none, &mut got);
+        let got: Vec<Rec> = Vec::new(self.alloc);
+        let read = self.port.read(key, &none, got);
         self.signal(-1)?;
-        match answer {
+        match read.answer {
             Ok(_) => self.say("3000 OK read Records=0 Bytes=7 Ended=1"),
             Err(refusal) => self.refuse(refusal),
         }

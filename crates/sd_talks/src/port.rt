@@ -1,12 +1,9 @@
 // A port that answers by rule, and tells what it was asked.
 ghost use Rattle.std.specs.Prelude.{◌≡◌, ◌∷◌, ◌++◌, [], All, IfOk, IfSome};
 ghost use Rattle.sd_append.specs.Port.{IsLine};
-ghost use Rattle.sd_talks.specs.Seen.{asked_of};
 ghost use Rattle.sd_words.specs.Lines.{line};
 
-use crate::log::Log;
-use crate::shown::Shown;
-use sd_append::SessionPort;
+use sd_append::{Log, ReadBack, SessionPort, Shown};
 use sd_base::{Bytes, DriveNo, Items, Rec, Refusal, SessionKey, Ticket, VolName};
 use sd_bnet::Payload;
 use sd_machine::{Event, Reply};
@@ -66,7 +63,7 @@ impl Port {
 }
 
 impl SessionPort for Port {
-    ghost asked = { λ p. asked_of p.log.seen };
+    ghost asked = { λ p. p.log };
 
     fn step(&mut self, event: Event) -> Reply {
         let given = Snapshot::of(&event);
@@ -75,16 +72,11 @@ impl SessionPort for Port {
         reply
     }
 
-    fn read<S: Sink>(
-        &mut self,
-        key: SessionKey,
-        spans: &[Span],
-        sink: &mut S,
-    ) -> Result<ReadEnd, Refusal> {
-        let handed = hand_over(self.script.alloc, self.script.records, sink);
+    fn read<S: Sink>(&mut self, key: SessionKey, spans: &[Span], mut sink: S) -> ReadBack<S> {
+        let handed = hand_over(self.script.alloc, self.script.records, &mut sink);
         let answer = self.script.read_to(key, spans, handed.all);
         self.log = self.log.was_read(key, spans, handed.shown, &answer);
-        answer
+        ReadBack { sink, answer }
     }
 
     fn console(&mut self, line: &[u8]) -> Result<Items<Payload>, Refusal> {

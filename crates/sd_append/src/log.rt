@@ -1,7 +1,6 @@
 // What a port was asked and what it answered, as contracts see it. Nothing of it is held.
 ghost use Rattle.std.specs.Prelude.{◌≡◌, ◌∷◌, ◌++◌, []};
 ghost use Rattle.sd_append.specs.Port.{Stepped, WasRead, Said};
-ghost use Rattle.sd_talks.specs.Seen.{asked_of};
 
 use crate::shown::Shown;
 use sd_base::{Items, Rec, Refusal, SessionKey};
@@ -9,25 +8,37 @@ use sd_bnet::Payload;
 use sd_machine::{Event, Reply};
 use sd_readback::ReadEnd;
 use sd_span::Span;
+use std::marker::Model;
 use std::snapshot::Snapshot;
 
 /// One question and its answer.
 #[derive(Drop)]
-pub enum Seen {
+pub(crate) enum Seen {
     Stepped(Snapshot<Event>, Snapshot<Reply>),
     WasRead(SessionKey, Shown<Span>, Shown<Rec>, Snapshot<Result<ReadEnd, Refusal>>),
     Said(Shown<u8>, Snapshot<Result<Items<Payload>, Refusal>>),
 }
 
-/// The questions so far, with their answers.
+/// What a port was asked so far, with the answers, for its `asked`. In a contract it is that list; it takes no
+/// memory.
 #[derive(Drop)]
 pub struct Log {
-    pub(crate) seen: Shown<Seen>,
+    seen: Shown<Seen>,
+}
+
+impl Model for Log {
+    ghost use Rattle.std.specs.Prelude.{List};
+    ghost use Rattle.sd_append.specs.Port.{Exchange};
+    ghost use Rattle.sd_append.specs.Seen.{asked_of};
+
+    ghost Value = { List Exchange };
+
+    ghost view = { λ l. asked_of l.seen };
 }
 
 impl Log {
     pub fn new() -> Self
-        ensures { result.seen ≡ [] }
+        ensures { result ≡ [] }
     {
         Log {
             seen: Shown::nothing(),
@@ -37,7 +48,7 @@ impl Log {
     /// The log with an event and its reply.
     #[tactic(auto, using(crate::proofs::LogLemmas::asked_more))]
     pub fn stepped(&self, event: Snapshot<Event>, reply: &Reply) -> Self
-        ensures { asked_of result.seen ≡ asked_of self.now.seen ++ Stepped event.value reply.now ∷ [] }
+        ensures { result ≡ self.now ++ Stepped event.value reply.now ∷ [] }
     {
         let seen = Seen::Stepped(event, Snapshot::of(reply));
         Log {
@@ -45,7 +56,7 @@ impl Log {
         }
     }
 
-    /// The log with a session that was read back.
+    /// The log with a session that was read back, and the records that were handed over.
     #[tactic(auto, using(crate::proofs::LogLemmas::asked_more))]
     pub fn was_read(
         &self,
@@ -54,8 +65,7 @@ impl Log {
         records: Shown<Rec>,
         answer: &Result<ReadEnd, Refusal>,
     ) -> Self
-        ensures { asked_of result.seen
-            ≡ asked_of self.now.seen ++ WasRead key spans.now records answer.now ∷ [] }
+        ensures { result ≡ self.now ++ WasRead key spans.now records answer.now ∷ [] }
     {
         let seen = Seen::WasRead(key, Shown::of(spans), records, Snapshot::of(answer));
         Log {
@@ -66,7 +76,7 @@ impl Log {
     /// The log with a console's line.
     #[tactic(auto, using(crate::proofs::LogLemmas::asked_more))]
     pub fn said(&self, line: &[u8], answer: &Result<Items<Payload>, Refusal>) -> Self
-        ensures { asked_of result.seen ≡ asked_of self.now.seen ++ Said line.now answer.now ∷ [] }
+        ensures { result ≡ self.now ++ Said line.now answer.now ∷ [] }
     {
         let seen = Seen::Said(Shown::of(line), Snapshot::of(answer));
         Log {
