@@ -2,7 +2,7 @@
 use crate::event::event_of;
 use crate::ground::{ListWorld, make_first, make_world};
 use sd_base::{Items, Refusal, SessionKey, Ticket};
-use sd_machine::Reply;
+use sd_machine::{Event, Reply};
 use sd_memdrive::MemDrive;
 use sd_plain::{
     Act, Line, Machine, Settings, Taken, are_first_of, put_drive, put_fault, put_read, put_reply,
@@ -68,7 +68,7 @@ impl<'a> PlayedWorld<'a> {
         let Some(world) = &mut self.world else {
             return line.words("no world");
         };
-        let reply = world.step(event);
+        let reply = give(world, event);
         put_reply(line, &reply);
         self.note(act, reply);
     }
@@ -154,6 +154,20 @@ impl<'a> PlayedWorld<'a> {
             Some(world) => begin_again(self.alloc, &self.settings, time, world),
         };
         line.words("ok restarted");
+    }
+}
+
+// The reply to the event. A record of an even number is lent to the world, and of an odd one given away.
+fn give(world: &mut ListWorld, event: Event) -> Reply {
+    match event {
+        Event::Append { ticket, rec } => {
+            if rec.index % 2 == 0 {
+                world.append(ticket, &rec)
+            } else {
+                world.step(Event::Append { ticket, rec })
+            }
+        }
+        event => world.step(event),
     }
 }
 

@@ -117,7 +117,43 @@ pub static LIST_FLOORS: &[Floor] = &[
 ];
 
 /// The answers that the scenarios with a call that fails are to come to.
-pub static FAILING_FLOORS: &[Floor] = &[("read ok read", 1)];
+pub static FAILING_FLOORS: &[Floor] = &[
+    ("open ok ticket", 720),
+    ("open 3920", 3),
+    ("rec ok taken", 1030),
+    ("end ok ended", 710),
+    ("end 3905", 6),
+    ("close ok closed", 220),
+    ("close 3905", 70),
+    ("close 3907", 100),
+    ("cancel ok cancelled", 420),
+    ("spool ok spooled", 490),
+    ("spool ok spool full", 510),
+    ("spool 3905", 65),
+    ("spool 3920", 21),
+    ("despool ok sent", 1210),
+    ("despool 3905", 80),
+    ("despool 3920", 15),
+    ("take ok hand full", 280),
+    ("take ok hand ", 1350),
+    ("place ok placed", 980),
+    ("place ok need volume", 600),
+    ("place ok volume full", 85),
+    ("place ok volume error", 39),
+    ("sync ok synced", 1700),
+    ("sync 3940", 39),
+    ("label ok labelled", 370),
+    ("label 3940", 36),
+    ("mount ok mounted", 9),
+    ("mount 3930", 110),
+    ("mount 3934", 100),
+    ("unmount ok unmounted", 90),
+    ("seek ok mounted", 350),
+    ("seek ok requested", 230),
+    ("seek 3940", 12),
+    ("read ok read", 420),
+    ("read 3940", 60),
+];
 
 /// What the answers begin with that tell of a call of a device, or of a spool, that failed.
 static FAULTS: [&str; 3] = ["3920", "3940", "ok volume error"];
