@@ -11,6 +11,7 @@ use Rattle.sd_conf.specs.declared.conf.Conf.{Conf}
 use Rattle.sd_conf.specs.declared.conf.DriveConf.{DriveConf}
 use Rattle.sd_conf.specs.declared.fault.FaultKind.{FaultKind}
 use Rattle.sd_conf.specs.declared.fault.FaultKind.TheVariants.{Unknown, Missing, Kind, Range}
+use Rattle.sd_conf.specs.declared.fault.ConfFault.{ConfFault}
 use Rattle.sd_conf.specs.declared.fault.ConfFault.TheVariants.{Text, Key, Memory as NoMemory}
 use Rattle.sd_printer.specs.Says.{SaidView, Says}
 use Rattle.sd_words.specs.Lines.{line}
@@ -61,13 +62,17 @@ conf_lines c =
     line (codes "block " ++ decimal c.block) ++ (line (codes "volume " ++ decimal c.volume) ++ (line (codes "spool " ++ decimal c.spool)
     ++ (line (codes "queue " ++ decimal c.queue) ++ (line (codes "port " ++ decimal c.port) ++ drive_lines 1 c.drives))))
 
+-- the line of what is wrong with a configuration
+abbrev pub fault_line : ConfFault → List ℕ
+fault_line Text = line (codes "fault text")
+fault_line (Key key kind) = line (fault_text key kind)
+fault_line NoMemory = line (refusal_text Memory)
+
 -- what is printed of a configuration that was read, or of why none was
 abbrev pub checked_lines : Result Conf CheckFault → List ℕ
 checked_lines (Ok conf) = conf_lines conf
 checked_lines (Err NoInput) = line (codes "fault input")
-checked_lines (Err (Bad Text)) = line (codes "fault text")
-checked_lines (Err (Bad (Key key kind))) = line (fault_text key kind)
-checked_lines (Err (Bad NoMemory)) = line (refusal_text Memory)
+checked_lines (Err (Bad fault)) = fault_line fault
 
 -- The text holds this configuration; or this fault comes first in it; or it is no TOML document, also where it is no
 -- UTF-8. Memory may lack, and the input fail, at any text.

@@ -1,9 +1,10 @@
 // A configuration that is read from the input and printed.
-ghost use Rattle.std.specs.Prelude.{◌≡◌};
+ghost use Rattle.std.specs.Prelude.{◌≡◌, IfOk};
+ghost use Rattle.sd_conf.specs.Conf.{IsWithinLimits};
 ghost use Rattle.sd_printer.specs.Says.{Says, said_view};
 ghost use Rattle.std.specs.Fmt.{decimal};
 ghost use Rattle.sd_words.specs.Lines.{line};
-ghost use Rattle.sdd.specs.Check.{Input, PrintsCheck, ReadsConf, checked_lines, conf_lines, drive_lines, drive_text, fault_text, kind_word, status_of};
+ghost use Rattle.sdd.specs.Check.{Input, PrintsCheck, ReadsConf, checked_lines, conf_lines, drive_lines, drive_text, fault_line, fault_text, kind_word, status_of};
 
 use crate::conf_line::ConfLine;
 use itoa::Buffer;
@@ -65,9 +66,10 @@ fn read_input<R: Read>(alloc: Global, reader: &mut R) -> Result<Conf, CheckFault
     }
 }
 
-// The configuration that these bytes are.
-fn conf_in(alloc: Global, bytes: &[u8]) -> Result<Conf, CheckFault>
-    ensures { Input bytes.now result }
+/// The configuration that these bytes are.
+pub(crate) fn conf_in(alloc: Global, bytes: &[u8]) -> Result<Conf, CheckFault>
+    ensures input { Input bytes.now result }
+    ensures within { IfOk result IsWithinLimits }
 {
     let Ok(text) = str::from_utf8(bytes) else {
         return Err(CheckFault::Conf(ConfFault::Text));
@@ -86,9 +88,19 @@ fn print_checked<W: Write>(checked: &Result<Conf, CheckFault>, out: &mut Printer
     match checked {
         Ok(conf) => print_conf(conf, out),
         Err(CheckFault::Input) => out.line(ConfLine::NoInput),
-        Err(CheckFault::Conf(ConfFault::Text)) => out.line(ConfLine::NoDocument),
-        Err(CheckFault::Conf(ConfFault::Key { key, kind })) => print_fault(key, *kind, out),
-        Err(CheckFault::Conf(ConfFault::Memory)) => out.line(ConfLine::Refused(Refusal::Memory)),
+        Err(CheckFault::Conf(fault)) => print_conf_fault(fault, out),
+    }
+}
+
+/// Prints the line of what is wrong with a configuration.
+pub(crate) fn print_conf_fault<W: Write>(fault: &ConfFault, out: &mut Printer<W>)
+    ensures { Says (said_view W.contents out.old) (said_view W.contents out.new)
+        (fault_line fault.now) }
+{
+    match fault {
+        ConfFault::Text => out.line(ConfLine::NoDocument),
+        ConfFault::Key { key, kind } => print_fault(key, *kind, out),
+        ConfFault::Memory => out.line(ConfLine::Refused(Refusal::Memory)),
     }
 }
 

@@ -1,17 +1,20 @@
-//! The storage daemon: `sdd check` reads a configuration on standard input and prints its values, or what is wrong
-//! with it.
+//! The storage daemon: `sdd serve` serves clients, and `sdd check` reads a configuration on standard input and prints
+//! its values, or what is wrong with it.
 #![tactic(auto)]
 
 mod arguments;
 mod check;
 mod conf_line;
+mod serve;
+mod serve_line;
 #[cfg(test)]
 mod tests;
 
-use arguments::{Task, status_of, task_of};
+use arguments::{Serving, Task, status_of, task_of};
 use check::check_conf;
 use sd_base::Refusal;
 use sd_printer::Printer;
+use serve::serve_file;
 use std::io::BufWriter;
 use std::process::ExitCode;
 use std::{env, io};
@@ -27,6 +30,7 @@ fn main(rt: HostRuntime) -> ExitCode {
     };
     match task_of(alloc, words.as_slice()) {
         Task::Check => check_input(&rt),
+        Task::Serve(asked) => serve_clients(&rt, &asked),
         Task::Print(told) => match told.print(&rt) {
             Ok(()) => ExitCode::from(status_of(&told)),
             Err(_) => ExitCode::FAILURE,
@@ -47,6 +51,13 @@ fn check_input<R: Input + Print + AllocGlobal>(rt: &R) -> ExitCode {
     let _ = out.into_writer();
     let _ = writer.into_parts();
     ExitCode::from(status)
+}
+
+/// Serves clients.
+fn serve_clients(rt: &HostRuntime, asked: &Serving<'_>) -> ExitCode {
+    let log = if asked.log { Some(rt.stderr()) } else { None };
+    let mut out = Printer::new(io::writer(rt));
+    ExitCode::from(serve_file(rt, asked, log, &mut out))
 }
 
 fn without_memory(rt: &impl Print) -> ExitCode {

@@ -1,0 +1,20 @@
+use Rattle.std.proofs.Common.{◌≤◌, All, ap, length, subst, sym, arith}
+use Rattle.std.proofs.lemmas.List.{length-map}
+use Rattle.sd_setup.specs.World.{media_of}
+use Rattle.sd_setup.proofs.WorldLemmas.{lanes_few}
+use Rattle.sd_setup.proofs.world.settings_of.Goals as goal
+
+pub returns-clause-conf : goal.returns-clause-conf
+returns-clause-conf c =
+    let w = c.requires.within in
+    let drives = c.args.conf.now.drives in
+    record {
+      block_least = w.block_least;
+      block_most = w.block_most;
+      volume_most = w.volume_most;
+      drives_most = omega (arith, ap length c.requires.medias, length-map drives media_of, w.drives_most);
+      lanes_most = subst (All (λ d. d.1 ≤ 32)) (sym c.requires.medias) (lanes_few drives w.drives_within);
+    }
+
+pub returns-clause-many : goal.returns-clause-many
+returns-clause-many c = omega (arith, ap length c.requires.medias, length-map c.args.conf.now.drives media_of)

@@ -1,0 +1,105 @@
+// The daemon, from the file of its configuration on.
+ghost use Rattle.std.specs.Prelude.{◌≡◌, IfErr, IfOk};
+ghost use Rattle.sd_conf.specs.Conf.{IsWithinLimits};
+ghost use Rattle.sd_printer.specs.Says.{Says, said_view};
+ghost use Rattle.sdd.specs.Serve.{IsFaultOf, IsReadOf, PrintsServe, outcome_lines, status_of};
+
+use crate::arguments::Serving;
+use crate::check::{CheckFault, conf_in, print_conf_fault};
+use crate::serve_line::ServeLine;
+use sd_conf::{Conf, ConfFault};
+use sd_daemon::{ServeFault, serve};
+use sd_printer::Printer;
+use sd_serve::Log;
+use std::fs;
+use std::io::{ErrorKind, Write};
+
+/// The status of a daemon that held its talks.
+const DONE: u8 = 0;
+
+/// The status of a daemon that could not serve.
+const FAILED: u8 = 1;
+
+/// What came of the file of a configuration.
+#[derive(Drop)]
+pub enum Outcome {
+    /// It was served.
+    Served,
+    /// It can't be read.
+    NoFile,
+    /// What it holds is no configuration.
+    NoConf(ConfFault),
+    /// Its configuration can't be served.
+    NotServed(ServeFault),
+}
+
+/// Serves clients as the configuration in a file says, and prints nothing; or prints the line of what is wrong. Answers
+/// the status: 0 where clients were served, and else 1.
+pub fn serve_file<W: Write, L: Write + Drop>(
+    rt: &HostRuntime,
+    asked: &Serving<'_>,
+    log: Option<L>,
+    out: &mut Printer<W>,
+) -> u8
+    ensures { PrintsServe (said_view W.contents out.old) (said_view W.contents out.new) result }
+{
+    let outcome = outcome_of(rt, asked, log);
+    print_outcome(&outcome, out);
+    out.flush();
+    status_of(&outcome, out.failed())
+}
+
+// The status of a daemon with this outcome.
+fn status_of(outcome: &Outcome, failed: bool) -> u8
+    ensures { result ≡ status_of outcome.now failed }
+{
+    match outcome {
+        Outcome::Served if !failed => DONE,
+        _ => FAILED,
+    }
+}
+
+// What comes of the file.
+fn outcome_of<L: Write + Drop>(rt: &HostRuntime, asked: &Serving<'_>, log: Option<L>) -> Outcome
+    ensures { IsReadOf result }
+{
+    let conf = match read_file(rt, asked.path) {
+        Ok(conf) => conf,
+        Err(CheckFault::Input) => return Outcome::NoFile,
+        Err(CheckFault::Conf(fault)) => return Outcome::NoConf(fault),
+    };
+    match serve(rt, &conf, asked.talks, Log::new(log)) {
+        Ok(()) => Outcome::Served,
+        Err(fault) => Outcome::NotServed(fault),
+    }
+}
+
+// The configuration in a file.
+#[tactic(auto, using(crate::proofs::ServeLemmas::fault_of, crate::proofs::ServeLemmas::no_memory, crate::proofs::ServeLemmas::no_input))]
+fn read_file(rt: &HostRuntime, path: &str) -> Result<Conf, CheckFault>
+    ensures within { IfOk result IsWithinLimits }
+    ensures fault { IfErr result IsFaultOf }
+{
+    match fs::read(rt, path) {
+        Ok(bytes) => conf_in(rt.alloc(), &bytes),
+        Err(fault) if fault.kind() == ErrorKind::OutOfMemory => {
+            Err(CheckFault::Conf(ConfFault::Memory))
+        }
+        Err(_) => Err(CheckFault::Input),
+    }
+}
+
+// Prints the line of what is wrong, if anything is.
+fn print_outcome<W: Write>(outcome: &Outcome, out: &mut Printer<W>)
+    ensures { Says (said_view W.contents out.old) (said_view W.contents out.new)
+        (outcome_lines outcome.now) }
+{
+    match outcome {
+        Outcome::Served => {}
+        Outcome::NoFile => out.line(ServeLine::NoFile),
+        Outcome::NoConf(fault) => print_conf_fault(fault, out),
+        Outcome::NotServed(ServeFault::Time) => out.line(ServeLine::NoTime),
+        Outcome::NotServed(ServeFault::Port) => out.line(ServeLine::NoPort),
+        Outcome::NotServed(ServeFault::Memory) => out.line(ServeLine::NoMemory),
+    }
+}
