@@ -75,5 +75,5 @@ fault_pieces key word = simp append_assoc
 
 pub says_fault_line : (key word text : List ℕ) (kind : FaultKind) (a b c d e f : SaidView) → text ≡ key → word ≡ kind_word kind
     → Says a b (codes "fault ") → Says b c text → Says c d (codes " ") → Says d e word → Says e f (codes "\n") → Says a f (line (fault_text key kind))
-says_fault_line key word text kind a b c d e f text_is word_is p q r s t =
+says_fault_line key word text fault a b c d e f text_is word_is p q r s t =
     rw fault_pieces at (rw (text_is, word_is) at (says_then a b f _ _ p (says_then b c f _ _ q (says_then c d f _ _ r (says_then d e f _ _ s t)))))
