@@ -4,10 +4,12 @@ use Rattle.sd_core.specs.Runs.{RunsTo}
 use Rattle.sd_driver.specs.Meaning.{Meaning}
 use Rattle.sd_machine.specs.Machine.{Machine}
 use Rattle.sd_machine.specs.declared.event.Event.{Event}
+use Rattle.sd_machine.specs.declared.event.Event.TheVariants.{Cancel}
 use Rattle.sd_machine.specs.declared.reply.Reply.{Reply}
 use Rattle.sd_matches.specs.Matches.{Matches}
 use Rattle.sd_moves.specs.Rules.{IsWorld}
-use Rattle.sd_moves.specs.World.{WorldView}
+use Rattle.sd_moves.specs.World.{HasTicket, WorldSession, WorldView}
+use Rattle.sd_session.specs.Session.{IsRunning}
 use Rattle.sd_port.specs.Port.{Deed, LeadsTo, events_in, replies_in}
 use Rattle.sd_port.specs.Tries.{Answers}
 
@@ -17,6 +19,12 @@ abbrev pub AnswersAreARun : Type 0 → Type 0
 AnswersAreARun D = (meaning : D → Meaning) (rounds : ℕ) (old new : WorldView D) (event : Event) (reply : Reply) (events : List Event) (replies : List Reply)
     → IsWorld old → Answers meaning rounds old event reply events replies new
     → IsWorld new × ((m : Machine) → Matches meaning old m → RunsTo meaning m events replies new)
+
+-- However often a cancel is given, its session doesn't go on in the world behind it.
+abbrev pub GivenUp : Type 0 → Type 0
+GivenUp D = (meaning : D → Meaning) (rounds : ℕ) (old new : WorldView D) (ticket : ℕ) (reply : Reply) (events : List Event) (replies : List Reply)
+    → Answers meaning rounds old (Cancel ticket) reply events replies new
+    → (e : WorldSession) → HasTicket new ticket e → IsRunning e.session.status → ⊥
 
 -- Whatever a port did, its world keeps its rules; and from each machine that the world matched, all events that it was
 -- given, with the replies, are a run to one that it matches then: those of rounds and of a console's lines among them. A

@@ -11,7 +11,7 @@ mod ports;
 mod tries;
 mod watched;
 
-pub use laws::{answers_are_a_run, deeds_are_a_run};
+pub use laws::{answers_are_a_run, cancels_give_up, deeds_are_a_run};
 pub use lines::{one_line, packet_of, show};
 pub use port::WorldPort;
 pub use tries::answer;
