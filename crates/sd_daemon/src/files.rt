@@ -1,6 +1,7 @@
 // The world of files as a port.
 ghost use Rattle.std.specs.Prelude.{◌≡◌, pos};
 ghost use Rattle.sd_port.specs.Port.{new_port};
+ghost use Rattle.sd_port.specs.declared.syncing.Syncing.TheVariants.{AtRest};
 
 use sd_append::{ReadBack, SessionPort};
 use sd_base::{Items, Refusal, SessionKey};
@@ -8,7 +9,7 @@ use sd_bnet::Payload;
 use sd_filedrive::FileDrive;
 use sd_lane::PlainLanes;
 use sd_machine::{Event, Reply};
-use sd_port::WorldPort;
+use sd_port::{Syncing, WorldPort};
 use sd_readback::Sink;
 use sd_serve::{ROUNDS, RoundPort};
 use sd_setup::FileWorld;
@@ -25,10 +26,10 @@ pub struct FilePort {
 impl FilePort {
     /// The port of this world, which was asked nothing yet.
     pub fn new(alloc: Global, world: FileWorld) -> Self
-        ensures { result.port ≡ new_port world (pos 0) 1_000_000_000 }
+        ensures { result.port ≡ new_port world (pos 0) AtRest 1_000_000_000 }
     {
         FilePort {
-            port: WorldPort::new(alloc, world, 0, ROUNDS),
+            port: WorldPort::new(alloc, world, 0, Syncing::AtRest, ROUNDS),
         }
     }
 }

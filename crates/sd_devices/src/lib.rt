@@ -2,8 +2,7 @@
 //! told as text, beside those of a plain model.
 #![tactic(auto)]
 
+#[cfg(test)]
 mod bench;
 #[cfg(test)]
 mod tests;
-
-pub use bench::{LIMIT, Step, play};

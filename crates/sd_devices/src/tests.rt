@@ -6,7 +6,7 @@ mod files;
 mod memory;
 mod table;
 
-use crate::{Step, play};
+use crate::bench::{Step, play};
 use sd_base::VolName;
 use sd_driver::Driver;
 use sd_memdrive::{Call, Fail, MemDrive, When};

@@ -1,10 +1,9 @@
 //! Dialogues of clients with a world, tested: what goes out, and how the world stands behind each.
 #![tactic(auto)]
 
+#[cfg(test)]
 mod rows;
+#[cfg(test)]
 mod stage;
 #[cfg(test)]
 mod tests;
-
-pub use rows::{Dialogue, ROWS};
-pub use stage::{ListPort, adopt_again, comes, first_cut_otherwise, keeps, said};

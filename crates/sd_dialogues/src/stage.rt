@@ -6,7 +6,7 @@ use sd_bnet::Payload;
 use sd_lane::PlainLanes;
 use sd_memdrive::MemDrive;
 use sd_plain::Settings;
-use sd_port::WorldPort;
+use sd_port::{Syncing, WorldPort};
 use sd_scenarios::{make_first, make_world};
 use sd_spool::MemSpool;
 use sd_talks::{Kept, Pieces, Sent, bytes_of};
@@ -60,9 +60,9 @@ fn joined(alloc: Global, lines: &Items<Payload>) -> Result<String, Fail> {
 }
 
 /// A port of a new world.
-pub fn port_of(alloc: Global, rounds: u32) -> Result<ListPort, Fail> {
+pub fn port_of(alloc: Global, syncing: Syncing, rounds: u32) -> Result<ListPort, Fail> {
     let world = make_first(alloc, &SETTINGS, TIME).ok_or("a world")?;
-    Ok(WorldPort::new(alloc, world, 0, rounds))
+    Ok(WorldPort::new(alloc, world, 0, syncing, rounds))
 }
 
 /// Whether a console is answered so at each of these lines, one after another.
@@ -80,9 +80,23 @@ pub fn keeps(
     Ok(true)
 }
 
+// How many rounds an event may wait. Drives that sync at rest do so behind one more, in which nothing moves.
+fn rounds_of(row: &Dialogue, syncing: Syncing) -> u32 {
+    match syncing {
+        Syncing::EachRound => row.rounds,
+        Syncing::AtRest => row.rounds.saturating_mul(2),
+    }
+}
+
 /// Whether the dialogue comes as it is told, read whole or this many bytes first and then that many a time.
-pub fn comes(alloc: Global, row: &Dialogue, first: usize, size: usize) -> Result<bool, Fail> {
-    let mut port = port_of(alloc, row.rounds)?;
+pub fn comes(
+    alloc: Global,
+    row: &Dialogue,
+    syncing: Syncing,
+    first: usize,
+    size: usize,
+) -> Result<bool, Fail> {
+    let mut port = port_of(alloc, syncing, rounds_of(row, syncing))?;
     if !keeps(alloc, &mut port, row.before)? {
         return Ok(false);
     }
@@ -99,7 +113,7 @@ pub fn comes(alloc: Global, row: &Dialogue, first: usize, size: usize) -> Result
 pub fn first_cut_otherwise(alloc: Global, row: &Dialogue) -> Result<Option<usize>, Fail> {
     let length = bytes_of(alloc, row.input)?.len();
     for cut in 1..length {
-        if !comes(alloc, row, cut, MANY)? {
+        if !comes(alloc, row, Syncing::EachRound, cut, MANY)? {
             return Ok(Some(cut));
         }
     }
@@ -108,7 +122,7 @@ pub fn first_cut_otherwise(alloc: Global, row: &Dialogue) -> Result<Option<usize
 
 /// What a console is answered that adopts the volume of a dialogue in a later run.
 pub fn adopt_again(alloc: Global, row: &Dialogue, line: &str) -> Result<String, Fail> {
-    let mut port = port_of(alloc, row.rounds)?;
+    let mut port = port_of(alloc, Syncing::AtRest, row.rounds)?;
     let _ = keeps(alloc, &mut port, row.before)?;
     let input = bytes_of(alloc, row.input)?;
     let mut reader = Pieces::new(input.as_slice(), MANY, MANY, 0);
@@ -120,6 +134,6 @@ pub fn adopt_again(alloc: Global, row: &Dialogue, line: &str) -> Result<String, 
     };
     let later = TIME.wrapping_add(1000);
     let world = make_world(alloc, &SETTINGS, later, devices).ok_or("a later world")?;
-    let mut again = WorldPort::new(alloc, world, 0, row.rounds);
+    let mut again = WorldPort::new(alloc, world, 0, Syncing::EachRound, row.rounds);
     said(alloc, &mut again, line)
 }

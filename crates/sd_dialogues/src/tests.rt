@@ -1,9 +1,14 @@
 // The dialogues whole, and cut.
-use crate::{ROWS, adopt_again, comes, first_cut_otherwise};
+use crate::rows::ROWS;
+use crate::stage::{adopt_again, comes, first_cut_otherwise};
+use sd_port::Syncing;
 use std::test::Fail;
 
 /// How many bytes are read at first, and then at a time.
 static CUTS: [(usize, usize); 4] = [(65_536, 65_536), (1, 1), (3, 7), (100, 65_536)];
+
+/// The rows that meet their limit of rounds. Drives that sync at rest are given twice as many.
+const LIMITED: [usize; 2] = [6, 7];
 
 #[test]
 fn dialogues(rt: HostRuntime) -> Result<(), Fail> {
@@ -11,8 +16,14 @@ fn dialogues(rt: HostRuntime) -> Result<(), Fail> {
         for cut in CUTS.iter() {
             let (first, size) = *cut;
             assert!(rt;
-                comes(rt.alloc(), row, first, size)?,
+                comes(rt.alloc(), row, Syncing::EachRound, first, size)?,
                 "row {place} by {first} and {size}"
+            );
+            assert!(rt;
+                place == LIMITED[0]
+                    || place == LIMITED[1]
+                    || comes(rt.alloc(), row, Syncing::AtRest, first, size)?,
+                "row {place} by {first} and {size}, synced at rest"
             );
         }
     }

@@ -1,8 +1,7 @@
 //! Drives, tested: histories of a drive's calls on a device of any kind, told as text, beside those of a plain model.
 #![tactic(auto)]
 
+#[cfg(test)]
 mod bench;
 #[cfg(test)]
 mod tests;
-
-pub use bench::{LIMIT, Step, drive_on, play};

@@ -1,7 +1,7 @@
 // Drives on memory drives: two volumes, and each call of the device failing in each way.
 mod table;
 
-use crate::{LIMIT, Step, drive_on, play};
+use crate::bench::{LIMIT, Step, drive_on, play};
 use sd_driver::Driver;
 use sd_memdrive::{Call, Fail, MemDrive, When};
 use std::alloc::Global;

@@ -12,47 +12,54 @@ use Rattle.sd_moves.specs.Moves.{Moves}
 use Rattle.sd_moves.specs.World.{WorldView}
 use Rattle.sd_closed.specs.Along.{MovesAlong}
 use Rattle.sd_rounds.specs.declared.headway.Round.{Round}
-use Rattle.sd_rounds.specs.Rounds.{PlaysRound}
+use Rattle.sd_rounds.specs.Rounds.{PlaysOn, PlaysRound}
 use Rattle.sd_rounds.proofs.Played.{along_append}
-use Rattle.sd_port.specs.Tries.{Answers, Ends, GivesAgain, Try, events_tried, may_change, replies_tried}
+use Rattle.sd_port.specs.Tries.{Answers, Ends, GivesAgain, IsWait, Rests, Try, events_tried, may_change, replies_tried}
+use Rattle.sd_port.specs.declared.syncing.Syncing.{Syncing}
+use Rattle.sd_port.specs.declared.syncing.Syncing.TheVariants.{EachRound, AtRest}
 
 -- So many tries were made.
-pub record Tried {D : Type 0} (meaning : D → Meaning) (event : Event) (old : WorldView D) (count : ℕ) (world : WorldView D) : Type 0 where
+pub record Tried {D : Type 0} (meaning : D → Meaning) (syncing : Syncing) (event : Event) (old : WorldView D) (count : ℕ) (world : WorldView D) : Type 0 where
   pub tries : List Try
   pub count_is : length tries ≡ count
-  pub gives : GivesAgain meaning event old tries world
+  pub gives : GivesAgain meaning syncing event old tries world
 
 -- an answer, with some events and replies
-abbrev pub AnswersSome : {D : Type 0} → (D → Meaning) → ℕ → WorldView D → Event → Reply → WorldView D → Type 0
-AnswersSome meaning rounds old event reply new =
-    (events : List Event) × (replies : List Reply) × Answers meaning rounds old event reply events replies new
+abbrev pub AnswersSome : {D : Type 0} → (D → Meaning) → Syncing → ℕ → WorldView D → Event → Reply → WorldView D → Type 0
+AnswersSome meaning syncing rounds old event reply new =
+    (events : List Event) × (replies : List Reply) × Answers meaning syncing rounds old event reply events replies new
 
-pub tried_none : {D : Type 0} (meaning : D → Meaning) (event : Event) (w : WorldView D) → Tried meaning event w 0 w
-tried_none meaning event w = record { tries = []; count_is = refl; gives = refl }
+-- what comes where nothing moved, with some events and replies
+abbrev pub RestsSome : {D : Type 0} → (D → Meaning) → Syncing → Event → Reply → WorldView D → Reply → WorldView D → Type 0
+RestsSome meaning syncing event answer old reply new =
+    (events : List Event) × (replies : List Reply) × Rests meaning syncing event answer old reply events replies new
 
-gives_append : {D : Type 0} (meaning : D → Meaning) (event : Event) (a b c : WorldView D) (ts us : List Try) → GivesAgain meaning event a ts b → GivesAgain meaning event b us c
-    → GivesAgain meaning event a (ts ++ us) c
-gives_append meaning event a b c [] us p q = subst (λ w. GivesAgain meaning event w us c) p q
-gives_append meaning event a b c (t ∷ ts) us p q = (p.0, p.1, p.2, p.3, p.4, p.5, gives_append meaning event p.1 b c ts us p.6 q)
+pub tried_none : {D : Type 0} (meaning : D → Meaning) (syncing : Syncing) (event : Event) (w : WorldView D) → Tried meaning syncing event w 0 w
+tried_none meaning syncing event w = record { tries = []; count_is = refl; gives = refl }
+
+gives_append : {D : Type 0} (meaning : D → Meaning) (syncing : Syncing) (event : Event) (a b c : WorldView D) (ts us : List Try) → GivesAgain meaning syncing event a ts b → GivesAgain meaning syncing event b us c
+    → GivesAgain meaning syncing event a (ts ++ us) c
+gives_append meaning syncing event a b c [] us p q = subst (λ w. GivesAgain meaning syncing event w us c) p q
+gives_append meaning syncing event a b c (t ∷ ts) us p q = (p.0, p.1, p.2, p.3, p.4, p.5, gives_append meaning syncing event p.1 b c ts us p.6 q)
 
 -- one more, behind which something moved
-pub tried_more : {D : Type 0} (meaning : D → Meaning) (event : Event) (reply : Reply) (old world asked new : WorldView D) (count : ℕ) (round : Round)
-    → Tried meaning event old count world → Moves meaning world event reply asked → may_change event reply ≡ true
-    → PlaysRound meaning asked round new → round.moved ≡ true → Tried meaning event old (count + 1) new
-tried_more meaning event reply old world asked new count round p moves may plays moved =
+pub tried_more : {D : Type 0} (meaning : D → Meaning) (syncing : Syncing) (event : Event) (reply : Reply) (old world asked new : WorldView D) (count : ℕ) (round : Round)
+    → Tried meaning syncing event old count world → Moves meaning world event reply asked → may_change event reply ≡ true
+    → PlaysOn meaning (IsWait syncing asked) asked round new → round.moved ≡ true → Tried meaning syncing event old (count + 1) new
+tried_more meaning syncing event reply old world asked new count round p moves may plays moved =
     let t : Try = record { answer = reply; events = plays.events; replies = plays.replies } in
     record {
       tries = p.tries ++ t ∷ [];
       count_is = length-append p.tries (t ∷ []) ∙ ap (λ n. n + 1) p.count_is;
-      gives = gives_append meaning event old world new p.tries (t ∷ []) p.gives
+      gives = gives_append meaning syncing event old world new p.tries (t ∷ []) p.gives
           (asked, new, moves, may, (plays.is_kind, plays.along), sym plays.tells.moved ∙ moved, refl);
     }
 
 -- the world's answer is the answer
-pub answered : {D : Type 0} (meaning : D → Meaning) (event : Event) (reply : Reply) (old world new : WorldView D) (count rounds : ℕ)
-    → Tried meaning event old count world → count ≤ rounds → Moves meaning world event reply new → (may_change event reply ≡ false) ⊎ (count ≡ rounds)
-    → AnswersSome meaning rounds old event reply new
-answered meaning event reply old world new count rounds p few moves due = (
+pub answered : {D : Type 0} (meaning : D → Meaning) (syncing : Syncing) (event : Event) (reply : Reply) (old world new : WorldView D) (count rounds : ℕ)
+    → Tried meaning syncing event old count world → count ≤ rounds → Moves meaning world event reply new → (may_change event reply ≡ false) ⊎ (count ≡ rounds)
+    → AnswersSome meaning syncing rounds old event reply new
+answered meaning syncing event reply old world new count rounds p few moves due = (
   events_tried event p.tries ++ event ∷ [],
   replies_tried p.tries ++ reply ∷ [],
   record {
@@ -62,19 +69,20 @@ answered meaning event reply old world new count rounds p few moves due = (
     gives = p.gives;
     last_events = event ∷ [];
     last_replies = reply ∷ [];
-    ends = subst (λ n. Ends meaning event n rounds reply world (event ∷ []) (reply ∷ []) new) (sym p.count_is) (inl (record { moves = moves; due = due; events_are = refl; replies_are = refl }));
+    ends = subst (λ n. Ends meaning syncing event n rounds reply world (event ∷ []) (reply ∷ []) new) (sym p.count_is) (inl (record { moves = moves; due = due; events_are = refl; replies_are = refl }));
     events_are = refl;
     replies_are = refl;
   },
 )
 
 -- nothing moved behind it
-pub stood_still : {D : Type 0} (meaning : D → Meaning) (event : Event) (reply : Reply) (old world asked new : WorldView D) (count rounds : ℕ) (round : Round)
-    → Tried meaning event old count world → count < rounds → Moves meaning world event reply asked → may_change event reply ≡ true
-    → PlaysRound meaning asked round new → round.moved ≡ false → AnswersSome meaning rounds old event reply new
-stood_still meaning event reply old world asked new count rounds round p left moves may plays still =
-    let es = event ∷ plays.events in
-    let rs = reply ∷ plays.replies in (
+pub stood_still : {D : Type 0} (meaning : D → Meaning) (syncing : Syncing) (event : Event) (answer reply : Reply) (old world asked still new : WorldView D) (count rounds : ℕ) (round : Round)
+    → Tried meaning syncing event old count world → count < rounds → Moves meaning world event answer asked → may_change event answer ≡ true
+    → PlaysOn meaning (IsWait syncing asked) asked round still → round.moved ≡ false
+    → RestsSome meaning syncing event answer still reply new → AnswersSome meaning syncing rounds old event reply new
+stood_still meaning syncing event answer reply old world asked still new count rounds round p left moves may plays nothing rest =
+    let es = event ∷ (plays.events ++ rest.0) in
+    let rs = answer ∷ (plays.replies ++ rest.1) in (
       events_tried event p.tries ++ es,
       replies_tried p.tries ++ rs,
       record {
@@ -84,15 +92,20 @@ stood_still meaning event reply old world asked new count rounds round p left mo
         gives = p.gives;
         last_events = es;
         last_replies = rs;
-        ends = subst (λ n. Ends meaning event n rounds reply world es rs new) (sym p.count_is) (inr (inl (record {
+        ends = subst (λ n. Ends meaning syncing event n rounds reply world es rs new) (sym p.count_is) (inr (inl (record {
+          answer = answer;
           asked = asked;
           moves = moves;
           may = may;
           left = left;
           round_events = plays.events;
           round_replies = plays.replies;
-          plays = (plays.is_kind, plays.along);
-          still = sym plays.tells.moved ∙ still;
+          still = still;
+          waits = (plays.is_kind, plays.along);
+          nothing_moved = sym plays.tells.moved ∙ nothing;
+          rest_events = rest.0;
+          rest_replies = rest.1;
+          rests = rest.2;
           events_are = refl;
           replies_are = refl;
         })));
@@ -101,11 +114,41 @@ stood_still meaning event reply old world asked new count rounds round p left mo
       },
     )
 
+-- the answer stays
+pub rests_so : {D : Type 0} (meaning : D → Meaning) (syncing : Syncing) (event : Event) (answer : Reply) (w : WorldView D) → (syncing ≡ AtRest → ⊥)
+    → RestsSome meaning syncing event answer w answer w
+rests_so meaning EachRound event answer w other = ([], [], record { reply_is = refl; new_is = refl; events_are = refl; replies_are = refl })
+rests_so meaning AtRest event answer w other = absurd (other refl)
+
+-- there was no memory for the sync
+pub rests_without : {D : Type 0} (meaning : D → Meaning) (syncing : Syncing) (event : Event) (answer : Reply) (old new : WorldView D) → syncing ≡ AtRest → new ≡ old
+    → RestsSome meaning syncing event answer old (Refused Memory) new
+rests_without meaning EachRound event answer old new is same = absurd (cc is)
+rests_without meaning AtRest event answer old new is same = ([], [], inr (record { reply_is = refl; new_is = same; events_are = refl; replies_are = refl }))
+
+-- the drives synced, and the event was given once more
+pub rests_synced : {D : Type 0} (meaning : D → Meaning) (syncing : Syncing) (event : Event) (answer reply : Reply) (old synced new : WorldView D) (round : Round) → syncing ≡ AtRest
+    → PlaysRound meaning old round synced → Moves meaning synced event reply new → RestsSome meaning syncing event answer old reply new
+rests_synced meaning EachRound event answer reply old synced new round is plays moves = absurd (cc is)
+rests_synced meaning AtRest event answer reply old synced new round is plays moves = (
+  plays.events ++ event ∷ [],
+  plays.replies ++ reply ∷ [],
+  inl (record {
+    synced = synced;
+    round_events = plays.events;
+    round_replies = plays.replies;
+    plays = (plays.is_kind, plays.along);
+    moves = moves;
+    events_are = refl;
+    replies_are = refl;
+  }),
+)
+
 -- there was no memory for a round
-pub lacked_memory : {D : Type 0} (meaning : D → Meaning) (event : Event) (reply : Reply) (old world asked new : WorldView D) (count rounds : ℕ)
-    → Tried meaning event old count world → count < rounds → Moves meaning world event reply asked → may_change event reply ≡ true
-    → new ≡ asked → AnswersSome meaning rounds old event (Refused Memory) new
-lacked_memory meaning event reply old world asked new count rounds p left moves may same =
+pub lacked_memory : {D : Type 0} (meaning : D → Meaning) (syncing : Syncing) (event : Event) (reply : Reply) (old world asked new : WorldView D) (count rounds : ℕ)
+    → Tried meaning syncing event old count world → count < rounds → Moves meaning world event reply asked → may_change event reply ≡ true
+    → new ≡ asked → AnswersSome meaning syncing rounds old event (Refused Memory) new
+lacked_memory meaning syncing event reply old world asked new count rounds p left moves may same =
     let es : List Event = event ∷ [] in
     let rs : List Reply = reply ∷ [] in (
       events_tried event p.tries ++ es,
@@ -117,7 +160,7 @@ lacked_memory meaning event reply old world asked new count rounds p left moves 
         gives = p.gives;
         last_events = es;
         last_replies = rs;
-        ends = subst (λ n. Ends meaning event n rounds (Refused Memory) world es rs new) (sym p.count_is) (inr (inr (record {
+        ends = subst (λ n. Ends meaning syncing event n rounds (Refused Memory) world es rs new) (sym p.count_is) (inr (inr (record {
           answer = reply;
           moves = subst (λ w. Moves meaning world event reply w) (sym same) moves;
           may = may;
@@ -136,26 +179,40 @@ lacked_memory meaning event reply old world asked new count rounds p left moves 
 one_along : {D : Type 0} (meaning : D → Meaning) (a b : WorldView D) (event : Event) (reply : Reply) → Moves meaning a event reply b → MovesAlong meaning a (event ∷ []) (reply ∷ []) b
 one_along meaning a b event reply moves = (b, moves, refl)
 
-pub gives_along : {D : Type 0} (meaning : D → Meaning) (event : Event) (a b : WorldView D) (ts : List Try) → GivesAgain meaning event a ts b
+pub gives_along : {D : Type 0} (meaning : D → Meaning) (syncing : Syncing) (event : Event) (a b : WorldView D) (ts : List Try) → GivesAgain meaning syncing event a ts b
     → MovesAlong meaning a (events_tried event ts) (replies_tried ts) b
-gives_along meaning event a b [] p = p
-gives_along meaning event a b (t ∷ ts) p =
-    (p.0, p.2, along_append meaning p.0 p.1 b t.events (events_tried event ts) t.replies (replies_tried ts) p.4.1 (gives_along meaning event p.1 b ts p.6))
+gives_along meaning syncing event a b [] p = p
+gives_along meaning syncing event a b (t ∷ ts) p =
+    (p.0, p.2, along_append meaning p.0 p.1 b t.events (events_tried event ts) t.replies (replies_tried ts) p.4.1 (gives_along meaning syncing event p.1 b ts p.6))
 
-ends_along : {D : Type 0} (meaning : D → Meaning) (event : Event) (tried rounds : ℕ) (reply : Reply) (a b : WorldView D) (es : List Event) (rs : List Reply)
-    → Ends meaning event tried rounds reply a es rs b → MovesAlong meaning a es rs b
-ends_along meaning event tried rounds reply a b es rs (inl p) = rw (p.events_are, p.replies_are) (one_along meaning a b event reply p.moves)
-ends_along meaning event tried rounds reply a b es rs (inr (inl p)) = rw (p.events_are, p.replies_are) (p.asked, p.moves, p.plays.1)
-ends_along meaning event tried rounds reply a b es rs (inr (inr p)) = rw (p.events_are, p.replies_are) (one_along meaning a b event p.answer p.moves)
+rests_along : {D : Type 0} (meaning : D → Meaning) (syncing : Syncing) (event : Event) (answer reply : Reply) (a b : WorldView D) (es : List Event) (rs : List Reply)
+    → Rests meaning syncing event answer a reply es rs b → MovesAlong meaning a es rs b
+rests_along meaning EachRound event answer reply a b es rs p = rw (p.events_are, p.replies_are) p.new_is
+rests_along meaning AtRest event answer reply a b es rs (inl p) =
+    rw (p.events_are, p.replies_are)
+    (along_append meaning a p.synced b p.round_events (event ∷ []) p.round_replies (reply ∷ []) p.plays.1 (one_along meaning p.synced b event reply p.moves))
+rests_along meaning AtRest event answer reply a b es rs (inr p) = rw (p.events_are, p.replies_are) p.new_is
+
+ends_along : {D : Type 0} (meaning : D → Meaning) (syncing : Syncing) (event : Event) (tried rounds : ℕ) (reply : Reply) (a b : WorldView D) (es : List Event) (rs : List Reply)
+    → Ends meaning syncing event tried rounds reply a es rs b → MovesAlong meaning a es rs b
+ends_along meaning syncing event tried rounds reply a b es rs (inl p) = rw (p.events_are, p.replies_are) (one_along meaning a b event reply p.moves)
+ends_along meaning syncing event tried rounds reply a b es rs (inr (inl p)) =
+    rw (p.events_are, p.replies_are) (
+      p.asked,
+      p.moves,
+      along_append meaning p.asked p.still b p.round_events p.rest_events p.round_replies p.rest_replies p.waits.1
+          (rests_along meaning syncing event p.answer reply p.still b p.rest_events p.rest_replies p.rests),
+    )
+ends_along meaning syncing event tried rounds reply a b es rs (inr (inr p)) = rw (p.events_are, p.replies_are) (one_along meaning a b event p.answer p.moves)
 
 -- an answer is a run of the world along its events
-pub answers_along : {D : Type 0} (meaning : D → Meaning) (rounds : ℕ) (event : Event) (reply : Reply) (a b : WorldView D) (es : List Event) (rs : List Reply)
-    → Answers meaning rounds a event reply es rs b → MovesAlong meaning a es rs b
-answers_along meaning rounds event reply a b es rs p =
+pub answers_along : {D : Type 0} (meaning : D → Meaning) (syncing : Syncing) (rounds : ℕ) (event : Event) (reply : Reply) (a b : WorldView D) (es : List Event) (rs : List Reply)
+    → Answers meaning syncing rounds a event reply es rs b → MovesAlong meaning a es rs b
+answers_along meaning syncing rounds event reply a b es rs p =
     rw (p.events_are, p.replies_are)
     (along_append meaning a p.middle b (events_tried event p.tries) p.last_events (replies_tried p.tries) p.last_replies
-    (gives_along meaning event a p.middle p.tries p.gives)
-    (ends_along meaning event (length p.tries) rounds reply p.middle b p.last_events p.last_replies p.ends))
+    (gives_along meaning syncing event a p.middle p.tries p.gives)
+    (ends_along meaning syncing event (length p.tries) rounds reply p.middle b p.last_events p.last_replies p.ends))
 
 -- Other events than these two have an answer that doesn't change.
 pub never_changes : (e : Event) (reply : Reply) → ((ticket : ℕ) (r : Record) → e ≡ Append ticket r → ⊥) → ((ticket : ℕ) → e ≡ Close ticket → ⊥)

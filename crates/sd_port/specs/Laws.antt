@@ -12,24 +12,25 @@ use Rattle.sd_moves.specs.World.{HasTicket, WorldSession, WorldView}
 use Rattle.sd_session.specs.Session.{IsRunning}
 use Rattle.sd_port.specs.Port.{Deed, LeadsTo, events_in, replies_in}
 use Rattle.sd_port.specs.Tries.{Answers}
+use Rattle.sd_port.specs.declared.syncing.Syncing.{Syncing}
 
 -- However often an event is given, its world keeps its rules; and from each machine that the world matched, all events
 -- that it was given, with the replies, are a run to one that it matches then: those of rounds among them.
 abbrev pub AnswersAreARun : Type 0 → Type 0
-AnswersAreARun D = (meaning : D → Meaning) (rounds : ℕ) (old new : WorldView D) (event : Event) (reply : Reply) (events : List Event) (replies : List Reply)
-    → IsWorld old → Answers meaning rounds old event reply events replies new
+AnswersAreARun D = (meaning : D → Meaning) (syncing : Syncing) (rounds : ℕ) (old new : WorldView D) (event : Event) (reply : Reply) (events : List Event) (replies : List Reply)
+    → IsWorld old → Answers meaning syncing rounds old event reply events replies new
     → IsWorld new × ((m : Machine) → Matches meaning old m → RunsTo meaning m events replies new)
 
 -- However often a cancel is given, its session doesn't go on in the world behind it.
 abbrev pub GivenUp : Type 0 → Type 0
-GivenUp D = (meaning : D → Meaning) (rounds : ℕ) (old new : WorldView D) (ticket : ℕ) (reply : Reply) (events : List Event) (replies : List Reply)
-    → Answers meaning rounds old (Cancel ticket) reply events replies new
+GivenUp D = (meaning : D → Meaning) (syncing : Syncing) (rounds : ℕ) (old new : WorldView D) (ticket : ℕ) (reply : Reply) (events : List Event) (replies : List Reply)
+    → Answers meaning syncing rounds old (Cancel ticket) reply events replies new
     → (e : WorldSession) → HasTicket new ticket e → IsRunning e.session.status → ⊥
 
 -- Whatever a port did, its world keeps its rules; and from each machine that the world matched, all events that it was
 -- given, with the replies, are a run to one that it matches then: those of rounds and of a console's lines among them. A
 -- session that is read back stands between them, and no event is given for it.
 abbrev pub DeedsAreARun : Type 0 → Type 0
-DeedsAreARun D = (meaning : D → Meaning) (rounds : ℕ) (old new : WorldView D) (deeds : List Deed)
-    → IsWorld old → LeadsTo meaning rounds old deeds new
+DeedsAreARun D = (meaning : D → Meaning) (syncing : Syncing) (rounds : ℕ) (old new : WorldView D) (deeds : List Deed)
+    → IsWorld old → LeadsTo meaning syncing rounds old deeds new
     → IsWorld new × ((m : Machine) → Matches meaning old m → RunsTo meaning m (events_in deeds) (replies_in deeds) new)

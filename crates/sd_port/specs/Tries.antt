@@ -9,7 +9,9 @@ use Rattle.sd_machine.specs.declared.reply.Reply.TheVariants.{Refused}
 use Rattle.sd_moves.specs.World.{WorldView}
 use Rattle.sd_moves.specs.Moves.{Moves}
 use Rattle.sd_closed.specs.Along.{MovesAlong}
-use Rattle.sd_rounds.specs.Rounds.{IsRound, moved_in}
+use Rattle.sd_rounds.specs.Rounds.{IsCarry, IsRound, moved_in}
+use Rattle.sd_port.specs.declared.syncing.Syncing.{Syncing}
+use Rattle.sd_port.specs.declared.syncing.Syncing.TheVariants.{EachRound, AtRest}
 
 -- the answer may be another one after a round: a record that found a body waiting, a close that found something
 -- outstanding
@@ -22,6 +24,15 @@ may_change event reply = false
 abbrev pub PlaysAs : {D : Type 0} → (D → Meaning) → WorldView D → List Event → List Reply → WorldView D → Type 0
 PlaysAs meaning old events replies new = IsRound old events replies × MovesAlong meaning old events replies new
 
+-- the round that an event waits for: one in which the drives sync, or, where they sync at rest, one in which none does
+abbrev pub IsWait : {D : Type 0} → Syncing → WorldView D → List Event → List Reply → Type 0
+IsWait EachRound w events replies = IsRound w events replies
+IsWait AtRest w events replies = IsCarry w events replies
+
+-- such a round is played, of these events and replies
+abbrev pub WaitsAs : {D : Type 0} → (D → Meaning) → Syncing → WorldView D → List Event → List Reply → WorldView D → Type 0
+WaitsAs meaning syncing old events replies new = IsWait syncing old events replies × MovesAlong meaning old events replies new
+
 -- an answer that may change, and the events and replies of the round that was played then
 pub record Try : Type 0 where
   pub answer : Reply
@@ -29,13 +40,13 @@ pub record Try : Type 0 where
   pub replies : List Reply
 
 -- The event is given to the world again and again. Each answer may change, and something moves in the round behind it.
-abbrev pub GivesAgain : {D : Type 0} → (D → Meaning) → Event → WorldView D → List Try → WorldView D → Type 0
-GivesAgain meaning event old [] new = new ≡ old
-GivesAgain {D} meaning event old (t ∷ tries) new =
+abbrev pub GivesAgain : {D : Type 0} → (D → Meaning) → Syncing → Event → WorldView D → List Try → WorldView D → Type 0
+GivesAgain meaning syncing event old [] new = new ≡ old
+GivesAgain {D} meaning syncing event old (t ∷ tries) new =
     (asked : WorldView D) × (after : WorldView D)
     × Moves meaning old event t.answer asked × (may_change event t.answer ≡ true)
-    × PlaysAs meaning asked t.events t.replies after × (moved_in t.replies ≡ true)
-    × GivesAgain meaning event after tries new
+    × WaitsAs meaning syncing asked t.events t.replies after × (moved_in t.replies ≡ true)
+    × GivesAgain meaning syncing event after tries new
 
 -- the events of these tries, those of their rounds among them
 abbrev pub events_tried : Event → List Try → List Event
@@ -56,19 +67,50 @@ pub record IsAnswered {D : Type 0} (meaning : D → Meaning) (event : Event) (tr
   pub events_are : events ≡ event ∷ []
   pub replies_are : replies ≡ reply ∷ []
 
--- The event is given to the world; its answer may change, but in the round behind it nothing moves: so it is the answer.
-pub record StandsStill {D : Type 0} (meaning : D → Meaning) (event : Event) (tried rounds : ℕ) (reply : Reply)
+-- a round is played, in which the drives sync, and the event is given once more: this is the answer
+pub record SyncsAndGives {D : Type 0} (meaning : D → Meaning) (event : Event) (old : WorldView D) (reply : Reply)
+    (events : List Event) (replies : List Reply) (new : WorldView D) : Type 0 where
+  pub synced : WorldView D
+  pub round_events : List Event
+  pub round_replies : List Reply
+  pub plays : PlaysAs meaning old round_events round_replies synced
+  pub moves : Moves meaning synced event reply new
+  pub events_are : events ≡ round_events ++ event ∷ []
+  pub replies_are : replies ≡ round_replies ++ reply ∷ []
+
+-- nothing is played any more, and this is the answer
+pub record StaysWith {D : Type 0} (answer : Reply) (old : WorldView D) (reply : Reply) (events : List Event)
+    (replies : List Reply) (new : WorldView D) : Type 0 where
+  pub reply_is : reply ≡ answer
+  pub new_is : new ≡ old
+  pub events_are : events ≡ []
+  pub replies_are : replies ≡ []
+
+-- Nothing moved behind an answer that may change. Where the drives sync in each round, it is the answer. Where they sync at
+-- rest, they do so now, and the event is given once more; or there is no memory for that.
+abbrev pub Rests : {D : Type 0} → (D → Meaning) → Syncing → Event → Reply → WorldView D → Reply → List Event → List Reply → WorldView D → Type 0
+Rests meaning EachRound event answer old reply events replies new = StaysWith answer old reply events replies new
+Rests meaning AtRest event answer old reply events replies new =
+    SyncsAndGives meaning event old reply events replies new ⊎ StaysWith (Refused Memory) old reply events replies new
+
+-- The event is given to the world; its answer may change, but in the round behind it nothing moves.
+pub record StandsStill {D : Type 0} (meaning : D → Meaning) (syncing : Syncing) (event : Event) (tried rounds : ℕ) (reply : Reply)
     (old : WorldView D) (events : List Event) (replies : List Reply) (new : WorldView D) : Type 0 where
+  pub answer : Reply
   pub asked : WorldView D
-  pub moves : Moves meaning old event reply asked
-  pub may : may_change event reply ≡ true
+  pub moves : Moves meaning old event answer asked
+  pub may : may_change event answer ≡ true
   pub left : tried < rounds
   pub round_events : List Event
   pub round_replies : List Reply
-  pub plays : PlaysAs meaning asked round_events round_replies new
-  pub still : moved_in round_replies ≡ false
-  pub events_are : events ≡ event ∷ round_events
-  pub replies_are : replies ≡ reply ∷ round_replies
+  pub still : WorldView D
+  pub waits : WaitsAs meaning syncing asked round_events round_replies still
+  pub nothing_moved : moved_in round_replies ≡ false
+  pub rest_events : List Event
+  pub rest_replies : List Reply
+  pub rests : Rests meaning syncing event answer still reply rest_events rest_replies new
+  pub events_are : events ≡ event ∷ (round_events ++ rest_events)
+  pub replies_are : replies ≡ answer ∷ (round_replies ++ rest_replies)
 
 -- The event is given to the world; its answer may change, but there is no memory for a round: that is the answer.
 pub record LacksMemory {D : Type 0} (meaning : D → Meaning) (event : Event) (tried rounds : ℕ) (reply : Reply)
@@ -82,22 +124,23 @@ pub record LacksMemory {D : Type 0} (meaning : D → Meaning) (event : Event) (t
   pub replies_are : replies ≡ answer ∷ []
 
 -- After so many tries the event is given to the world once more, and this is the answer.
-abbrev pub Ends : {D : Type 0} → (D → Meaning) → Event → ℕ → ℕ → Reply → WorldView D → List Event → List Reply → WorldView D → Type 0
-Ends meaning event tried rounds reply old events replies new =
+abbrev pub Ends : {D : Type 0} → (D → Meaning) → Syncing → Event → ℕ → ℕ → Reply → WorldView D → List Event → List Reply → WorldView D → Type 0
+Ends meaning syncing event tried rounds reply old events replies new =
     IsAnswered meaning event tried rounds reply old events replies new
-    ⊎ StandsStill meaning event tried rounds reply old events replies new
+    ⊎ StandsStill meaning syncing event tried rounds reply old events replies new
     ⊎ LacksMemory meaning event tried rounds reply old events replies new
 
 -- An event is answered, in at most so many rounds: it is given to the world, and given again after each round in which
--- something moved, as long as the answer may change. These are the world's events and its replies, the rounds' among them.
-pub record Answers {D : Type 0} (meaning : D → Meaning) (rounds : ℕ) (old : WorldView D) (event : Event) (reply : Reply)
+-- something moved, as long as the answer may change; and, where the drives sync at rest, once more behind their sync. These
+-- are the world's events and its replies, the rounds' among them.
+pub record Answers {D : Type 0} (meaning : D → Meaning) (syncing : Syncing) (rounds : ℕ) (old : WorldView D) (event : Event) (reply : Reply)
     (events : List Event) (replies : List Reply) (new : WorldView D) : Type 0 where
   pub tries : List Try
   pub few : length tries ≤ rounds
   pub middle : WorldView D
-  pub gives : GivesAgain meaning event old tries middle
+  pub gives : GivesAgain meaning syncing event old tries middle
   pub last_events : List Event
   pub last_replies : List Reply
-  pub ends : Ends meaning event (length tries) rounds reply middle last_events last_replies new
+  pub ends : Ends meaning syncing event (length tries) rounds reply middle last_events last_replies new
   pub events_are : events ≡ events_tried event tries ++ last_events
   pub replies_are : replies ≡ replies_tried tries ++ last_replies

@@ -8,10 +8,12 @@ mod laws;
 mod lines;
 mod port;
 mod ports;
+mod syncing;
 mod tries;
 mod watched;
 
 pub use laws::{answers_are_a_run, cancels_give_up, deeds_are_a_run};
 pub use lines::{one_line, packet_of, show};
 pub use port::WorldPort;
+pub use syncing::Syncing;
 pub use tries::answer;

@@ -12,6 +12,7 @@ ghost use Rattle.sd_port.specs.Port.{IsOver, behind, new_port};
 ghost use Rattle.sd_port.specs.Tries.{Answers};
 
 use crate::console::obey_line;
+use crate::syncing::Syncing;
 use crate::tries::answer;
 use crate::watched::{Reading, read_watched};
 use sd_append::{Log, ReadBack};
@@ -36,6 +37,7 @@ pub struct WorldPort<D: Driver, Q: Lanes, S: SpoolStore> {
     alloc: Global,
     world: World<D, Q, S>,
     moment: i64,
+    syncing: Syncing,
     rounds: u32,
     opening: Snapshot<World<D, Q, S>>,
     log: Log,
@@ -49,6 +51,7 @@ impl<D: Driver, Q: Lanes, S: SpoolStore> Model for WorldPort<D, Q, S> {
     ghost view = { λ p. record {
       world = p.world;
       moment = p.moment;
+      syncing = p.syncing;
       rounds = p.rounds;
       opening = p.opening.value;
       asked = p.log;
@@ -57,6 +60,7 @@ impl<D: Driver, Q: Lanes, S: SpoolStore> Model for WorldPort<D, Q, S> {
     ghost invariant = { λ p. IsOver (λ d. D.meaning d) (record {
       world = p.world;
       moment = p.moment;
+      syncing = p.syncing;
       rounds = p.rounds;
       opening = p.opening.value;
       asked = p.log;
@@ -65,9 +69,16 @@ impl<D: Driver, Q: Lanes, S: SpoolStore> Model for WorldPort<D, Q, S> {
 
 impl<D: Driver + Drop, Q: Lanes, S: SpoolStore + Drop> WorldPort<D, Q, S> {
     /// A port of this world, at this moment in microseconds, in which an append that finds the session busy and a close
-    /// that comes too early wait for at most so many rounds. Takes no memory.
-    pub fn new(alloc: Global, world: World<D, Q, S>, moment: i64, rounds: u32) -> Self
-        ensures { result ≡ new_port world moment rounds }
+    /// that comes too early wait for at most so many rounds, in which the drives sync or at the end of which they do. Takes
+    /// no memory.
+    pub fn new(
+        alloc: Global,
+        world: World<D, Q, S>,
+        moment: i64,
+        syncing: Syncing,
+        rounds: u32,
+    ) -> Self
+        ensures { result ≡ new_port world moment syncing rounds }
     {
         world.know();
         let opening = Snapshot::of(&world);
@@ -75,6 +86,7 @@ impl<D: Driver + Drop, Q: Lanes, S: SpoolStore + Drop> WorldPort<D, Q, S> {
             alloc,
             world,
             moment,
+            syncing,
             rounds,
             opening,
             log: Log::new(),
@@ -82,15 +94,16 @@ impl<D: Driver + Drop, Q: Lanes, S: SpoolStore + Drop> WorldPort<D, Q, S> {
     }
 
     /// The reply to an event. An append that is answered 'Busy' and a close that is answered 'Not yet' are given again
-    /// after each round in which something moved, as long as there are rounds; then that refusal is the answer.
+    /// after each round in which something moved, as long as there are rounds; then that refusal is the answer. Where the
+    /// drives sync at rest, they sync once nothing moved, and the event is given once more.
     pub fn step(&mut self, event: Event) -> Reply
         ensures answers { (events : List SpecEvent) × (replies : List SpecReply)
-            × Answers (λ d. D.meaning d) self.old.rounds self.old.world event result events replies
+            × Answers (λ d. D.meaning d) self.old.syncing self.old.rounds self.old.world event result events replies
             self.new.world }
         ensures port { self.new ≡ behind (Stepped event result) self.new.world self.old }
     {
         let given = Snapshot::of(&event);
-        let reply = answer(&mut self.world, self.rounds, event);
+        let reply = answer(&mut self.world, self.syncing, self.rounds, event);
         self.log = self.log.stepped(given, &reply);
         reply
     }
@@ -169,6 +182,7 @@ impl<D: Driver + Drop, Q: Lanes, S: SpoolStore + Drop> WorldPort<D, Q, S> {
             alloc: _,
             world,
             moment: _,
+            syncing: _,
             rounds: _,
             opening: _,
             log: _,

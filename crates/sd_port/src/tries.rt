@@ -5,8 +5,9 @@ ghost use Rattle.sd_machine.specs.declared.event.Event.TheVariants.{Append, Clos
 ghost use Rattle.sd_machine.specs.declared.reply.Reply.{Reply as SpecReply};
 ghost use Rattle.sd_moves.specs.Moves.{Moves};
 ghost use Rattle.sd_port.specs.Again.{event_again};
-ghost use Rattle.sd_port.specs.Tries.{Answers, may_change};
+ghost use Rattle.sd_port.specs.Tries.{Answers, Rests, may_change};
 
+use crate::syncing::{Syncing, wait};
 use sd_base::{Rec, Refusal, Ticket};
 use sd_core::World;
 use sd_driver::Driver;
@@ -48,41 +49,65 @@ impl Again {
 }
 
 /// Gives the event to the world, and again after each round in which something moved, as long as the answer may change;
-/// at most so many rounds. A round that there is no memory for is the answer `Memory`.
+/// at most so many rounds. Where the drives sync at rest, it is given once more behind the sync. A round that there is no
+/// memory for is the answer `Memory`.
 pub fn answer<D: Driver + Drop, Q: Lanes, S: SpoolStore + Drop>(
     world: &mut World<D, Q, S>,
+    syncing: Syncing,
     rounds: u32,
     event: Event,
 ) -> Reply
     ensures { (events : List SpecEvent) × (replies : List SpecReply)
-        × Answers (λ d. D.meaning d) rounds world.old event result events replies world.new }
+        × Answers (λ d. D.meaning d) syncing rounds world.old event result events replies world.new }
 {
     match event {
-        Event::Append { ticket, rec } => repeat(world, rounds, &Again::Append { ticket, rec }),
-        Event::Close { ticket } => repeat(world, rounds, &Again::Close { ticket }),
+        Event::Append { ticket, rec } => {
+            repeat(world, syncing, rounds, &Again::Append { ticket, rec })
+        }
+        Event::Close { ticket } => repeat(world, syncing, rounds, &Again::Close { ticket }),
         other => world.step(other),
     }
 }
 
 fn repeat<D: Driver + Drop, Q: Lanes, S: SpoolStore + Drop>(
     world: &mut World<D, Q, S>,
+    syncing: Syncing,
     rounds: u32,
     event: &Again,
 ) -> Reply
     ensures { (events : List SpecEvent) × (replies : List SpecReply)
-        × Answers (λ d. D.meaning d) rounds world.old (event_again event.now) result events replies world.new }
+        × Answers (λ d. D.meaning d) syncing rounds world.old (event_again event.now) result events replies world.new }
 {
     for _tried in 0..rounds {
         let reply = event.give(world);
         if !event.may_change(&reply) {
             return reply;
         }
-        let Ok(played) = round(world) else {
+        let Ok(played) = wait(world, syncing) else {
             return Reply::Refused(Refusal::Memory);
         };
         if !played.moved {
-            return reply;
+            return rest(world, syncing, event, reply);
         }
     }
+    event.give(world)
+}
+
+// Nothing moved behind this answer: it stays, or the drives sync and the event is given once more.
+fn rest<D: Driver + Drop, Q: Lanes, S: SpoolStore + Drop>(
+    world: &mut World<D, Q, S>,
+    syncing: Syncing,
+    event: &Again,
+    answer: Reply,
+) -> Reply
+    ensures { (events : List SpecEvent) × (replies : List SpecReply)
+        × Rests (λ d. D.meaning d) syncing (event_again event.now) answer world.old result events replies world.new }
+{
+    let Syncing::AtRest = syncing else {
+        return answer;
+    };
+    let Ok(_) = round(world) else {
+        return Reply::Refused(Refusal::Memory);
+    };
     event.give(world)
 }

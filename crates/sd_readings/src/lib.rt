@@ -2,14 +2,13 @@
 //! plain slow reader, devices that fail, and a device that takes no long read.
 #![tactic(auto)]
 
+#[cfg(test)]
 mod bench;
+#[cfg(test)]
 mod narrow;
+#[cfg(test)]
 mod plain;
+#[cfg(test)]
 mod session;
 #[cfg(test)]
 mod tests;
-
-pub use bench::{SpanRow, drive_of, tell};
-pub use narrow::Narrow;
-pub use plain::tell_plainly;
-pub use session::{Placed, bodies_of, small_bodies, volume_of};

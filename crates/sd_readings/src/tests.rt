@@ -1,7 +1,10 @@
 // Spans of every kind on whole and on damaged volumes, and devices that fail.
 mod table;
 
-use crate::{Narrow, SpanRow, bodies_of, drive_of, small_bodies, tell, tell_plainly, volume_of};
+use crate::bench::{SpanRow, drive_of, tell};
+use crate::narrow::Narrow;
+use crate::plain::tell_plainly;
+use crate::session::{bodies_of, small_bodies, volume_of};
 use sd_memdrive::{Call, Fail, MemDrive, When};
 use sd_pack::Body;
 use std::alloc::Global;

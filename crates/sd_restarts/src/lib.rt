@@ -3,13 +3,15 @@
 //! And so again where that run is stopped while it adopts.
 #![tactic(auto)]
 
+#[cfg(test)]
 mod first_run;
+#[cfg(test)]
 mod later_run;
+#[cfg(test)]
 mod player;
+#[cfg(test)]
 mod row;
+#[cfg(test)]
 mod tail;
 #[cfg(test)]
 mod tests;
-
-pub use player::{Tally, play_stops};
-pub use row::{Row, rows};

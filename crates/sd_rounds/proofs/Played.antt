@@ -4,7 +4,7 @@ use Rattle.std.proofs.lemmas.List.Sums.{sum_by-append}
 use Rattle.std.proofs.lemmas.List.Folds.{list_any-append}
 use Rattle.sd_driver.specs.Meaning.{Meaning}
 use Rattle.sd_machine.specs.declared.event.Event.{Event}
-use Rattle.sd_machine.specs.declared.event.Event.TheVariants.{Take, Place, Seek}
+use Rattle.sd_machine.specs.declared.event.Event.TheVariants.{Place, Seek}
 use Rattle.sd_machine.specs.declared.reply.Reply.{Reply}
 use Rattle.sd_machine.specs.declared.reply.Reply.TheVariants.{NeedVolume, Mounted}
 use Rattle.sd_closed.specs.Along.{MovesAlong}
@@ -84,10 +84,3 @@ placing_once drive placed other = refl
 pub placing_sought : (drive : ℕ) (sought : Reply) → ((name : List ℕ) → sought ≡ Mounted name → ⊥) → placing drive (NeedVolume ∷ sought ∷ []) ≡ Place drive ∷ Seek drive ∷ []
 placing_sought drive (Mounted name) other = absurd (other name refl)
 placing_sought drive sought other = refl
-
--- the take and the placing of a turn
-pub record IsTakeAndPlacing (drive : ℕ) (events : List Event) (replies : List Reply) : Type 0 where
-  pub took : Reply
-  pub placed : List Reply
-  pub events_are : events ≡ Take drive ∷ placing drive placed
-  pub replies_are : replies ≡ took ∷ placed

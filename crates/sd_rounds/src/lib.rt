@@ -7,4 +7,4 @@ mod sending;
 mod turns;
 
 pub use headway::Round;
-pub use rounds::{drain, round};
+pub use rounds::{carry, drain, round};

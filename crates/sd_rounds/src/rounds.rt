@@ -1,6 +1,6 @@
 // Rounds, and rounds until nothing moves.
 ghost use Rattle.std.specs.Prelude.{◌≡◌, IfOk, OnErr};
-ghost use Rattle.sd_rounds.specs.Rounds.{Drains, PlaysMoving, PlaysRound};
+ghost use Rattle.sd_rounds.specs.Rounds.{Drains, IsRoundOf, PlaysCarry, PlaysMoving, PlaysOn, PlaysRound, turn_kind};
 
 use crate::headway::Round;
 use crate::sending::send_all;
@@ -20,9 +20,31 @@ pub fn round<D: Driver + Drop, Q: Lanes, S: SpoolStore + Drop>(
     ensures plays { IfOk result (λ round. PlaysRound (λ d. D.meaning d) world.old round world.new) }
     ensures err { OnErr result (world.new ≡ world.old) }
 {
+    play(world, true)
+}
+
+/// A round in which no drive syncs: what is on its way moves one step on, and stays unsynced.
+pub fn carry<D: Driver + Drop, Q: Lanes, S: SpoolStore + Drop>(
+    world: &mut World<D, Q, S>,
+) -> Result<Round, AllocError>
+    ensures plays { IfOk result (λ round. PlaysCarry (λ d. D.meaning d) world.old round world.new) }
+    ensures err { OnErr result (world.new ≡ world.old) }
+{
+    play(world, false)
+}
+
+// A round, in which the drives sync or none does.
+fn play<D: Driver + Drop, Q: Lanes, S: SpoolStore + Drop>(
+    world: &mut World<D, Q, S>,
+    syncs: bool,
+) -> Result<Round, AllocError>
+    ensures plays { IfOk result (λ round. PlaysOn (λ d. D.meaning d)
+        (IsRoundOf (turn_kind syncs) world.old) world.old round world.new) }
+    ensures err { OnErr result (world.new ≡ world.old) }
+{
     let tickets = world.tickets()?;
     let sent = send_all(world, &tickets);
-    Ok(sent.and(turn_all(world)))
+    Ok(sent.and(turn_all(world, syncs)))
 }
 
 /// Plays rounds to the first in which nothing moves, and counts the blocks that were placed in them. An `Err` comes

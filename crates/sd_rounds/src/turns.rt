@@ -1,6 +1,6 @@
 // The drives' part of a round.
 ghost use Rattle.std.specs.Prelude.{◌∷◌, [], filter};
-ghost use Rattle.sd_rounds.specs.Rounds.{AreTurns, IsPlacing, PlaysOn, drives_online, is_online, online_flags};
+ghost use Rattle.sd_rounds.specs.Rounds.{AreTurns, IsPlacing, PlaysOn, drives_online, is_online, online_flags, turn_kind};
 
 use crate::headway::Round;
 use sd_base::DriveNo;
@@ -13,34 +13,43 @@ use sd_spool::SpoolStore;
 /// The most drives of a world.
 const MOST_DRIVES: u32 = 8;
 
-/// A turn of each drive that is online, by rising number.
+/// A turn of each drive that is online, by rising number, with its sync or without.
 pub(crate) fn turn_all<D: Driver + Drop, Q: Lanes, S: SpoolStore + Drop>(
     world: &mut World<D, Q, S>,
+    syncs: bool,
 ) -> Round
-    ensures { PlaysOn (λ d. D.meaning d) (AreTurns (drives_online world.old)) world.old result world.new }
+    ensures { PlaysOn (λ d. D.meaning d) (AreTurns (turn_kind syncs) (drives_online world.old))
+        world.old result world.new }
 {
     let mut turned = Round::new();
     for number in 1..MOST_DRIVES + 1 {
-        turned = turned.and(turn(world, DriveNo::new(number).unwrap()));
+        turned = turned.and(turn(world, DriveNo::new(number).unwrap(), syncs));
     }
     turned
 }
 
-// One step of the drive's each kind; none where the drive isn't there or is offline, which its first one tells.
+// A take and a place of the drive, and a sync where it is to sync; none where the drive isn't there or is offline, which
+// the take tells.
 fn turn<D: Driver + Drop, Q: Lanes, S: SpoolStore + Drop>(
     world: &mut World<D, Q, S>,
     drive: DriveNo,
+    syncs: bool,
 ) -> Round
     ensures { PlaysOn (λ d. D.meaning d)
-        (AreTurns (filter (is_online (online_flags world.old)) (drive ∷ []))) world.old result world.new }
+        (AreTurns (turn_kind syncs) (filter (is_online (online_flags world.old)) (drive ∷ [])))
+        world.old result world.new }
 {
     let took = world.step(Event::Take { drive });
     if let Reply::Refused(_) = took {
         return Round::new();
     }
     let placed = place(world, drive);
+    let passed = Round::of(&took).and(placed);
+    if !syncs {
+        return passed;
+    }
     let synced = world.step(Event::Sync { drive });
-    Round::of(&took).and(placed).and(Round::of(&synced))
+    passed.and(Round::of(&synced))
 }
 
 // Places the body in the drive's hand. Where a volume is needed one is sought, and where that mounted one the body is

@@ -1,7 +1,8 @@
 // Generated talks, held and held plainly.
 use crate::plain::{Act, PlainCame, hold_plainly, sent_of};
 use crate::port::Port;
-use crate::talks::{Line, Sent, WHOLE, bytes_of, hold};
+use crate::sent::{Sent, bytes_of};
+use crate::talks::{Line, WHOLE, hold};
 use sd_base::Refusal;
 use std::alloc::Global;
 use std::test::Fail;

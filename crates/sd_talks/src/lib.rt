@@ -2,20 +2,20 @@
 //! anywhere, each refusal, readers and writers that fail, and generated talks beside a plain slow one.
 #![tactic(auto)]
 
+#[cfg(test)]
 mod generated;
+#[cfg(test)]
 mod plain;
+#[cfg(test)]
 mod port;
+#[cfg(test)]
 mod rows;
+mod sent;
+#[cfg(test)]
 mod talks;
 #[cfg(test)]
 mod tests;
 mod wire;
 
-pub use generated::{EVERY, acts_of, comes_as_plainly, refused_as_plainly, refused_of};
-pub use plain::{Act, PlainCame, hold_plainly, sent_of};
-pub use port::{Port, RecordRow, sum_of};
-pub use rows::{DIALOGUE, DIALOGUE_CUT, LARGE, ROWS};
-pub use talks::{
-    Came, Line, Row, Sent, WHOLE, bytes_of, comes, comes_cut, first_cut_otherwise, hold,
-};
+pub use sent::{Sent, bytes_of};
 pub use wire::{Kept, Pieces};

@@ -1,6 +1,6 @@
 // A talk as a list of acts, taken one by one: slow, and without a packet's bytes on the way in.
 use crate::port::Port;
-use crate::talks::Sent;
+use crate::sent::Sent;
 use sd_append::{SessionPort, TalkEnd};
 use sd_base::{Bytes, JobId, MediaName, PoolName, Rec, Refusal, SessionKey, Ticket};
 use sd_bnet::{Packet, Payload, SignalNo, put_packet};

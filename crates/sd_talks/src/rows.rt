@@ -1,5 +1,6 @@
 // Talks whose answers are the protocol's own words.
-use crate::talks::{Row, Sent};
+use crate::sent::Sent;
+use crate::talks::Row;
 use sd_append::TalkEnd;
 use sd_base::Refusal;
 

@@ -1,25 +1,11 @@
 // Talks by rows: a client's packets, what is to go out, and what the port is to be asked.
 use crate::port::{Port, RecordRow};
+use crate::sent::{Sent, bytes_of};
 use crate::wire::{Kept, Pieces};
 use sd_append::{TalkEnd, talk};
-use sd_base::{Bytes, Refusal};
-use sd_bnet::{Packet, Payload, SignalNo, put_packet};
+use sd_base::Refusal;
 use std::alloc::Global;
 use std::test::Fail;
-
-/// What stands on a connection.
-#[derive(Clone, Copy)]
-pub enum Sent {
-    /// A packet of this text.
-    Text(&'static str),
-    /// The same with a newline.
-    Line(&'static str),
-    /// A packet of so many letters `x`.
-    Many(usize),
-    Signal(i32),
-    /// Bytes that are no whole packet.
-    Raw(&'static [u8]),
-}
 
 /// A client's packets, the end of the talk, the packets out, what the port is asked, which of its events is
 /// refused and how, and the records that it has to be read.
@@ -65,39 +51,6 @@ pub struct Came {
     pub told: String,
     pub reads: u64,
     pub writes: u64,
-}
-
-/// The bytes on a connection.
-pub fn bytes_of(alloc: Global, sent: &[Sent]) -> Result<Vec<u8>, Fail> {
-    let mut bytes = Vec::new(alloc);
-    for one in sent {
-        put(alloc, &mut bytes, *one)?;
-    }
-    Ok(bytes)
-}
-
-fn put(alloc: Global, bytes: &mut Vec<u8>, one: Sent) -> Result<(), Fail> {
-    match one {
-        Sent::Text(text) => put_payload(alloc, bytes, text.as_bytes(), b""),
-        Sent::Line(text) => put_payload(alloc, bytes, text.as_bytes(), b"\n"),
-        Sent::Many(count) => {
-            let many = vec![in alloc; b'x'; count]?;
-            put_payload(alloc, bytes, many.as_slice(), b"")
-        }
-        Sent::Signal(number) => {
-            let signal = SignalNo::new(number).ok_or("a signal")?;
-            Ok(put_packet(bytes, &Packet::Signal(signal))?)
-        }
-        Sent::Raw(raw) => Ok(bytes.extend_from_slice(raw)?),
-    }
-}
-
-fn put_payload(alloc: Global, bytes: &mut Vec<u8>, front: &[u8], end: &[u8]) -> Result<(), Fail> {
-    let mut text = Vec::new(alloc);
-    text.extend_from_slice(front)?;
-    text.extend_from_slice(end)?;
-    let payload = Payload::new(Bytes::from_vec(text)).ok_or("a payload")?;
-    Ok(put_packet(bytes, &Packet::Bytes(payload))?)
 }
 
 /// Holds a talk over some bytes and a connection, with a port that refuses an event and reads these records.

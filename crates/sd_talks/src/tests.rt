@@ -1,8 +1,8 @@
 // The protocol's dialogues, and connections that fail.
-use crate::{
-    DIALOGUE, DIALOGUE_CUT, EVERY, LARGE, Line, ROWS, WHOLE, bytes_of, comes, comes_as_plainly,
-    comes_cut, first_cut_otherwise, hold, refused_as_plainly,
-};
+use crate::generated::{EVERY, comes_as_plainly, refused_as_plainly};
+use crate::rows::{DIALOGUE, DIALOGUE_CUT, LARGE, ROWS};
+use crate::sent::bytes_of;
+use crate::talks::{Line, WHOLE, comes, comes_cut, first_cut_otherwise, hold};
 use sd_append::TalkEnd;
 use std::test::Fail;
 

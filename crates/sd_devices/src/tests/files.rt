@@ -1,6 +1,6 @@
 // Volumes on a drive of files, in a folder of the test's own, beside the same on a memory drive.
 use super::{HISTORY, TWO_BLOCKS, bytes_after};
-use crate::{Step, play};
+use crate::bench::{Step, play};
 use sd_filedrive::FileDrive;
 use sd_memdrive::MemDrive;
 use std::fs::Files;

@@ -3,7 +3,7 @@
 // on and one of session 1 from 2130 to 3154; `Vol-0002` has the last block of session 2 from 82 on and that of
 // session 1 from 756 to 1171; `Vol-0003` has session 3, from 82 to 249. Session 1 has records of 5, 1,500 and 700
 // bytes, session 2 one of 1,500, session 3 one of 5.
-use crate::SpanRow;
+use crate::bench::SpanRow;
 use sd_memdrive::Call;
 
 /// What the spans are, the session's number, the spans, and what is told.
