@@ -1,7 +1,7 @@
 -- The lines that the daemon answers, but for those of spans.
 use Rattle.std.specs.Prelude.{ℕ, Bool, true, false, List, ◌++◌, codes}
 use Rattle.std.specs.Fmt.{decimal}
-use Rattle.sd_base.specs.Refusal.{number_of, text_of}
+use Rattle.sd_base.specs.Refusal.{refusal_text}
 use Rattle.sd_span.specs.JobMedia.{session_text}
 use Rattle.sd_append.specs.declared.line.Line.{Line}
 use Rattle.sd_append.specs.declared.line.Line.TheVariants.{Opened, Data, Appended, Ended, Closed, Session, Read, Header, Refused}
@@ -22,4 +22,4 @@ line_text (Session key) = session_text key
 line_text (Read end) =
     codes "3000 OK read Records=" ++ decimal end.records ++ codes " Bytes=" ++ decimal end.bytes ++ ended_text end.ended
 line_text (Header header) = decimal header.index ++ codes " " ++ decimal header.stream ++ codes " 0"
-line_text (Refused refusal) = decimal (number_of refusal) ++ codes " " ++ text_of refusal
+line_text (Refused refusal) = refusal_text refusal

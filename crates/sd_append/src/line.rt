@@ -57,7 +57,7 @@ impl fmt::Display for Line {
                 end.records, end.bytes
             ),
             Line::Header(header) => write!(f, "{} {} 0", header.index(), header.stream()),
-            Line::Refused(refusal) => write!(f, "{} {}", refusal.number(), refusal.text()),
+            Line::Refused(refusal) => write!(f, "{refusal}"),
         }
     }
 }

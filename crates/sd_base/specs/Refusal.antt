@@ -1,5 +1,6 @@
 -- The refusals: each has a number and a text.
-use Rattle.std.specs.Prelude.{ℕ, List, codes}
+use Rattle.std.specs.Prelude.{ℕ, List, ◌++◌, codes}
+use Rattle.std.specs.Fmt.{decimal}
 use Rattle.sd_base.specs.declared.refusal.Refusal.{Refusal}
 use Rattle.sd_base.specs.declared.refusal.Refusal.TheVariants.{BadCommand, SessionNotOpen, BadFileIndex, PacketTooLong, SessionFailed, SessionCancelled, NotYet, Busy, NoSessionNumberLeft, NoDriveOfMedia, NoFreeLane, DriveOffline, SpoolFault, VolumeNotOnShelf, NotOurVolume, OtherPoolOrMedia, InUse, NotAppendable, AlreadyLabelled, BlocksOfThisRun, BadName, NoSuchDrive, NoRoom, DeviceFault, BadSpan, DamagedBlock, SpanEndsEarly, VolumePurged, VolumeNotFull, Memory}
 
@@ -68,3 +69,7 @@ text_of SpanEndsEarly = codes "Span ends early"
 text_of VolumePurged = codes "Volume purged"
 text_of VolumeNotFull = codes "Volume not full"
 text_of Memory = codes "Want of memory"
+
+-- the line of a refusal, without a newline: its number and its text
+abbrev pub refusal_text : Refusal → List ℕ
+refusal_text why = decimal (number_of why) ++ codes " " ++ text_of why

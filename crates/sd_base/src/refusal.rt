@@ -118,6 +118,11 @@ impl Refusal {
 }
 
 impl fmt::Display for Refusal {
+    ghost use Rattle.std.specs.Prelude.{Some};
+    ghost use Rattle.sd_base.specs.Refusal.{refusal_text};
+
+    ghost output = { λ r. Some (refusal_text r) };
+
     fn fmt<W: fmt::Write>(&self, f: &mut fmt::Formatter<W>) -> fmt::Result {
         let number = self.number();
         let text = self.text();

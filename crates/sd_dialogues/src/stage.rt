@@ -40,11 +40,7 @@ static SETTINGS: Settings<'static> = Settings {
 pub fn said(alloc: Global, port: &mut ListPort, line: &str) -> Result<String, Fail> {
     match port.console(line.as_bytes()) {
         Ok(lines) => joined(alloc, &lines),
-        Err(why) => {
-            let number = why.number();
-            let text = why.text();
-            Ok(format!(in alloc; "{number} {text}\n")?)
-        }
+        Err(why) => Ok(format!(in alloc; "{why}\n")?),
     }
 }
 

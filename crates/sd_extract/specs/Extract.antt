@@ -1,6 +1,7 @@
 -- The records of a session, read from its volumes by its JobMedia text and printed.
 use Rattle.std.specs.Prelude.{◌≡◌, ◌⊎◌, ◌<◌, ◌^◌, ℕ, Bool, true, false, List, [], ◌++◌, length, Option, Result, Ok, Err, IfOk, IfErr, IfSome, OnErr, IsErrOf, IsErrAnd, codes}
 use Rattle.sd_base.specs.Record.{Record}
+use Rattle.sd_base.specs.Refusal.{refusal_text}
 use Rattle.sd_base.specs.declared.number.SessionKey.{SessionKey}
 use Rattle.sd_driver.specs.Meaning.{Meaning, IsHonest}
 use Rattle.sd_label.specs.Cutting.{total_bytes}
@@ -19,7 +20,7 @@ use Rattle.sd_volume.specs.Device.{OnlyReads}
 use Rattle.sd_words.specs.Lines.{line}
 use Rattle.sd_extract.specs.declared.input.SpansFault.{SpansFault}
 use Rattle.sd_extract.specs.declared.input.SpansFault.TheVariants.{File, Text}
-use Rattle.sd_extract.specs.Lines.{ending_text, records_lines, refusal_text}
+use Rattle.sd_extract.specs.Lines.{ending_text, records_lines}
 
 -- The text says this session and its spans; or it is no JobMedia text. Memory may lack, and the input fail, at any
 -- text.

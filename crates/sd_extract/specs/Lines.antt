@@ -3,8 +3,7 @@ use Rattle.std.specs.Prelude.{ℕ, Bool, true, false, List, ◌++◌, length, Re
 use Rattle.std.specs.List.{flat_map}
 use Rattle.std.specs.Fmt.{decimal}
 use Rattle.sd_base.specs.Record.{Record}
-use Rattle.sd_base.specs.Refusal.{number_of, text_of}
-use Rattle.sd_base.specs.declared.refusal.Refusal.{Refusal}
+use Rattle.sd_base.specs.Refusal.{refusal_text}
 use Rattle.sd_readback.specs.Faults.{fault_refusal}
 use Rattle.sd_readback.specs.declared.fault.ReadFault.{ReadFault}
 use Rattle.sd_readback.specs.declared.read.ReadEnd.{ReadEnd}
@@ -25,10 +24,6 @@ ended_text false = codes "cut"
 abbrev pub end_text : ReadEnd → List ℕ
 end_text end =
     codes "ok read " ++ decimal end.records ++ codes " " ++ decimal end.bytes ++ codes " " ++ ended_text end.ended
-
--- a refusal: its number and its text
-abbrev pub refusal_text : Refusal → List ℕ
-refusal_text why = decimal (number_of why) ++ codes " " ++ text_of why
 
 -- a line without its newline
 abbrev pub line_text : Line → List ℕ

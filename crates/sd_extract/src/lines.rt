@@ -38,7 +38,7 @@ impl fmt::Display for Line {
             }
             Line::End(end) => write!(f, "ok read {} {} cut", end.records, end.bytes),
             Line::NoFile => write!(f, "fault file"),
-            Line::Refused(why) => write!(f, "{} {}", why.number(), why.text()),
+            Line::Refused(why) => write!(f, "{why}"),
         }
     }
 }

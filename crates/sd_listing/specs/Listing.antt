@@ -2,7 +2,7 @@
 use Rattle.std.specs.Prelude.{◌≡◌, ◌⊎◌, ℕ, ◌+◌, List, [], ◌∷◌, ◌++◌, length, drop, Option, Some, None, Result, Ok, Err, codes}
 use Rattle.std.specs.Fmt.{decimal}
 use Rattle.sd_base.specs.Limits.{block_header}
-use Rattle.sd_base.specs.Refusal.{number_of, text_of}
+use Rattle.sd_base.specs.Refusal.{refusal_text}
 use Rattle.sd_base.specs.declared.refusal.Refusal.{Refusal}
 use Rattle.sd_base.specs.declared.refusal.Refusal.TheVariants as refusal
 use Rattle.sd_block.specs.declared.head.Head.{Head}
@@ -33,10 +33,6 @@ head_text start h =
 -- how many bytes stand behind the blocks
 abbrev pub tail_text : ℕ → List ℕ
 tail_text count = codes "tail " ++ decimal count
-
--- a refusal: its number and its text
-abbrev pub refusal_text : Refusal → List ℕ
-refusal_text why = decimal (number_of why) ++ codes " " ++ text_of why
 
 -- a line without its newline
 abbrev pub line_text : ListLine → List ℕ

@@ -1,10 +1,11 @@
 -- How a listing ends: what is printed of it, and its status.
 use Rattle.std.specs.Prelude.{◌≡◌, ℕ, Bool, true, false, List, [], ◌++◌, Result, Ok, Err, IsErrOf}
+use Rattle.sd_base.specs.Refusal.{refusal_text}
 use Rattle.sd_driver.specs.Meaning.{Meaning, IsHonest}
 use Rattle.sd_printer.specs.Says.{SaidView, Says}
 use Rattle.sd_volume.specs.Device.{OnlyReads}
 use Rattle.sd_words.specs.Lines.{line}
-use Rattle.sd_listing.specs.Listing.{Lists, list_refusal, refusal_text}
+use Rattle.sd_listing.specs.Listing.{Lists, list_refusal}
 use Rattle.sd_listing.specs.declared.listing.ListFault.{ListFault}
 use Rattle.sd_listing.specs.declared.listing.ListFault.TheVariants.{Device}
 

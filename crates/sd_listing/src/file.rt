@@ -1,5 +1,6 @@
 // The listing of a file.
 ghost use Rattle.std.specs.Prelude.{◌≡◌, ◌⊎◌};
+ghost use Rattle.sd_listing.specs.Path.{RefusesNoName};
 
 use crate::list_line::ListLine;
 use crate::path::place_of;
@@ -18,7 +19,8 @@ pub fn list_volume<W: Write + Drop>(
     progress: Progress,
     writer: W,
 ) -> u8
-    ensures { (result ≡ 0) ⊎ (result ≡ 1) }
+    ensures status { (result ≡ 0) ⊎ (result ≡ 1) }
+    ensures no_name { RefusesNoName path.now result }
 {
     let alloc = rt.alloc();
     let mut out = Printer::new(writer);

@@ -39,7 +39,7 @@ impl fmt::Display for ListLine {
                 write!(f, "block {number} {start} {size} {time} {id}")
             }
             ListLine::Tail(count) => write!(f, "tail {count}"),
-            ListLine::Refused(refusal) => write!(f, "{} {}", refusal.number(), refusal.text()),
+            ListLine::Refused(refusal) => write!(f, "{refusal}"),
         }
     }
 }

@@ -55,7 +55,7 @@ impl fmt::Display for LogLine {
                     "session {ticket} cancelled with {records} records of {bytes} bytes"
                 )
             }
-            LogLine::Fault(refusal) => write!(f, "{} {}", refusal.number(), refusal.text()),
+            LogLine::Fault(refusal) => write!(f, "{refusal}"),
         }
     }
 }

@@ -330,7 +330,7 @@ impl Plain {
     }
 
     fn refuse(&mut self, refusal: Refusal) -> Result<(), Fail> {
-        let text = format!(in self.alloc; "{} {}", refusal.number(), refusal.text())?;
+        let text = format!(in self.alloc; "{refusal}")?;
         self.say(text.as_str())
     }
 

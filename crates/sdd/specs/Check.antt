@@ -3,8 +3,7 @@ use Rattle.std.specs.Prelude.{◌≡◌, ◌⊎◌, ℕ, ◌+◌, List, [], ◌�
 use Rattle.std.specs.Str.{IsUtf8}
 use Rattle.std.specs.Fmt.{decimal}
 use Rattle.toml.specs.Parse.{parse_document}
-use Rattle.sd_base.specs.Refusal.{number_of, text_of}
-use Rattle.sd_base.specs.declared.refusal.Refusal.{Refusal}
+use Rattle.sd_base.specs.Refusal.{refusal_text}
 use Rattle.sd_base.specs.declared.refusal.Refusal.TheVariants.{Memory}
 use Rattle.sd_conf.specs.Conf.{IsConfText, HasFirstFault}
 use Rattle.sd_conf.specs.declared.conf.Conf.{Conf}
@@ -35,10 +34,6 @@ drive_text number drive =
 -- what is wrong with a key
 abbrev pub fault_text : List ℕ → FaultKind → List ℕ
 fault_text key kind = codes "fault " ++ key ++ codes " " ++ kind_word kind
-
--- a refusal: its number and its text
-abbrev pub refusal_text : Refusal → List ℕ
-refusal_text why = decimal (number_of why) ++ codes " " ++ text_of why
 
 -- a line without its newline
 abbrev pub line_text : ConfLine → List ℕ

@@ -1,10 +1,11 @@
 -- What is printed of a configuration that is served.
 use Rattle.std.specs.Prelude.{◌≡◌, ℕ, List, [], Bool, true, false, Err, codes}
+use Rattle.sd_base.specs.Refusal.{refusal_text}
 use Rattle.sd_base.specs.declared.refusal.Refusal.TheVariants.{Memory}
 use Rattle.sd_printer.specs.Says.{SaidView, Says}
 use Rattle.sd_daemon.specs.declared.daemon.ServeFault.TheVariants as serves
 use Rattle.sd_words.specs.Lines.{line}
-use Rattle.sdd.specs.Check.{Input, fault_line, refusal_text}
+use Rattle.sdd.specs.Check.{Input, fault_line}
 use Rattle.sdd.specs.declared.check.CheckFault.{CheckFault}
 use Rattle.sdd.specs.declared.check.CheckFault.TheVariants.{Conf as Bad}
 use Rattle.sdd.specs.declared.serve.Outcome.{Outcome}

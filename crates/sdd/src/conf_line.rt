@@ -32,7 +32,7 @@ impl fmt::Display for ConfLine {
             ConfLine::Port(port) => write!(f, "port {port}"),
             ConfLine::NoDocument => write!(f, "fault text"),
             ConfLine::NoInput => write!(f, "fault input"),
-            ConfLine::Refused(why) => write!(f, "{} {}", why.number(), why.text()),
+            ConfLine::Refused(why) => write!(f, "{why}"),
         }
     }
 }

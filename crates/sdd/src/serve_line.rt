@@ -21,12 +21,11 @@ impl fmt::Display for ServeLine {
     ghost output = { λ l. Some (serve_text l) };
 
     fn fmt<W: fmt::Write>(&self, f: &mut fmt::Formatter<W>) -> fmt::Result {
-        let why = Refusal::Memory;
         match self {
             ServeLine::NoFile => write!(f, "fault file"),
             ServeLine::NoTime => write!(f, "fault time range"),
             ServeLine::NoPort => write!(f, "fault port"),
-            ServeLine::NoMemory => write!(f, "{} {}", why.number(), why.text()),
+            ServeLine::NoMemory => write!(f, "{}", Refusal::Memory),
         }
     }
 }
