@@ -9,8 +9,6 @@ mod name;
 mod number;
 mod record;
 mod refusal;
-#[cfg(test)]
-mod tests;
 
 pub use fields::{Short, get_i32, get_i64, get_u32, get_u64, put_i32, put_i64, put_u32, put_u64};
 pub use items::{Bytes, Items};

@@ -19,8 +19,6 @@ mod laws;
 mod layout;
 mod opened;
 mod sealed;
-#[cfg(test)]
-mod tests;
 
 pub use fault::BlockFault;
 pub use head::{Head, read_head};

@@ -9,8 +9,6 @@ ghost use Rattle.sd_crc.specs.Crc32.{crc32_of};
 
 mod sums;
 mod table;
-#[cfg(test)]
-mod tests;
 
 use sums::Sums;
 pub use table::crc32_by_table;

@@ -3,7 +3,5 @@
 #![tactic(auto)]
 
 mod round_trip;
-#[cfg(test)]
-mod tests;
 
 pub use round_trip::packed_comes_back;

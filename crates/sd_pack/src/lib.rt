@@ -12,5 +12,3 @@ pub use body::Body;
 pub use laws::packed_bodies_hold;
 pub use packer::Packer;
 
-#[cfg(test)]
-mod tests;

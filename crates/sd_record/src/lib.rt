@@ -4,8 +4,6 @@
 
 mod fragment;
 mod laws;
-#[cfg(test)]
-mod tests;
 
 pub use fragment::{Fragment, FragmentFault, HEADER_LENGTH, next_fragment, put_fragment};
 pub use laws::{body_is_one_list, fragments_are_of_one_record};

@@ -7,8 +7,6 @@ mod damage;
 mod fragments;
 mod laws;
 mod stage;
-#[cfg(test)]
-mod tests;
 mod unpacker;
 
 pub use damage::{AddFault, Damage};

@@ -1,5 +1,5 @@
 // The expected values are zlib's.
-use super::*;
+use sd_crc::{crc32, crc32_by_table};
 use std::test::Fail;
 
 // What `crc32` and its yardstick say, where they agree.

@@ -1,6 +1,6 @@
 // Bodies with their fields as Python's struct.pack writes those of the storage media output format.
-use super::*;
 use sd_record::{Fragment, put_fragment};
+use sd_unpack::{AddFault, Damage, Unpacker, cutting_is_unpacked, unpacked_are_whole};
 use std::alloc::{AllocError, Global};
 use std::process::Abort;
 

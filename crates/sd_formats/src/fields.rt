@@ -1,6 +1,10 @@
 // Values from outside: what the network order of C and python's struct give, and the limits as the
 // formats state them.
-use super::*;
+use sd_base::{
+    Bytes, DriveNo, JobId, LaneNo, MediaName, PoolName, Rec, Refusal, Short, Ticket, VolName,
+    block_limits, get_i32, get_i64, get_u32, get_u64, number_limits, put_i32, put_i64, put_u32,
+    put_u64,
+};
 use std::alloc::Global;
 use std::test::Fail;
 

@@ -1,10 +1,10 @@
 // The example volume of docs/FORMATS.md, whose checksums are zlib's, and the greatest label.
-use super::*;
 use sd_base::{
     Bytes, JobId, LEAST_BODY, MOST_BLOCK, MOST_BODY, MediaName, PoolName, Rec, SessionKey, VolName,
 };
 use sd_block::{open_block, seal};
 use sd_label::{SessionLabel, Totals, VolumeLabel, put_volume_label, read_volume_label};
+use sd_media::packed_comes_back;
 use sd_pack::{Body, Packer};
 use sd_unpack::Unpacker;
 use std::alloc::{AllocError, Global};

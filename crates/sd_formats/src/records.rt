@@ -1,6 +1,9 @@
 // Bytes from outside: a start label's header, a record and a continuation, as the storage media
 // output format writes them.
-use super::*;
+use sd_record::{
+    Fragment, FragmentFault, body_is_one_list, fragments_are_of_one_record, next_fragment,
+    put_fragment,
+};
 use std::alloc::{AllocError, Global};
 use std::test::Fail;
 

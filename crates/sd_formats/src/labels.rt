@@ -1,5 +1,5 @@
 // The example labels byte for byte, the longest names, and each way in which bytes are no label.
-use crate::{
+use sd_label::{
     SessionLabel, VolumeLabel, label_kinds_apart, put_session_label, put_volume_label,
     read_session_label, read_volume_label, session_label_length, session_labels_apart,
     volume_label_length, volume_labels_apart,

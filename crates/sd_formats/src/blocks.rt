@@ -1,6 +1,9 @@
-use super::BlockFault::{BadId, BadSize, BadSum, Short};
-use super::*;
 use sd_base::{BLOCK_HEADER, LEAST_BLOCK, MOST_BLOCK, SessionKey};
+use sd_block::BlockFault::{BadId, BadSize, BadSum, Short};
+use sd_block::{
+    BlockFault, Head, head_of_an_image, length_of_an_image, one_block_of_an_image,
+    one_image_at_a_place, open_block, read_head, seal, seal_into,
+};
 use std::alloc::{AllocError, Global};
 use std::test::Fail;
 

@@ -1,9 +1,9 @@
 // Sessions packed into blocks, and the same with want of memory once at each allocation.
-use super::*;
 use sd_base::{
     BLOCK_HEADER, Bytes, JobId, LEAST_BLOCK_LIMIT, MOST_BLOCK, MediaName, PoolName, Rec,
 };
 use sd_label::{SessionLabel, Totals};
+use sd_pack::{Packer, packed_bodies_hold};
 use sd_record::next_fragment;
 use std::alloc::{AllocError, Global};
 use std::process::Abort;
