@@ -1,14 +1,21 @@
 // The daemon from its configuration on.
-ghost use Rattle.std.specs.Prelude.{◌≤◌, IfSome};
+ghost use Rattle.std.specs.Prelude.{◌≡◌, ◌≤◌, ℕ, [], IfOk, IfSome};
 ghost use Rattle.sd_base.specs.Limits.{most_number};
 ghost use Rattle.sd_conf.specs.Conf.{IsWithinLimits};
+ghost use Rattle.sd_daemon.specs.Served.{IsPortOf, IsServed, most_connections};
+ghost use Rattle.sd_filedrive.specs.Drive.{meaning_of};
+ghost use Rattle.sd_port.specs.Port.{IsOver};
+ghost use Rattle.sd_serve.specs.Talks.{HeldTalks};
+ghost use Rattle.sd_setup.specs.World.{OpensAs};
 
-use crate::files::FilePort;
+use crate::files::{FilePort, Run, ServedPort};
 use sd_conf::Conf;
 use sd_serve::{Log, LogLine, LoggedPort, serve_talks, since_1970, time_of};
-use sd_setup::open_world;
+use sd_setup::{FileWorld, open_world};
 use std::io::Write;
+use std::marker::Brand;
 use std::net::{Ipv4Addr, SocketAddr, TcpListener};
+use std::snapshot::Snapshot;
 
 /// Why nothing is served.
 #[derive(Clone, Copy, Debug, PartialEq, Eq)]
@@ -22,14 +29,16 @@ pub enum ServeFault {
 }
 
 /// Serves one client after another, on the port of the configuration and on 127.0.0.1 alone, over a world of files that
-/// is new: its run's time is the clock's. Ends after so many connections; with 0 it goes on.
+/// is new: its run's time is the clock's. Ends after so many connections; with 0 it goes on. Answers what the port then
+/// is, for contracts alone.
 pub fn serve<L: Write + Drop>(
     rt: &HostRuntime,
     conf: &Conf,
     connections: u32,
     log: Log<L>,
-) -> Result<(), ServeFault>
+) -> Result<Snapshot<ServedPort>, ServeFault>
     requires { IsWithinLimits conf.now }
+    ensures { IfOk result (λ served. IsServed conf.now connections served.value) }
 {
     let Some(time) = time_now(rt) else {
         return Err(ServeFault::Time);
@@ -38,6 +47,25 @@ pub fn serve<L: Write + Drop>(
     let Ok(listener) = TcpListener::bind(rt, address) else {
         return Err(ServeFault::Port);
     };
+    serve_run::<Brand, L>(rt, conf, time, &listener, connections, log)
+}
+
+// Serves clients over the world of a configuration, which is new, in the run of this time.
+fn serve_run<N: Run, L: Write + Drop>(
+    rt: &HostRuntime,
+    conf: &Conf,
+    time: u32,
+    listener: &TcpListener,
+    connections: u32,
+    log: Log<L>,
+) -> Result<Snapshot<ServedPort>, ServeFault>
+    requires within { IsWithinLimits conf.now }
+    requires time_least { 1 ≤ time }
+    requires time_most { time ≤ most_number }
+    requires conf { N.conf ≡ conf.now }
+    requires time { N.time ≡ time }
+    ensures { IfOk result (λ served. IsServed conf.now connections served.value) }
+{
     let Ok(world) = open_world(rt, conf, time) else {
         return Err(ServeFault::Memory);
     };
@@ -46,10 +74,28 @@ pub fn serve<L: Write + Drop>(
         port: conf.port,
         time,
     });
+    let bound = bound_of(connections);
+    Ok(serve_world::<N, L>(rt, listener, bound, world, log))
+}
+
+// Serves clients over the world of a run.
+fn serve_world<N: Run, L: Write + Drop>(
+    rt: &HostRuntime,
+    listener: &TcpListener,
+    connections: u64,
+    world: FileWorld,
+    log: Log<L>,
+) -> Snapshot<ServedPort>
+    requires { OpensAs N.conf N.time world }
+    ensures made { IsPortOf N.conf N.time result.value }
+    ensures over { IsOver (λ d. meaning_of d) result.value }
+    ensures talks { (held : ℕ) × (held ≤ connections) × HeldTalks held [] result.value.asked }
+{
     let alloc = rt.alloc();
-    let mut port = LoggedPort::new(FilePort::new(alloc, world), log);
-    serve_talks(rt, alloc, &listener, bound_of(connections), &mut port);
-    Ok(())
+    let files: FilePort<N> = FilePort::new(alloc, world);
+    let mut port = LoggedPort::new(files, log);
+    serve_talks(rt, alloc, listener, connections, &mut port);
+    port.port().served()
 }
 
 // The time of a run that begins now, in seconds.
@@ -61,7 +107,9 @@ fn time_now(rt: &HostRuntime) -> Option<u32>
 }
 
 // After how many connections the daemon ends; with 0, after more than there can be.
-fn bound_of(connections: u32) -> u64 {
+fn bound_of(connections: u32) -> u64
+    ensures { result ≡ most_connections connections }
+{
     if connections == 0 {
         return u64::MAX;
     }

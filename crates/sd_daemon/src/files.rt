@@ -1,7 +1,11 @@
 // The world of files as a port.
-ghost use Rattle.std.specs.Prelude.{◌≡◌, pos};
-ghost use Rattle.sd_port.specs.Port.{new_port};
-ghost use Rattle.sd_port.specs.declared.syncing.Syncing.TheVariants.{AtRest};
+ghost use Rattle.std.specs.Prelude.{◌≡◌, ℕ, []};
+ghost use Rattle.sd_append.specs.Port.{Exchange};
+ghost use Rattle.sd_conf.specs.declared.conf.Conf.{Conf};
+ghost use Rattle.sd_daemon.specs.Served.{IsPortOf};
+ghost use Rattle.sd_filedrive.specs.Drive.{meaning_of};
+ghost use Rattle.sd_port.specs.Port.{IsOver};
+ghost use Rattle.sd_setup.specs.World.{OpensAs};
 
 use sd_append::{ReadBack, SessionPort};
 use sd_base::{Items, Refusal, SessionKey};
@@ -16,26 +20,80 @@ use sd_setup::FileWorld;
 use sd_span::Span;
 use sd_spool::FileSpool;
 use std::alloc::Global;
+use std::marker::{Brand, Model, PhantomData};
+use std::snapshot::Snapshot;
 
-/// A world of files as the port of talks.
-#[derive(Drop)]
-pub struct FilePort {
-    port: WorldPort<FileDrive<HostRuntime>, PlainLanes, FileSpool<HostRuntime>>,
+/// The port that a daemon serves: a world whose volumes and spools are files.
+pub type ServedPort = WorldPort<FileDrive<HostRuntime>, PlainLanes, FileSpool<HostRuntime>>;
+
+/// A run of the daemon, for contracts alone: its configuration and its time.
+pub(crate) trait Run {
+    ghost conf: { Conf };
+
+    ghost time: { ℕ };
 }
 
-impl FilePort {
+impl Run for Brand {
+    ghost use Rattle.std.specs.Prelude.{[], None};
+
+    ghost conf = { record {
+      block = 0;
+      volume = 0;
+      spool = 0;
+      queue = 0;
+      port = 0;
+      spool_folder = None;
+      drives = [];
+    } };
+
+    ghost time = { 0 };
+}
+
+/// The port of a run, as talks are held with it. In a contract it is what it was asked. Its type keeps that it was made
+/// with the world of the run.
+#[derive(Drop)]
+pub(crate) struct FilePort<N: Run> {
+    port: ServedPort,
+    of: PhantomData<N>,
+}
+
+impl<N: Run> Model for FilePort<N> {
+    ghost use Rattle.std.specs.Prelude.{List};
+    ghost use Rattle.sd_append.specs.Port.{Exchange};
+    ghost use Rattle.sd_daemon.specs.Served.{IsPortOf};
+
+    ghost Value = { List Exchange };
+
+    ghost view = { λ p. p.port.asked };
+
+    ghost invariant = { λ p. IsPortOf N.conf N.time p.port };
+}
+
+impl<N: Run> FilePort<N> {
     /// The port of this world, which was asked nothing yet.
-    pub fn new(alloc: Global, world: FileWorld) -> Self
-        ensures { result.port ≡ new_port world (pos 0) AtRest 1_000_000_000 }
+    pub(crate) fn new(alloc: Global, world: FileWorld) -> Self
+        requires { OpensAs N.conf N.time world }
+        ensures { result ≡ [] }
     {
         FilePort {
             port: WorldPort::new(alloc, world, 0, Syncing::AtRest, ROUNDS),
+            of: PhantomData,
         }
+    }
+
+    /// What the port is now, for contracts alone.
+    pub(crate) fn served(&self) -> Snapshot<ServedPort>
+        ensures asked { result.value.asked ≡ self.now }
+        ensures made { IsPortOf N.conf N.time result.value }
+        ensures over { IsOver (λ d. meaning_of d) result.value }
+    {
+        self.port.know();
+        Snapshot::of(&self.port)
     }
 }
 
-impl SessionPort for FilePort {
-    ghost asked = { λ p. p.port.asked };
+impl<N: Run> SessionPort for FilePort<N> {
+    ghost asked = { λ p. p };
 
     fn step(&mut self, event: Event) -> Reply {
         self.port.step(event)
@@ -54,7 +112,7 @@ impl SessionPort for FilePort {
     }
 }
 
-impl RoundPort for FilePort {
+impl<N: Run> RoundPort for FilePort<N> {
     fn set_moment(&mut self, moment: i64) {
         self.port.set_moment(moment);
     }

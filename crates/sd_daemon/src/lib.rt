@@ -4,8 +4,6 @@
 
 mod daemon;
 mod files;
-#[cfg(test)]
-mod tests;
 
 pub use daemon::{ServeFault, serve};
-pub use files::FilePort;
+pub use files::ServedPort;

@@ -9,8 +9,6 @@ mod log_line;
 mod logged;
 mod port;
 mod talks;
-#[cfg(test)]
-mod tests;
 
 pub use clock::{moment_of, since_1970, time_of};
 pub use log::Log;

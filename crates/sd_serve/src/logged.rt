@@ -34,6 +34,13 @@ impl<P, L> LoggedPort<P, L> {
             heard: Heard::new(log),
         }
     }
+
+    /// The port.
+    pub fn port(&self) -> &P
+        ensures { result.now ≡ self.now.port }
+    {
+        &self.port
+    }
 }
 
 impl<P: SessionPort, L: Write> SessionPort for LoggedPort<P, L> {

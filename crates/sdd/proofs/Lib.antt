@@ -1,2 +1,1 @@
-pub mod CheckLemmas
 mod ServeLemmas

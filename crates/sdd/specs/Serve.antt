@@ -1,13 +1,15 @@
 -- What is printed of a configuration that is served.
-use Rattle.std.specs.Prelude.{◌≡◌, ℕ, List, [], Bool, true, false, Err, codes}
+use Rattle.std.specs.Prelude.{◌≡◌, ℕ, List, [], Bool, true, false, Ok, Err, codes}
 use Rattle.sd_base.specs.Refusal.{refusal_text}
 use Rattle.sd_base.specs.declared.refusal.Refusal.TheVariants.{Memory}
 use Rattle.sd_printer.specs.Says.{SaidView, Says}
+use Rattle.sd_conf.specs.declared.conf.Conf.{Conf}
+use Rattle.sd_daemon.specs.Served.{IsServed}
 use Rattle.sd_daemon.specs.declared.daemon.ServeFault.TheVariants as serves
 use Rattle.sd_words.specs.Lines.{line}
-use Rattle.sdd.specs.Check.{Input, fault_line}
-use Rattle.sdd.specs.declared.check.CheckFault.{CheckFault}
-use Rattle.sdd.specs.declared.check.CheckFault.TheVariants.{Conf as Bad}
+use Rattle.sd_check.specs.Check.{Input, fault_line}
+use Rattle.sd_check.specs.declared.check.CheckFault.{CheckFault}
+use Rattle.sd_check.specs.declared.check.CheckFault.TheVariants.{Conf as Bad}
 use Rattle.sdd.specs.declared.serve.Outcome.{Outcome}
 use Rattle.sdd.specs.declared.serve.Outcome.TheVariants.{Served, NoFile, NoConf, NotServed}
 use Rattle.sdd.specs.declared.serve_line.ServeLine.{ServeLine}
@@ -22,7 +24,7 @@ serve_text says.NoMemory = refusal_text Memory
 
 -- what is printed at this outcome: nothing where clients were served, and else one line
 abbrev pub outcome_lines : Outcome → List ℕ
-outcome_lines Served = []
+outcome_lines (Served port) = []
 outcome_lines NoFile = line (serve_text says.NoFile)
 outcome_lines (NoConf fault) = fault_line fault
 outcome_lines (NotServed serves.Time) = line (serve_text says.NoTime)
@@ -31,23 +33,29 @@ outcome_lines (NotServed serves.Memory) = line (serve_text says.NoMemory)
 
 -- the status: 0 where clients were served
 abbrev pub status_of : Outcome → Bool → ℕ
-status_of Served false = 0
-status_of Served true = 1
+status_of (Served port) false = 0
+status_of (Served port) true = 1
 status_of outcome failed = 1
+
+-- some text is this configuration
+abbrev pub IsConfOf : Conf → Type 0
+IsConfOf conf = (text : List ℕ) × Input text (Ok conf)
 
 -- this is what comes of reading some text as a configuration
 abbrev pub IsFaultOf : CheckFault → Type 0
 IsFaultOf fault = (text : List ℕ) × Input text (Err fault)
 
--- a configuration that is refused is refused for what some text holds
-abbrev pub IsReadOf : Outcome → Type 0
-IsReadOf (NoConf fault) = IsFaultOf (Bad fault)
-IsReadOf outcome = Unit {0}
+-- Clients were served from a configuration that some text is, in no more connections than were asked for; a configuration
+-- that is refused is refused for what some text holds.
+abbrev pub IsOutcomeOf : ℕ → Outcome → Type 0
+IsOutcomeOf connections (Served port) = (conf : Conf) × IsConfOf conf × IsServed conf connections port.value
+IsOutcomeOf connections (NoConf fault) = IsFaultOf (Bad fault)
+IsOutcomeOf connections outcome = Unit {0}
 
 -- A configuration was served, or could not be. What is wrong was printed, or, where the writer failed, a front of that;
 -- nothing else was.
-pub record PrintsServe (said says : SaidView) (status : ℕ) : Type 0 where
+pub record PrintsServe (connections : ℕ) (said says : SaidView) (status : ℕ) : Type 0 where
   pub outcome : Outcome
-  pub reads : IsReadOf outcome
+  pub comes : IsOutcomeOf connections outcome
   pub prints : Says said says (outcome_lines outcome)
   pub status_is : status ≡ status_of outcome says.failed

@@ -3,16 +3,12 @@
 #![tactic(auto)]
 
 mod arguments;
-mod check;
-mod conf_line;
 mod serve;
 mod serve_line;
-#[cfg(test)]
-mod tests;
 
 use arguments::{Serving, Task, status_of, task_of};
-use check::check_conf;
 use sd_base::Refusal;
+use sd_check::check_conf;
 use sd_printer::Printer;
 use serve::serve_file;
 use std::io::BufWriter;

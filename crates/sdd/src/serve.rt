@@ -2,17 +2,18 @@
 ghost use Rattle.std.specs.Prelude.{◌≡◌, IfErr, IfOk};
 ghost use Rattle.sd_conf.specs.Conf.{IsWithinLimits};
 ghost use Rattle.sd_printer.specs.Says.{Says, said_view};
-ghost use Rattle.sdd.specs.Serve.{IsFaultOf, IsReadOf, PrintsServe, outcome_lines, status_of};
+ghost use Rattle.sdd.specs.Serve.{IsConfOf, IsFaultOf, IsOutcomeOf, PrintsServe, outcome_lines, status_of};
 
 use crate::arguments::Serving;
-use crate::check::{CheckFault, conf_in, print_conf_fault};
 use crate::serve_line::ServeLine;
+use sd_check::{CheckFault, conf_in, print_conf_fault};
 use sd_conf::{Conf, ConfFault};
-use sd_daemon::{ServeFault, serve};
+use sd_daemon::{ServeFault, ServedPort, serve};
 use sd_printer::Printer;
 use sd_serve::Log;
 use std::fs;
 use std::io::{ErrorKind, Write};
+use std::snapshot::Snapshot;
 
 /// The status of a daemon that held its talks.
 const DONE: u8 = 0;
@@ -23,8 +24,8 @@ const FAILED: u8 = 1;
 /// What came of the file of a configuration.
 #[derive(Drop)]
 pub enum Outcome {
-    /// It was served.
-    Served,
+    /// It was served, by a port that is this at the end.
+    Served(Snapshot<ServedPort>),
     /// It can't be read.
     NoFile,
     /// What it holds is no configuration.
@@ -41,7 +42,8 @@ pub fn serve_file<W: Write, L: Write + Drop>(
     log: Option<L>,
     out: &mut Printer<W>,
 ) -> u8
-    ensures { PrintsServe (said_view W.contents out.old) (said_view W.contents out.new) result }
+    ensures { PrintsServe asked.now.talks
+        (said_view W.contents out.old) (said_view W.contents out.new) result }
 {
     let outcome = outcome_of(rt, asked, log);
     print_outcome(&outcome, out);
@@ -54,14 +56,14 @@ fn status_of(outcome: &Outcome, failed: bool) -> u8
     ensures { result ≡ status_of outcome.now failed }
 {
     match outcome {
-        Outcome::Served if !failed => DONE,
+        Outcome::Served(_) if !failed => DONE,
         _ => FAILED,
     }
 }
 
 // What comes of the file.
 fn outcome_of<L: Write + Drop>(rt: &HostRuntime, asked: &Serving<'_>, log: Option<L>) -> Outcome
-    ensures { IsReadOf result }
+    ensures { IsOutcomeOf asked.now.talks result }
 {
     let conf = match read_file(rt, asked.path) {
         Ok(conf) => conf,
@@ -69,15 +71,16 @@ fn outcome_of<L: Write + Drop>(rt: &HostRuntime, asked: &Serving<'_>, log: Optio
         Err(CheckFault::Conf(fault)) => return Outcome::NoConf(fault),
     };
     match serve(rt, &conf, asked.talks, Log::new(log)) {
-        Ok(()) => Outcome::Served,
+        Ok(port) => Outcome::Served(port),
         Err(fault) => Outcome::NotServed(fault),
     }
 }
 
 // The configuration in a file.
-#[tactic(auto, using(crate::proofs::ServeLemmas::fault_of, crate::proofs::ServeLemmas::no_memory, crate::proofs::ServeLemmas::no_input))]
+#[tactic(auto, using(crate::proofs::ServeLemmas::conf_of, crate::proofs::ServeLemmas::fault_of, crate::proofs::ServeLemmas::no_memory, crate::proofs::ServeLemmas::no_input))]
 fn read_file(rt: &HostRuntime, path: &str) -> Result<Conf, CheckFault>
     ensures within { IfOk result IsWithinLimits }
+    ensures conf { IfOk result IsConfOf }
     ensures fault { IfErr result IsFaultOf }
 {
     match fs::read(rt, path) {
@@ -95,7 +98,7 @@ fn print_outcome<W: Write>(outcome: &Outcome, out: &mut Printer<W>)
         (outcome_lines outcome.now) }
 {
     match outcome {
-        Outcome::Served => {}
+        Outcome::Served(_) => {}
         Outcome::NoFile => out.line(ServeLine::NoFile),
         Outcome::NoConf(fault) => print_conf_fault(fault, out),
         Outcome::NotServed(ServeFault::Time) => out.line(ServeLine::NoTime),

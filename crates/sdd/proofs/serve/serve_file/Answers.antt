@@ -7,7 +7,7 @@ use Rattle.sdd.proofs.serve.serve_file.Goals as goal
 pub returns : goal.returns
 returns g c = record {
   outcome = c.outcome_of-outcome.result;
-  reads = c.outcome_of-outcome.ensures;
+  comes = c.outcome_of-outcome.ensures;
   prints = says_then_nothing _ (said_view g.W.Write.contents c.print_outcome.new.out) _ _ c.print_outcome.ensures c.flush.ensures;
   status_is = c.status_of.ensures ∙ ap (status_of c.outcome_of-outcome.result) c.failed.ensures;
 }

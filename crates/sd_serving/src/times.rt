@@ -1,5 +1,5 @@
 // Times.
-use crate::clock::{moment_of, time_of};
+use sd_serve::{moment_of, time_of};
 use std::time::Duration;
 
 #[test]

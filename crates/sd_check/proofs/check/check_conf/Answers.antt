@@ -1,8 +1,8 @@
 use Rattle.std.proofs.Common.{ap, ◌∙◌}
 use Rattle.sd_printer.specs.Says.{said_view}
 use Rattle.sd_printer.proofs.SaysLemmas.{says_then_nothing}
-use Rattle.sdd.specs.Check.{status_of}
-use Rattle.sdd.proofs.check.check_conf.Goals as goal
+use Rattle.sd_check.specs.Check.{status_of}
+use Rattle.sd_check.proofs.check.check_conf.Goals as goal
 
 pub returns : goal.returns
 returns g c = record {

@@ -1,9 +1,9 @@
 // The daemon with a client.
 mod client;
 
-use crate::daemon::serve;
 use client::{DIALOGUE, make_folder, plays};
 use sd_conf::read_conf;
+use sd_daemon::serve;
 use sd_serve::Log;
 use std::test::Fail;
 use std::{fs, io, thread};
@@ -26,7 +26,7 @@ fn serve_dialogue(rt: HostRuntime) -> Result<(), Fail> {
         || plays(&rt, &DIALOGUE),
     );
     fs::remove_dir_all(&rt, folder.as_str())?;
-    assert_eq!(rt; served, Ok(()));
+    assert!(rt; served.is_ok());
     assert_eq!(rt; played?, None);
     Ok(())
 }

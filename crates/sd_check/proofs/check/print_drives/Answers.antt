@@ -1,7 +1,7 @@
 use Rattle.std.proofs.Common.{◌+◌, ap, arith}
 use Rattle.sd_printer.specs.Says.{said_view}
-use Rattle.sdd.proofs.CheckLemmas.{says_drive}
-use Rattle.sdd.proofs.check.print_drives.Goals as goal
+use Rattle.sd_check.proofs.CheckLemmas.{says_drive}
+use Rattle.sd_check.proofs.check.print_drives.Goals as goal
 
 pub loop-drive-preserved : goal.loop-drive-preserved
 loop-drive-preserved g c = record {

@@ -14,10 +14,10 @@ use Rattle.sd_conf.specs.declared.fault.ConfFault.{ConfFault}
 use Rattle.sd_conf.specs.declared.fault.ConfFault.TheVariants.{Text, Key, Memory as NoMemory}
 use Rattle.sd_printer.specs.Says.{SaidView, Says}
 use Rattle.sd_words.specs.Lines.{line}
-use Rattle.sdd.specs.declared.check.CheckFault.{CheckFault}
-use Rattle.sdd.specs.declared.check.CheckFault.TheVariants.{Input as NoInput, Conf as Bad}
-use Rattle.sdd.specs.declared.conf_line.ConfLine.{ConfLine}
-use Rattle.sdd.specs.declared.conf_line.ConfLine.TheVariants as says
+use Rattle.sd_check.specs.declared.check.CheckFault.{CheckFault}
+use Rattle.sd_check.specs.declared.check.CheckFault.TheVariants.{Input as NoInput, Conf as Bad}
+use Rattle.sd_check.specs.declared.conf_line.ConfLine.{ConfLine}
+use Rattle.sd_check.specs.declared.conf_line.ConfLine.TheVariants as says
 
 -- the word for what is wrong with a key
 abbrev pub kind_word : FaultKind → List ℕ

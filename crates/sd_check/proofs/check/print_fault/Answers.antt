@@ -1,7 +1,7 @@
 use Rattle.std.proofs.Common.{◌∙◌}
 use Rattle.sd_printer.specs.Says.{said_view}
-use Rattle.sdd.proofs.CheckLemmas.{says_fault_line}
-use Rattle.sdd.proofs.check.print_fault.Goals as goal
+use Rattle.sd_check.proofs.CheckLemmas.{says_fault_line}
+use Rattle.sd_check.proofs.check.print_fault.Goals as goal
 
 pub returns : goal.returns
 returns g c =

@@ -4,7 +4,7 @@ ghost use Rattle.sd_conf.specs.Conf.{IsWithinLimits};
 ghost use Rattle.sd_printer.specs.Says.{Says, said_view};
 ghost use Rattle.std.specs.Fmt.{decimal};
 ghost use Rattle.sd_words.specs.Lines.{line};
-ghost use Rattle.sdd.specs.Check.{Input, PrintsCheck, ReadsConf, checked_lines, conf_lines, drive_lines, drive_text, fault_line, fault_text, kind_word, status_of};
+ghost use Rattle.sd_check.specs.Check.{Input, PrintsCheck, ReadsConf, checked_lines, conf_lines, drive_lines, drive_text, fault_line, fault_text, kind_word, status_of};
 
 use crate::conf_line::ConfLine;
 use itoa::Buffer;
@@ -66,8 +66,8 @@ fn read_input<R: Read>(alloc: Global, reader: &mut R) -> Result<Conf, CheckFault
     }
 }
 
-/// The configuration that these bytes are.
-pub(crate) fn conf_in(alloc: Global, bytes: &[u8]) -> Result<Conf, CheckFault>
+/// The configuration that these bytes are, or why they are none.
+pub fn conf_in(alloc: Global, bytes: &[u8]) -> Result<Conf, CheckFault>
     ensures input { Input bytes.now result }
     ensures within { IfOk result IsWithinLimits }
 {
@@ -93,7 +93,7 @@ fn print_checked<W: Write>(checked: &Result<Conf, CheckFault>, out: &mut Printer
 }
 
 /// Prints the line of what is wrong with a configuration.
-pub(crate) fn print_conf_fault<W: Write>(fault: &ConfFault, out: &mut Printer<W>)
+pub fn print_conf_fault<W: Write>(fault: &ConfFault, out: &mut Printer<W>)
     ensures { Says (said_view W.contents out.old) (said_view W.contents out.new)
         (fault_line fault.now) }
 {

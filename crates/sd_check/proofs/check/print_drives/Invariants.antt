@@ -1,7 +1,7 @@
 use Rattle.std.proofs.Common.{◌≡◌, take}
 use Rattle.sd_printer.specs.Says.{Says, said_view}
-use Rattle.sdd.specs.Check.{drive_lines}
-use Rattle.sdd.proofs.check.print_drives.Given as goal
+use Rattle.sd_check.specs.Check.{drive_lines}
+use Rattle.sd_check.proofs.check.print_drives.Given as goal
 
 abbrev pub invariant-loop-drive : goal.invariant-loop-drive
 invariant-loop-drive g l = record {

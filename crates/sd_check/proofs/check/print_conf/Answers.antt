@@ -1,6 +1,6 @@
 use Rattle.sd_printer.specs.Says.{said_view}
-use Rattle.sdd.proofs.CheckLemmas.{says_conf}
-use Rattle.sdd.proofs.check.print_conf.Goals as goal
+use Rattle.sd_check.proofs.CheckLemmas.{says_conf}
+use Rattle.sd_check.proofs.check.print_conf.Goals as goal
 
 pub returns : goal.returns
 returns g c =

@@ -1,6 +1,6 @@
 // What is printed of a configuration, and the status.
 use super::table::{LongRow, Row};
-use crate::check::check_conf;
+use sd_check::check_conf;
 use sd_printer::Printer;
 use std::alloc::{AllocError, Global};
 

@@ -19,7 +19,7 @@ pub enum ConfLine {
 
 impl fmt::Display for ConfLine {
     ghost use Rattle.std.specs.Prelude.{Some};
-    ghost use Rattle.sdd.specs.Check.{line_text};
+    ghost use Rattle.sd_check.specs.Check.{line_text};
 
     ghost output = { λ l. Some (line_text l) };
 

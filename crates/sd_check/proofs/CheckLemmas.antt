@@ -13,9 +13,9 @@ use Rattle.sd_conf.specs.declared.fault.FaultKind.{FaultKind}
 use Rattle.sd_printer.specs.Says.{SaidView, Says}
 use Rattle.sd_printer.proofs.SaysLemmas.{says_then}
 use Rattle.sd_words.specs.Lines.{line}
-use Rattle.sdd.specs.Check.{Input, conf_lines, drive_lines, drive_text, fault_text, kind_word}
-use Rattle.sdd.specs.declared.check.CheckFault.{CheckFault}
-use Rattle.sdd.specs.declared.check.CheckFault.TheVariants.{Conf as Bad}
+use Rattle.sd_check.specs.Check.{Input, conf_lines, drive_lines, drive_text, fault_text, kind_word}
+use Rattle.sd_check.specs.declared.check.CheckFault.{CheckFault}
+use Rattle.sd_check.specs.declared.check.CheckFault.TheVariants.{Conf as Bad}
 
 -- an input whose bytes were all read
 pub all_read : (input : Option (List ℕ)) (bytes : List ℕ) (result : Result Conf CheckFault) → IfSome input (λ xs. bytes ≡ [] ++ xs) → Input bytes result → IfSome input (λ text. Input text result)
