@@ -23,8 +23,6 @@ mod spans;
 mod stage;
 mod standing;
 mod take;
-#[cfg(test)]
-mod tests;
 mod text;
 mod turn;
 

@@ -5,8 +5,6 @@
 mod desk;
 mod next;
 mod request;
-#[cfg(test)]
-mod tests;
 
 pub use desk::{ClaimFault, Desk};
 pub use next::next_volume;

@@ -9,8 +9,6 @@ mod mark;
 mod noted;
 mod share;
 mod shares;
-#[cfg(test)]
-mod tests;
 
 pub use counts::Counts;
 pub use journal::Journal;

@@ -6,8 +6,6 @@ mod lane;
 mod laws;
 mod piece;
 mod plain;
-#[cfg(test)]
-mod tests;
 
 pub use lane::{Lane, Lanes};
 pub use laws::{push_keeps_rule, take_keeps_rule};

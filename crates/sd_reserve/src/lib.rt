@@ -4,8 +4,6 @@
 
 mod drive;
 mod lane;
-#[cfg(test)]
-mod tests;
 
 pub use drive::{DriveView, ReserveFault, reserve};
 pub use lane::lowest_free_lane;

@@ -9,8 +9,6 @@ mod sending;
 mod session;
 mod spooling;
 mod status;
-#[cfg(test)]
-mod tests;
 
 pub use answer::{Despooled, Spooling};
 pub use opening::{NotOpened, Opening};

@@ -8,8 +8,6 @@ mod placement;
 mod progress;
 mod span;
 mod stretches;
-#[cfg(test)]
-mod tests;
 
 pub use jobmedia::{JobMediaFault, SessionSpans, read_jobmedia};
 pub use laws::{jobmedia_is_one, jobmedia_texts_apart, stretches_grow};

@@ -8,8 +8,6 @@ mod memory;
 mod plan;
 mod spool_file;
 mod store;
-#[cfg(test)]
-mod tests;
 
 pub use file::{FileSpool, lane_files_differ};
 pub use job::{JobSpool, NotCleared, PutFault};

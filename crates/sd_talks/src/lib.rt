@@ -1,5 +1,6 @@
 //! Talks with scripted clients over a port that answers by rule, tested: the protocol's dialogues whole and cut
-//! anywhere, each refusal, readers and writers that fail, and generated talks beside a plain slow one.
+//! anywhere, each refusal, readers and writers that fail, and generated talks beside a plain slow one. Commands,
+//! headers and lines as their texts, too.
 #![tactic(auto)]
 
 #[cfg(test)]
@@ -15,6 +16,8 @@ mod sent;
 mod talks;
 #[cfg(test)]
 mod tests;
+#[cfg(test)]
+mod texts;
 mod wire;
 
 pub use sent::{Sent, bytes_of};
