@@ -8,8 +8,6 @@ mod fault;
 mod keys;
 mod laws;
 mod read;
-#[cfg(test)]
-mod tests;
 mod text;
 mod values;
 

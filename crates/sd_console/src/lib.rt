@@ -5,8 +5,6 @@ mod line;
 mod reply;
 mod requests;
 mod status;
-#[cfg(test)]
-mod tests;
 
 pub use line::command;
 pub use reply::{ReplyLine, reply_text};

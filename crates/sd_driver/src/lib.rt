@@ -9,8 +9,6 @@
 mod boxed;
 mod driver;
 mod laws;
-#[cfg(test)]
-mod tests;
 
 pub use driver::{Driver, DriverFault};
 pub use laws::{

@@ -8,8 +8,6 @@ mod lines;
 mod reading;
 mod record;
 mod session;
-#[cfg(test)]
-mod tests;
 
 pub use file::read_back;
 pub use input::SpansFault;

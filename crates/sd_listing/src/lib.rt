@@ -7,8 +7,6 @@ mod list_line;
 mod listing;
 mod path;
 mod status;
-#[cfg(test)]
-mod tests;
 
 pub use file::list_volume;
 pub use list_line::ListLine;

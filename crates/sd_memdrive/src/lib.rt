@@ -7,8 +7,6 @@ mod plan;
 mod stop;
 mod store;
 mod stored;
-#[cfg(test)]
-mod tests;
 
 pub use drive::MemDrive;
 pub use plan::{Call, Fail, When};

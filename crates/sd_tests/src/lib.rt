@@ -3,6 +3,14 @@
 #![tactic(auto)]
 
 #[cfg(test)]
+mod configurations;
+#[cfg(test)]
+mod console;
+#[cfg(test)]
+mod extractions;
+#[cfg(test)]
 mod lines;
+#[cfg(test)]
+mod listings;
 #[cfg(test)]
 mod packets;

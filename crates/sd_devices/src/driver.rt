@@ -1,12 +1,12 @@
-// The trait as its implementations see it: a device that is always broken, a bare one that has no volume and
-// no memory, and an enum and a box of the two, which show that drivers of several kinds go together.
+// The trait `Driver` as its implementations see it: a device that is always broken, a bare one that has no volume
+// and no memory, and an enum and a box of the two, which show that drivers of several kinds go together.
 ghost use Rattle.std.specs.Prelude.{◌≡◌, ◌≤◌, ℕ, OnOk, None, length};
 ghost use Rattle.sd_base.specs.Count.{Rose};
 ghost use Rattle.sd_driver.specs.Meaning.{IsHonest};
 ghost use Rattle.sd_driver.specs.Shelf.{Lasts, low_mark};
 
-use crate::{Driver, DriverFault};
 use sd_base::VolName;
+use sd_driver::{Driver, DriverFault};
 use std::test::Fail;
 
 // A device that fails every call.
@@ -136,7 +136,7 @@ enum Either {
 }
 
 impl Driver for Either {
-    ghost use Rattle.sd_driver.specs.declared.tests.Either.TheVariants.{Broken, Bare};
+    ghost use Rattle.sd_devices.specs.declared.driver.Either.TheVariants.{Broken, Bare};
 
     ghost meaning = { λ d. elim d [ Broken b ↦ ⟦<Broken as Driver>⟧.meaning b | Bare b ↦ ⟦<Bare as Driver>⟧.meaning b ] };
 

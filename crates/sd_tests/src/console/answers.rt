@@ -1,6 +1,6 @@
 // Statuses, requests and replies, made of rows, and their texts.
-use crate::{reply_text, requests_text, status_text};
 use sd_base::{BadName, DriveNo, Items, MediaName, PoolName, Refusal, SessionKey, Ticket, VolName};
+use sd_console::{reply_text, requests_text, status_text};
 use sd_desk::Request;
 use sd_machine::Reply;
 use sd_session::Status;

@@ -2,8 +2,8 @@
 mod player;
 mod table;
 
-use crate::ConfFault;
 use player::outcome_of;
+use sd_conf::ConfFault;
 use std::test::Fail;
 use table::{DEFAULTS, DRIVES, FAULTS, LIMITS, ORDERS, Row, SPOOLS};
 

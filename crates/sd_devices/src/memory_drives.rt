@@ -1,13 +1,13 @@
-// The drive against a plain model, through the trait's bound: every call failing in every way, and a stop after
-// every call.
+// The drive in memory against a plain model, through the trait's bound: every call failing in every way, and a
+// stop after every call.
 ghost use Rattle.std.specs.Prelude.{◌≡◌, false, None, IsTrue, IsSome};
 
 mod memory;
 mod table;
 
-use crate::{Call, Fail, MemDrive, When};
 use sd_base::VolName;
 use sd_driver::{Driver, DriverFault};
+use sd_memdrive::{Call, Fail, MemDrive, When};
 use std::alloc::{AllocError, Global};
 use std::test::Fail as TestFail;
 use table::{STOPS, TOLD};

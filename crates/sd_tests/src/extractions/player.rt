@@ -1,9 +1,9 @@
 // Volumes put on a drive in memory, and read by a JobMedia text.
 use super::failing::{Failing, Refusing};
 use super::table::{CUT, Row, VOLUME};
-use crate::reading::extract;
 use sd_base::VolName;
 use sd_driver::{Driver, DriverFault};
+use sd_extract::extract;
 use sd_memdrive::MemDrive;
 use sd_printer::Printer;
 use std::alloc::{AllocError, Global};

@@ -1,5 +1,5 @@
 // What a text comes to: the lines that the program's check prints, but on one line.
-use crate::{Conf, ConfFault, read_conf};
+use sd_conf::{Conf, ConfFault, read_conf};
 use std::alloc::{AllocError, Global};
 
 /// The values of a configuration or its fault, or `None` where memory lacks.

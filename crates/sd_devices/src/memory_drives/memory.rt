@@ -3,9 +3,9 @@
 ghost use Rattle.std.specs.Prelude.{◌≡◌, None, IsSome, IfOk, OnOk};
 ghost use Rattle.sd_memdrive.specs.Drive.{meaning_of};
 
-use crate::MemDrive;
 use sd_base::VolName;
 use sd_driver::{Driver, DriverFault};
+use sd_memdrive::MemDrive;
 use std::alloc::{AllocError, Global};
 use std::test::Fail;
 

@@ -1,5 +1,5 @@
 // What lines of a console come to.
-use crate::{ConsoleCmd, command};
+use sd_console::{ConsoleCmd, command};
 
 /// A line, what it asks for, its number or 0, and its words.
 pub type Row = (&'static str, &'static str, u32, [&'static str; 3]);

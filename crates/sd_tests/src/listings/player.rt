@@ -1,8 +1,8 @@
 // A volume put on a drive in memory, and listed.
 use super::table::{Row, VOLUME};
-use crate::status::list_on;
 use sd_base::VolName;
 use sd_driver::{Driver, DriverFault};
+use sd_listing::list_on;
 use sd_memdrive::MemDrive;
 use sd_printer::Printer;
 use std::alloc::{AllocError, Global};

@@ -2,8 +2,8 @@
 mod player;
 mod table;
 
-use crate::path::place_of;
 use player::{is_listed_so, none_is_told};
+use sd_listing::place_of;
 use std::test::Fail;
 use table::ROWS;
 
