@@ -3,31 +3,15 @@
 #![tactic(auto)]
 
 mod arguments;
-mod drives;
-mod events;
-mod fits;
-mod lines;
-mod making;
-mod printed;
-mod reading;
-mod replies;
-mod restart;
-mod run;
-mod settings;
-mod sink;
-mod stage;
 #[cfg(test)]
 mod tests;
-mod values;
 
 use arguments::{Task, status_of, task_of};
-use drives::memory_drives;
-use run::run_lines;
 use sd_base::Refusal;
 use sd_extract::read_back;
 use sd_listing::list_volume;
 use sd_progress::Progress;
-use settings::read_settings;
+use sd_tool::{memory_drives, read_settings, run_lines};
 use std::io::{BufReader, BufWriter};
 use std::process::ExitCode;
 use std::{env, io};

@@ -1,0 +1,111 @@
+-- The drives of a script's world: online while none was retired.
+use Rattle.std.proofs.Common.{cond, ◌≡◌, ◌+◌, ◌≤◌, ◌<◌, ℕ, zero, suc, Bool, true, false, Option, None, Some, List, [], ◌∷◌, ◌++◌, Vec, All, map, replicate, length, refl, sym, ap, subst, ◌∙◌, inl, inr, arith}
+use Rattle.std.specs.Prelude.{is_some, nat_lt, ℤ, Result, Ok, Err, IfOk, OnErr}
+use Rattle.std.specs.List.{AllZip}
+use Rattle.std.proofs.lemmas.List.{length-append}
+use Rattle.sd_base.specs.declared.refusal.Refusal.{Refusal}
+use Rattle.sd_base.specs.declared.refusal.Refusal.TheVariants.{DriveOffline, NoSuchDrive}
+use Rattle.sd_driver.specs.Meaning.{Meaning}
+use Rattle.sd_drive.specs.View.{DriveIs}
+use Rattle.sd_drive.specs.declared.limits.Limits.{Limits}
+use Rattle.sd_lane.specs.Queue.{LanesView}
+use Rattle.sd_machine.specs.declared.event.Event.{Event}
+use Rattle.sd_machine.specs.declared.reply.Reply.{Reply}
+use Rattle.sd_machine.specs.declared.reply.Reply.TheVariants.{Retired}
+use Rattle.sd_moves.specs.Moves.{Moves}
+use Rattle.sd_moves.specs.World.{WorldView, BayView}
+use Rattle.sd_moves.proofs.MoveLeaves.{leaves}
+use Rattle.sd_rounds.proofs.Online.{DrivesStay, IsNoRetiring, drives_same, moves_stay, online_still}
+use Rattle.sd_rounds.proofs.RoundParts.{rounds_stay}
+use Rattle.sd_rounds.specs.Rounds.{Drains, PlaysMoving, online_flags}
+use Rattle.sd_script.specs.declared.console.ConsoleCmd.{ConsoleCmd}
+use Rattle.sd_script.specs.declared.console.ConsoleCmd.TheVariants as console
+use Rattle.sd_script.specs.declared.line.Tail.{Tail}
+use Rattle.sd_spool.specs.Meaning.{Meaning as StoreMeaning}
+use Rattle.sd_core.specs.Fresh.{AreNewDrives, new_bays}
+use Rattle.sd_core.specs.Reading.{ReadsWorld}
+use Rattle.sd_core.specs.View.{device_of, devices_of}
+use Rattle.sd_tool.specs.Doing.{Answers, AnswersSome, ConsoleDoes, console_event}
+use Rattle.sd_tool.specs.Restart.{unfit}
+
+-- Steps and readings.
+
+-- whatever a step answers, the limits stay
+pub moves_limits : {D : Type 0} (meaning : D → Meaning) (w w' : WorldView D) (event : Event) (reply : Reply) → Moves meaning w event reply w' → w'.limits ≡ w.limits
+moves_limits meaning w w' event reply m = (leaves meaning w w' event reply m).limits
+
+-- where it is no retirement, the drives stay as they are
+pub moves_online : {D : Type 0} (meaning : D → Meaning) (w w' : WorldView D) (event : Event) (reply : Reply) → (reply ≡ Retired → ⊥) → Moves meaning w event reply w'
+    → online_flags w' ≡ online_flags w
+moves_online meaning w w' event Retired other m = absurd (other refl)
+moves_online meaning w w' event reply other m = (moves_stay meaning w w' event reply tt m).flags
+
+-- a reading leaves them
+pub reads_stay : {D : Type 0} (meaning : D → Meaning) (key : _) (spans : List _) (got got' : List _) (result : _) (w w' : WorldView D)
+    → ReadsWorld meaning key spans got got' result w w' → DrivesStay w w'
+reads_stay meaning key spans got got' result w w' (inl m) = drives_same w w' m.4
+reads_stay meaning key spans got got' result w w' (inr m) = online_still w w' m.1 m.2 m.3 _ m.4 m.6 refl (ap (λ v. v.limits) m.8) (ap (λ v. v.bays) m.8)
+
+-- rounds leave them, whether memory lasted or not
+pub drain_stays : {D E : Type 0} (meaning : D → Meaning) (result : Result ℕ E) (w w' : WorldView D) → IfOk result (λ placed. Drains meaning w placed w')
+    → OnErr result (PlaysMoving meaning w w') → DrivesStay w w'
+drain_stays meaning (Ok placed) w w' drains stops = rounds_stay meaning w w' drains.rounds drains.plays
+drain_stays meaning (Err e) w w' drains stops = rounds_stay meaning w w' stops.0 stops.1
+
+-- Devices.
+
+one_device : {D : Type 0} (o : Option (DriveIs D)) → is_some o ≡ true → length (device_of o) ≡ 1
+one_device None on = absurd (cc on)
+one_device (Some d) on = refl
+
+-- as many devices as drives that are online
+pub devices_long : {D : Type 0} (bays : List (BayView D)) (count : ℕ) → map (λ (b : BayView D). is_some b.drive) bays ≡ replicate count true → length (devices_of bays) ≡ count
+devices_long [] zero on = refl
+devices_long [] (suc n) on = absurd (cc on)
+devices_long (b ∷ bs) zero on = absurd (cc on)
+devices_long (b ∷ bs) (suc n) on =
+    let first : is_some b.drive ≡ true = cc on in
+    let rest : map (λ x. is_some x.drive) bs ≡ replicate n true = cc on in
+    let here = length-append (device_of b.drive) (devices_of bs) in
+    let one = one_device b.drive first in
+    let more = devices_long bs n rest in
+    omega (arith, here, one, more)
+
+-- A new world.
+
+-- all drives of a new world are online
+pub new_online : {D Q S Z : Type 0} (meaning : D → Meaning) (queue : Q → LanesView) (store : S → StoreMeaning) (limits : Limits) (medias : List (List ℕ × ℕ))
+    (devices : List D) (ds : List (DriveIs D)) (qs : List Q) (ss : List (Vec S Z)) → AreNewDrives meaning limits medias devices ds
+    → length devices ≡ length medias → length qs ≡ length medias → length ss ≡ length medias
+    → map (λ (b : BayView D). is_some b.drive) (new_bays queue store ds qs ss) ≡ replicate (length medias) true
+new_online meaning queue store limits [] [] [] qs ss made many many_q many_s = refl
+new_online meaning queue store limits (m ∷ ms) [] [] qs ss made many many_q many_s = absurd (omega (arith, many))
+new_online meaning queue store limits medias [] (d ∷ ds) qs ss made many many_q many_s = absurd made
+new_online meaning queue store limits medias (x ∷ xs) [] qs ss made many many_q many_s = absurd made
+new_online meaning queue store limits [] (x ∷ xs) (d ∷ ds) qs ss made many many_q many_s = absurd made
+new_online meaning queue store limits (m ∷ ms) (x ∷ xs) (d ∷ ds) [] ss made many many_q many_s = absurd (omega (arith, many_q))
+new_online meaning queue store limits (m ∷ ms) (x ∷ xs) (d ∷ ds) (q ∷ qs) [] made many many_q many_s = absurd (omega (arith, many_s))
+new_online meaning queue store limits (m ∷ ms) (x ∷ xs) (d ∷ ds) (q ∷ qs) (s ∷ ss) made many many_q many_s =
+    ap (λ l. true ∷ l) (new_online meaning queue store limits ms xs ds qs ss made.1 (omega (arith, many)) (omega (arith, many_q)) (omega (arith, many_s)))
+
+-- A new run.
+
+forbids : (b : Bool) (result : Option Refusal) → result ≡ cond b (Some NoSuchDrive) (Some DriveOffline) → ((why : Refusal) → result ≡ Some why → ⊥) → ⊥
+forbids true result is none = none NoSuchDrive is
+forbids false result is none = none DriveOffline is
+
+-- where nothing forbids a new world no drive was retired
+pub unfit_none : (count : ℕ) (retired : Bool) (tail : Option Tail) (result : Option Refusal) → result ≡ unfit count retired tail
+    → ((why : Refusal) → result ≡ Some why → ⊥) → retired ≡ false
+unfit_none count false tail result is none = refl
+unfit_none count true None result is none = absurd (none DriveOffline is)
+unfit_none count true (Some tail) result is none = absurd (forbids (nat_lt count tail.drive) result is none)
+
+-- Lines.
+
+-- what a console's line does that is an event
+pub console_does : {D : Type 0} (meaning : D → Meaning) (moment : ℤ) (command : ConsoleCmd) (e : Event) (old new : WorldView D)
+    → console_event command moment ≡ Some e → Answers meaning e old new → ConsoleDoes meaning moment command old new
+console_does meaning moment (console.Mount drive volume) e old new is h = absurd (cc is)
+console_does meaning moment (console.JobMedia ticket) e old new is h = absurd (cc is)
+console_does meaning moment command e old new is h = subst (λ o. AnswersSome meaning o old new) (sym is) h

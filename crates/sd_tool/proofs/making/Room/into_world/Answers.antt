@@ -1,0 +1,30 @@
+use Rattle.std.proofs.Common.{◌≡◌, Bool, true, ap, sym, ◌∙◌, length, map, replicate}
+use Rattle.std.specs.Prelude.{is_some}
+use Rattle.sd_moves.specs.World.{BayView}
+use Rattle.sd_lane.specs.Queue.{LanesView}
+use Rattle.sd_spool.specs.Meaning.{Meaning}
+use Rattle.sd_spool.specs.MemSpool.{meaning_of}
+use Rattle.sd_spool.specs.declared.memory.MemSpool.{MemSpool}
+use Rattle.sd_core.proofs.FreshWorld.{zip_long}
+use Rattle.sd_tool.proofs.StageLemmas.{new_online}
+use Rattle.sd_tool.proofs.making.Room.into_world.Goals as goal
+
+pub returns-in-Ok : goal.returns-in-Ok
+returns-in-Ok g c =
+    let f = c.in-Ok.ensures.fresh in
+    let r = c.requires.room in
+    let medias = c.args.self.conf.drives.items in
+    let many = ap length r.drives_are in
+    let queue : LanesView → LanesView = λ q. record { lanes = q.lanes; capacity = q.capacity; held = q.held } in
+    let store : MemSpool → Meaning = λ s. meaning_of s in
+    let online = new_online _ queue store _ medias c.args.drivers.items f.drives c.args.self.queues.items c.args.self.stores.items f.drives_are
+    (c.requires.drivers ∙ sym many) (zip_long _ medias c.args.self.queues.items r.queues) (zip_long _ medias c.args.self.stores.items r.stores) in
+    record {
+      block_is = ap (λ l. l.block) f.limits_are ∙ r.block_is;
+      volume_is = ap (λ l. l.volume) f.limits_are ∙ r.volume_is;
+      spool_is = ap (λ l. l.spool) f.limits_are ∙ r.spool_is;
+      time_is = ap (λ l. l.time) f.limits_are;
+      queue_is = f.queue_is ∙ r.queue_is;
+      no_session = f.no_session;
+      online = ap (map (λ b. is_some b.drive)) f.bays_are ∙ online ∙ ap (λ n. replicate n true) many;
+    }

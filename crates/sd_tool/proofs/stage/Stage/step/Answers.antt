@@ -1,0 +1,25 @@
+use Rattle.std.proofs.Common.{ap, subst, ◌∙◌}
+use Rattle.sd_drive.specs.declared.limits.Limits.{Limits}
+use Rattle.sd_driver.specs.Meaning.{Meaning}
+use Rattle.sd_moves.specs.Moves.{Moves}
+use Rattle.sd_tool.specs.Stage.{StageView}
+use Rattle.sd_tool.proofs.StageLemmas.{moves_limits, moves_online}
+use Rattle.sd_tool.proofs.stage.Stage.step.Goals as goal
+
+pub invariant_of-self-in_default : goal.invariant_of-self-in_default
+invariant_of-self-in_default g c =
+    let M : g.row.D.Denot → Meaning = λ d. g.D.Driver.meaning d in
+    let old = c.self.inside.world in
+    let new = c.step-reply.new.self in
+    let event = c.args.event in
+    let reply = c.step-reply.result in
+    let moves = c.step-reply.ensures.moves in
+    let i = c.self.invariant in (
+      record { fits = i.0.fits; online = λ r. moves_online M old new event reply c.in_default.not-Retired moves ∙ i.0.online r },
+      ap (λ (l : Limits). l.time) (moves_limits M old new event reply moves) ∙ i.1,
+    )
+
+pub returns-in_default : goal.returns-in_default
+returns-in_default g c =
+    let Step : StageView g.row.D.Denot → Type 0 = λ s. Moves (λ d. g.D.Driver.meaning d) s.world c.args.event c.step-reply.result c.step-reply.new.self in
+    record { moves = subst Step c.self.view_is c.step-reply.ensures.moves }

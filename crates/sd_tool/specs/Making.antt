@@ -1,0 +1,28 @@
+-- What the worlds of a script are made with.
+use Rattle.std.specs.Prelude.{◌≡◌, ℕ, List, [], replicate, true}
+use Rattle.sd_moves.specs.World.{WorldView}
+use Rattle.sd_rounds.specs.Rounds.{online_flags}
+use Rattle.sd_core.specs.Conf.{IsConf, AreQueues, AreStores}
+use Rattle.sd_tool.specs.declared.making.Room.{Room}
+use Rattle.sd_tool.specs.Settings.{ValuesView, drive_count, drives_of}
+
+-- the room is what a world of these settings is made with: its settings, a queue for each drive and a store for each lane
+pub record IsRoomOf (v : ValuesView) (room : Room) : Type 0 where
+  pub conf : IsConf room.conf
+  pub block_is : room.conf.block ≡ v.block
+  pub volume_is : room.conf.volume ≡ v.volume
+  pub spool_is : room.conf.spool ≡ v.spool
+  pub queue_is : room.conf.queue ≡ v.queue
+  pub drives_are : room.conf.drives.items ≡ drives_of v
+  pub queues : AreQueues (λ q. q) room.conf.queue room.conf.drives.items room.queues.items
+  pub stores : AreStores room.conf.drives.items room.stores.items
+
+-- a world that was just made of these settings, for the run of this time: no session was opened, and all drives are online
+pub record StartsAs {D : Type 0} (v : ValuesView) (time : ℕ) (w : WorldView D) : Type 0 where
+  pub block_is : w.limits.block ≡ v.block
+  pub volume_is : w.limits.volume ≡ v.volume
+  pub spool_is : w.limits.spool ≡ v.spool
+  pub time_is : w.limits.time ≡ time
+  pub queue_is : w.queue ≡ v.queue
+  pub no_session : w.sessions ≡ []
+  pub online : online_flags w ≡ replicate (drive_count v) true

@@ -1,0 +1,37 @@
+-- What a `restart` line comes to.
+use Rattle.std.specs.Prelude.{◌≡◌, ◌⊎◌, ℕ, nat_lt, Bool, true, false, if◌then◌else◌, Option, None, Some}
+use Rattle.sd_base.specs.declared.refusal.Refusal.{Refusal}
+use Rattle.sd_base.specs.declared.refusal.Refusal.TheVariants.{DriveOffline, Memory, NoSuchDrive}
+use Rattle.sd_script.specs.declared.line.Tail.{Tail}
+use Rattle.sd_tool.specs.Making.{StartsAs}
+use Rattle.sd_tool.specs.Settings.{drive_count}
+use Rattle.sd_tool.specs.Stage.{StageView}
+use Rattle.sd_tool.specs.declared.restart.Restart.{Restart}
+use Rattle.sd_tool.specs.declared.restart.Restarted.{Restarted}
+
+-- a drive was retired
+abbrev pub offline : Bool → Option Refusal
+offline true = Some DriveOffline
+offline false = None
+
+-- why there is no new world of so many drives: the drive of the tail isn't there; or one was retired
+abbrev pub unfit : ℕ → Bool → Option Tail → Option Refusal
+unfit count retired None = offline retired
+unfit count retired (Some tail) = if nat_lt count tail.drive then Some NoSuchDrive else offline retired
+
+-- a new world of the same settings, of that time
+pub record StartsAnew {D : Type 0} (old : StageView D) (time : ℕ) (new : StageView D) : Type 0 where
+  pub values : new.values ≡ old.values
+  pub retired : new.retired ≡ false
+  pub starts : StartsAs old.values time new.world
+
+-- where this forbids it the old world stands, and else a new one does, if memory lasts
+abbrev pub RestartsBy : {D : Type 0} → Option Refusal → StageView D → ℕ → StageView D → Option Refusal → Type 0
+RestartsBy (Some why) old time new refused = (new ≡ old) × (refused ≡ Some why)
+RestartsBy None old time new refused = ((new ≡ old) × (refused ≡ Some Memory)) ⊎ StartsAnew old time new
+
+-- What stands behind a `restart` line. The old world stands where there can't be a new one, and the line is refused for
+-- that; it may stand for want of memory too. Else a new one of that time stands.
+abbrev pub RestartsAs : {D : Type 0} → StageView D → Restart → Restarted D → Type 0
+RestartsAs old restart new =
+    RestartsBy (unfit (drive_count old.values) old.retired restart.tail) old restart.time new.stage new.refused

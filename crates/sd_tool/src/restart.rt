@@ -1,0 +1,161 @@
+// A new run over the drives of the last one.
+ghost use Rattle.std.specs.Prelude.{◌≡◌, ◌≤◌, length, IfOk, Some};
+ghost use Rattle.sd_base.specs.Limits.{most_number};
+ghost use Rattle.sd_tool.specs.Restart.{RestartsAs, unfit};
+ghost use Rattle.sd_tool.specs.Settings.{drive_count};
+
+use crate::making::Room;
+use crate::stage::Stage;
+use crate::values::Values;
+use sd_base::{Refusal, VolName};
+use sd_driver::{Driver, DriverFault};
+use sd_script::Tail;
+use std::alloc::{AllocError, Global};
+
+/// What a `restart` line asks for: a world of that time, with these bytes appended before.
+#[derive(Drop)]
+pub struct Restart {
+    pub time: u32,
+    pub tail: Option<Tail>,
+}
+
+/// What a `restart` line came to: the world that stands now, and why the line was refused, if it was.
+#[derive(Drop)]
+pub struct Restarted<D: Driver> {
+    pub stage: Stage<D>,
+    pub refused: Option<Refusal>,
+}
+
+impl<D: Driver + Drop> Stage<D> {
+    /// A new world of that time over the same drives, with the bytes of the tail appended before. Where the drive of the
+    /// tail isn't there, or a drive was retired, or for want of memory, the old world stands; where the appending alone is
+    /// refused the new one does. An `Err` comes where memory is wanted once the old world is gone.
+    pub fn restarted(self, alloc: Global, restart: Restart) -> Result<Restarted<D>, AllocError>
+        requires time_least { 1 ≤ restart.time }
+        requires time_most { restart.time ≤ most_number }
+        ensures { IfOk result (RestartsAs self restart) }
+    {
+        let Restart { time, tail } = restart;
+        if let Some(why) = self.unfit(&tail) {
+            return Ok(self.refused(why));
+        }
+        let Ok(room) = Room::new(alloc, &self.values) else {
+            return Ok(self.refused(Refusal::Memory));
+        };
+        let Stage {
+            world,
+            values,
+            time: old_time,
+            retired,
+        } = self;
+        let mut drivers = match world.into_drivers() {
+            Ok(drivers) => drivers,
+            Err(world) => {
+                let same = Stage {
+                    world,
+                    values,
+                    time: old_time,
+                    retired,
+                };
+                return Ok(same.refused(Refusal::Memory));
+            }
+        };
+        let refused = append_tail(alloc, &values, &mut drivers, tail);
+        let world = room.into_world(alloc, &values, time, drivers)?;
+        let stage = Stage {
+            world,
+            values,
+            time,
+            retired: false,
+        };
+        Ok(Restarted { stage, refused })
+    }
+
+    // The world stands, and the line is refused.
+    fn refused(self, why: Refusal) -> Restarted<D>
+        ensures { result ≡ record { stage = self; refused = Some why } }
+    {
+        Restarted {
+            stage: self,
+            refused: Some(why),
+        }
+    }
+
+    // Why there can't be a new world, if so: the tail's drive isn't there, or a drive was retired.
+    fn unfit(&self, tail: &Option<Tail>) -> Option<Refusal>
+        ensures { result ≡ unfit (drive_count self.now.values) self.now.retired tail.now }
+    {
+        let values = &self.values;
+        if let Some(tail) = tail {
+            if tail.drive.get() as usize > values.drive_count() {
+                return Some(Refusal::NoSuchDrive);
+            }
+        }
+        if self.retired {
+            return Some(Refusal::DriveOffline);
+        }
+        None
+    }
+}
+
+// Appends the bytes of a tail to its volume, and says why not where that is refused.
+fn append_tail<D: Driver>(
+    alloc: Global,
+    values: &Values,
+    drivers: &mut Vec<D>,
+    tail: Option<Tail>,
+) -> Option<Refusal>
+    ensures { length drivers.new.items ≡ length drivers.old.items }
+{
+    let Tail {
+        drive,
+        volume,
+        count,
+    } = tail?;
+    let at = drive.get() as usize - 1;
+    if at >= drivers.len() {
+        return Some(Refusal::NoSuchDrive);
+    }
+    append_zeros(
+        alloc,
+        &mut drivers[at],
+        &volume,
+        values.capacity(drive),
+        count,
+    )
+}
+
+// Appends so many zero bytes to a volume, and says why not where that is refused. More bytes than a volume may have are
+// asked of no device, and take no memory.
+fn append_zeros<D: Driver>(
+    alloc: Global,
+    driver: &mut D,
+    volume: &VolName,
+    capacity: u64,
+    count: u64,
+) -> Option<Refusal> {
+    driver.unload();
+    if let Err(fault) = driver.load(volume) {
+        return Some(refusal_of(fault));
+    }
+    if count > capacity {
+        return Some(Refusal::NoRoom);
+    }
+    let Ok(zeros) = vec![in alloc; 0u8; count as usize] else {
+        return Some(Refusal::Memory);
+    };
+    match driver.append(&zeros) {
+        Ok(()) => None,
+        Err(fault) => Some(refusal_of(fault)),
+    }
+}
+
+// What is printed for the fault of a device.
+fn refusal_of(fault: DriverFault) -> Refusal {
+    match fault {
+        DriverFault::NotThere => Refusal::VolumeNotOnShelf,
+        DriverFault::NoRoom => Refusal::NoRoom,
+        DriverFault::Device | DriverFault::Exists => Refusal::DeviceFault,
+        DriverFault::Memory => Refusal::Memory,
+    }
+}

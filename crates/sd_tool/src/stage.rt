@@ -1,0 +1,130 @@
+// The world of a script.
+ghost use Rattle.std.specs.Prelude.{◌≡◌, None, IfOk, OnErr, length};
+ghost use Rattle.sd_moves.specs.Moves.{Moves};
+ghost use Rattle.sd_rounds.specs.Rounds.{Drains, PlaysMoving};
+ghost use Rattle.sd_core.specs.Reading.{ReadsWorld};
+ghost use Rattle.sd_core.specs.View.{status_at, view_of};
+ghost use Rattle.sd_tool.specs.Making.{StartsAs};
+ghost use Rattle.sd_tool.specs.Settings.{drive_count, misfit_of};
+
+use crate::making::{Room, ScriptWorld};
+use crate::values::Values;
+use sd_base::{Refusal, SessionKey, Ticket};
+use sd_desk::Request;
+use sd_driver::Driver;
+use sd_machine::{Event, Reply};
+use sd_readback::{ReadEnd, Sink};
+use sd_rounds::drain;
+use sd_session::Status;
+use sd_span::Span;
+use sd_view::View;
+use std::alloc::{AllocError, Global};
+use std::marker::Model;
+
+/// A world, the settings that it was made of, the time of its run, and whether a drive of it was retired. In a contract
+/// it is a `StageView`.
+#[derive(Drop)]
+pub struct Stage<D: Driver> {
+    pub(crate) world: ScriptWorld<D>,
+    pub(crate) values: Values,
+    pub(crate) time: u32,
+    pub(crate) retired: bool,
+}
+
+impl<D: Driver> Model for Stage<D> {
+    ghost use Rattle.std.specs.Prelude.{◌≡◌};
+    ghost use Rattle.sd_tool.specs.Stage.{IsStage, StageView};
+
+    ghost Value = { StageView D };
+
+    ghost view = { λ s. record { world = s.world; values = s.values; retired = s.retired } };
+
+    ghost invariant = { λ s.
+        IsStage (record { world = s.world; values = s.values; retired = s.retired })
+        × (s.world.limits.time ≡ s.time) };
+}
+
+impl<D: Driver + Drop> Stage<D> {
+    /// The world that a script begins with.
+    pub fn new(alloc: Global, values: Values, drivers: Vec<D>) -> Result<Stage<D>, AllocError>
+        requires fits { misfit_of values ≡ None }
+        requires drivers { length drivers.items ≡ drive_count values }
+        ensures { IfOk result (λ stage. StartsAs values values.time stage.world) }
+    {
+        let room = Room::new(alloc, &values)?;
+        let time = values.time;
+        let world = room.into_world(alloc, &values, time, drivers)?;
+        Ok(Stage {
+            world,
+            values,
+            time,
+            retired: false,
+        })
+    }
+
+    /// One event.
+    pub fn step(&mut self, event: Event) -> Reply
+        ensures moves { Moves (λ d. D.meaning d) self.old.world event result self.new.world }
+    {
+        let reply = self.world.step(event);
+        if let Reply::Retired = reply {
+            self.retired = true;
+        }
+        reply
+    }
+
+    /// Plays rounds until nothing moves, and counts the blocks that were placed.
+    pub fn drain(&mut self) -> Result<u64, AllocError>
+        ensures drains { IfOk result (λ placed. Drains (λ d. D.meaning d) self.old.world placed self.new.world) }
+        ensures err { OnErr result (PlaysMoving (λ d. D.meaning d) self.old.world self.new.world) }
+    {
+        drain(&mut self.world)
+    }
+
+    /// Reads a session back from spans.
+    pub fn read<K: Sink>(
+        &mut self,
+        key: SessionKey,
+        spans: &[Span],
+        sink: &mut K,
+    ) -> Result<ReadEnd, Refusal>
+        ensures reads { ReadsWorld (λ d. D.meaning d) key spans.now (K.got sink.old) (K.got sink.new)
+            result self.old.world self.new.world }
+    {
+        self.world.read(key, spans, sink)
+    }
+
+    /// How far the session of a ticket is, if there is one.
+    pub fn status(&self, ticket: Ticket) -> Option<Status>
+        ensures { result ≡ status_at ticket self.now.world.sessions }
+    {
+        let world = &self.world;
+        world.status(ticket)
+    }
+
+    /// The key of the session that has this ticket in this run.
+    pub fn key_of(&self, ticket: Ticket) -> SessionKey
+        ensures { result ≡ record { time = self.now.world.limits.time; id = ticket } }
+    {
+        SessionKey {
+            time: self.time,
+            id: ticket.get(),
+        }
+    }
+
+    /// The drives, the volumes and the sessions.
+    pub fn view(&self) -> Result<View, AllocError>
+        ensures { IfOk result (λ view. view ≡ view_of self.now.world) }
+    {
+        let world = &self.world;
+        world.view()
+    }
+
+    /// The requests for volumes, in the order in which they were asked.
+    pub fn requests(&self) -> &[Request]
+        ensures { result.now ≡ self.now.world.desk.requests }
+    {
+        let world = &self.world;
+        world.requests()
+    }
+}
