@@ -19,4 +19,3 @@ pub use label::{
 pub use laws::{label_kinds_apart, session_labels_apart, volume_labels_apart};
 pub use session::{put_session_label, read_session_label, session_label_length};
 pub use volume::{put_volume_label, read_volume_label, volume_label_length};
-

@@ -11,4 +11,3 @@ mod record_parts;
 pub use body::Body;
 pub use laws::packed_bodies_hold;
 pub use packer::Packer;
-
