@@ -82,6 +82,11 @@ Input text (Err (Bad NoMemory)) = Unit {0}
 abbrev pub ReadsConf : Option (List ℕ) → Result Conf CheckFault → Type 0
 ReadsConf input result = IfSome input (λ text. Input text result)
 
+-- the fault is one of a text, and not that none could be read
+abbrev pub IsOfText : CheckFault → Type 0
+IsOfText NoInput = ⊥
+IsOfText (Bad fault) = Unit {0}
+
 -- the status: 0 where a configuration was read and all of it could be written
 abbrev pub status_of : Result Conf CheckFault → Bool → ℕ
 status_of (Ok conf) false = 0

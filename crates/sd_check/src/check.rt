@@ -1,10 +1,10 @@
 // A configuration that is read from the input and printed.
-ghost use Rattle.std.specs.Prelude.{◌≡◌, IfOk};
+ghost use Rattle.std.specs.Prelude.{◌≡◌, IfErr, IfOk};
 ghost use Rattle.sd_conf.specs.Conf.{IsWithinLimits};
 ghost use Rattle.sd_printer.specs.Says.{Says, said_view};
 ghost use Rattle.std.specs.Fmt.{decimal};
 ghost use Rattle.sd_words.specs.Lines.{line};
-ghost use Rattle.sd_check.specs.Check.{Input, PrintsCheck, ReadsConf, checked_lines, conf_lines, drive_lines, drive_text, fault_line, fault_text, kind_word, status_of};
+ghost use Rattle.sd_check.specs.Check.{Input, IsOfText, PrintsCheck, ReadsConf, checked_lines, conf_lines, drive_lines, drive_text, fault_line, fault_text, kind_word, status_of};
 
 use crate::conf_line::ConfLine;
 use itoa::Buffer;
@@ -70,6 +70,7 @@ fn read_input<R: Read>(alloc: Global, reader: &mut R) -> Result<Conf, CheckFault
 pub fn conf_in(alloc: Global, bytes: &[u8]) -> Result<Conf, CheckFault>
     ensures input { Input bytes.now result }
     ensures within { IfOk result IsWithinLimits }
+    ensures of_text { IfErr result IsOfText }
 {
     let Ok(text) = str::from_utf8(bytes) else {
         return Err(CheckFault::Conf(ConfFault::Text));
