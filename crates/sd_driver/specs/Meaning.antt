@@ -1,5 +1,5 @@
 -- What a device is to the daemon, and what every device tells by its answers.
-use Rattle.std.specs.Prelude.{◌≡◌, ◌↔◌, ℕ, Bool, ◌+◌, ◌-◌, ◌≤◌, ◌^◌, ◌⊎◌, min, List, length, take, drop, Option, Some, Result, Ok, Err, IsTrue, IsErrOf}
+use Rattle.std.specs.Prelude.{◌≡◌, ◌↔◌, ℕ, Bool, ◌+◌, ◌-◌, ◌≤◌, ◌^◌, min, List, length, take, drop, Option, Some, Result, Ok, Err, IsTrue, IsErrOf}
 use Rattle.sd_base.specs.Count.{Rose}
 use Rattle.sd_driver.specs.declared.driver.DriverFault.{DriverFault}
 use Rattle.sd_driver.specs.declared.driver.DriverFault.TheVariants.{NotThere, Exists, NoRoom, Device, Memory}

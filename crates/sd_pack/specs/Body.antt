@@ -1,5 +1,5 @@
 -- The body of a block, as data: its bytes, and which of a session's records they are of.
-use Rattle.std.specs.Prelude.{ℕ, zero, suc, ◌≤◌, ℤ, pos, negsuc, List, [], ◌∷◌, ◌++◌, length}
+use Rattle.std.specs.Prelude.{ℕ, ◌≤◌, ℤ, pos, negsuc, List, [], ◌∷◌, ◌++◌, length}
 use Rattle.sd_base.specs.Limits.{least_body, most_body}
 use Rattle.sd_record.specs.Fragment.{Fragment, fragment_bytes, fragments_bytes}
 use Rattle.sd_base.specs.FileIndex.{first_nonzero}

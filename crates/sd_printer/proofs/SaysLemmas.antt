@@ -1,5 +1,5 @@
 -- What is printed, one thing after another.
-use Rattle.std.proofs.Common.{◌≡◌, ◌≢◌, ◌<◌, ℕ, refl, sym, ap, subst, ◌∙◌, arith, ◌∷◌, Bool, true, false, List, [], ◌++◌, length, length-append, take, drop, Option, Some, None}
+use Rattle.std.proofs.Common.{◌≡◌, ◌<◌, ℕ, refl, sym, ap, subst, ◌∙◌, arith, ◌∷◌, Bool, true, false, List, [], ◌++◌, length, length-append, take, drop, Option, Some, None}
 use Rattle.std.proofs.lemmas.List.{append_assoc, append-nil, take-append-drop}
 use Rattle.std.specs.Prelude.{IfSome}
 use Rattle.std.specs.Fmt.{WritesText, with_newline}

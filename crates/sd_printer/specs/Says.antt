@@ -30,7 +30,7 @@ SaysBy (Some xs) (Some ys) true false bytes = ⊥
 SaysBy (Some xs) (Some ys) true true bytes = ys ≡ xs
 
 -- These bytes were printed: they stand behind what the writer held. Where writing fails, a front of them does, and
--- from then on nothing more is written.
+-- from then on nothing more is written. Of a writer whose bytes aren't known, as a process's own output, it says nothing.
 abbrev pub Says : SaidView → SaidView → List ℕ → Type 0
 Says old new bytes = SaysBy old.written new.written old.failed new.failed bytes
 
@@ -39,6 +39,6 @@ abbrev pub CutsShortBy : Option (List ℕ) → Option (List ℕ) → Bool → Bo
 CutsShortBy (Some xs) (Some ys) false true bytes = ys ≢ xs ++ bytes
 CutsShortBy old new failed fails bytes = ⊤
 
--- Writing these bytes fails only where they were not all written.
+-- Writing these bytes fails only where they were not all written. It too says nothing where the bytes aren't known.
 abbrev pub CutsShort : SaidView → SaidView → List ℕ → Type 0
 CutsShort old new bytes = CutsShortBy old.written new.written old.failed new.failed bytes

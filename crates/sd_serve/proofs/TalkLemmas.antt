@@ -1,5 +1,5 @@
 -- Talks, one behind the other.
-use Rattle.std.proofs.Common.{◌≡◌, ◌⊎◌, inl, inr, ℕ, suc, ◌≤◌, ◌+◌, List, ◌∙◌, subst, sym, arith}
+use Rattle.std.proofs.Common.{◌≡◌, ◌⊎◌, inl, inr, ℕ, suc, ◌≤◌, ◌+◌, List, subst, sym, arith}
 use Rattle.sd_append.specs.Port.{Exchange}
 use Rattle.sd_serve.specs.Talks.{HeldTalks, HoldsTalk}
 

@@ -9,10 +9,9 @@ use Rattle.sd_core.proofs.FreshWorld.{zip_long}
 use Rattle.sd_core.proofs.NewBays.{zip_push}
 use Rattle.sd_conf.specs.declared.conf.DriveConf.{DriveConf}
 use Rattle.sd_filedrive.specs.Place.{folder_named}
-use Rattle.sd_filedrive.specs.declared.drive.FileDrive.{FileDrive}
-use Rattle.sd_spool.specs.FileSpool.{lane_file, path_of}
+use Rattle.sd_spool.specs.FileSpool.{path_of}
 use Rattle.sd_spool.specs.declared.file.FileSpool.{FileSpool}
-use Rattle.sd_setup.specs.World.{AreFilesFrom, AreLaneFiles, HasFolder, lane_path, lane_paths, media_of}
+use Rattle.sd_setup.specs.World.{AreFilesFrom, AreLaneFiles, lane_path, lane_paths, media_of}
 
 -- what is so of two lists is so with one more of each
 pub zip_more : {A B : Type 0} (R : A → B → Type 0) (xs front : List A) (x : A) (ys all : List B) (y : B) → xs ≡ front ++ x ∷ [] → all ≡ ys ++ y ∷ []

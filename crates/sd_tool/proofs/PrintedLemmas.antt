@@ -1,5 +1,5 @@
 -- Looking through closed sessions for the last one of a key.
-use Rattle.std.proofs.Common.{◌≡◌, ◌+◌, ◌<◌, ℕ, Bool, true, false, cond, Option, Some, List, [], ◌∷◌, ◌++◌, take, length, get_or, refl, sym, ap, ◌∙◌}
+use Rattle.std.proofs.Common.{◌≡◌, ◌+◌, ◌<◌, ℕ, cond, Option, Some, List, [], ◌∷◌, ◌++◌, take, length, get_or, refl, ap, ◌∙◌}
 use Rattle.sd_base.specs.Key.{is_key}
 use Rattle.sd_base.specs.declared.number.SessionKey.{SessionKey}
 use Rattle.sd_tool.specs.Printed.{last_printed}

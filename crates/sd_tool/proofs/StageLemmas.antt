@@ -1,7 +1,6 @@
 -- The drives of a script's world: online while none was retired.
-use Rattle.std.proofs.Common.{cond, ◌≡◌, ◌+◌, ◌≤◌, ◌<◌, ℕ, zero, suc, Bool, true, false, Option, None, Some, List, [], ◌∷◌, ◌++◌, Vec, All, map, replicate, length, refl, sym, ap, subst, ◌∙◌, inl, inr, arith}
+use Rattle.std.proofs.Common.{cond, ◌≡◌, ℕ, zero, suc, Bool, true, false, Option, None, Some, List, [], ◌∷◌, Vec, map, replicate, length, refl, sym, ap, subst, inl, inr, arith}
 use Rattle.std.specs.Prelude.{is_some, nat_lt, ℤ, Result, Ok, Err, IfOk, OnErr}
-use Rattle.std.specs.List.{AllZip}
 use Rattle.std.proofs.lemmas.List.{length-append}
 use Rattle.sd_base.specs.declared.refusal.Refusal.{Refusal}
 use Rattle.sd_base.specs.declared.refusal.Refusal.TheVariants.{DriveOffline, NoSuchDrive}
@@ -15,7 +14,7 @@ use Rattle.sd_machine.specs.declared.reply.Reply.TheVariants.{Retired}
 use Rattle.sd_moves.specs.Moves.{Moves}
 use Rattle.sd_moves.specs.World.{WorldView, BayView}
 use Rattle.sd_moves.proofs.MoveLeaves.{leaves}
-use Rattle.sd_rounds.proofs.Online.{DrivesStay, IsNoRetiring, drives_same, moves_stay, online_still}
+use Rattle.sd_rounds.proofs.Online.{DrivesStay, drives_same, moves_stay, online_still}
 use Rattle.sd_rounds.proofs.RoundParts.{rounds_stay}
 use Rattle.sd_rounds.specs.Rounds.{Drains, PlaysMoving, online_flags}
 use Rattle.sd_script.specs.declared.console.ConsoleCmd.{ConsoleCmd}

@@ -1,5 +1,5 @@
 -- What a line of a script does to the world.
-use Rattle.std.specs.Prelude.{◌≡◌, ◌⊎◌, ℕ, ℤ, Option, Some, None, List, replicate, Result}
+use Rattle.std.specs.Prelude.{◌⊎◌, ℕ, ℤ, Option, Some, None, List, replicate, Result}
 use Rattle.sd_base.specs.Record.{Record}
 use Rattle.sd_base.specs.declared.number.SessionKey.{SessionKey}
 use Rattle.sd_base.specs.declared.refusal.Refusal.{Refusal}

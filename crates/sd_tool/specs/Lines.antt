@@ -1,5 +1,5 @@
 -- The lines that came of an input.
-use Rattle.std.specs.Prelude.{◌≡◌, ℕ, List, [], ◌∷◌, ◌++◌}
+use Rattle.std.specs.Prelude.{ℕ, List, [], ◌∷◌, ◌++◌}
 use Rattle.sd_tool.specs.declared.lines.Next.{Next}
 use Rattle.sd_tool.specs.declared.lines.Next.TheVariants as next
 

@@ -1,5 +1,5 @@
 -- What the worlds of a script are made with.
-use Rattle.std.specs.Prelude.{◌≡◌, ℕ, List, [], replicate, true}
+use Rattle.std.specs.Prelude.{◌≡◌, ℕ, [], replicate, true}
 use Rattle.sd_moves.specs.World.{WorldView}
 use Rattle.sd_rounds.specs.Rounds.{online_flags}
 use Rattle.sd_core.specs.Conf.{IsConf, AreQueues, AreStores}

@@ -1,8 +1,8 @@
 -- The drives in memory that a script is run over.
-use Rattle.std.specs.Prelude.{◌≡◌, ℕ, ◌+◌, Some, List, length, slice_get}
+use Rattle.std.specs.Prelude.{◌≡◌, ℕ, ◌+◌, Some, List, slice_get}
 use Rattle.sd_memdrive.specs.Drive.{IsUnused, capacity_of, meaning_of, plan_of}
 use Rattle.sd_memdrive.specs.declared.drive.MemDrive.{MemDrive}
-use Rattle.sd_tool.specs.Settings.{ValuesView, capacity_for, drives_due, plan_for}
+use Rattle.sd_tool.specs.Settings.{ValuesView, capacity_for, plan_for}
 
 -- the drive is new, and is what the settings say of the drive of this number
 pub record IsSetUp (v : ValuesView) (drive : ℕ) (d : MemDrive) : Type 0 where

@@ -1,5 +1,5 @@
 -- The closed sessions whose JobMedia texts were printed.
-use Rattle.std.specs.Prelude.{◌≡◌, ◌⊎◌, ℕ, Option, None, Some, List, [], ◌∷◌, if◌then◌else◌}
+use Rattle.std.specs.Prelude.{Option, Some, List, [], ◌∷◌, if◌then◌else◌}
 use Rattle.sd_base.specs.Key.{is_key}
 use Rattle.sd_base.specs.declared.number.SessionKey.{SessionKey}
 use Rattle.sd_tool.specs.declared.printed.Closed.{Closed}

@@ -1,5 +1,5 @@
 -- What a script sets: its settings, folded in order, and what they come to.
-use Rattle.std.specs.Prelude.{◌≡◌, ℕ, ◌*◌, ◌≤◌, ◌&&◌, ◌==◌, nat_lt, if◌then◌else◌, Bool, Option, None, Some, List, [], ◌∷◌, ◌++◌, length, map, filter, All, codes}
+use Rattle.std.specs.Prelude.{ℕ, ◌*◌, ◌≤◌, ◌&&◌, ◌==◌, nat_lt, if◌then◌else◌, Bool, Option, None, Some, List, [], ◌∷◌, ◌++◌, length, map, filter, All, codes}
 use Rattle.std.specs.List.{list_any}
 use Rattle.sd_memdrive.specs.declared.plan.Fail.{Fail}
 use Rattle.sd_script.specs.Grammar.{HasForm, IsSettingWithin, most_lanes}

@@ -1,4 +1,3 @@
-use Rattle.std.proofs.Common.{ℕ}
 use Rattle.sd_setup.proofs.world.+lanes_of.Given as goal
 
 abbrev pub decreases-lanes_of : goal.decreases-lanes_of

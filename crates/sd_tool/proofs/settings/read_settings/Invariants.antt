@@ -1,4 +1,4 @@
-use Rattle.std.proofs.Common.{◌≡◌, ℕ, List}
+use Rattle.std.proofs.Common.{◌≡◌, List}
 use Rattle.sd_script.specs.declared.line.Setting.{Setting}
 use Rattle.sd_tool.specs.Settings.{AreSettings, usual_values, values_after}
 use Rattle.sd_tool.proofs.settings.read_settings.Given as goal

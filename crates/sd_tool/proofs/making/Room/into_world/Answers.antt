@@ -1,6 +1,5 @@
-use Rattle.std.proofs.Common.{◌≡◌, Bool, true, ap, sym, ◌∙◌, length, map, replicate}
+use Rattle.std.proofs.Common.{true, ap, sym, ◌∙◌, length, map, replicate}
 use Rattle.std.specs.Prelude.{is_some}
-use Rattle.sd_moves.specs.World.{BayView}
 use Rattle.sd_lane.specs.Queue.{LanesView}
 use Rattle.sd_spool.specs.Meaning.{Meaning}
 use Rattle.sd_spool.specs.MemSpool.{meaning_of}
