@@ -2,11 +2,10 @@
 //! its values, or what is wrong with it.
 #![tactic(auto)]
 
-mod arguments;
 mod serve;
 mod serve_line;
 
-use arguments::{Serving, Task, status_of, task_of};
+use sd_arguments::{DaemonTask, Serving, daemon_task, status_of};
 use sd_base::Refusal;
 use sd_check::check_conf;
 use sd_printer::Printer;
@@ -24,14 +23,14 @@ fn main(rt: HostRuntime) -> ExitCode {
     let Ok(words) = words else {
         return without_memory(&rt);
     };
-    match task_of(alloc, words.as_slice()) {
-        Task::Check => check_input(&rt),
-        Task::Serve(asked) => serve_clients(&rt, &asked),
-        Task::Print(told) => match told.print(&rt) {
+    match daemon_task(alloc, words.as_slice()) {
+        DaemonTask::Check => check_input(&rt),
+        DaemonTask::Serve(asked) => serve_clients(&rt, &asked),
+        DaemonTask::Print(told) => match told.print(&rt) {
             Ok(()) => ExitCode::from(status_of(&told)),
             Err(_) => ExitCode::FAILURE,
         },
-        Task::NoMemory => without_memory(&rt),
+        DaemonTask::NoMemory => without_memory(&rt),
     }
 }
 

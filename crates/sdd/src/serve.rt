@@ -4,8 +4,8 @@ ghost use Rattle.sd_conf.specs.Conf.{IsWithinLimits};
 ghost use Rattle.sd_printer.specs.Says.{Says, said_view};
 ghost use Rattle.sdd.specs.Serve.{IsConfOf, IsFaultOf, IsOutcomeOf, PrintsServe, outcome_lines, status_of};
 
-use crate::arguments::Serving;
 use crate::serve_line::ServeLine;
+use sd_arguments::Serving;
 use sd_check::{CheckFault, conf_in, print_conf_fault};
 use sd_conf::{Conf, ConfFault};
 use sd_daemon::{ServeFault, ServedPort, serve};

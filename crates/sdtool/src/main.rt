@@ -2,11 +2,7 @@
 //! line of it comes to; `sdtool ls` lists a volume; `sdtool read` reads a session back from its volumes.
 #![tactic(auto)]
 
-mod arguments;
-#[cfg(test)]
-mod tests;
-
-use arguments::{Task, status_of, task_of};
+use sd_arguments::{ToolTask, status_of, tool_task};
 use sd_base::Refusal;
 use sd_extract::read_back;
 use sd_listing::list_volume;
@@ -25,19 +21,19 @@ fn main(rt: HostRuntime) -> ExitCode {
     let Ok(words) = words else {
         return without_memory(&rt);
     };
-    match task_of(alloc, words.as_slice()) {
-        Task::Run => run_script(&rt),
-        Task::List { volume, progress } => list(&rt, volume, progress),
-        Task::Read {
+    match tool_task(alloc, words.as_slice()) {
+        ToolTask::Run => run_script(&rt),
+        ToolTask::List { volume, progress } => list(&rt, volume, progress),
+        ToolTask::Read {
             spans,
             folder,
             progress,
         } => read(&rt, spans, folder, progress),
-        Task::Print(told) => match told.print(&rt) {
+        ToolTask::Print(told) => match told.print(&rt) {
             Ok(()) => ExitCode::from(status_of(&told)),
             Err(_) => ExitCode::FAILURE,
         },
-        Task::NoMemory => without_memory(&rt),
+        ToolTask::NoMemory => without_memory(&rt),
     }
 }
 

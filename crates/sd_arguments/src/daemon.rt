@@ -1,14 +1,11 @@
-// The command line.
-ghost use Rattle.std.specs.Prelude.{◌≡◌, ◌≢◌, ◌⊎◌};
-ghost use Rattle.clap.specs.Values.{kind_of};
-
+// The command line of the daemon.
 use clap::error::ErrorKind;
 use clap::{Arg, ArgAction, ArgMatches, Command, Error};
 use std::alloc::{AllocError, Global};
 
-/// What the command line asks for.
+/// What a command line of `sdd` asks for.
 #[derive(Drop)]
-pub enum Task<'a> {
+pub enum DaemonTask<'a> {
     /// To check the configuration on standard input.
     Check,
     /// To serve clients.
@@ -30,42 +27,32 @@ pub struct Serving<'a> {
     pub log: bool,
 }
 
-/// The status of a run whose command line was wrong.
-const USAGE: u8 = 2;
-
-/// The status of a run that only prints this: 0 for help and the version, 2 where the command line was wrong.
-pub fn status_of(told: &Error) -> u8
-    ensures shown { (kind_of told.now ≡ ErrorKind.DisplayHelp)
-        ⊎ (kind_of told.now ≡ ErrorKind.DisplayVersion) → result ≡ 0 }
-    ensures wrong { kind_of told.now ≢ ErrorKind.DisplayHelp
-        → kind_of told.now ≢ ErrorKind.DisplayVersion → result ≡ 2 }
-{
-    if told.use_stderr() { USAGE } else { 0 }
-}
-
 /// What `words`, the program's name first, ask for.
-pub fn task_of(alloc: Global, words: &[String]) -> Task<'_> {
+pub fn daemon_task(alloc: Global, words: &[String]) -> DaemonTask<'_> {
     match parse(alloc, words) {
         Ok(task) => task,
-        Err(fault) if fault.kind() == ErrorKind::OutOfMemory => Task::NoMemory,
-        Err(fault) => Task::Print(fault),
+        Err(fault) if fault.kind() == ErrorKind::OutOfMemory => DaemonTask::NoMemory,
+        Err(fault) => DaemonTask::Print(fault),
     }
 }
 
 // What the words ask for, where there is something.
-fn parse(alloc: Global, words: &[String]) -> Result<Task<'_>, Error> {
-    let command = Command::new(alloc, "sdd")
+fn parse(alloc: Global, words: &[String]) -> Result<DaemonTask<'_>, Error> {
+    let matches = command(alloc)?.try_get_matches_from(words)?;
+    Ok(match matches.subcommand_matches("serve") {
+        Some(given) => asked_of(given),
+        None => DaemonTask::Check,
+    })
+}
+
+fn command<'a>(alloc: Global) -> Result<Command<'a>, AllocError> {
+    Command::new(alloc, "sdd")
         .version("0.1.0")
         .about("The storage daemon")
         .subcommand_required(true)
         .arg_required_else_help(true)
         .subcommand(check_command(alloc))?
-        .subcommand(serve_command(alloc)?)?;
-    let matches = command.try_get_matches_from(words)?;
-    Ok(match matches.subcommand_matches("serve") {
-        Some(given) => asked_of(given),
-        None => Task::Check,
-    })
+        .subcommand(serve_command(alloc)?)
 }
 
 fn check_command<'a>(alloc: Global) -> Command<'a> {
@@ -97,8 +84,8 @@ fn serve_command<'a>(alloc: Global) -> Result<Command<'a>, AllocError> {
 }
 
 // What is asked of the daemon. Each value is there, since the words were read so.
-fn asked_of<'a>(given: &ArgMatches<'a>) -> Task<'a> {
-    Task::Serve(Serving {
+fn asked_of<'a>(given: &ArgMatches<'a>) -> DaemonTask<'a> {
+    DaemonTask::Serve(Serving {
         path: given.get_str("CONF").unwrap_or(""),
         talks: given.get_one("talks").unwrap_or(0),
         log: given.get_flag("log"),

@@ -1,15 +1,12 @@
-// The command line.
-ghost use Rattle.std.specs.Prelude.{◌≡◌, ◌≢◌, ◌⊎◌};
-ghost use Rattle.clap.specs.Values.{kind_of};
-
+// The command line of the tool.
 use clap::error::ErrorKind;
 use clap::{Arg, ArgAction, ArgMatches, Command, Error};
 use sd_progress::Progress;
 use std::alloc::{AllocError, Global};
 
-/// What the command line asks for.
+/// What a command line of `sdtool` asks for.
 #[derive(Drop)]
-pub enum Task<'a> {
+pub enum ToolTask<'a> {
     /// To run the script on standard input.
     Run,
     /// To list the volume in the file at this path.
@@ -29,9 +26,6 @@ pub enum Task<'a> {
     NoMemory,
 }
 
-/// The status of a run whose command line was wrong.
-const USAGE: u8 = 2;
-
 const VOLUME: &str = "VOLUME";
 
 const SPANS: &str = "SPANS";
@@ -40,38 +34,28 @@ const FOLDER: &str = "FOLDER";
 
 const PROGRESS: &str = "progress";
 
-/// The status of a run that only prints this: 0 for help and the version, 2 where the command line was wrong.
-pub fn status_of(told: &Error) -> u8
-    ensures shown { (kind_of told.now ≡ ErrorKind.DisplayHelp)
-        ⊎ (kind_of told.now ≡ ErrorKind.DisplayVersion) → result ≡ 0 }
-    ensures wrong { kind_of told.now ≢ ErrorKind.DisplayHelp
-        → kind_of told.now ≢ ErrorKind.DisplayVersion → result ≡ 2 }
-{
-    if told.use_stderr() { USAGE } else { 0 }
-}
-
 /// What `words`, the program's name first, ask for.
-pub fn task_of<'a>(alloc: Global, words: &'a [String]) -> Task<'a> {
+pub fn tool_task<'a>(alloc: Global, words: &'a [String]) -> ToolTask<'a> {
     match parse(alloc, words) {
         Ok(task) => task,
-        Err(fault) if fault.kind() == ErrorKind::OutOfMemory => Task::NoMemory,
-        Err(fault) => Task::Print(fault),
+        Err(fault) if fault.kind() == ErrorKind::OutOfMemory => ToolTask::NoMemory,
+        Err(fault) => ToolTask::Print(fault),
     }
 }
 
-fn parse<'a>(alloc: Global, words: &'a [String]) -> Result<Task<'a>, Error> {
+fn parse<'a>(alloc: Global, words: &'a [String]) -> Result<ToolTask<'a>, Error> {
     let matches = command(alloc)?.try_get_matches_from(words)?;
     Ok(match matches.subcommand() {
-        Some(("ls", given)) => Task::List {
+        Some(("ls", given)) => ToolTask::List {
             volume: word(given, VOLUME),
             progress: progress_of(given),
         },
-        Some(("read", given)) => Task::Read {
+        Some(("read", given)) => ToolTask::Read {
             spans: word(given, SPANS),
             folder: word(given, FOLDER),
             progress: progress_of(given),
         },
-        _ => Task::Run,
+        _ => ToolTask::Run,
     })
 }
 
@@ -89,18 +73,6 @@ fn progress_of(given: &ArgMatches<'_>) -> Progress {
 }
 
 fn command<'a>(alloc: Global) -> Result<Command<'a>, AllocError> {
-    let run = Command::new(alloc, "run").about(
-        "Runs the script on standard input, and prints what each line of it comes to",
-    );
-    let list = Command::new(alloc, "ls")
-        .about("Lists a volume: its label, its blocks, and how many bytes stand behind them")
-        .arg(required(alloc, VOLUME, "The file of the volume"))?
-        .arg(progress(alloc))?;
-    let read = Command::new(alloc, "read")
-        .about("Reads a session back from its volumes, and writes its records")
-        .arg(required(alloc, SPANS, "The file of the session's JobMedia text"))?
-        .arg(required(alloc, FOLDER, "The folder of the volumes"))?
-        .arg(progress(alloc))?;
     Command::new(alloc, "sdtool")
         .version("0.1.0")
         .about(
@@ -108,9 +80,30 @@ fn command<'a>(alloc: Global) -> Result<Command<'a>, AllocError> {
         )
         .subcommand_required(true)
         .arg_required_else_help(true)
-        .subcommand(run)?
-        .subcommand(list)?
-        .subcommand(read)
+        .subcommand(run_command(alloc))?
+        .subcommand(list_command(alloc)?)?
+        .subcommand(read_command(alloc)?)
+}
+
+fn run_command<'a>(alloc: Global) -> Command<'a> {
+    Command::new(alloc, "run").about(
+        "Runs the script on standard input, and prints what each line of it comes to",
+    )
+}
+
+fn list_command<'a>(alloc: Global) -> Result<Command<'a>, AllocError> {
+    Command::new(alloc, "ls")
+        .about("Lists a volume: its label, its blocks, and how many bytes stand behind them")
+        .arg(required(alloc, VOLUME, "The file of the volume"))?
+        .arg(progress(alloc))
+}
+
+fn read_command<'a>(alloc: Global) -> Result<Command<'a>, AllocError> {
+    Command::new(alloc, "read")
+        .about("Reads a session back from its volumes, and writes its records")
+        .arg(required(alloc, SPANS, "The file of the session's JobMedia text"))?
+        .arg(required(alloc, FOLDER, "The folder of the volumes"))?
+        .arg(progress(alloc))
 }
 
 fn required<'a>(alloc: Global, name: &'a str, help: &'a str) -> Arg<'a> {

@@ -1,20 +1,21 @@
-// What the command line asks for, and what is told of it.
-use crate::arguments::{Task, status_of, task_of};
+// What a command line of the tool asks for, and what is told of it.
+use sd_arguments::{ToolTask, status_of, tool_task};
 use sd_progress::Progress;
 use std::alloc::{AllocError, Global};
+use std::test::Fail;
 
 /// A command line, and where it is told something the status and the first line of that. What is told with
 /// status 2 goes to standard error, and the rest to standard output.
 #[derive(Clone, Copy)]
-pub struct CommandLine {
-    pub words: &'static str,
+struct CommandLine {
+    words: &'static str,
     told: Option<(u8, &'static str)>,
 }
 
 const ABOUT: &str =
     "Runs scripts over the core of the storage daemon, lists volumes and reads sessions back";
 
-pub static COMMAND_LINES: [CommandLine; 13] = [
+static COMMAND_LINES: [CommandLine; 13] = [
     CommandLine {
         words: "",
         told: Some((2, ABOUT)),
@@ -93,32 +94,32 @@ fn split(alloc: Global, line: &str) -> Result<Vec<String>, AllocError> {
 }
 
 /// Whether the command line is answered as it should be.
-pub fn is_answered_so(alloc: Global, line: &CommandLine) -> Result<bool, AllocError> {
+fn is_answered_so(alloc: Global, line: &CommandLine) -> Result<bool, AllocError> {
     let words = split(alloc, line.words)?;
-    match task_of(alloc, &words) {
-        Task::Run => Ok(line.told.is_none()),
-        Task::List { .. } | Task::Read { .. } => Ok(false),
-        Task::Print(told) => {
+    match tool_task(alloc, &words) {
+        ToolTask::Run => Ok(line.told.is_none()),
+        ToolTask::List { .. } | ToolTask::Read { .. } => Ok(false),
+        ToolTask::Print(told) => {
             let status = status_of(&told);
             let text = told.to_string(alloc)?;
             let first = text.lines().next().unwrap_or("");
             let same = line.told == Some((status, first));
             Ok(same && told.use_stderr() == (status == 2))
         }
-        Task::NoMemory => Err(AllocError),
+        ToolTask::NoMemory => Err(AllocError),
     }
 }
 
 /// Whether the words of these command lines reach the task that they ask for.
-pub fn words_are_taken(alloc: Global) -> Result<bool, AllocError> {
+fn words_are_taken(alloc: Global) -> Result<bool, AllocError> {
     let words = split(alloc, "sdtool ls v/Vol-0001")?;
-    let listed = match task_of(alloc, &words) {
-        Task::List { volume, progress } => volume == "v/Vol-0001" && progress == Progress::Silent,
+    let listed = match tool_task(alloc, &words) {
+        ToolTask::List { volume, progress } => volume == "v/Vol-0001" && progress == Progress::Silent,
         _ => false,
     };
     let words = split(alloc, "sdtool read --progress spans v")?;
-    let read = match task_of(alloc, &words) {
-        Task::Read {
+    let read = match tool_task(alloc, &words) {
+        ToolTask::Read {
             spans,
             folder,
             progress,
@@ -126,4 +127,13 @@ pub fn words_are_taken(alloc: Global) -> Result<bool, AllocError> {
         _ => false,
     };
     Ok(listed && read)
+}
+
+#[test]
+fn command_lines_are_answered(rt: HostRuntime) -> Result<(), Fail> {
+    for line in &COMMAND_LINES {
+        assert!(rt; is_answered_so(rt.alloc(), line)?, "{}", line.words);
+    }
+    assert!(rt; words_are_taken(rt.alloc())?);
+    Ok(())
 }
