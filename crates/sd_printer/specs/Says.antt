@@ -1,5 +1,5 @@
 -- What is printed to a writer, and what a fault of the writer leaves of it.
-use Rattle.std.specs.Prelude.{◌≡◌, ◌≢◌, ◌<◌, ℕ, Bool, true, false, List, ◌++◌, length, Option, Some, None, ⊤}
+use Rattle.std.specs.Prelude.{◌≡◌, ◌<◌, ℕ, Bool, true, false, List, ◌++◌, length, Option, ⊤}
 use Rattle.std.specs.Io.KnownBytes.{Appends}
 use Rattle.sd_printer.specs.declared.printer.Printer.{Printer}
 
@@ -22,23 +22,23 @@ SendsFront old new bytes = (rest : List ℕ) × (0 < length rest) × Sends old n
 
 -- `Says`, by what is known of the writer before and after, and by whether writing had failed and has failed
 abbrev pub SaysBy : Option (List ℕ) → Option (List ℕ) → Bool → Bool → List ℕ → Type 0
-SaysBy None new failed fails bytes = ⊤
-SaysBy (Some xs) None failed fails bytes = ⊥
-SaysBy (Some xs) (Some ys) false false bytes = ys ≡ xs ++ bytes
-SaysBy (Some xs) (Some ys) false true bytes = (rest : List ℕ) × (xs ++ bytes ≡ ys ++ rest)
-SaysBy (Some xs) (Some ys) true false bytes = ⊥
-SaysBy (Some xs) (Some ys) true true bytes = ys ≡ xs
+SaysBy old new false false bytes = Appends old new bytes
+SaysBy old new false true bytes = (rest : List ℕ) × Sends old new bytes rest
+SaysBy old new true false bytes = ⊥
+SaysBy old new true true bytes = new ≡ old
 
--- These bytes were printed: they stand behind what the writer held. Where writing fails, a front of them does, and
--- from then on nothing more is written. Of a writer whose bytes aren't known, as a process's own output, it says nothing.
+-- These bytes were printed: they stand behind what the writer held. Where writing fails, a front of them stands there.
+-- From then on nothing more is written, and writing stays failed. Where the writer's bytes aren't known, as those of a
+-- process's own output, this tells nothing of them; but also there what failed stays failed.
 abbrev pub Says : SaidView → SaidView → List ℕ → Type 0
 Says old new bytes = SaysBy old.written new.written old.failed new.failed bytes
 
 -- `CutsShort`, by what is known of the writer before and after, and by whether writing had failed and has failed
 abbrev pub CutsShortBy : Option (List ℕ) → Option (List ℕ) → Bool → Bool → List ℕ → Type 0
-CutsShortBy (Some xs) (Some ys) false true bytes = ys ≢ xs ++ bytes
+CutsShortBy old new false true bytes = SendsFront old new bytes
 CutsShortBy old new failed fails bytes = ⊤
 
--- Writing these bytes fails only where they were not all written. It too says nothing where the bytes aren't known.
+-- Writing these bytes fails only where they were not all written. Where the writer's bytes aren't known, this says only
+-- that there were some to write.
 abbrev pub CutsShort : SaidView → SaidView → List ℕ → Type 0
 CutsShort old new bytes = CutsShortBy old.written new.written old.failed new.failed bytes
