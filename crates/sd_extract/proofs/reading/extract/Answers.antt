@@ -1,4 +1,4 @@
-use Rattle.std.proofs.Common.{List, ◌++◌, ap, inr, subst, ◌∙◌}
+use Rattle.std.proofs.Common.{List, ◌++◌, ap, inl, inr, refl, subst, ◌∙◌}
 use Rattle.sd_printer.specs.Says.{said_view}
 use Rattle.sd_printer.proofs.SaysLemmas.{says_then, says_then_nothing}
 use Rattle.sd_span.specs.declared.span.Span.{Span}
@@ -21,3 +21,12 @@ returns-in-Ok g c =
       prints = says_then_nothing _ (said_view g.W.Write.contents c.print_ending.new.out) _ (records_lines out.0 ++ ending) (says_then _ (said_view g.W.Write.contents c.read_out-read.result.out) _ (records_lines out.0) ending out.2 c.print_ending.ensures) c.flush.ensures;
       status_is = c.status_of-status.ensures ∙ ap (status_of result) c.failed.ensures;
     })
+
+pub returns-in-Err : goal.returns-in-Err
+returns-in-Err g c = inl (record {
+  fault = c.in-Err.fault;
+  input_is = c.in-Err.ensures;
+  device = refl;
+  prints = says_then_nothing _ (said_view g.W.Write.contents c.print_fault.new.out) _ _ c.print_fault.ensures c.flush-in-Err.ensures;
+  status_is = refl;
+})
