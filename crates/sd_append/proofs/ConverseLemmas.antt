@@ -1,5 +1,5 @@
 -- Packets of a talk, one after another.
-use Rattle.std.proofs.Common.{refl, sym, ap, subst, ◌∙◌, List, [], ◌∷◌, ◌++◌}
+use Rattle.std.proofs.Common.{ℤ, refl, sym, ap, subst, ◌∙◌, List, [], ◌∷◌, ◌++◌}
 use Rattle.std.proofs.lemmas.List.{append_assoc, append-nil}
 use Rattle.sd_bnet.specs.declared.packet.Packet.{Packet}
 use Rattle.sd_append.specs.declared.stage.Stage.{Stage}
@@ -12,74 +12,74 @@ use Rattle.sd_append.proofs.OutLemmas.{puts_none}
 use Rattle.sd_append.proofs.TalkLemmas.{says_then}
 
 -- one packet more
-converses-more : (old : Stage) (packets : List Packet) (packet : Packet) (a b : List Exchange) (x y : List Packet) (mid new : Stage) → Converses old packets a x mid → Takes mid packet b y new
-    → Converses old (packets ++ packet ∷ []) (a ++ b) (x ++ y) new
-converses-more old [] packet a b x y mid new (asked, says, stands) takes = (
+converses-more : (moment : ℤ) (old : Stage) (packets : List Packet) (packet : Packet) (a b : List Exchange) (x y : List Packet) (mid new : Stage) → Converses moment old packets a x mid → Takes moment mid packet b y new
+    → Converses moment old (packets ++ packet ∷ []) (a ++ b) (x ++ y) new
+converses-more moment old [] packet a b x y mid new (asked, says, stands) takes = (
   new,
   b,
   [],
   y,
   [],
-  subst (λ (s : Stage). Takes s packet b y new) stands takes,
+  subst (λ (s : Stage). Takes moment s packet b y new) stands takes,
   (refl, refl, refl),
   ap (λ (l : List Exchange). l ++ b) asked ∙ sym (append-nil b),
   ap (λ (l : List Packet). l ++ y) says ∙ sym (append-nil y),
 )
-converses-more old (p ∷ ps) packet a b x y mid new (between, first, more, says, later, taken, rest, asked_is, says_is) takes = (
+converses-more moment old (p ∷ ps) packet a b x y mid new (between, first, more, says, later, taken, rest, asked_is, says_is) takes = (
   between,
   first,
   more ++ b,
   says,
   later ++ y,
   taken,
-  converses-more between ps packet more b later y mid new rest takes,
+  converses-more moment between ps packet more b later y mid new rest takes,
   ap (λ (l : List Exchange). l ++ b) asked_is ∙ append_assoc first more b,
   ap (λ (l : List Packet). l ++ y) says_is ∙ append_assoc says later y,
 )
 
 -- packets behind others
-converses-append : (old : Stage) (ps qs : List Packet) (a b : List Exchange) (x y : List Packet) (mid new : Stage) → Converses old ps a x mid → Converses mid qs b y new
-    → Converses old (ps ++ qs) (a ++ b) (x ++ y) new
-converses-append old [] qs a b x y mid new (asked, says, stands) more =
-    subst (λ (s : Stage). Converses s qs (a ++ b) (x ++ y) new) stands
-    (subst (λ (l : List Exchange). Converses mid qs l (x ++ y) new) (sym (ap (λ (l : List Exchange). l ++ b) asked))
-    (subst (λ (l : List Packet). Converses mid qs b l new) (sym (ap (λ (l : List Packet). l ++ y) says)) more))
-converses-append old (p ∷ ps) qs a b x y mid new (between, first, more, says, later, taken, rest, asked_is, says_is) next = (
+converses-append : (moment : ℤ) (old : Stage) (ps qs : List Packet) (a b : List Exchange) (x y : List Packet) (mid new : Stage) → Converses moment old ps a x mid → Converses moment mid qs b y new
+    → Converses moment old (ps ++ qs) (a ++ b) (x ++ y) new
+converses-append moment old [] qs a b x y mid new (asked, says, stands) more =
+    subst (λ (s : Stage). Converses moment s qs (a ++ b) (x ++ y) new) stands
+    (subst (λ (l : List Exchange). Converses moment mid qs l (x ++ y) new) (sym (ap (λ (l : List Exchange). l ++ b) asked))
+    (subst (λ (l : List Packet). Converses moment mid qs b l new) (sym (ap (λ (l : List Packet). l ++ y) says)) more))
+converses-append moment old (p ∷ ps) qs a b x y mid new (between, first, more, says, later, taken, rest, asked_is, says_is) next = (
   between,
   first,
   more ++ b,
   says,
   later ++ y,
   taken,
-  converses-append between ps qs more b later y mid new rest next,
+  converses-append moment between ps qs more b later y mid new rest next,
   ap (λ (l : List Exchange). l ++ b) asked_is ∙ append_assoc first more b,
   ap (λ (l : List Packet). l ++ y) says_is ∙ append_assoc says later y,
 )
 
 -- no packet yet
-pub converses_none : (stage : Stage) (asked : List Exchange) (v : OutView) → Does (λ more out. Converses stage [] more out stage) asked asked v v
-converses_none stage asked v = record { asked = []; out = []; outcome_is = (refl, refl, refl); after_is = sym (append-nil asked); puts = puts_none v }
+pub converses_none : (moment : ℤ) (stage : Stage) (asked : List Exchange) (v : OutView) → Does (λ more out. Converses moment stage [] more out stage) asked asked v v
+converses_none moment stage asked v = record { asked = []; out = []; outcome_is = (refl, refl, refl); after_is = sym (append-nil asked); puts = puts_none v }
 
 -- a packet behind others
-pub converses_then : (old mid new : Stage) (packets : List Packet) (packet : Packet) (before between after : List Exchange) (a b c : OutView)
-    → Does (λ asked out. Converses old packets asked out mid) before between a b → Does (λ asked out. Takes mid packet asked out new) between after b c
-    → Does (λ asked out. Converses old (packets ++ packet ∷ []) asked out new) before after a c
-converses_then old mid new packets packet before between after a b c first next = record {
+pub converses_then : (moment : ℤ) (old mid new : Stage) (packets : List Packet) (packet : Packet) (before between after : List Exchange) (a b c : OutView)
+    → Does (λ asked out. Converses moment old packets asked out mid) before between a b → Does (λ asked out. Takes moment mid packet asked out new) between after b c
+    → Does (λ asked out. Converses moment old (packets ++ packet ∷ []) asked out new) before after a c
+converses_then moment old mid new packets packet before between after a b c first next = record {
   asked = first.asked ++ next.asked;
   out = first.out ++ next.out;
-  outcome_is = converses-more old packets packet first.asked next.asked first.out next.out mid new first.outcome_is next.outcome_is;
+  outcome_is = converses-more moment old packets packet first.asked next.asked first.out next.out mid new first.outcome_is next.outcome_is;
   after_is = next.after_is ∙ ap (λ (l : List Exchange). l ++ next.asked) first.after_is ∙ append_assoc before first.asked next.asked;
   puts = says_then a b c first.out next.out first.puts next.puts;
 }
 
 -- packets behind others
-pub does_then : (old mid new : Stage) (ps qs : List Packet) (before between after : List Exchange) (a b c : OutView)
-    → Does (λ asked out. Converses old ps asked out mid) before between a b → Does (λ asked out. Converses mid qs asked out new) between after b c
-    → Does (λ asked out. Converses old (ps ++ qs) asked out new) before after a c
-does_then old mid new ps qs before between after a b c first next = record {
+pub does_then : (moment : ℤ) (old mid new : Stage) (ps qs : List Packet) (before between after : List Exchange) (a b c : OutView)
+    → Does (λ asked out. Converses moment old ps asked out mid) before between a b → Does (λ asked out. Converses moment mid qs asked out new) between after b c
+    → Does (λ asked out. Converses moment old (ps ++ qs) asked out new) before after a c
+does_then moment old mid new ps qs before between after a b c first next = record {
   asked = first.asked ++ next.asked;
   out = first.out ++ next.out;
-  outcome_is = converses-append old ps qs first.asked next.asked first.out next.out mid new first.outcome_is next.outcome_is;
+  outcome_is = converses-append moment old ps qs first.asked next.asked first.out next.out mid new first.outcome_is next.outcome_is;
   after_is = next.after_is ∙ ap (λ (l : List Exchange). l ++ next.asked) first.after_is ∙ append_assoc before first.asked next.asked;
   puts = says_then a b c first.out next.out first.puts next.puts;
 }

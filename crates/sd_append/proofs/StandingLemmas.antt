@@ -1,5 +1,5 @@
 -- Where a talk stands from one read to the next.
-use Rattle.std.proofs.Common.{◌≡◌, ◌≢◌, ℕ, ◌<◌, ◌≤◌, refl, sym, ap, subst, ◌∙◌, arith, inl, inr, Bool, List, [], ◌∷◌, ◌++◌, length, take, Option, Some, None, Result, Ok, Err, pos, length-append}
+use Rattle.std.proofs.Common.{◌≡◌, ◌≢◌, ℕ, ℤ, ◌<◌, ◌≤◌, refl, sym, ap, subst, ◌∙◌, arith, inl, inr, Bool, List, [], ◌∷◌, ◌++◌, length, take, Option, Some, None, Result, Ok, Err, pos, length-append}
 use Rattle.std.specs.Prelude.{◌↔◌, IsNone, IsTrue}
 use Rattle.std.specs.declared.alloc.AllocError.{AllocError}
 use Rattle.std.specs.Io.KnownBytes.{Consumes, IsAtEnd, Keeps}
@@ -84,13 +84,13 @@ new_waits Failed fits = λ same. not_too_long fits.0 fits.1.joined fits.2
 -- Going on.
 
 -- a talk begins
-pub stands_first : (left : Option (List ℕ)) (asked : List Exchange) (out : OutView) (state : FeederState) → Fits state [] []
-    → Stands (around left asked out) (around left asked out) state (Command None) []
-stands_first left asked out state fits = record {
+pub stands_first : (moment : ℤ) (left : Option (List ℕ)) (asked : List Exchange) (out : OutView) (state : FeederState) → Fits state [] []
+    → Stands moment (around left asked out) (around left asked out) state (Command None) []
+stands_first moment left asked out state fits = record {
   packets = [];
   read = consumes_none left;
   fits = fits;
-  takes = converses_none (Command None) asked out;
+  takes = converses_none moment (Command None) asked out;
   goes_on = ((λ over. over), new_waits state fits);
 }
 
@@ -104,22 +104,22 @@ does_written f before after a b c does puts = record {
 }
 
 -- what waited was written out
-pub stands_written : (start : Around) (left : Option (List ℕ)) (asked : List Exchange) (old new : OutView) (state : FeederState) (stage : Stage) (bytes : List ℕ) → Puts old new []
-    → Stands start (around left asked old) state stage bytes → Stands start (around left asked new) state stage bytes
-stands_written start left asked old new state stage bytes puts h = record {
+pub stands_written : (moment : ℤ) (start : Around) (left : Option (List ℕ)) (asked : List Exchange) (old new : OutView) (state : FeederState) (stage : Stage) (bytes : List ℕ) → Puts old new []
+    → Stands moment start (around left asked old) state stage bytes → Stands moment start (around left asked new) state stage bytes
+stands_written moment start left asked old new state stage bytes puts h = record {
   packets = h.packets;
   read = h.read;
   fits = h.fits;
-  takes = does_written (λ more out. Converses (Command None) h.packets more out stage) start.asked asked start.out old new h.takes puts;
+  takes = does_written (λ more out. Converses moment (Command None) h.packets more out stage) start.asked asked start.out old new h.takes puts;
   goes_on = h.goes_on;
 }
 
 -- Pieces of the input.
 
 -- memory was wanted for the packets of a piece
-pub piece_lost : (start : Around) (left remains : Option (List ℕ)) (asked : List Exchange) (out : OutView) (state next : FeederState) (stage : Stage) (bytes piece : List ℕ) (e : AllocError)
-    → Consumes left remains piece → Stands start (around left asked out) state stage bytes → Comes (Some (Err e)) start (around remains asked out) next stage (bytes ++ piece)
-piece_lost start left remains asked out state next stage bytes piece e more h =
+pub piece_lost : (moment : ℤ) (start : Around) (left remains : Option (List ℕ)) (asked : List Exchange) (out : OutView) (state next : FeederState) (stage : Stage) (bytes piece : List ℕ) (e : AllocError)
+    → Consumes left remains piece → Stands moment start (around left asked out) state stage bytes → Comes moment (Some (Err e)) start (around remains asked out) next stage (bytes ++ piece)
+piece_lost moment start left remains asked out state next stage bytes piece e more h =
     let p = parts state bytes h.packets h.fits in (
       record {
         packets = h.packets;
@@ -133,71 +133,71 @@ piece_lost start left remains asked out state next stage bytes piece e more h =
     )
 
 -- the packets of a piece were taken
-pub piece_taken : (end : Option (Result TalkEnd AllocError)) (start : Around) (left remains : Option (List ℕ)) (asked asks : List Exchange) (old new : OutView)
+pub piece_taken : (moment : ℤ) (end : Option (Result TalkEnd AllocError)) (start : Around) (left remains : Option (List ℕ)) (asked asks : List Exchange) (old new : OutView)
     (state next : FeederState) (stage stands : Stage) (bytes piece : List ℕ) (found : List Packet) (failed : Bool)
-    → Consumes left remains piece → Stands start (around left asked old) state stage bytes
+    → Consumes left remains piece → Stands moment start (around left asked old) state stage bytes
     → ((front : List ℕ) (before : List Packet) → Fits state front before → Fits next (front ++ piece) (before ++ found))
-    → IsTrue failed ↔ (next ≡ Failed) → Does (λ more out. Converses stage found more out stands) asked asks old new → EndsBehind end failed stands
-    → Comes end start (around remains asks new) next stands (bytes ++ piece)
-piece_taken None start left remains asked asks old new state next stage stands bytes piece found failed more h feeds fails takes ends = record {
+    → IsTrue failed ↔ (next ≡ Failed) → Does (λ more out. Converses moment stage found more out stands) asked asks old new → EndsBehind end failed stands
+    → Comes moment end start (around remains asks new) next stands (bytes ++ piece)
+piece_taken moment None start left remains asked asks old new state next stage stands bytes piece found failed more h feeds fails takes ends = record {
   packets = h.packets ++ found;
   read = consumes_then start.left left remains bytes piece h.read more;
   fits = feeds bytes h.packets h.fits;
-  takes = does_then (Command None) stage stands h.packets found start.asked asked asks start.out old new h.takes takes;
+  takes = does_then moment (Command None) stage stands h.packets found start.asked asked asks start.out old new h.takes takes;
   goes_on = (ends.0, λ is. ends.1 (fails.1 is));
 }
-piece_taken (Some (Ok Finished)) start left remains asked asks old new state next stage stands bytes piece found failed more h feeds fails takes ends =
+piece_taken moment (Some (Ok Finished)) start left remains asked asks old new state next stage stands bytes piece found failed more h feeds fails takes ends =
     let p = parts next (bytes ++ piece) (h.packets ++ found) (feeds bytes h.packets h.fits) in (
       record {
         packets = h.packets ++ found;
         rest = p.0;
         read = consumes_then start.left left remains bytes piece h.read more;
         parted = p.1;
-        takes = does_then (Command None) stage stands h.packets found start.asked asked asks start.out old new h.takes takes;
+        takes = does_then moment (Command None) stage stands h.packets found start.asked asked asks start.out old new h.takes takes;
         ends = inl ends;
       },
       λ wrong. cc wrong,
     )
-piece_taken (Some (Ok TooLong)) start left remains asked asks old new state next stage stands bytes piece found failed more h feeds fails takes ends =
+piece_taken moment (Some (Ok TooLong)) start left remains asked asks old new state next stage stands bytes piece found failed more h feeds fails takes ends =
     let f = subst (λ (s : FeederState). Fits s (bytes ++ piece) (h.packets ++ found)) (fails.0 ends.1) (feeds bytes h.packets h.fits) in (
       record {
         packets = h.packets ++ found;
         rest = f.0;
         read = consumes_then start.left left remains bytes piece h.read more;
         parted = f.1;
-        takes = does_then (Command None) stage stands h.packets found start.asked asked asks start.out old new h.takes takes;
+        takes = does_then moment (Command None) stage stands h.packets found start.asked asked asks start.out old new h.takes takes;
         ends = (ends.0, f.2);
       },
       λ wrong. cc wrong,
     )
-piece_taken (Some (Ok Truncated)) start left remains asked asks old new state next stage stands bytes piece found failed more h feeds fails takes ends = absurd ends
-piece_taken (Some (Ok ReadFault)) start left remains asked asks old new state next stage stands bytes piece found failed more h feeds fails takes ends = absurd ends
-piece_taken (Some (Ok WriteFault)) start left remains asked asks old new state next stage stands bytes piece found failed more h feeds fails takes ends = absurd ends
-piece_taken (Some (Ok OutOfTurns)) start left remains asked asks old new state next stage stands bytes piece found failed more h feeds fails takes ends = absurd ends
-piece_taken (Some (Err e)) start left remains asked asks old new state next stage stands bytes piece found failed more h feeds fails takes ends = absurd ends
+piece_taken moment (Some (Ok Truncated)) start left remains asked asks old new state next stage stands bytes piece found failed more h feeds fails takes ends = absurd ends
+piece_taken moment (Some (Ok ReadFault)) start left remains asked asks old new state next stage stands bytes piece found failed more h feeds fails takes ends = absurd ends
+piece_taken moment (Some (Ok WriteFault)) start left remains asked asks old new state next stage stands bytes piece found failed more h feeds fails takes ends = absurd ends
+piece_taken moment (Some (Ok OutOfTurns)) start left remains asked asks old new state next stage stands bytes piece found failed more h feeds fails takes ends = absurd ends
+piece_taken moment (Some (Err e)) start left remains asked asks old new state next stage stands bytes piece found failed more h feeds fails takes ends = absurd ends
 
 -- Ends without a piece.
 
 -- nothing was read
-pub no_piece : (end : Result TalkEnd AllocError) (start now : Around) (state : FeederState) (stage : Stage) (bytes : List ℕ) (room : ℕ) → Comes (Some end) start now state stage bytes
-    → (piece : List ℕ) × (length piece ≤ room) × (IsNone (Some end) → 0 < length piece) × Comes (Some end) start now state stage (bytes ++ piece)
-no_piece end start now state stage bytes room comes =
-    ([], omega arith, (λ none. absurd (cc none)), subst (λ (l : List ℕ). Comes (Some end) start now state stage l) (sym (append-nil bytes)) comes)
+pub no_piece : (moment : ℤ) (end : Result TalkEnd AllocError) (start now : Around) (state : FeederState) (stage : Stage) (bytes : List ℕ) (room : ℕ) → Comes moment (Some end) start now state stage bytes
+    → (piece : List ℕ) × (length piece ≤ room) × (IsNone (Some end) → 0 < length piece) × Comes moment (Some end) start now state stage (bytes ++ piece)
+no_piece moment end start now state stage bytes room comes =
+    ([], omega arith, (λ none. absurd (cc none)), subst (λ (l : List ℕ). Comes moment (Some end) start now state stage l) (sym (append-nil bytes)) comes)
 
 -- writing has failed
-pub writing_failed : (fault : OutFault) (start : Around) (left : Option (List ℕ)) (asked : List Exchange) (out : OutView) (state : FeederState) (stage : Stage) (bytes : List ℕ)
-    → Stands start (around left asked out) state stage bytes → Comes (Some (fault_end fault)) start (around left asked out) state stage bytes
-writing_failed faults.Write start left asked out state stage bytes h =
+pub writing_failed : (moment : ℤ) (fault : OutFault) (start : Around) (left : Option (List ℕ)) (asked : List Exchange) (out : OutView) (state : FeederState) (stage : Stage) (bytes : List ℕ)
+    → Stands moment start (around left asked out) state stage bytes → Comes moment (Some (fault_end fault)) start (around left asked out) state stage bytes
+writing_failed moment faults.Write start left asked out state stage bytes h =
     let p = parts state bytes h.packets h.fits in
     (record { packets = h.packets; rest = p.0; read = h.read; parted = p.1; takes = h.takes; ends = tt }, λ wrong. cc wrong)
-writing_failed faults.Memory start left asked out state stage bytes h =
+writing_failed moment faults.Memory start left asked out state stage bytes h =
     let p = parts state bytes h.packets h.fits in
     (record { packets = h.packets; rest = p.0; read = h.read; parted = (bytes, [], sym (append-nil bytes), p.1); takes = h.takes; ends = tt }, λ wrong. cc wrong)
 
 -- reading has failed
-pub reading_failed : (start : Around) (left remains : Option (List ℕ)) (asked : List Exchange) (out : OutView) (state : FeederState) (stage : Stage) (bytes : List ℕ)
-    → Keeps left remains → Stands start (around left asked out) state stage bytes → Comes (Some (Ok ReadFault)) start (around remains asked out) state stage bytes
-reading_failed start left remains asked out state stage bytes keeps h =
+pub reading_failed : (moment : ℤ) (start : Around) (left remains : Option (List ℕ)) (asked : List Exchange) (out : OutView) (state : FeederState) (stage : Stage) (bytes : List ℕ)
+    → Keeps left remains → Stands moment start (around left asked out) state stage bytes → Comes moment (Some (Ok ReadFault)) start (around remains asked out) state stage bytes
+reading_failed moment start left remains asked out state stage bytes keeps h =
     let w = waits state bytes h.packets h.goes_on.1 h.fits in (
       record {
         packets = h.packets;
@@ -211,10 +211,10 @@ reading_failed start left remains asked out state stage bytes keeps h =
     )
 
 -- the input has ended
-pub input_ended : (end : TalkEnd) (start : Around) (left remains : Option (List ℕ)) (asked : List Exchange) (out : OutView) (state : FeederState) (stage : Stage) (bytes : List ℕ)
-    → EndsInput end state stage → Consumes left remains [] → IsAtEnd remains → Stands start (around left asked out) state stage bytes
-    → Comes (Some (Ok end)) start (around remains asked out) state stage bytes
-input_ended Finished start left remains asked out state stage bytes ends more empty h = (
+pub input_ended : (moment : ℤ) (end : TalkEnd) (start : Around) (left remains : Option (List ℕ)) (asked : List Exchange) (out : OutView) (state : FeederState) (stage : Stage) (bytes : List ℕ)
+    → EndsInput end state stage → Consumes left remains [] → IsAtEnd remains → Stands moment start (around left asked out) state stage bytes
+    → Comes moment (Some (Ok end)) start (around remains asked out) state stage bytes
+input_ended moment Finished start left remains asked out state stage bytes ends more empty h = (
   record {
     packets = h.packets;
     rest = [];
@@ -225,7 +225,7 @@ input_ended Finished start left remains asked out state stage bytes ends more em
   },
   λ wrong. cc wrong,
 )
-input_ended Truncated start left remains asked out state stage bytes (inl undue) more empty h =
+input_ended moment Truncated start left remains asked out state stage bytes (inl undue) more empty h =
     let w = waits state bytes h.packets h.goes_on.1 h.fits in (
       record {
         packets = h.packets;
@@ -237,7 +237,7 @@ input_ended Truncated start left remains asked out state stage bytes (inl undue)
       },
       λ wrong. cc wrong,
     )
-input_ended Truncated start left remains asked out state stage bytes (inr midway) more empty h =
+input_ended moment Truncated start left remains asked out state stage bytes (inr midway) more empty h =
     let w = waits_midway state bytes h.packets h.goes_on.1 midway h.fits in (
       record {
         packets = h.packets;
@@ -249,63 +249,63 @@ input_ended Truncated start left remains asked out state stage bytes (inr midway
       },
       λ wrong. cc wrong,
     )
-input_ended TooLong start left remains asked out state stage bytes ends more empty h = absurd ends
-input_ended ReadFault start left remains asked out state stage bytes ends more empty h = absurd ends
-input_ended WriteFault start left remains asked out state stage bytes ends more empty h = absurd ends
-input_ended OutOfTurns start left remains asked out state stage bytes ends more empty h = absurd ends
+input_ended moment TooLong start left remains asked out state stage bytes ends more empty h = absurd ends
+input_ended moment ReadFault start left remains asked out state stage bytes ends more empty h = absurd ends
+input_ended moment WriteFault start left remains asked out state stage bytes ends more empty h = absurd ends
+input_ended moment OutOfTurns start left remains asked out state stage bytes ends more empty h = absurd ends
 
 -- the turns ran out
-pub turns_ended : (start : Around) (left : Option (List ℕ)) (asked : List Exchange) (out : OutView) (state : FeederState) (stage : Stage) (bytes : List ℕ)
-    → Stands start (around left asked out) state stage bytes → Halts start (around left asked out) stage (Ok OutOfTurns) bytes
-turns_ended start left asked out state stage bytes h =
+pub turns_ended : (moment : ℤ) (start : Around) (left : Option (List ℕ)) (asked : List Exchange) (out : OutView) (state : FeederState) (stage : Stage) (bytes : List ℕ)
+    → Stands moment start (around left asked out) state stage bytes → Halts moment start (around left asked out) stage (Ok OutOfTurns) bytes
+turns_ended moment start left asked out state stage bytes h =
     let w = waits state bytes h.packets h.goes_on.1 h.fits in
     record { packets = h.packets; rest = w.0; read = h.read; parted = w.1; takes = h.takes; ends = (h.goes_on.0, w.2) }
 
 -- Turns.
 
 -- one more turn comes to this
-abbrev pub TurnComes : Option (Result TalkEnd AllocError) → Around → Around → FeederState → Stage → List ℕ → ℕ → Type 0
-TurnComes end start now state stage bytes room =
-    (piece : List ℕ) × (length piece ≤ room) × (IsNone end → 0 < length piece) × Comes end start now state stage (bytes ++ piece)
+abbrev pub TurnComes : ℤ → Option (Result TalkEnd AllocError) → Around → Around → FeederState → Stage → List ℕ → ℕ → Type 0
+TurnComes moment end start now state stage bytes room =
+    (piece : List ℕ) × (length piece ≤ room) × (IsNone end → 0 < length piece) × Comes moment end start now state stage (bytes ++ piece)
 
 -- what waited could not be written out
-pub turn_unwritten : (fault : OutFault) (end : Result TalkEnd AllocError) (start : Around) (left : Option (List ℕ)) (asked : List Exchange) (old new : OutView) (state : FeederState) (stage : Stage) (bytes : List ℕ) (room : ℕ)
-    → end ≡ fault_end fault → Puts old new [] → Stands start (around left asked old) state stage bytes → TurnComes (Some end) start (around left asked new) state stage bytes room
-turn_unwritten fault end start left asked old new state stage bytes room is puts h =
-    no_piece end start (around left asked new) state stage bytes room
-    (subst (λ (e : Result TalkEnd AllocError). Comes (Some e) start (around left asked new) state stage bytes) (sym is)
-    (writing_failed fault start left asked new state stage bytes (stands_written start left asked old new state stage bytes puts h)))
+pub turn_unwritten : (moment : ℤ) (fault : OutFault) (end : Result TalkEnd AllocError) (start : Around) (left : Option (List ℕ)) (asked : List Exchange) (old new : OutView) (state : FeederState) (stage : Stage) (bytes : List ℕ) (room : ℕ)
+    → end ≡ fault_end fault → Puts old new [] → Stands moment start (around left asked old) state stage bytes → TurnComes moment (Some end) start (around left asked new) state stage bytes room
+turn_unwritten moment fault end start left asked old new state stage bytes room is puts h =
+    no_piece moment end start (around left asked new) state stage bytes room
+    (subst (λ (e : Result TalkEnd AllocError). Comes moment (Some e) start (around left asked new) state stage bytes) (sym is)
+    (writing_failed moment fault start left asked new state stage bytes (stands_written moment start left asked old new state stage bytes puts h)))
 
 take_none : (xs : List ℕ) → take 0 xs ≡ []
 take_none [] = refl
 take_none (x ∷ xs) = refl
 
 -- the reader gave nothing
-pub turn_at_end : (end : TalkEnd) (start : Around) (left remains : Option (List ℕ)) (asked : List Exchange) (old new : OutView) (state : FeederState) (stage : Stage) (bytes gave : List ℕ) (count room : ℕ)
+pub turn_at_end : (moment : ℤ) (end : TalkEnd) (start : Around) (left remains : Option (List ℕ)) (asked : List Exchange) (old new : OutView) (state : FeederState) (stage : Stage) (bytes gave : List ℕ) (count room : ℕ)
     → count ≡ 0 → 0 < length gave → (Consumes left remains (take count gave) × (count ≡ 0 → 0 < length gave → IsAtEnd remains)) → EndsInput end state stage
-    → Puts old new [] → Stands start (around left asked old) state stage bytes → TurnComes (Some (Ok end)) start (around remains asked new) state stage bytes room
-turn_at_end end start left remains asked old new state stage bytes gave count room none some_there read ends puts h =
-    no_piece (Ok end) start (around remains asked new) state stage bytes room
-    (input_ended end start left remains asked new state stage bytes ends
+    → Puts old new [] → Stands moment start (around left asked old) state stage bytes → TurnComes moment (Some (Ok end)) start (around remains asked new) state stage bytes room
+turn_at_end moment end start left remains asked old new state stage bytes gave count room none some_there read ends puts h =
+    no_piece moment (Ok end) start (around remains asked new) state stage bytes room
+    (input_ended moment end start left remains asked new state stage bytes ends
     (subst (Consumes left remains) (ap (λ (n : ℕ). take n gave) none ∙ take_none gave) read.0) (read.1 none some_there)
-    (stands_written start left asked old new state stage bytes puts h))
+    (stands_written moment start left asked old new state stage bytes puts h))
 
 -- the reader failed
-pub turn_unread : (start : Around) (left remains : Option (List ℕ)) (asked : List Exchange) (old new : OutView) (state : FeederState) (stage : Stage) (bytes : List ℕ) (room : ℕ)
-    → Keeps left remains → Puts old new [] → Stands start (around left asked old) state stage bytes → TurnComes (Some (Ok ReadFault)) start (around remains asked new) state stage bytes room
-turn_unread start left remains asked old new state stage bytes room keeps puts h =
-    no_piece (Ok ReadFault) start (around remains asked new) state stage bytes room
-    (reading_failed start left remains asked new state stage bytes keeps (stands_written start left asked old new state stage bytes puts h))
+pub turn_unread : (moment : ℤ) (start : Around) (left remains : Option (List ℕ)) (asked : List Exchange) (old new : OutView) (state : FeederState) (stage : Stage) (bytes : List ℕ) (room : ℕ)
+    → Keeps left remains → Puts old new [] → Stands moment start (around left asked old) state stage bytes → TurnComes moment (Some (Ok ReadFault)) start (around remains asked new) state stage bytes room
+turn_unread moment start left remains asked old new state stage bytes room keeps puts h =
+    no_piece moment (Ok ReadFault) start (around remains asked new) state stage bytes room
+    (reading_failed moment start left remains asked new state stage bytes keeps (stands_written moment start left asked old new state stage bytes puts h))
 
 -- the reader gave a piece
-pub turn_taken : (end : Option (Result TalkEnd AllocError)) (start now : Around) (left remains : Option (List ℕ)) (asked : List Exchange) (old new : OutView) (state next : FeederState) (stage stands : Stage)
+pub turn_taken : (moment : ℤ) (end : Option (Result TalkEnd AllocError)) (start now : Around) (left remains : Option (List ℕ)) (asked : List Exchange) (old new : OutView) (state next : FeederState) (stage stands : Stage)
     (bytes gave : List ℕ) (count room : ℕ) → 0 < count → count ≤ length gave → length gave ≤ room → (Consumes left remains (take count gave) × (count ≡ 0 → 0 < length gave → IsAtEnd remains))
-    → Puts old new [] → Stands start (around left asked old) state stage bytes
-    → (Consumes left remains (take count gave) → Stands start (around left asked new) state stage bytes → Comes end start now next stands (bytes ++ take count gave))
-    → TurnComes end start now next stands bytes room
-turn_taken end start now left remains asked old new state next stage stands bytes gave count room some_there within fits read puts h comes = (
+    → Puts old new [] → Stands moment start (around left asked old) state stage bytes
+    → (Consumes left remains (take count gave) → Stands moment start (around left asked new) state stage bytes → Comes moment end start now next stands (bytes ++ take count gave))
+    → TurnComes moment end start now next stands bytes room
+turn_taken moment end start now left remains asked old new state next stage stands bytes gave count room some_there within fits read puts h comes = (
   take count gave,
   omega (arith, length-take-le count gave within),
   (λ none. omega (arith, length-take-le count gave within)),
-  comes read.0 (stands_written start left asked old new state stage bytes puts h),
+  comes read.0 (stands_written moment start left asked old new state stage bytes puts h),
 )

@@ -1,5 +1,5 @@
 -- The packets of a talk, each taken as what it is.
-use Rattle.std.proofs.Common.{◌≡◌, ℕ, refl, sym, ap, subst, ◌∙◌, inl, inr, Bool, true, false, List, [], ◌∷◌, ◌++◌, Option, Result, Err}
+use Rattle.std.proofs.Common.{◌≡◌, ℕ, ℤ, refl, sym, ap, subst, ◌∙◌, inl, inr, Bool, true, false, List, [], ◌∷◌, ◌++◌, Option, Result, Err}
 use Rattle.std.specs.Prelude.{◌↔◌, ◌<◌, ◌&&◌, ◌==◌, nat_lt, not, All}
 use Rattle.std.specs.List.{AllByRecursion}
 use Rattle.std.proofs.lemmas.Bool.{and_parts, ltb-true}
@@ -40,66 +40,66 @@ does_map f h before after old new gives does = record {
   puts = does.puts;
 }
 
-pub open_obeyed : (own : Option Own) (command : Asked) (running : Bool) (job : ℕ) (pool media : List ℕ) (next : Stage) (before after : List Exchange) (old new : OutView)
-    → command ≡ commands.Open job pool media → running ≡ is_running own → Does (λ asked out. ObeysOpen running own job pool media asked out next) before after old new
-    → Does (λ asked out. Obeys own command asked out next) before after old new
-open_obeyed own command running job pool media next before after old new is same does =
-    obeys_as own command (commands.Open job pool media) next before after old new is
-    (subst (λ (b : Bool). Does (λ asked out. ObeysOpen b own job pool media asked out next) before after old new) same does)
+pub open_obeyed : (moment : ℤ) (own : Option Own) (command : Asked) (running : Bool) (job : ℕ) (pool media : List ℕ) (next : Stage) (before after : List Exchange) (old new : OutView)
+    → command ≡ commands.Open job pool media → running ≡ is_running own → Does (λ asked out. ObeysOpen moment running own job pool media asked out next) before after old new
+    → Does (λ asked out. Obeys moment own command asked out next) before after old new
+open_obeyed moment own command running job pool media next before after old new is same does =
+    obeys_as moment own command (commands.Open job pool media) next before after old new is
+    (subst (λ (b : Bool). Does (λ asked out. ObeysOpen moment b own job pool media asked out next) before after old new) same does)
 
-pub data_obeyed : (own : Option Own) (command : Asked) (ticket : Option ℕ) (named : Result Own (Option Own)) (next : Stage) (before after : List Exchange) (old new : OutView)
+pub data_obeyed : (moment : ℤ) (own : Option Own) (command : Asked) (ticket : Option ℕ) (named : Result Own (Option Own)) (next : Stage) (before after : List Exchange) (old new : OutView)
     → command ≡ commands.Data ticket → named ≡ own_with own ticket → Does (λ asked out. ObeysData named asked out next) before after old new
-    → Does (λ asked out. Obeys own command asked out next) before after old new
-data_obeyed own command ticket named next before after old new is same does =
-    obeys_as own command (commands.Data ticket) next before after old new is
+    → Does (λ asked out. Obeys moment own command asked out next) before after old new
+data_obeyed moment own command ticket named next before after old new is same does =
+    obeys_as moment own command (commands.Data ticket) next before after old new is
     (subst (λ (n : Result Own (Option Own)). Does (λ asked out. ObeysData n asked out next) before after old new) same does)
 
-pub end_obeyed : (own : Option Own) (command : Asked) (ticket : Option ℕ) (named : Result Own (Option Own)) (next : Stage) (before after : List Exchange) (old new : OutView)
-    → command ≡ commands.End ticket → named ≡ own_with own ticket → Does (λ asked out. ObeysEnd named asked out next) before after old new
-    → Does (λ asked out. Obeys own command asked out next) before after old new
-end_obeyed own command ticket named next before after old new is same does =
-    obeys_as own command (commands.End ticket) next before after old new is
-    (subst (λ (n : Result Own (Option Own)). Does (λ asked out. ObeysEnd n asked out next) before after old new) same does)
+pub end_obeyed : (moment : ℤ) (own : Option Own) (command : Asked) (ticket : Option ℕ) (named : Result Own (Option Own)) (next : Stage) (before after : List Exchange) (old new : OutView)
+    → command ≡ commands.End ticket → named ≡ own_with own ticket → Does (λ asked out. ObeysEnd moment named asked out next) before after old new
+    → Does (λ asked out. Obeys moment own command asked out next) before after old new
+end_obeyed moment own command ticket named next before after old new is same does =
+    obeys_as moment own command (commands.End ticket) next before after old new is
+    (subst (λ (n : Result Own (Option Own)). Does (λ asked out. ObeysEnd moment n asked out next) before after old new) same does)
 
-pub close_obeyed : (own : Option Own) (command : Asked) (ticket : Option ℕ) (named : Result Own (Option Own)) (next : Stage) (before after : List Exchange) (old new : OutView)
+pub close_obeyed : (moment : ℤ) (own : Option Own) (command : Asked) (ticket : Option ℕ) (named : Result Own (Option Own)) (next : Stage) (before after : List Exchange) (old new : OutView)
     → command ≡ commands.Close ticket → named ≡ own_with own ticket → Does (λ asked out. ObeysClose named asked out next) before after old new
-    → Does (λ asked out. Obeys own command asked out next) before after old new
-close_obeyed own command ticket named next before after old new is same does =
-    obeys_as own command (commands.Close ticket) next before after old new is
+    → Does (λ asked out. Obeys moment own command asked out next) before after old new
+close_obeyed moment own command ticket named next before after old new is same does =
+    obeys_as moment own command (commands.Close ticket) next before after old new is
     (subst (λ (n : Result Own (Option Own)). Does (λ asked out. ObeysClose n asked out next) before after old new) same does)
 
-pub console_obeyed : (own : Option Own) (command : Asked) (text slice : List ℕ) (next : Stage) (before after : List Exchange) (old new : OutView)
+pub console_obeyed : (moment : ℤ) (own : Option Own) (command : Asked) (text slice : List ℕ) (next : Stage) (before after : List Exchange) (old new : OutView)
     → command ≡ commands.Console text → slice ≡ text → Does (λ asked out. ObeysConsole own slice asked out next) before after old new
-    → Does (λ asked out. Obeys own command asked out next) before after old new
-console_obeyed own command text slice next before after old new is same does =
-    obeys_as own command (commands.Console text) next before after old new is
+    → Does (λ asked out. Obeys moment own command asked out next) before after old new
+console_obeyed moment own command text slice next before after old new is same does =
+    obeys_as moment own command (commands.Console text) next before after old new is
     (subst (λ (t : List ℕ). Does (λ asked out. ObeysConsole own t asked out next) before after old new) same does)
 
-pub read_obeyed : (own : Option Own) (command : Asked) (key : SessionKey) (text : List ℕ) (asked : List Exchange) (v : OutView)
-    → command ≡ commands.Read key → text ≡ line (session_text key) → Does (λ more out. Obeys own command more out (Spans own text)) asked asked v v
-read_obeyed own command key text asked v is same =
-    obeys_as own command (commands.Read key) (Spans own text) asked asked v v is
+pub read_obeyed : (moment : ℤ) (own : Option Own) (command : Asked) (key : SessionKey) (text : List ℕ) (asked : List Exchange) (v : OutView)
+    → command ≡ commands.Read key → text ≡ line (session_text key) → Does (λ more out. Obeys moment own command more out (Spans own text)) asked asked v v
+read_obeyed moment own command key text asked v is same =
+    obeys_as moment own command (commands.Read key) (Spans own text) asked asked v v is
     (subst (λ (t : List ℕ). Does (λ more out. Only [] (Spans own (line (session_text key))) more out (Spans own t)) asked asked v v) (sym same)
     (only_says [] (Spans own (line (session_text key))) asked v v (puts_none v)))
 
 -- a packet that is no command
-pub fault_taken : (own : Option Own) (bytes : List ℕ) (r : Result Asked CommandFault) (fault : CommandFault) (asked : List Exchange) (old new : OutView) → r ≡ Err fault
+pub fault_taken : (moment : ℤ) (own : Option Own) (bytes : List ℕ) (r : Result Asked CommandFault) (fault : CommandFault) (asked : List Exchange) (old new : OutView) → r ≡ Err fault
     → ((r ≡ Err BadName) ↔ ((command : Asked) × HasShape bytes command × (AreNames command → ⊥))) → ((r ≡ Err BadCommand) ↔ ((command : Asked) → HasShape bytes command → ⊥))
-    → Puts old new (stream_of (refused (command_refusal fault) ∷ [])) → Does (λ more out. TakesCommand own bytes more out (Command own)) asked asked old new
-fault_taken own bytes r BadName asked old new is bad_name bad_command puts =
+    → Puts old new (stream_of (refused (command_refusal fault) ∷ [])) → Does (λ more out. TakesCommand moment own bytes more out (Command own)) asked asked old new
+fault_taken moment own bytes r BadName asked old new is bad_name bad_command puts =
     let named = bad_name.0 is in
-    does_map (λ more out. Only (refused refusals.BadName ∷ []) (Command own) more out (Command own)) (λ more out. TakesCommand own bytes more out (Command own)) asked asked old new
+    does_map (λ more out. Only (refused refusals.BadName ∷ []) (Command own) more out (Command own)) (λ more out. TakesCommand moment own bytes more out (Command own)) asked asked old new
     (λ more out says. inr (inl (named.0, named.1, named.2, says)))
     (only_says (refused refusals.BadName ∷ []) (Command own) asked old new puts)
-fault_taken own bytes r BadCommand asked old new is bad_name bad_command puts =
-    does_map (λ more out. Only (refused refusals.BadCommand ∷ []) (Command own) more out (Command own)) (λ more out. TakesCommand own bytes more out (Command own)) asked asked old new
+fault_taken moment own bytes r BadCommand asked old new is bad_name bad_command puts =
+    does_map (λ more out. Only (refused refusals.BadCommand ∷ []) (Command own) more out (Command own)) (λ more out. TakesCommand moment own bytes more out (Command own)) asked asked old new
     (λ more out says. inr (inr (bad_command.0 is, says)))
     (only_says (refused refusals.BadCommand ∷ []) (Command own) asked old new puts)
 
-pub command_taken : (own : Option Own) (bytes : List ℕ) (command : Asked) (next : Stage) (before after : List Exchange) (old new : OutView) → HasForm bytes command
-    → Does (λ asked out. Obeys own command asked out next) before after old new → Does (λ asked out. TakesCommand own bytes asked out next) before after old new
-command_taken own bytes command next before after old new form does =
-    does_map (λ asked out. Obeys own command asked out next) (λ asked out. TakesCommand own bytes asked out next) before after old new
+pub command_taken : (moment : ℤ) (own : Option Own) (bytes : List ℕ) (command : Asked) (next : Stage) (before after : List Exchange) (old new : OutView) → HasForm bytes command
+    → Does (λ asked out. Obeys moment own command asked out next) before after old new → Does (λ asked out. TakesCommand moment own bytes asked out next) before after old new
+command_taken moment own bytes command next before after old new form does =
+    does_map (λ asked out. Obeys moment own command asked out next) (λ asked out. TakesCommand moment own bytes asked out next) before after old new
     (λ asked out obeys. inl (command, form, obeys)) does
 
 -- Spans.
@@ -136,38 +136,38 @@ pub quiet_step : (f : List Exchange → List Packet → Type 0) (before after : 
 quiet_step f before after v step = record { asked = step.0; out = []; outcome_is = step.1; after_is = step.2; puts = puts_none v }
 
 -- a payload is taken as where the talk stands
-bytes_as : (stage given : Stage) (bytes : List ℕ) (next : Stage) (before after : List Exchange) (old new : OutView) → stage ≡ given
-    → Does (λ asked out. TakesBytes given bytes asked out next) before after old new → Does (λ asked out. TakesBytes stage bytes asked out next) before after old new
-bytes_as stage given bytes next before after old new is does =
-    subst (λ (s : Stage). Does (λ asked out. TakesBytes s bytes asked out next) before after old new) (sym is) does
+bytes_as : (moment : ℤ) (stage given : Stage) (bytes : List ℕ) (next : Stage) (before after : List Exchange) (old new : OutView) → stage ≡ given
+    → Does (λ asked out. TakesBytes moment given bytes asked out next) before after old new → Does (λ asked out. TakesBytes moment stage bytes asked out next) before after old new
+bytes_as moment stage given bytes next before after old new is does =
+    subst (λ (s : Stage). Does (λ asked out. TakesBytes moment s bytes asked out next) before after old new) (sym is) does
 
-pub command_step : (stage : Stage) (own : Option Own) (bytes slice : List ℕ) (next : Stage) (before after : List Exchange) (old new : OutView) → stage ≡ Command own → slice ≡ bytes
-    → Does (λ asked out. TakesCommand own slice asked out next) before after old new → Does (λ asked out. TakesBytes stage bytes asked out next) before after old new
-command_step stage own bytes slice next before after old new is same does =
-    bytes_as stage (Command own) bytes next before after old new is
-    (subst (λ (b : List ℕ). Does (λ asked out. TakesCommand own b asked out next) before after old new) same does)
+pub command_step : (moment : ℤ) (stage : Stage) (own : Option Own) (bytes slice : List ℕ) (next : Stage) (before after : List Exchange) (old new : OutView) → stage ≡ Command own → slice ≡ bytes
+    → Does (λ asked out. TakesCommand moment own slice asked out next) before after old new → Does (λ asked out. TakesBytes moment stage bytes asked out next) before after old new
+command_step moment stage own bytes slice next before after old new is same does =
+    bytes_as moment stage (Command own) bytes next before after old new is
+    (subst (λ (b : List ℕ). Does (λ asked out. TakesCommand moment own b asked out next) before after old new) same does)
 
-pub header_step : (stage : Stage) (own : Own) (bytes slice : List ℕ) (next : Stage) (before after : List Exchange) (v : OutView) → stage ≡ Header own → slice ≡ bytes
-    → ((asked : List Exchange) × TakesHeader own slice asked [] next × (after ≡ before ++ asked)) → Does (λ asked out. TakesBytes stage bytes asked out next) before after v v
-header_step stage own bytes slice next before after v is same step =
-    bytes_as stage (Header own) bytes next before after v v is
+pub header_step : (moment : ℤ) (stage : Stage) (own : Own) (bytes slice : List ℕ) (next : Stage) (before after : List Exchange) (v : OutView) → stage ≡ Header own → slice ≡ bytes
+    → ((asked : List Exchange) × TakesHeader own slice asked [] next × (after ≡ before ++ asked)) → Does (λ asked out. TakesBytes moment stage bytes asked out next) before after v v
+header_step moment stage own bytes slice next before after v is same step =
+    bytes_as moment stage (Header own) bytes next before after v v is
     (subst (λ (b : List ℕ). Does (λ asked out. TakesHeader own b asked out next) before after v v) same
     (quiet_step (λ asked out. TakesHeader own slice asked out next) before after v step))
 
-pub record_step : (stage : Stage) (own : Own) (header : HeaderParts) (bytes : List ℕ) (next : Stage) (before after : List Exchange) (v : OutView) → stage ≡ Records own header
-    → ((asked : List Exchange) × TakesRecord own header bytes asked [] next × (after ≡ before ++ asked)) → Does (λ asked out. TakesBytes stage bytes asked out next) before after v v
-record_step stage own header bytes next before after v is step =
-    bytes_as stage (Records own header) bytes next before after v v is (quiet_step (λ asked out. TakesRecord own header bytes asked out next) before after v step)
+pub record_step : (moment : ℤ) (stage : Stage) (own : Own) (header : HeaderParts) (bytes : List ℕ) (next : Stage) (before after : List Exchange) (v : OutView) → stage ≡ Records own header
+    → ((asked : List Exchange) × TakesRecord own header bytes asked [] next × (after ≡ before ++ asked)) → Does (λ asked out. TakesBytes moment stage bytes asked out next) before after v v
+record_step moment stage own header bytes next before after v is step =
+    bytes_as moment stage (Records own header) bytes next before after v v is (quiet_step (λ asked out. TakesRecord own header bytes asked out next) before after v step)
 
-pub span_step : (stage : Stage) (own : Option Own) (text bytes slice : List ℕ) (next : Stage) (before : List Exchange) (v : OutView) → stage ≡ Spans own text → slice ≡ bytes
-    → TakesSpan (is_one_line (trimmed slice)) own text (trimmed slice) [] [] next → Does (λ asked out. TakesBytes stage bytes asked out next) before before v v
-span_step stage own text bytes slice next before v is same step =
-    bytes_as stage (Spans own text) bytes next before before v v is
+pub span_step : (moment : ℤ) (stage : Stage) (own : Option Own) (text bytes slice : List ℕ) (next : Stage) (before : List Exchange) (v : OutView) → stage ≡ Spans own text → slice ≡ bytes
+    → TakesSpan (is_one_line (trimmed slice)) own text (trimmed slice) [] [] next → Does (λ asked out. TakesBytes moment stage bytes asked out next) before before v v
+span_step moment stage own text bytes slice next before v is same step =
+    bytes_as moment stage (Spans own text) bytes next before before v v is
     (subst (λ (b : List ℕ). Does (λ asked out. TakesSpan (is_one_line (trimmed b)) own text (trimmed b) asked out next) before before v v) same
     (quiet_step (λ asked out. TakesSpan (is_one_line (trimmed slice)) own text (trimmed slice) asked out next) before before v ([], step, sym (append-nil before))))
 
-pub plain_step : (stage given : Stage) (bytes : List ℕ) (next : Stage) (before : List Exchange) (v : OutView) → stage ≡ given
-    → TakesBytes given bytes [] [] next → Does (λ asked out. TakesBytes stage bytes asked out next) before before v v
-plain_step stage given bytes next before v is step =
-    bytes_as stage given bytes next before before v v is
-    (quiet_step (λ asked out. TakesBytes given bytes asked out next) before before v ([], step, sym (append-nil before)))
+pub plain_step : (moment : ℤ) (stage given : Stage) (bytes : List ℕ) (next : Stage) (before : List Exchange) (v : OutView) → stage ≡ given
+    → TakesBytes moment given bytes [] [] next → Does (λ asked out. TakesBytes moment stage bytes asked out next) before before v v
+plain_step moment stage given bytes next before v is step =
+    bytes_as moment stage given bytes next before before v v is
+    (quiet_step (λ asked out. TakesBytes moment given bytes asked out next) before before v ([], step, sym (append-nil before)))

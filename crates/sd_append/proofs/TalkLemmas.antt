@@ -1,5 +1,5 @@
 -- The steps of a talk, put together.
-use Rattle.std.proofs.Common.{◌≡◌, ℕ, ◌+◌, ◌<◌, refl, sym, ap, subst, ◌∙◌, inr, Bool, true, List, [], ◌∷◌, ◌++◌, length, get_or, take, map, Option, Result, Ok, Err}
+use Rattle.std.proofs.Common.{◌≡◌, ℕ, ℤ, ◌+◌, ◌<◌, refl, sym, ap, subst, ◌∙◌, inr, Bool, true, List, [], ◌∷◌, ◌++◌, length, get_or, take, map, Option, Result, Ok, Err}
 use Rattle.std.proofs.lemmas.List.{append-nil, append_assoc, take_more}
 use Rattle.sd_base.specs.declared.refusal.Refusal.{Refusal}
 use Rattle.sd_base.specs.declared.refusal.Refusal.TheVariants.{BadCommand, BadFileIndex, SessionNotOpen}
@@ -103,30 +103,30 @@ pub data_refuses : (own : Option Own) (named : Result Own (Option Own)) (asked :
 data_refuses own named asked old new is puts =
     subst (λ (n : Result Own (Option Own)). Does (λ more out. ObeysData n more out (Command own)) asked asked old new) (sym is) (refuses_ticket own asked old new puts)
 
-pub end_refuses : (own : Option Own) (named : Result Own (Option Own)) (asked : List Exchange) (old new : OutView) → named ≡ Err own → Puts old new (stream_of (refused SessionNotOpen ∷ []))
-    → Does (λ more out. ObeysEnd named more out (Command own)) asked asked old new
-end_refuses own named asked old new is puts =
-    subst (λ (n : Result Own (Option Own)). Does (λ more out. ObeysEnd n more out (Command own)) asked asked old new) (sym is) (refuses_ticket own asked old new puts)
+pub end_refuses : (moment : ℤ) (own : Option Own) (named : Result Own (Option Own)) (asked : List Exchange) (old new : OutView) → named ≡ Err own → Puts old new (stream_of (refused SessionNotOpen ∷ []))
+    → Does (λ more out. ObeysEnd moment named more out (Command own)) asked asked old new
+end_refuses moment own named asked old new is puts =
+    subst (λ (n : Result Own (Option Own)). Does (λ more out. ObeysEnd moment n more out (Command own)) asked asked old new) (sym is) (refuses_ticket own asked old new puts)
 
 pub close_refuses : (own : Option Own) (named : Result Own (Option Own)) (asked : List Exchange) (old new : OutView) → named ≡ Err own → Puts old new (stream_of (refused SessionNotOpen ∷ []))
     → Does (λ more out. ObeysClose named more out (Command own)) asked asked old new
 close_refuses own named asked old new is puts =
     subst (λ (n : Result Own (Option Own)). Does (λ more out. ObeysClose n more out (Command own)) asked asked old new) (sym is) (refuses_ticket own asked old new puts)
 
-pub end_obeys : (named : Result Own (Option Own)) (it : Own) (next : Stage) (before after : List Exchange) (old new : OutView) → named ≡ Ok it
-    → Does (λ asked out. ObeysEnd (Ok it) asked out next) before after old new → Does (λ asked out. ObeysEnd named asked out next) before after old new
-end_obeys named it next before after old new is does =
-    subst (λ (n : Result Own (Option Own)). Does (λ asked out. ObeysEnd n asked out next) before after old new) (sym is) does
+pub end_obeys : (moment : ℤ) (named : Result Own (Option Own)) (it : Own) (next : Stage) (before after : List Exchange) (old new : OutView) → named ≡ Ok it
+    → Does (λ asked out. ObeysEnd moment (Ok it) asked out next) before after old new → Does (λ asked out. ObeysEnd moment named asked out next) before after old new
+end_obeys moment named it next before after old new is does =
+    subst (λ (n : Result Own (Option Own)). Does (λ asked out. ObeysEnd moment n asked out next) before after old new) (sym is) does
 
 pub close_obeys : (named : Result Own (Option Own)) (it : Own) (next : Stage) (before after : List Exchange) (old new : OutView) → named ≡ Ok it
     → Does (λ asked out. ObeysClose (Ok it) asked out next) before after old new → Does (λ asked out. ObeysClose named asked out next) before after old new
 close_obeys named it next before after old new is does =
     subst (λ (n : Result Own (Option Own)). Does (λ asked out. ObeysClose n asked out next) before after old new) (sym is) does
 
-pub open_refuses : (running : Bool) (own : Option Own) (job : ℕ) (pool media : List ℕ) (asked : List Exchange) (old new : OutView) → running ≡ true
-    → Puts old new (stream_of (refused BadCommand ∷ [])) → Does (λ more out. ObeysOpen running own job pool media more out (Command own)) asked asked old new
-open_refuses running own job pool media asked old new is puts =
-    subst (λ (b : Bool). Does (λ more out. ObeysOpen b own job pool media more out (Command own)) asked asked old new) (sym is)
+pub open_refuses : (moment : ℤ) (running : Bool) (own : Option Own) (job : ℕ) (pool media : List ℕ) (asked : List Exchange) (old new : OutView) → running ≡ true
+    → Puts old new (stream_of (refused BadCommand ∷ [])) → Does (λ more out. ObeysOpen moment running own job pool media more out (Command own)) asked asked old new
+open_refuses moment running own job pool media asked old new is puts =
+    subst (λ (b : Bool). Does (λ more out. ObeysOpen moment b own job pool media more out (Command own)) asked asked old new) (sym is)
     (only_says (refused BadCommand ∷ []) (Command own) asked old new puts)
 
 -- what was done of a session that was given up
@@ -139,7 +139,7 @@ header_drops own left bytes before after none gave =
     (gave.0, inr (none, record { left = left; gives_up = gave.1; out_is = refl; new_is = refl }), gave.2)
 
 -- a command is obeyed as the one that it is
-pub obeys_as : (own : Option Own) (command given : Asked) (next : Stage) (before after : List Exchange) (old new : OutView) → command ≡ given
-    → Does (λ asked out. Obeys own given asked out next) before after old new → Does (λ asked out. Obeys own command asked out next) before after old new
-obeys_as own command given next before after old new is does =
-    subst (λ (k : Asked). Does (λ asked out. Obeys own k asked out next) before after old new) (sym is) does
+pub obeys_as : (moment : ℤ) (own : Option Own) (command given : Asked) (next : Stage) (before after : List Exchange) (old new : OutView) → command ≡ given
+    → Does (λ asked out. Obeys moment own given asked out next) before after old new → Does (λ asked out. Obeys moment own command asked out next) before after old new
+obeys_as moment own command given next before after old new is does =
+    subst (λ (k : Asked). Does (λ asked out. Obeys moment own k asked out next) before after old new) (sym is) does

@@ -1,5 +1,5 @@
 -- A talk as a whole.
-use Rattle.std.proofs.Common.{◌≡◌, ◌≢◌, ◌⊎◌, ℕ, ◌+◌, ◌*◌, ◌<◌, ◌≤◌, refl, sym, ap, subst, ◌∙◌, arith, inl, inr, Bool, false, List, [], ◌++◌, length, Option, Some, None, Result, Ok, Err, length-append}
+use Rattle.std.proofs.Common.{◌≡◌, ◌≢◌, ◌⊎◌, ℕ, ℤ, ◌+◌, ◌*◌, ◌<◌, ◌≤◌, refl, sym, ap, subst, ◌∙◌, arith, inl, inr, Bool, false, List, [], ◌++◌, length, Option, Some, None, Result, Ok, Err, length-append}
 use Rattle.std.specs.Prelude.{is_some}
 use Rattle.std.specs.declared.alloc.AllocError.{AllocError}
 use Rattle.std.proofs.lemmas.List.{append_assoc, append-nil}
@@ -40,12 +40,12 @@ written_of fault old new bytes end first well last fails puts =
     (subst (λ (b : Bool). PutsBy old.written new.written b new.failed old.waiting new.waiting bytes) well puts))))
 
 -- a talk that has come to its end is given up, and what waits is written out
-pub talk_ended : (fault : Option OutFault) (start : Around) (left : Option (List ℕ)) (asked after : List Exchange) (old said new : OutView) (stage : Stage) (end : Result TalkEnd AllocError) (bytes : List ℕ)
-    → start.out.waiting ≡ [] → start.out.failed ≡ false → Halts start (around left asked old) stage end bytes
+pub talk_ended : (moment : ℤ) (fault : Option OutFault) (start : Around) (left : Option (List ℕ)) (asked after : List Exchange) (old said new : OutView) (stage : Stage) (end : Result TalkEnd AllocError) (bytes : List ℕ)
+    → start.out.waiting ≡ [] → start.out.failed ≡ false → Halts moment start (around left asked old) stage end bytes
     → ((giving : List Exchange) × GivesUpLast (own_of stage) giving × (after ≡ asked ++ giving))
     → Puts old said (stream_of (end_says end)) → Puts said new [] → new.waiting ≡ [] → new.failed ≡ is_some fault
-    → Talks start.left left start.asked after start.out.written new.written (written_end fault end) bytes
-talk_ended fault start left asked after old said new stage end bytes first well h gave says ending last fails = record {
+    → Talks moment start.left left start.asked after start.out.written new.written (written_end fault end) bytes
+talk_ended moment fault start left asked after old said new stage end bytes first well h gave says ending last fails = record {
   packets = h.packets;
   rest = h.rest;
   asked = h.takes.asked ++ gave.0;
@@ -70,17 +70,17 @@ talk_ended fault start left asked after old said new stage end bytes first well 
 }
 
 -- the same, by what was answered on the way
-pub talk_done : (fault given : Option OutFault) (start : Around) (left : Option (List ℕ)) (asked after : List Exchange) (old said new : OutView) (stage : Stage) (own : Option Own)
+pub talk_done : (moment : ℤ) (fault given : Option OutFault) (start : Around) (left : Option (List ℕ)) (asked after : List Exchange) (old said new : OutView) (stage : Stage) (own : Option Own)
     (end ended : Result TalkEnd AllocError) (holds : Option (List ℕ)) (bytes : List ℕ)
     → given ≡ fault → own ≡ own_of stage → ended ≡ written_end given end → holds ≡ new.written
-    → start.out.waiting ≡ [] → start.out.failed ≡ false → Halts start (around left asked old) stage end bytes
+    → start.out.waiting ≡ [] → start.out.failed ≡ false → Halts moment start (around left asked old) stage end bytes
     → ((giving : List Exchange) × GivesUpLast own giving × (after ≡ asked ++ giving))
     → Puts old said (stream_of (end_says end)) → Puts said new [] → new.waiting ≡ [] → new.failed ≡ is_some fault
-    → Talks start.left left start.asked after start.out.written holds ended bytes
-talk_done fault given start left asked after old said new stage own end ended holds bytes same whose is held first well h gave says ending last fails =
-    subst (λ (w : Option (List ℕ)). Talks start.left left start.asked after start.out.written w ended bytes) (sym held)
-    (subst (λ (e : Result TalkEnd AllocError). Talks start.left left start.asked after start.out.written new.written e bytes) (sym (is ∙ ap (λ (f : Option OutFault). written_end f end) same))
-    (talk_ended fault start left asked after old said new stage end bytes first well h
+    → Talks moment start.left left start.asked after start.out.written holds ended bytes
+talk_done moment fault given start left asked after old said new stage own end ended holds bytes same whose is held first well h gave says ending last fails =
+    subst (λ (w : Option (List ℕ)). Talks moment start.left left start.asked after start.out.written w ended bytes) (sym held)
+    (subst (λ (e : Result TalkEnd AllocError). Talks moment start.left left start.asked after start.out.written new.written e bytes) (sym (is ∙ ap (λ (f : Option OutFault). written_end f end) same))
+    (talk_ended moment fault start left asked after old said new stage end bytes first well h
     (subst (λ (o : Option Own). (giving : List Exchange) × GivesUpLast o giving × (after ≡ asked ++ giving)) whose gave) says ending last fails))
 
 -- its end is the one that was due, or it was cut off
@@ -90,8 +90,8 @@ end_or_cut_off (Some faults.Write) end = inr tt
 end_or_cut_off (Some faults.Memory) end = inr tt
 
 -- without memory for its buffers a talk comes to nothing
-pub talk_without_memory : (left : Option (List ℕ)) (asked : List Exchange) (held : Option (List ℕ)) (e : AllocError) → Talks left left asked asked held held (Err e) []
-talk_without_memory left asked held e = record {
+pub talk_without_memory : (moment : ℤ) (left : Option (List ℕ)) (asked : List Exchange) (held : Option (List ℕ)) (e : AllocError) → Talks moment left left asked asked held held (Err e) []
+talk_without_memory moment left asked held e = record {
   packets = [];
   rest = [];
   asked = [];
@@ -138,24 +138,24 @@ within_all turns i end bytes least most_turns each most = record { most = omega 
 -- Turns, one after another.
 
 -- a turn behind which the talk goes on
-pub turn_goes_on : (end : Option (Result TalkEnd AllocError)) (start now : Around) (state : FeederState) (stage : Stage) (bytes : List ℕ) (room i : ℕ) → end ≡ None → TurnComes end start now state stage bytes room
+pub turn_goes_on : (moment : ℤ) (end : Option (Result TalkEnd AllocError)) (start now : Around) (state : FeederState) (stage : Stage) (bytes : List ℕ) (room i : ℕ) → end ≡ None → TurnComes moment end start now state stage bytes room
     → room ≡ 65536 → i ≤ length bytes → length bytes ≤ i * 65536
-    → (all : List ℕ) × Stands start now state stage all × (i + 1 ≤ length all) × (length all ≤ (i + 1) * 65536)
-turn_goes_on end start now state stage bytes room i is comes wide each most =
-    let t = subst (λ (e : Option (Result TalkEnd AllocError)). TurnComes e start now state stage bytes room) is comes in
+    → (all : List ℕ) × Stands moment start now state stage all × (i + 1 ≤ length all) × (length all ≤ (i + 1) * 65536)
+turn_goes_on moment end start now state stage bytes room i is comes wide each most =
+    let t = subst (λ (e : Option (Result TalkEnd AllocError)). TurnComes moment e start now state stage bytes room) is comes in
     let some_there : 0 < length t.0 = t.2 refl in
     let fits : length t.0 ≤ room = t.1 in
     (bytes ++ t.0, t.3, omega (arith, length-append bytes t.0), omega (arith, length-append bytes t.0))
 
 -- a turn behind which it has ended
-pub turn_ended : (end : Option (Result TalkEnd AllocError)) (due : Result TalkEnd AllocError) (start now : Around) (state : FeederState) (stage : Stage) (bytes : List ℕ) (room : ℕ) → end ≡ Some due
-    → TurnComes end start now state stage bytes room → TurnComes (Some due) start now state stage bytes room
-turn_ended end due start now state stage bytes room is comes =
-    subst (λ (e : Option (Result TalkEnd AllocError)). TurnComes e start now state stage bytes room) is comes
+pub turn_ended : (moment : ℤ) (end : Option (Result TalkEnd AllocError)) (due : Result TalkEnd AllocError) (start now : Around) (state : FeederState) (stage : Stage) (bytes : List ℕ) (room : ℕ) → end ≡ Some due
+    → TurnComes moment end start now state stage bytes room → TurnComes moment (Some due) start now state stage bytes room
+turn_ended moment end due start now state stage bytes room is comes =
+    subst (λ (e : Option (Result TalkEnd AllocError)). TurnComes moment e start now state stage bytes room) is comes
 
 -- a talk whose writer is the one that it was given
-pub talks_of_writer : (held given : Option (List ℕ)) (left remains : Option (List ℕ)) (before after : List Exchange) (holds : Option (List ℕ)) (turns : ℕ) (end : Result TalkEnd AllocError) → held ≡ given
-    → ((bytes : List ℕ) × Talks left remains before after held holds end bytes × IsWithin turns end bytes)
-    → (bytes : List ℕ) × Talks left remains before after given holds end bytes × IsWithin turns end bytes
-talks_of_writer held given left remains before after holds turns end same t =
-    (t.0, subst (λ (w : Option (List ℕ)). Talks left remains before after w holds end t.0) same t.1, t.2)
+pub talks_of_writer : (moment : ℤ) (held given : Option (List ℕ)) (left remains : Option (List ℕ)) (before after : List Exchange) (holds : Option (List ℕ)) (turns : ℕ) (end : Result TalkEnd AllocError) → held ≡ given
+    → ((bytes : List ℕ) × Talks moment left remains before after held holds end bytes × IsWithin turns end bytes)
+    → (bytes : List ℕ) × Talks moment left remains before after given holds end bytes × IsWithin turns end bytes
+talks_of_writer moment held given left remains before after holds turns end same t =
+    (t.0, subst (λ (w : Option (List ℕ)). Talks moment left remains before after w holds end t.0) same t.1, t.2)

@@ -27,15 +27,15 @@ use Rattle.sd_append.proofs.TakeLemmas.{does_map}
 use Rattle.sd_append.proofs.TalkLemmas.{only_says, says_then}
 
 -- a packet is taken as the one that it is
-pub packet_as : (stage : Stage) (packet given : Packet) (next : Stage) (before after : List Exchange) (old new : OutView) → packet ≡ given
-    → Does (λ asked out. Takes stage given asked out next) before after old new → Does (λ asked out. Takes stage packet asked out next) before after old new
-packet_as stage packet given next before after old new is does =
-    subst (λ (p : Packet). Does (λ asked out. Takes stage p asked out next) before after old new) (sym is) does
+pub packet_as : (moment : ℤ) (stage : Stage) (packet given : Packet) (next : Stage) (before after : List Exchange) (old new : OutView) → packet ≡ given
+    → Does (λ asked out. Takes moment stage given asked out next) before after old new → Does (λ asked out. Takes moment stage packet asked out next) before after old new
+packet_as moment stage packet given next before after old new is does =
+    subst (λ (p : Packet). Does (λ asked out. Takes moment stage p asked out next) before after old new) (sym is) does
 
-pub signal_as : (stage : Stage) (packet : Packet) (number : ℤ) (meaning : Meaning) (next : Stage) (before after : List Exchange) (old new : OutView) → packet ≡ Signal number
-    → meaning ≡ meaning_of number → Does (λ asked out. TakesSignal meaning stage asked out next) before after old new → Does (λ asked out. Takes stage packet asked out next) before after old new
-signal_as stage packet number meaning next before after old new is same does =
-    packet_as stage packet (Signal number) next before after old new is
+pub signal_as : (moment : ℤ) (stage : Stage) (packet : Packet) (number : ℤ) (meaning : Meaning) (next : Stage) (before after : List Exchange) (old new : OutView) → packet ≡ Signal number
+    → meaning ≡ meaning_of number → Does (λ asked out. TakesSignal meaning stage asked out next) before after old new → Does (λ asked out. Takes moment stage packet asked out next) before after old new
+signal_as moment stage packet number meaning next before after old new is same does =
+    packet_as moment stage packet (Signal number) next before after old new is
     (subst (λ (m : Meaning). Does (λ asked out. TakesSignal m stage asked out next) before after old new) same does)
 
 -- a signal is taken as what it means

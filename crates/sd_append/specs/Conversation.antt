@@ -1,5 +1,5 @@
 -- A talk as a whole: what the packets of a client came to, one after another, and how it ended.
-use Rattle.std.specs.Prelude.{◌≡◌, ◌⊎◌, ℕ, List, [], ◌∷◌, ◌++◌, Option, Some, None, Result, Ok, Err}
+use Rattle.std.specs.Prelude.{◌≡◌, ◌⊎◌, ℕ, ℤ, List, [], ◌∷◌, ◌++◌, Option, Some, None, Result, Ok, Err}
 use Rattle.std.specs.declared.alloc.AllocError.{AllocError}
 use Rattle.sd_base.specs.declared.refusal.Refusal.TheVariants.{PacketTooLong}
 use Rattle.sd_bnet.specs.Stream.{IsFront, IsTooLong, IsUnfinished}
@@ -13,12 +13,12 @@ use Rattle.sd_append.specs.Port.{Exchange}
 use Rattle.sd_append.specs.Stage.{own_of}
 use Rattle.sd_append.specs.Talk.{GivesUp, Takes, refused}
 
--- packets one after another, and where the talk stands behind them
-abbrev pub Converses : Stage → List Packet → List Exchange → List Packet → Stage → Type 0
-Converses old [] asked out new = (asked ≡ []) × (out ≡ []) × (new ≡ old)
-Converses old (packet ∷ packets) asked out new =
+-- packets one after another, all at this moment, and where the talk stands behind them
+abbrev pub Converses : ℤ → Stage → List Packet → List Exchange → List Packet → Stage → Type 0
+Converses moment old [] asked out new = (asked ≡ []) × (out ≡ []) × (new ≡ old)
+Converses moment old (packet ∷ packets) asked out new =
     (between : Stage) × (first : List Exchange) × (more : List Exchange) × (says : List Packet) × (later : List Packet)
-    × Takes old packet first says between × Converses between packets more later new
+    × Takes moment old packet first says between × Converses moment between packets more later new
     × (asked ≡ first ++ more) × (out ≡ says ++ later)
 
 -- the client has ended the talk
@@ -56,13 +56,13 @@ MayEnd (Ok WriteFault) stage rest ended = Unit {0}
 MayEnd (Err e) stage rest ended = Unit {0}
 
 -- A conversation: packets came, with these bytes behind them, and there the input may have ended; the port was asked
--- this and answered so; these packets went out; and the talk ended so.
-pub record Conversation (packets : List Packet) (rest : List ℕ) (ended : Type 0) (asked : List Exchange) (out : List Packet) (end : Result TalkEnd AllocError) : Type 0 where
+-- this and answered so, where each open and each end bears this moment; these packets went out; and the talk ended so.
+pub record Conversation (moment : ℤ) (packets : List Packet) (rest : List ℕ) (ended : Type 0) (asked : List Exchange) (out : List Packet) (end : Result TalkEnd AllocError) : Type 0 where
   pub last : Stage
   pub before : List Exchange
   pub giving : List Exchange
   pub says : List Packet
-  pub converses : Converses (Command None) packets before says last
+  pub converses : Converses moment (Command None) packets before says last
   pub gives_up : GivesUpLast (own_of last) giving
   pub asked_is : asked ≡ before ++ giving
   pub out_is : out ≡ says ++ end_says end

@@ -1,5 +1,5 @@
 -- Where a talk stands between two reads, and what it has come to until then.
-use Rattle.std.specs.Prelude.{◌≡◌, ◌≢◌, ◌⊎◌, ℕ, List, ◌++◌, Bool, Option, Some, None, Result, Ok, Err, IsTrue, alloc_error}
+use Rattle.std.specs.Prelude.{◌≡◌, ◌≢◌, ◌⊎◌, ℕ, ℤ, List, ◌++◌, Bool, Option, Some, None, Result, Ok, Err, IsTrue, alloc_error}
 use Rattle.std.specs.Io.KnownBytes.{Consumes, IsAtEnd}
 use Rattle.std.specs.declared.alloc.AllocError.{AllocError}
 use Rattle.sd_bnet.specs.Feeder.{FeederState, Fits, IsMidway}
@@ -31,12 +31,12 @@ around left asked out = record { left = left; asked = asked; out = out }
 abbrev pub GoesOn : FeederState → Stage → Type 0
 GoesOn state stage = (IsOver stage → ⊥) × (state ≢ Failed)
 
--- A talk goes on that has read these bytes and taken their packets, one after another.
-pub record Stands (start now : Around) (state : FeederState) (stage : Stage) (bytes : List ℕ) : Type 0 where
+-- A talk goes on that has read these bytes and taken their packets at this moment, one after another.
+pub record Stands (moment : ℤ) (start now : Around) (state : FeederState) (stage : Stage) (bytes : List ℕ) : Type 0 where
   pub packets : List Packet
   pub read : Consumes start.left now.left bytes
   pub fits : Fits state bytes packets
-  pub takes : Does (λ asked out. Converses (Command None) packets asked out stage) start.asked now.asked start.out now.out
+  pub takes : Does (λ asked out. Converses moment (Command None) packets asked out stage) start.asked now.asked start.out now.out
   pub goes_on : GoesOn state stage
 
 -- The packets of what was read, and what stands behind them. Where memory was wanted for those of the last piece, they
@@ -45,19 +45,19 @@ abbrev pub AreRead : Result TalkEnd AllocError → List ℕ → List Packet → 
 AreRead (Ok end) bytes packets rest = Packets bytes packets rest
 AreRead (Err e) bytes packets rest = (front : List ℕ) × (piece : List ℕ) × (bytes ≡ front ++ piece) × Packets front packets rest
 
--- A talk has come to this end that has read these bytes and taken their packets, one after another.
-pub record Halts (start now : Around) (stage : Stage) (end : Result TalkEnd AllocError) (bytes : List ℕ) : Type 0 where
+-- A talk has come to this end that has read these bytes and taken their packets at this moment, one after another.
+pub record Halts (moment : ℤ) (start now : Around) (stage : Stage) (end : Result TalkEnd AllocError) (bytes : List ℕ) : Type 0 where
   pub packets : List Packet
   pub rest : List ℕ
   pub read : Consumes start.left now.left bytes
   pub parted : AreRead end bytes packets rest
-  pub takes : Does (λ asked out. Converses (Command None) packets asked out stage) start.asked now.asked start.out now.out
+  pub takes : Does (λ asked out. Converses moment (Command None) packets asked out stage) start.asked now.asked start.out now.out
   pub ends : MayEnd end stage rest (IsAtEnd now.left)
 
 -- a talk goes on, or it has come to an end that isn't its last turn
-abbrev pub Comes : Option (Result TalkEnd AllocError) → Around → Around → FeederState → Stage → List ℕ → Type 0
-Comes None start now state stage bytes = Stands start now state stage bytes
-Comes (Some end) start now state stage bytes = Halts start now stage end bytes × (end ≢ Ok OutOfTurns)
+abbrev pub Comes : ℤ → Option (Result TalkEnd AllocError) → Around → Around → FeederState → Stage → List ℕ → Type 0
+Comes moment None start now state stage bytes = Stands moment start now state stage bytes
+Comes moment (Some end) start now state stage bytes = Halts moment start now stage end bytes × (end ≢ Ok OutOfTurns)
 
 -- how a talk ends that stands so behind a piece of its input, and whether the piece left its feeder failed; if it ends
 abbrev pub EndsBehind : Option (Result TalkEnd AllocError) → Bool → Stage → Type 0

@@ -98,11 +98,11 @@ GivesUp own asked new = GivesUpIf own.runs own asked new
 
 -- Commands.
 
--- an open, refused while the talk's session goes on
-abbrev pub ObeysOpen : Bool → Option Own → ℕ → List ℕ → List ℕ → List Exchange → List Packet → Stage → Type 0
-ObeysOpen true own job pool media asked out new = Only (refused BadCommand ∷ []) (Command own) asked out new
-ObeysOpen false own job pool media asked out new =
-    (moment : ℤ) × (reply : Reply) × (asked ≡ Stepped (events.Open job pool media moment) reply ∷ [])
+-- an open: refused while the talk's session goes on, or given with this moment
+abbrev pub ObeysOpen : ℤ → Bool → Option Own → ℕ → List ℕ → List ℕ → List Exchange → List Packet → Stage → Type 0
+ObeysOpen moment true own job pool media asked out new = Only (refused BadCommand ∷ []) (Command own) asked out new
+ObeysOpen moment false own job pool media asked out new =
+    (reply : Reply) × (asked ≡ Stepped (events.Open job pool media moment) reply ∷ [])
     × (out ≡ open_said reply) × (new ≡ Command (by_open own reply))
 
 -- a data phase, of the session that the ticket names
@@ -110,11 +110,11 @@ abbrev pub ObeysData : Result Own (Option Own) → List Exchange → List Packet
 ObeysData (Err own) asked out new = Only (refused SessionNotOpen ∷ []) (Command own) asked out new
 ObeysData (Ok it) asked out new = Only (said lines.Data ∷ []) (Header it) asked out new
 
--- the end of the session that the ticket names
-abbrev pub ObeysEnd : Result Own (Option Own) → List Exchange → List Packet → Stage → Type 0
-ObeysEnd (Err own) asked out new = Only (refused SessionNotOpen ∷ []) (Command own) asked out new
-ObeysEnd (Ok it) asked out new =
-    (moment : ℤ) × (reply : Reply) × (asked ≡ Stepped (events.End it.ticket moment) reply ∷ [])
+-- the end of the session that the ticket names, given with this moment
+abbrev pub ObeysEnd : ℤ → Result Own (Option Own) → List Exchange → List Packet → Stage → Type 0
+ObeysEnd moment (Err own) asked out new = Only (refused SessionNotOpen ∷ []) (Command own) asked out new
+ObeysEnd moment (Ok it) asked out new =
+    (reply : Reply) × (asked ≡ Stepped (events.End it.ticket moment) reply ∷ [])
     × (out ≡ end_said reply) × (new ≡ Command (Some (by_reply it reply)))
 
 -- the close of the session that the ticket names
@@ -130,19 +130,19 @@ ObeysConsole own text asked out new =
     (answer : Result (List (List ℕ)) Refusal) × (asked ≡ Said text answer ∷ [])
     × (out ≡ console_said answer) × (new ≡ Command own)
 
--- what a command comes to
-abbrev pub Obeys : Option Own → Asked → List Exchange → List Packet → Stage → Type 0
-Obeys own (commands.Open job pool media) asked out new = ObeysOpen (is_running own) own job pool media asked out new
-Obeys own (commands.Data ticket) asked out new = ObeysData (own_with own ticket) asked out new
-Obeys own (commands.End ticket) asked out new = ObeysEnd (own_with own ticket) asked out new
-Obeys own (commands.Close ticket) asked out new = ObeysClose (own_with own ticket) asked out new
-Obeys own (commands.Read key) asked out new = Only [] (Spans own (line (session_text key))) asked out new
-Obeys own (commands.Console text) asked out new = ObeysConsole own text asked out new
+-- what a command comes to at this moment: an open and an end bear it
+abbrev pub Obeys : ℤ → Option Own → Asked → List Exchange → List Packet → Stage → Type 0
+Obeys moment own (commands.Open job pool media) asked out new = ObeysOpen moment (is_running own) own job pool media asked out new
+Obeys moment own (commands.Data ticket) asked out new = ObeysData (own_with own ticket) asked out new
+Obeys moment own (commands.End ticket) asked out new = ObeysEnd moment (own_with own ticket) asked out new
+Obeys moment own (commands.Close ticket) asked out new = ObeysClose (own_with own ticket) asked out new
+Obeys moment own (commands.Read key) asked out new = Only [] (Spans own (line (session_text key))) asked out new
+Obeys moment own (commands.Console text) asked out new = ObeysConsole own text asked out new
 
--- what a packet comes to where a command is due: a command; or one but for its names; or none
-abbrev pub TakesCommand : Option Own → List ℕ → List Exchange → List Packet → Stage → Type 0
-TakesCommand own bytes asked out new =
-    ((command : Asked) × HasForm bytes command × Obeys own command asked out new)
+-- what a packet comes to at this moment where a command is due: a command; or one but for its names; or none
+abbrev pub TakesCommand : ℤ → Option Own → List ℕ → List Exchange → List Packet → Stage → Type 0
+TakesCommand moment own bytes asked out new =
+    ((command : Asked) × HasForm bytes command × Obeys moment own command asked out new)
     ⊎ ((command : Asked) × HasShape bytes command × (AreNames command → ⊥) × Only (refused BadName ∷ []) (Command own) asked out new)
     ⊎ (((command : Asked) → HasShape bytes command → ⊥) × Only (refused BadCommand ∷ []) (Command own) asked out new)
 
@@ -201,16 +201,16 @@ TakesSpan false own text more asked out new = Only [] (BadSpans own BadSpan) ask
 
 -- Packets.
 
--- what a payload comes to
-abbrev pub TakesBytes : Stage → List ℕ → List Exchange → List Packet → Stage → Type 0
-TakesBytes (Command own) bytes asked out new = TakesCommand own bytes asked out new
-TakesBytes (Header own) bytes asked out new = TakesHeader own bytes asked out new
-TakesBytes (Records own header) bytes asked out new = TakesRecord own header bytes asked out new
-TakesBytes (Refused own refusal) bytes asked out new = Only [] (Dropped own refusal) asked out new
-TakesBytes (Dropped own refusal) bytes asked out new = Only [] (Dropped own refusal) asked out new
-TakesBytes (Spans own text) bytes asked out new = TakesSpan (is_one_line (trimmed bytes)) own text (trimmed bytes) asked out new
-TakesBytes (BadSpans own refusal) bytes asked out new = Only [] (BadSpans own refusal) asked out new
-TakesBytes (Over own) bytes asked out new = Only [] (Over own) asked out new
+-- what a payload comes to at this moment
+abbrev pub TakesBytes : ℤ → Stage → List ℕ → List Exchange → List Packet → Stage → Type 0
+TakesBytes moment (Command own) bytes asked out new = TakesCommand moment own bytes asked out new
+TakesBytes moment (Header own) bytes asked out new = TakesHeader own bytes asked out new
+TakesBytes moment (Records own header) bytes asked out new = TakesRecord own header bytes asked out new
+TakesBytes moment (Refused own refusal) bytes asked out new = Only [] (Dropped own refusal) asked out new
+TakesBytes moment (Dropped own refusal) bytes asked out new = Only [] (Dropped own refusal) asked out new
+TakesBytes moment (Spans own text) bytes asked out new = TakesSpan (is_one_line (trimmed bytes)) own text (trimmed bytes) asked out new
+TakesBytes moment (BadSpans own refusal) bytes asked out new = Only [] (BadSpans own refusal) asked out new
+TakesBytes moment (Over own) bytes asked out new = Only [] (Over own) asked out new
 
 -- what the end of data comes to
 abbrev pub TakesEnd : Stage → List Exchange → List Packet → Stage → Type 0
@@ -235,7 +235,7 @@ TakesSignal Terminate old asked out new = Only [] (Over (own_of old)) asked out 
 TakesSignal Poll old asked out new = Only (poll_said old) old asked out new
 TakesSignal Other old asked out new = Only [] old asked out new
 
--- what a packet comes to
-abbrev pub Takes : Stage → Packet → List Exchange → List Packet → Stage → Type 0
-Takes old (Bytes bytes) asked out new = TakesBytes old bytes asked out new
-Takes old (Signal number) asked out new = TakesSignal (meaning_of number) old asked out new
+-- what a packet comes to at this moment, in microseconds
+abbrev pub Takes : ℤ → Stage → Packet → List Exchange → List Packet → Stage → Type 0
+Takes moment old (Bytes bytes) asked out new = TakesBytes moment old bytes asked out new
+Takes moment old (Signal number) asked out new = TakesSignal (meaning_of number) old asked out new

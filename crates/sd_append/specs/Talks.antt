@@ -1,5 +1,5 @@
 -- A talk over a reader, a port and a writer.
-use Rattle.std.specs.Prelude.{◌≡◌, ◌⊎◌, ◌≤◌, ◌*◌, ℕ, List, ◌++◌, Option, Result, Ok, Err, length}
+use Rattle.std.specs.Prelude.{◌≡◌, ◌⊎◌, ◌≤◌, ◌*◌, ℕ, ℤ, List, ◌++◌, Option, Result, Ok, Err, length}
 use Rattle.std.specs.Io.KnownBytes.{Appends, Consumes, IsAtEnd}
 use Rattle.std.specs.declared.alloc.AllocError.{AllocError}
 use Rattle.sd_bnet.specs.Stream.{stream_of}
@@ -24,9 +24,9 @@ AreWritten old new bytes due end =
     ((end ≡ due) × Appends old new bytes) ⊎ (IsCutOff end × ((rest : List ℕ) × Sends old new bytes rest))
 
 -- These bytes were read of what a reader has left, exchanges joined those of a port, and bytes were written behind what
--- a writer held; and they are a conversation: its packets in are those of what was read, its packets out what was
--- written, or, where the talk was cut off, what a front of was.
-pub record Talks (left remains : Option (List ℕ)) (before after : List Exchange) (held holds : Option (List ℕ)) (end : Result TalkEnd AllocError) (bytes : List ℕ) : Type 0 where
+-- a writer held; and they are a conversation at this moment: its packets in are those of what was read, its packets out
+-- what was written, or, where the talk was cut off, what a front of was.
+pub record Talks (moment : ℤ) (left remains : Option (List ℕ)) (before after : List Exchange) (held holds : Option (List ℕ)) (end : Result TalkEnd AllocError) (bytes : List ℕ) : Type 0 where
   pub packets : List Packet
   pub rest : List ℕ
   pub asked : List Exchange
@@ -34,7 +34,7 @@ pub record Talks (left remains : Option (List ℕ)) (before after : List Exchang
   pub due : Result TalkEnd AllocError
   pub read : Consumes left remains bytes
   pub parted : AreRead due bytes packets rest
-  pub conversation : Conversation packets rest (IsAtEnd remains) asked out due
+  pub conversation : Conversation moment packets rest (IsAtEnd remains) asked out due
   pub asked_is : after ≡ before ++ asked
   pub written : AreWritten held holds (stream_of out) due end
 

@@ -56,7 +56,8 @@ impl Buffers {
 /// before each read and at the end; the writer isn't flushed. An `Err` of a read or of a write ends the
 /// talk, whatever its kind.
 ///
-/// However a talk ends, its session, where by the replies so far it is active or ended, is cancelled.
+/// However a talk ends, its session, where by the replies so far it is active or ended, is cancelled. Its opens and
+/// its ends bear the moment that the port is set to, which stays.
 pub fn talk<R: Read, W: Write, P: SessionPort>(
     alloc: Global,
     reader: &mut R,
@@ -64,10 +65,11 @@ pub fn talk<R: Read, W: Write, P: SessionPort>(
     port: &mut P,
     turns: u64,
 ) -> Talked<W>
-    ensures { (bytes : List ℕ)
-        × Talks (R.remaining reader.old) (R.remaining reader.new) (P.asked port.old) (P.asked port.new)
-        (W.contents writer) (W.contents result.writer) result.end bytes
+    ensures talks { (bytes : List ℕ)
+        × Talks (P.clock port.old) (R.remaining reader.old) (R.remaining reader.new)
+        (P.asked port.old) (P.asked port.new) (W.contents writer) (W.contents result.writer) result.end bytes
         × IsWithin turns result.end bytes }
+    ensures clock { P.clock port.new ≡ P.clock port.old }
 {
     let Ok(buffers) = Buffers::new(alloc) else {
         return Talked {
@@ -94,13 +96,16 @@ fn take_turns<R: Read, W: Write, P: SessionPort>(
     turns: u64,
 ) -> Talked<W>
     requires { length input.old ≡ 65536 }
-    ensures { (start : Around) → start.out.waiting ≡ [] → start.out.failed ≡ false
-        → Stands start (around (R.remaining reader.old) (P.asked port.old) (out_view W.contents standing.outbox))
+    ensures talks { (start : Around) → start.out.waiting ≡ [] → start.out.failed ≡ false
+        → Stands (P.clock port.old) start
+        (around (R.remaining reader.old) (P.asked port.old) (out_view W.contents standing.outbox))
         standing.feeder standing.stage []
         → (bytes : List ℕ)
-        × Talks start.left (R.remaining reader.new) start.asked (P.asked port.new) start.out.written
+        × Talks (P.clock port.old) start.left (R.remaining reader.new)
+        start.asked (P.asked port.new) start.out.written
         (W.contents result.writer) result.end bytes
         × IsWithin turns result.end bytes }
+    ensures clock { P.clock port.new ≡ P.clock port.old }
 {
     let mut standing = standing;
     for _done in 0..turns {
@@ -122,13 +127,15 @@ fn turn<R: Read, W: Write, P: SessionPort>(
     port: &mut P,
 ) -> Turned<W>
     requires { 0 < length input.old }
-    ensures { (start : Around) (bytes : List ℕ)
-        → Stands start (around (R.remaining reader.old) (P.asked port.old) (out_view W.contents standing.outbox))
+    ensures comes { (start : Around) (bytes : List ℕ)
+        → Stands (P.clock port.old) start
+        (around (R.remaining reader.old) (P.asked port.old) (out_view W.contents standing.outbox))
         standing.feeder standing.stage bytes
         → (piece : List ℕ) × (length piece ≤ length input.old) × (IsNone result.end → 0 < length piece)
-        × Comes result.end start
+        × Comes (P.clock port.old) result.end start
         (around (R.remaining reader.new) (P.asked port.new) (out_view W.contents result.standing.outbox))
         result.standing.feeder result.standing.stage (bytes ++ piece) }
+    ensures clock { P.clock port.new ≡ P.clock port.old }
 {
     let mut standing = standing;
     standing.outbox.write_out();
@@ -161,13 +168,15 @@ fn take_piece<W: Write, P: SessionPort>(
     piece: &[u8],
     port: &mut P,
 ) -> Turned<W>
-    ensures { (start : Around) (left remains : Option (List ℕ)) (bytes : List ℕ)
+    ensures comes { (start : Around) (left remains : Option (List ℕ)) (bytes : List ℕ)
         → Consumes left remains piece.now
-        → Stands start (around left (P.asked port.old) (out_view W.contents standing.outbox))
+        → Stands (P.clock port.old) start
+        (around left (P.asked port.old) (out_view W.contents standing.outbox))
         standing.feeder standing.stage bytes
-        → Comes result.end start
+        → Comes (P.clock port.old) result.end start
         (around remains (P.asked port.new) (out_view W.contents result.standing.outbox))
         result.standing.feeder result.standing.stage (bytes ++ piece.now) }
+    ensures clock { P.clock port.new ≡ P.clock port.old }
 {
     let Standing {
         mut feeder,
@@ -207,11 +216,12 @@ fn finish<W: Write, P: SessionPort>(
 ) -> Talked<W>
     ensures talks { (start : Around) (left : Option (List ℕ)) (bytes : List ℕ)
         → start.out.waiting ≡ [] → start.out.failed ≡ false
-        → Halts start (around left (P.asked port.old) (out_view W.contents standing.outbox))
-        standing.stage end bytes
-        → Talks start.left left start.asked (P.asked port.new) start.out.written
+        → Halts (P.clock port.old) start
+        (around left (P.asked port.old) (out_view W.contents standing.outbox)) standing.stage end bytes
+        → Talks (P.clock port.old) start.left left start.asked (P.asked port.new) start.out.written
         (W.contents result.writer) result.end bytes }
     ensures end { (result.end ≡ end) ⊎ IsCutOff result.end }
+    ensures clock { P.clock port.new ≡ P.clock port.old }
 {
     let Standing {
         feeder: _,
@@ -230,8 +240,9 @@ fn finish<W: Write, P: SessionPort>(
 
 /// Gives up the session that a talk opened last, where it goes on.
 fn give_up_last<P: SessionPort>(own: Option<Own>, port: &mut P)
-    ensures { (asked : List Exchange) × GivesUpLast own asked
+    ensures asked { (asked : List Exchange) × GivesUpLast own asked
         × (P.asked port.new ≡ P.asked port.old ++ asked) }
+    ensures clock { P.clock port.new ≡ P.clock port.old }
 {
     if let Some(it) = own {
         let _ = give_up(it, port);

@@ -14,8 +14,9 @@ use sd_machine::{Event, Reply};
 
 /// Takes a packet where a header is due.
 pub(crate) fn take_header<P: SessionPort>(own: Own, bytes: &[u8], port: &mut P) -> Stage
-    ensures { (asked : List Exchange) × TakesHeader own bytes.now asked [] result
+    ensures asked { (asked : List Exchange) × TakesHeader own bytes.now asked [] result
         × (P.asked port.new ≡ P.asked port.old ++ asked) }
+    ensures clock { P.clock port.new ≡ P.clock port.old }
 {
     match read_header(bytes) {
         Some(header) => Stage::Records(own, header),
@@ -30,8 +31,9 @@ pub(crate) fn take_record<P: SessionPort>(
     payload: Payload,
     port: &mut P,
 ) -> Stage
-    ensures { (asked : List Exchange) × TakesRecord own header payload asked [] result
+    ensures asked { (asked : List Exchange) × TakesRecord own header payload asked [] result
         × (P.asked port.new ≡ P.asked port.old ++ asked) }
+    ensures clock { P.clock port.new ≡ P.clock port.old }
 {
     let rec = record_of(header, payload);
     let reply = port.step(Event::Append {
@@ -47,9 +49,10 @@ pub(crate) fn take_record<P: SessionPort>(
 
 /// Drops the rest of the phase for a record's reply.
 fn drop_rest<P: SessionPort>(own: Own, reply: &Reply, port: &mut P) -> Stage
-    ensures { (asked : List Exchange)
+    ensures asked { (asked : List Exchange)
         × Drops (by_reply own reply.now) (refusal_in reply.now) asked [] result
         × (P.asked port.new ≡ P.asked port.old ++ asked) }
+    ensures clock { P.clock port.new ≡ P.clock port.old }
 {
     let left = give_up(by_reply(own, reply), port);
     Stage::Dropped(left, refusal_in(reply))

@@ -24,9 +24,11 @@ pub(crate) fn open<W: Write, P: SessionPort>(
     port: &mut P,
     outbox: &mut Outbox<W>,
 ) -> Stage
-    ensures { Does (λ asked out. ObeysOpen running own job pool media asked out result)
+    ensures does { Does (λ asked out.
+        ObeysOpen (P.clock port.old) running own job pool media asked out result)
         (P.asked port.old) (P.asked port.new)
         (out_view W.contents outbox.old) (out_view W.contents outbox.new) }
+    ensures clock { P.clock port.new ≡ P.clock port.old }
 {
     if running {
         refuse(outbox, Refusal::BadCommand);
@@ -66,9 +68,10 @@ pub(crate) fn end<W: Write, P: SessionPort>(
     port: &mut P,
     outbox: &mut Outbox<W>,
 ) -> Stage
-    ensures { Does (λ asked out. ObeysEnd named asked out result)
+    ensures does { Does (λ asked out. ObeysEnd (P.clock port.old) named asked out result)
         (P.asked port.old) (P.asked port.new)
         (out_view W.contents outbox.old) (out_view W.contents outbox.new) }
+    ensures clock { P.clock port.new ≡ P.clock port.old }
 {
     match named {
         Ok(it) => end_own(it, port, outbox),
@@ -80,9 +83,10 @@ pub(crate) fn end<W: Write, P: SessionPort>(
 }
 
 fn end_own<W: Write, P: SessionPort>(it: Own, port: &mut P, outbox: &mut Outbox<W>) -> Stage
-    ensures { Does (λ asked out. ObeysEnd (Ok it) asked out result)
+    ensures does { Does (λ asked out. ObeysEnd (P.clock port.old) (Ok it) asked out result)
         (P.asked port.old) (P.asked port.new)
         (out_view W.contents outbox.old) (out_view W.contents outbox.new) }
+    ensures clock { P.clock port.new ≡ P.clock port.old }
 {
     let moment = port.moment();
     let reply = port.step(Event::End {
@@ -99,9 +103,10 @@ pub(crate) fn close<W: Write, P: SessionPort>(
     port: &mut P,
     outbox: &mut Outbox<W>,
 ) -> Stage
-    ensures { Does (λ asked out. ObeysClose named asked out result)
+    ensures does { Does (λ asked out. ObeysClose named asked out result)
         (P.asked port.old) (P.asked port.new)
         (out_view W.contents outbox.old) (out_view W.contents outbox.new) }
+    ensures clock { P.clock port.new ≡ P.clock port.old }
 {
     match named {
         Ok(it) => close_own(it, port, outbox),
@@ -113,9 +118,10 @@ pub(crate) fn close<W: Write, P: SessionPort>(
 }
 
 fn close_own<W: Write, P: SessionPort>(it: Own, port: &mut P, outbox: &mut Outbox<W>) -> Stage
-    ensures { Does (λ asked out. ObeysClose (Ok it) asked out result)
+    ensures does { Does (λ asked out. ObeysClose (Ok it) asked out result)
         (P.asked port.old) (P.asked port.new)
         (out_view W.contents outbox.old) (out_view W.contents outbox.new) }
+    ensures clock { P.clock port.new ≡ P.clock port.old }
 {
     let reply = port.step(Event::Close { ticket: it.ticket });
     say_close(outbox, &reply);
@@ -129,9 +135,10 @@ pub(crate) fn console<W: Write, P: SessionPort>(
     port: &mut P,
     outbox: &mut Outbox<W>,
 ) -> Stage
-    ensures { Does (λ asked out. ObeysConsole own line.now asked out result)
+    ensures does { Does (λ asked out. ObeysConsole own line.now asked out result)
         (P.asked port.old) (P.asked port.new)
         (out_view W.contents outbox.old) (out_view W.contents outbox.new) }
+    ensures clock { P.clock port.new ≡ P.clock port.old }
 {
     let answer = port.console(line);
     say_console(outbox, &answer);
@@ -140,8 +147,9 @@ pub(crate) fn console<W: Write, P: SessionPort>(
 
 /// Gives the session up, where it goes on.
 pub(crate) fn give_up<P: SessionPort>(own: Own, port: &mut P) -> Own
-    ensures { (asked : List Exchange) × GivesUp own asked result
+    ensures asked { (asked : List Exchange) × GivesUp own asked result
         × (P.asked port.new ≡ P.asked port.old ++ asked) }
+    ensures clock { P.clock port.new ≡ P.clock port.old }
 {
     if !own.runs {
         return own;

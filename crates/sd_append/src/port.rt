@@ -1,5 +1,5 @@
 // What a talk asks the daemon by.
-ghost use Rattle.std.specs.Prelude.{◌≡◌, ◌∷◌, ◌++◌, [], List, All, IfOk};
+ghost use Rattle.std.specs.Prelude.{◌≡◌, ◌∷◌, ◌++◌, [], ℤ, List, All, IfOk};
 ghost use Rattle.sd_base.specs.Record.{Record};
 ghost use Rattle.sd_append.specs.Port.{Exchange, IsLine, Stepped, WasRead, Said};
 
@@ -17,26 +17,32 @@ pub struct ReadBack<S> {
 }
 
 /// The daemon as a talk sees it. In a contract `asked` is the list of what it was asked, with the answers, in
-/// order.
+/// order, and `clock` is the moment that the port is set to, in microseconds. Nothing that is asked sets it.
 pub trait SessionPort {
     ghost asked: { Self → List Exchange };
 
+    ghost clock: { Self → ℤ };
+
     /// The reply to an event.
     fn step(&mut self, event: Event) -> Reply
-        ensures { asked self.new ≡ asked self.old ++ Stepped event result ∷ [] };
+        ensures asked { asked self.new ≡ asked self.old ++ Stepped event result ∷ [] }
+        ensures clock { clock self.new ≡ clock self.old };
 
     /// Reads a session back by its spans. Each record goes to the sink as it comes; those before a fault
     /// stay there. The sink comes back with the answer.
     fn read<S: Sink>(&mut self, key: SessionKey, spans: &[Span], sink: S) -> ReadBack<S>
-        ensures { (records : List Record)
+        ensures asked { (records : List Record)
             × (S.got result.sink ≡ S.got sink ++ records)
-            × (asked self.new ≡ asked self.old ++ WasRead key spans.now records result.answer ∷ []) };
+            × (asked self.new ≡ asked self.old ++ WasRead key spans.now records result.answer ∷ []) }
+        ensures clock { clock self.new ≡ clock self.old };
 
     /// The lines that answer a console's line, each with its newline, or the refusal.
     fn console(&mut self, line: &[u8]) -> Result<Items<Payload>, Refusal>
         ensures lines { IfOk result (λ lines. All IsLine lines) }
-        ensures asked { asked self.new ≡ asked self.old ++ Said line.now result ∷ [] };
+        ensures asked { asked self.new ≡ asked self.old ++ Said line.now result ∷ [] }
+        ensures clock { clock self.new ≡ clock self.old };
 
-    /// The moment of an open or of an end, in microseconds.
-    fn moment(&self) -> i64;
+    /// The moment that the port is set to, which an open and an end bear, in microseconds.
+    fn moment(&self) -> i64
+        ensures { result ≡ clock self.now };
 }

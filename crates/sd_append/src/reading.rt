@@ -87,10 +87,11 @@ pub(crate) fn read_out<K: Before, W: Write, P: SessionPort>(
     spans: &[Span],
 ) -> ReadOut<W>
     requires { out_view W.contents outbox ≡ K.before }
-    ensures { (records : List Record)
+    ensures asked { (records : List Record)
         × (P.asked port.new ≡ P.asked port.old ++ WasRead key spans.now records result.answer ∷ [])
         × Puts K.before (out_view W.contents result.outbox)
         (stream_of (flat_map record_said records)) }
+    ensures clock { P.clock port.new ≡ P.clock port.old }
 {
     let sink: RecordPackets<K, W> = RecordPackets {
         outbox,

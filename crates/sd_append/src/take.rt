@@ -28,9 +28,10 @@ pub(crate) fn take_command<W: Write, P: SessionPort>(
     port: &mut P,
     outbox: &mut Outbox<W>,
 ) -> Stage
-    ensures { Does (λ asked out. TakesCommand own bytes.now asked out result)
+    ensures does { Does (λ asked out. TakesCommand (P.clock port.old) own bytes.now asked out result)
         (P.asked port.old) (P.asked port.new)
         (out_view W.contents outbox.old) (out_view W.contents outbox.new) }
+    ensures clock { P.clock port.new ≡ P.clock port.old }
 {
     match read_command(bytes) {
         Ok(command) => obey(alloc, own, command, port, outbox),
@@ -48,9 +49,10 @@ fn obey<W: Write, P: SessionPort>(
     port: &mut P,
     outbox: &mut Outbox<W>,
 ) -> Stage
-    ensures { Does (λ asked out. Obeys own command.entry asked out result)
+    ensures does { Does (λ asked out. Obeys (P.clock port.old) own command.entry asked out result)
         (P.asked port.old) (P.asked port.new)
         (out_view W.contents outbox.old) (out_view W.contents outbox.new) }
+    ensures clock { P.clock port.new ≡ P.clock port.old }
 {
     let running = is_running(&own);
     match command {
@@ -106,9 +108,10 @@ pub(crate) fn take_bytes<W: Write, P: SessionPort>(
     port: &mut P,
     outbox: &mut Outbox<W>,
 ) -> Stage
-    ensures { Does (λ asked out. TakesBytes stage payload asked out result)
+    ensures does { Does (λ asked out. TakesBytes (P.clock port.old) stage payload asked out result)
         (P.asked port.old) (P.asked port.new)
         (out_view W.contents outbox.old) (out_view W.contents outbox.new) }
+    ensures clock { P.clock port.new ≡ P.clock port.old }
 {
     match stage {
         Stage::Command(own) => take_command(alloc, own, payload.as_slice(), port, outbox),

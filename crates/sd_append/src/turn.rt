@@ -1,4 +1,5 @@
 // What a packet of a client comes to.
+ghost use Rattle.std.specs.Prelude.{◌≡◌};
 ghost use Rattle.sd_append.specs.Conversation.{Converses};
 ghost use Rattle.sd_append.specs.Does.{Does};
 ghost use Rattle.sd_bnet.specs.Stream.{stream_of};
@@ -35,9 +36,10 @@ pub(crate) fn take<W: Write, P: SessionPort>(
     port: &mut P,
     mut outbox: Outbox<W>,
 ) -> Taken<W>
-    ensures { Does (λ asked out. Takes stage packet asked out result.stage)
+    ensures does { Does (λ asked out. Takes (P.clock port.old) stage packet asked out result.stage)
         (P.asked port.old) (P.asked port.new)
         (out_view W.contents outbox) (out_view W.contents result.outbox) }
+    ensures clock { P.clock port.new ≡ P.clock port.old }
 {
     match packet {
         Packet::Bytes(payload) => {
@@ -55,9 +57,10 @@ fn take_signal<W: Write, P: SessionPort>(
     port: &mut P,
     outbox: Outbox<W>,
 ) -> Taken<W>
-    ensures { Does (λ asked out. TakesSignal meaning stage asked out result.stage)
+    ensures does { Does (λ asked out. TakesSignal meaning stage asked out result.stage)
         (P.asked port.old) (P.asked port.new)
         (out_view W.contents outbox) (out_view W.contents result.outbox) }
+    ensures clock { P.clock port.new ≡ P.clock port.old }
 {
     match meaning {
         Meaning::EndOfData => take_end(alloc, stage, port, outbox),
@@ -91,9 +94,10 @@ fn take_end<W: Write, P: SessionPort>(
     port: &mut P,
     mut outbox: Outbox<W>,
 ) -> Taken<W>
-    ensures { Does (λ asked out. TakesEnd stage asked out result.stage)
+    ensures does { Does (λ asked out. TakesEnd stage asked out result.stage)
         (P.asked port.old) (P.asked port.new)
         (out_view W.contents outbox) (out_view W.contents result.outbox) }
+    ensures clock { P.clock port.new ≡ P.clock port.old }
 {
     match stage {
         Stage::Command(own) => Taken {
@@ -145,9 +149,10 @@ fn read_back<W: Write, P: SessionPort>(
     port: &mut P,
     mut outbox: Outbox<W>,
 ) -> Taken<W>
-    ensures { Does (λ asked out. ReadsBack own text asked out result.stage)
+    ensures does { Does (λ asked out. ReadsBack own text asked out result.stage)
         (P.asked port.old) (P.asked port.new)
         (out_view W.contents outbox) (out_view W.contents result.outbox) }
+    ensures clock { P.clock port.new ≡ P.clock port.old }
 {
     match text.read(alloc) {
         Ok(read) => {
@@ -176,9 +181,10 @@ pub(crate) fn take_all<W: Write, P: SessionPort>(
     port: &mut P,
     outbox: Outbox<W>,
 ) -> Taken<W>
-    ensures { Does (λ asked out. Converses stage packets.items asked out result.stage)
+    ensures does { Does (λ asked out. Converses (P.clock port.old) stage packets.items asked out result.stage)
         (P.asked port.old) (P.asked port.new)
         (out_view W.contents outbox) (out_view W.contents result.outbox) }
+    ensures clock { P.clock port.new ≡ P.clock port.old }
 {
     let mut taken = Taken { stage, outbox };
     for packet in packets {
@@ -193,9 +199,10 @@ fn take_next<W: Write, P: SessionPort>(
     packet: Packet,
     port: &mut P,
 ) -> Taken<W>
-    ensures { Does (λ asked out. Takes taken.stage packet asked out result.stage)
+    ensures does { Does (λ asked out. Takes (P.clock port.old) taken.stage packet asked out result.stage)
         (P.asked port.old) (P.asked port.new)
         (out_view W.contents taken.outbox) (out_view W.contents result.outbox) }
+    ensures clock { P.clock port.new ≡ P.clock port.old }
 {
     let Taken { stage, outbox } = taken;
     take(alloc, stage, packet, port, outbox)

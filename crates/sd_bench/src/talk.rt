@@ -1,5 +1,5 @@
 // A talk over memory that appends records of several sizes, beside copying the same bytes once.
-ghost use Rattle.std.specs.Prelude.{◌≡◌, []};
+ghost use Rattle.std.specs.Prelude.{◌≡◌, [], pos};
 
 use crate::rate::{Length, print_rate};
 use anyhow::{Context, Result, bail};
@@ -188,6 +188,8 @@ impl Counting {
 
 impl SessionPort for Counting {
     ghost asked = { λ p. p.log };
+
+    ghost clock = { λ p. pos 0 };
 
     fn step(&mut self, event: Event) -> Reply {
         let given = Snapshot::of(&event);

@@ -1,6 +1,5 @@
 // The world of files as a port.
-ghost use Rattle.std.specs.Prelude.{◌≡◌, ℕ, []};
-ghost use Rattle.sd_append.specs.Port.{Exchange};
+ghost use Rattle.std.specs.Prelude.{◌≡◌, ℕ, [], pos};
 ghost use Rattle.sd_conf.specs.declared.conf.Conf.{Conf};
 ghost use Rattle.sd_daemon.specs.Served.{IsPortOf};
 ghost use Rattle.sd_filedrive.specs.Drive.{meaning_of};
@@ -49,8 +48,8 @@ impl Run for Brand {
     ghost time = { 0 };
 }
 
-/// The port of a run, as talks are held with it. In a contract it is what it was asked. Its type keeps that it was made
-/// with the world of the run.
+/// The port of a run, as talks are held with it. In a contract it is a `TalkPort`. Its type keeps that it was made with
+/// the world of the run.
 #[derive(Drop)]
 pub(crate) struct FilePort<N: Run> {
     port: ServedPort,
@@ -58,22 +57,21 @@ pub(crate) struct FilePort<N: Run> {
 }
 
 impl<N: Run> Model for FilePort<N> {
-    ghost use Rattle.std.specs.Prelude.{List};
-    ghost use Rattle.sd_append.specs.Port.{Exchange};
     ghost use Rattle.sd_daemon.specs.Served.{IsPortOf};
+    ghost use Rattle.sd_daemon.specs.TalkPort.{TalkPort};
 
-    ghost Value = { List Exchange };
+    ghost Value = { TalkPort };
 
-    ghost view = { λ p. p.port.asked };
+    ghost view = { λ p. record { asked = p.port.asked; moment = p.port.moment } };
 
     ghost invariant = { λ p. IsPortOf N.conf N.time p.port };
 }
 
 impl<N: Run> FilePort<N> {
-    /// The port of this world, which was asked nothing yet.
+    /// The port of this world, which was asked nothing yet. No moment was set: it is 0.
     pub(crate) fn new(alloc: Global, world: FileWorld) -> Self
         requires { OpensAs N.conf N.time world }
-        ensures { result ≡ [] }
+        ensures { result ≡ record { asked = []; moment = pos 0 } }
     {
         FilePort {
             port: WorldPort::new(alloc, world, 0, Syncing::AtRest, ROUNDS),
@@ -83,7 +81,8 @@ impl<N: Run> FilePort<N> {
 
     /// What the port is now, for contracts alone.
     pub(crate) fn served(&self) -> Snapshot<ServedPort>
-        ensures asked { result.value.asked ≡ self.now }
+        ensures asked { result.value.asked ≡ self.now.asked }
+        ensures moment { result.value.moment ≡ self.now.moment }
         ensures made { IsPortOf N.conf N.time result.value }
         ensures over { IsOver (λ d. meaning_of d) result.value }
     {
@@ -93,7 +92,9 @@ impl<N: Run> FilePort<N> {
 }
 
 impl<N: Run> SessionPort for FilePort<N> {
-    ghost asked = { λ p. p };
+    ghost asked = { λ p. p.asked };
+
+    ghost clock = { λ p. p.moment };
 
     fn step(&mut self, event: Event) -> Reply {
         self.port.step(event)

@@ -14,6 +14,8 @@ use sd_spool::{FileSpool, MemSpool};
 impl SessionPort for WorldPort<MemDrive, PlainLanes, MemSpool> {
     ghost asked = { λ p. p.asked };
 
+    ghost clock = { λ p. p.moment };
+
     fn step(&mut self, event: Event) -> Reply {
         self.step(event)
     }
@@ -33,6 +35,8 @@ impl SessionPort for WorldPort<MemDrive, PlainLanes, MemSpool> {
 
 impl SessionPort for WorldPort<FileDrive<HostRuntime>, PlainLanes, FileSpool<HostRuntime>> {
     ghost asked = { λ p. p.asked };
+
+    ghost clock = { λ p. p.moment };
 
     fn step(&mut self, event: Event) -> Reply {
         self.step(event)

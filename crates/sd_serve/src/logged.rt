@@ -46,6 +46,8 @@ impl<P, L> LoggedPort<P, L> {
 impl<P: SessionPort, L: Write> SessionPort for LoggedPort<P, L> {
     ghost asked = { λ p. P.asked p.port };
 
+    ghost clock = { λ p. P.clock p.port };
+
     fn step(&mut self, event: Event) -> Reply {
         let about = self.heard.about(&event);
         let reply = self.port.step(event);
@@ -91,7 +93,8 @@ impl<P: RoundPort, L: Write> ServerPort for LoggedPort<P, L> {
 
 // Plays rounds until nothing moves, or there is no memory for one.
 fn play_rounds<P: RoundPort>(port: &mut P)
-    ensures { P.asked port.new ≡ P.asked port.old }
+    ensures asked { P.asked port.new ≡ P.asked port.old }
+    ensures clock { P.clock port.new ≡ P.clock port.old }
 {
     for _played in 0..ROUNDS {
         match port.play_round() {

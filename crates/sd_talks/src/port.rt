@@ -1,5 +1,5 @@
 // A port that answers by rule, and tells what it was asked.
-ghost use Rattle.std.specs.Prelude.{◌≡◌, ◌∷◌, ◌++◌, [], All, IfOk, IfSome};
+ghost use Rattle.std.specs.Prelude.{◌≡◌, ◌∷◌, ◌++◌, [], negsuc, All, IfOk, IfSome};
 ghost use Rattle.sd_append.specs.Port.{IsLine};
 ghost use Rattle.sd_words.specs.Lines.{line};
 
@@ -64,6 +64,8 @@ impl Port {
 
 impl SessionPort for Port {
     ghost asked = { λ p. p.log };
+
+    ghost clock = { λ p. negsuc 4 };
 
     fn step(&mut self, event: Event) -> Reply {
         let given = Snapshot::of(&event);

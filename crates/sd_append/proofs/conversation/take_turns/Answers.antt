@@ -1,4 +1,4 @@
-use Rattle.std.proofs.Common.{◌++◌, [], arith, length}
+use Rattle.std.proofs.Common.{◌++◌, ◌∙◌, [], arith, length, refl}
 use Rattle.sd_append.specs.Out.{out_view}
 use Rattle.sd_append.specs.Standing.{around}
 use Rattle.sd_append.proofs.StandingLemmas.{turns_ended}
@@ -6,30 +6,33 @@ use Rattle.sd_append.proofs.TalksLemmas.{turn_ended, turn_goes_on, within_all, w
 use Rattle.sd_append.proofs.conversation.take_turns.Goals as goal
 
 pub loop-done-init : goal.loop-done-init
-loop-done-init g c start first = ([], first, omega arith, omega arith)
+loop-done-init g c = (refl, λ start first. ([], first, omega arith, omega arith))
 
 pub loop-done-preserved : goal.loop-done-preserved
-loop-done-preserved g c start first =
-    let b = c.loop-done.invariant start first in
-    turn_goes_on c.turn-turned.result.end start (around (g.R.Read.remaining c.turn-turned.new.reader) (g.P.SessionPort.asked c.turn-turned.new.port) (out_view g.W.Write.contents c.turn-turned.result.standing.outbox))
-    c.turn-turned.result.standing.feeder c.turn-turned.result.standing.stage b.0 (length c.loop-done.input) c.loop-done._done
-    c.in_default.is (c.turn-turned.ensures start b.0 b.1) (omega arith) b.2 b.3
+loop-done-preserved g c = (
+  c.turn-turned.ensures.clock ∙ c.loop-done.invariant.0,
+  λ start first.
+      let b = c.loop-done.invariant.1 start first in
+      turn_goes_on (g.P.SessionPort.clock c.args.port.now) c.turn-turned.result.end start (around (g.R.Read.remaining c.turn-turned.new.reader) (g.P.SessionPort.asked c.turn-turned.new.port) (out_view g.W.Write.contents c.turn-turned.result.standing.outbox))
+      c.turn-turned.result.standing.feeder c.turn-turned.result.standing.stage b.0 (length c.loop-done.input) c.loop-done._done
+      c.in_default.is ((rw c.loop-done.invariant.0 at c.turn-turned.ensures.comes) start b.0 b.1) (omega arith) b.2 b.3,
+)
 
-pub returns-in-Some : goal.returns-in-Some
-returns-in-Some g c start waiting well first =
-    let b = c.loop-done.invariant start first in
-    let t = turn_ended c.turn-turned.result.end c.in-Some.end start (around (g.R.Read.remaining c.turn-turned.new.reader) (g.P.SessionPort.asked c.turn-turned.new.port) (out_view g.W.Write.contents c.turn-turned.result.standing.outbox))
-    c.turn-turned.result.standing.feeder c.turn-turned.result.standing.stage b.0 (length c.loop-done.input) c.in-Some.is (c.turn-turned.ensures start b.0 b.1) in (
+pub returns-in-Some-clause-talks : goal.returns-in-Some-clause-talks
+returns-in-Some-clause-talks g c start waiting well first =
+    let b = c.loop-done.invariant.1 start first in
+    let t = turn_ended (g.P.SessionPort.clock c.args.port.now) c.turn-turned.result.end c.in-Some.end start (around (g.R.Read.remaining c.turn-turned.new.reader) (g.P.SessionPort.asked c.turn-turned.new.port) (out_view g.W.Write.contents c.turn-turned.result.standing.outbox))
+    c.turn-turned.result.standing.feeder c.turn-turned.result.standing.stage b.0 (length c.loop-done.input) c.in-Some.is ((rw c.loop-done.invariant.0 at c.turn-turned.ensures.comes) start b.0 b.1) in (
       b.0 ++ t.0,
-      c.finish.ensures.talks start (g.R.Read.remaining c.turn-turned.new.reader) (b.0 ++ t.0) waiting well t.3.0,
+      (rw (c.turn-turned.ensures.clock ∙ c.loop-done.invariant.0) at c.finish.ensures.talks) start (g.R.Read.remaining c.turn-turned.new.reader) (b.0 ++ t.0) waiting well t.3.0,
       within_before c.args.turns c.loop-done._done c.finish.result.end c.in-Some.end b.0 t.0 c.finish.ensures.end t.3.1 (omega arith) b.3 (omega arith),
     )
 
-pub returns : goal.returns
-returns g c start waiting well first =
-    let b = c.loop-done.invariant start first in (
+pub returns-clause-talks : goal.returns-clause-talks
+returns-clause-talks g c start waiting well first =
+    let b = c.loop-done.invariant.1 start first in (
       b.0,
-      c.finish-2.ensures.talks start (g.R.Read.remaining c.loop-done.reader) b.0 waiting well
-          (turns_ended start (g.R.Read.remaining c.loop-done.reader) (g.P.SessionPort.asked c.loop-done.port) (out_view g.W.Write.contents c.loop-done.standing.outbox) c.loop-done.standing.feeder c.loop-done.standing.stage b.0 b.1),
+      (rw c.loop-done.invariant.0 at c.finish-2.ensures.talks) start (g.R.Read.remaining c.loop-done.reader) b.0 waiting well
+          (turns_ended (g.P.SessionPort.clock c.args.port.now) start (g.R.Read.remaining c.loop-done.reader) (g.P.SessionPort.asked c.loop-done.port) (out_view g.W.Write.contents c.loop-done.standing.outbox) c.loop-done.standing.feeder c.loop-done.standing.stage b.0 b.1),
       within_all c.args.turns c.loop-done._done c.finish-2.result.end b.0 (omega arith) (omega arith) b.2 b.3,
     )
