@@ -15,35 +15,51 @@ mod spools;
 mod talk;
 mod volumes;
 
-use anyhow::{Result, bail};
+use anyhow::Result;
 use rate::Length;
-use sd_base::VolName;
 use sd_filedrive::FileDrive;
 use std::alloc::Global;
-use std::env;
+use std::{env, io};
 
 /// How much memory is taken and given back at the start.
 const KEPT: usize = 33_000_000;
 
 fn main(rt: HostRuntime) -> Result<()> {
     keep_memory(rt.alloc());
+    obey(rt)?;
+    Ok(())
+}
+
+fn obey(rt: HostRuntime) -> io::Result<()> {
     let mut arguments = env::args(&rt)?.skip(1);
-    let mut length = Length::Once;
-    if let Some(first) = arguments.next() {
-        if first.as_str() == "files" || first.as_str() == "spool" {
-            let (Some(folder), Some(count)) = (arguments.next(), arguments.next()) else {
-                bail!("usage: files FOLDER COUNT, or spool FOLDER COUNT");
-            };
-            let count = count.as_str().parse::<u64>()?;
-            if first.as_str() == "spool" {
-                return spools::run(rt, folder.as_str(), count);
-            }
-            return files(rt, folder.as_str(), count);
-        }
-        if first.as_str() == "times" {
-            length = Length::Timed;
-        }
+    let first = arguments.next();
+    let folder = arguments.next();
+    let count = arguments.next();
+    run(rt, word(&first), word(&folder), word(&count))
+}
+
+fn word(argument: &Option<String>) -> &str {
+    match argument {
+        Some(word) => word.as_str(),
+        None => "",
     }
+}
+
+fn run(rt: HostRuntime, first: &str, folder: &str, count: &str) -> io::Result<()> {
+    if first == "files" || first == "spool" {
+        let Ok(count) = count.parse::<u64>() else {
+            return Err(io::Error::other("usage: files FOLDER COUNT, or spool FOLDER COUNT"));
+        };
+        if first == "spool" {
+            return spools::run(rt, folder, count);
+        }
+        return files(rt, folder, count);
+    }
+    let length = if first == "times" {
+        Length::Timed
+    } else {
+        Length::Once
+    };
     checksum::run(&rt, length)?;
     blocks::run(&rt, length)?;
     packing::run(&rt, length)?;
@@ -53,16 +69,9 @@ fn main(rt: HostRuntime) -> Result<()> {
 }
 
 // Writes so many blocks to a file of the folder.
-fn files(rt: HostRuntime, folder: &str, blocks: u64) -> Result<()> {
-    let Ok(name) = VolName::parse("Vol-0001") else {
-        bail!("the name is none");
-    };
-    let alloc = rt.alloc();
-    let mut drive = FileDrive::new(rt, alloc, folder)?;
-    if volumes::write(&mut drive, &name, blocks).is_err() {
-        bail!("the file could not be written");
-    }
-    Ok(())
+fn files(rt: HostRuntime, folder: &str, blocks: u64) -> io::Result<()> {
+    let mut drive = FileDrive::new(rt, rt.alloc(), folder)?;
+    volumes::write(&mut drive, blocks)
 }
 
 // Takes one large piece of memory and gives it back, untouched. From then on the C library's heap keeps what is given

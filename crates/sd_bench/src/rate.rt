@@ -1,11 +1,10 @@
 // Timing a job.
-use anyhow::Result;
-use std::num;
 use std::rt::Clock;
 use std::time::Instant;
+use std::{io, num};
 
 /// How long the jobs run.
-#[derive(Clone, Copy, Debug, PartialEq, Eq)]
+#[derive(Clone, Copy)]
 pub enum Length {
     /// Once, to see that they work.
     Once,
@@ -14,6 +13,11 @@ pub enum Length {
 }
 
 impl Length {
+    /// Whether the jobs are timed.
+    pub fn is_timed(self) -> bool {
+        matches!(self, Length::Timed)
+    }
+
     /// How often to go over a buffer of so many bytes: some 400 MB in all where it is timed.
     pub fn rounds(self, bytes: usize) -> usize {
         match self {
@@ -32,8 +36,8 @@ pub fn print_rate<R: Print + Clock>(
     start: Instant,
     bytes: usize,
     rounds: usize,
-) -> Result<f64> {
-    if length == Length::Once {
+) -> io::Result<f64> {
+    if !length.is_timed() {
         return Ok(0.0);
     }
     let seconds = start.elapsed(rt)?.as_secs_f64();
@@ -41,4 +45,19 @@ pub fn print_rate<R: Print + Clock>(
     let rate = whole / seconds / 1e9;
     println!(rt; "{name:<36} {rate:>7.2} GB/s")?;
     Ok(rate)
+}
+
+/// Copies the bytes so many times, which no job over them can beat, and prints the rate.
+pub fn print_copies<R: Print + Clock + AllocGlobal>(
+    rt: &R,
+    length: Length,
+    name: &str,
+    bytes: &[u8],
+    rounds: usize,
+) -> io::Result<f64> {
+    let start = Instant::now(rt)?;
+    for _ in 0..rounds {
+        let _copy = bytes.to_vec(rt.alloc())?;
+    }
+    print_rate(rt, length, name, start, bytes.len(), rounds)
 }

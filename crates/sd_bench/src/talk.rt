@@ -1,16 +1,14 @@
 // A talk over memory that appends records of several sizes, beside copying the same bytes once.
 ghost use Rattle.std.specs.Prelude.{◌≡◌, [], pos};
 
-use crate::rate::{Length, print_rate};
-use anyhow::{Context, Result, bail};
+use crate::rate::{Length, print_copies, print_rate};
 use sd_append::{Log, ReadBack, SessionPort, TalkEnd, talk};
-use sd_base::{Bytes, DriveNo, Items, MOST_DATA, Refusal, SessionKey, Ticket};
+use sd_base::{Bytes, DriveNo, Items, Refusal, SessionKey, Ticket};
 use sd_bnet::{Packet, Payload, SignalNo, put_packet};
 use sd_machine::{Event, Reply};
 use sd_readback::{ReadEnd, Sink};
 use sd_span::Span;
 use std::alloc::Global;
-use std::io::{Read, Write};
 use std::rt::Clock;
 use std::snapshot::Snapshot;
 use std::time::Instant;
@@ -19,133 +17,111 @@ use std::{io, num};
 /// How many bytes of records one talk appends where it is timed.
 const TALK_BYTES: usize = 16_000_000;
 
+/// What a client sends before its records, all of which stand under one header.
+static BEGINNING: [&[u8]; 3] = [
+    b"append open session JobId=7 Pool=Default Media=File",
+    b"append data 1",
+    b"1 2 0",
+];
+
 /// Talks that append records of 64 KiB, of 4 KB and of 100 bytes.
-pub fn run<R: Print + Clock + AllocGlobal>(rt: &R, length: Length) -> Result<()> {
-    appends(rt, length, "64 KiB", 65_536)?;
-    appends(rt, length, "4 KB", 4_000)?;
-    appends(rt, length, "100 bytes", 100)
+pub fn run<R: Print + Clock + AllocGlobal>(rt: &R, length: Length) -> io::Result<()> {
+    appends(rt, length, "talk, records of 64 KiB", "64 KiB", 65_536)?;
+    appends(rt, length, "talk, records of 4 KB", "4 KB", 4_000)?;
+    appends(rt, length, "talk, records of 100 bytes", "100 bytes", 100)
 }
 
 fn appends<R: Print + Clock + AllocGlobal>(
     rt: &R,
     length: Length,
+    name: &str,
     words: &str,
     size: usize,
-) -> Result<()> {
-    let (count, rounds) = match length {
-        Length::Once => (2, 1),
-        Length::Timed => (TALK_BYTES / size.max(1), 25),
+) -> io::Result<()> {
+    let count = match length {
+        Length::Once => 2,
+        Length::Timed => TALK_BYTES / size.max(1),
     };
-    let input = input_of(rt.alloc(), size, count)?;
-    let whole = input.len();
-    let start = Instant::now(rt)?;
-    for _ in 0..rounds {
-        let _copy = input.as_slice().to_vec(rt.alloc())?;
-    }
-    print_rate(rt, length, "copy of a talk's bytes", start, whole, rounds)?;
+    let mut input = Vec::new(rt.alloc());
+    put_session(rt.alloc(), &mut input, size, count)?;
+    let all = print_talks(rt, length, name, &input, size, count)?;
+    println!(rt; "records of {words} are appended: {all}")
+}
+
+// Whether each talk over these bytes appended so many records of that size.
+fn print_talks<R: Print + Clock + AllocGlobal>(
+    rt: &R,
+    length: Length,
+    name: &str,
+    input: &[u8],
+    size: usize,
+    count: usize,
+) -> io::Result<bool> {
+    let rounds = match length {
+        Length::Once => 1,
+        Length::Timed => 25,
+    };
+    print_copies(rt, length, "copy of a talk's bytes", input, rounds)?;
     let start = Instant::now(rt)?;
     let mut all = true;
     for _ in 0..rounds {
-        all = all && talks(rt.alloc(), input.as_slice(), size, count);
+        all = all && talks(rt.alloc(), input, size, count);
     }
-    let name = format!(in rt.alloc(); "talk, records of {words}")?;
-    print_rate(rt, length, name.as_str(), start, whole, rounds)?;
-    print_records(rt, length, start, count, rounds)?;
-    println!(rt; "records of {words} are appended: {all}")?;
-    Ok(())
-}
-
-// How many records a second were appended since `start`, where that was timed.
-fn print_records<R: Print + Clock>(
-    rt: &R,
-    length: Length,
-    start: Instant,
-    count: usize,
-    rounds: usize,
-) -> Result<()> {
-    if length == Length::Timed {
-        let seconds = start.elapsed(rt)?.as_secs_f64();
-        let records = num::nearest_u64_to_f64(count as u64)
-            * num::nearest_u64_to_f64(rounds as u64);
-        let rate = records / seconds / 1e6;
-        println!(rt; "{:<36} {rate:>7.2} million records a second", "")?;
+    let rate = print_rate(rt, length, name, start, input.len(), rounds)?;
+    if length.is_timed() {
+        let share = num::nearest_u64_to_f64(count as u64)
+            / num::nearest_u64_to_f64(input.len() as u64);
+        let records = rate * 1e3 * share;
+        println!(rt; "{:<36} {records:>7.2} million records a second", "")?;
     }
-    Ok(())
+    Ok(all)
 }
 
 // Whether a talk over these bytes appends so many records of that size.
 fn talks(alloc: Global, input: &[u8], size: usize, count: usize) -> bool {
     let mut port = Counting::new();
-    let mut reader = Rest { rest: input };
-    let talked = talk(alloc, &mut reader, Nowhere, &mut port, u64::MAX);
-    talked.end == Ok(TalkEnd::Finished)
+    let mut rest = input;
+    let talked = talk(alloc, &mut rest, io::sink(), &mut port, u64::MAX);
+    matches!(talked.end, Ok(TalkEnd::Finished))
         && port.records == count as u64
         && port.bytes == (count as u64).wrapping_mul(size as u64)
 }
 
-// The packets of a client that appends so many records of that size, under one header.
-fn input_of(alloc: Global, size: usize, count: usize) -> Result<Vec<u8>> {
-    let mut bytes = Vec::new(alloc);
-    put_text(
-        alloc,
-        &mut bytes,
-        b"append open session JobId=7 Pool=Default Media=File",
-    )?;
-    put_text(alloc, &mut bytes, b"append data 1")?;
-    put_text(alloc, &mut bytes, b"1 2 0")?;
-    let record = vec![in alloc; b'x'; size]?;
-    for _ in 0..count {
-        put_text(alloc, &mut bytes, record.as_slice())?;
+// Adds the packets of a client that appends so many records of that size.
+fn put_session(alloc: Global, bytes: &mut Vec<u8>, size: usize, count: usize) -> io::Result<()> {
+    for line in BEGINNING {
+        put_text(alloc, bytes, line, 1)?;
     }
-    put_signal(&mut bytes, -1)?;
-    put_signal(&mut bytes, -1)?;
-    put_text(alloc, &mut bytes, b"append end session 1")?;
-    put_signal(&mut bytes, -4)?;
-    Ok(bytes)
+    put_records(alloc, bytes, size, count)?;
+    put_signal(bytes, -1)?;
+    put_signal(bytes, -1)?;
+    put_text(alloc, bytes, b"append end session 1", 1)?;
+    put_signal(bytes, -4)
 }
 
-fn put_text(alloc: Global, bytes: &mut Vec<u8>, text: &[u8]) -> Result<()> {
+fn put_records(alloc: Global, bytes: &mut Vec<u8>, size: usize, count: usize) -> io::Result<()> {
+    let record = vec![in alloc; b'x'; size]?;
+    put_text(alloc, bytes, &record, count)
+}
+
+// Adds the packet of the text so many times.
+fn put_text(alloc: Global, bytes: &mut Vec<u8>, text: &[u8], times: usize) -> io::Result<()> {
     let Some(payload) = Payload::new(Bytes::from_slice(alloc, text)?) else {
-        bail!("more than {MOST_DATA} bytes");
+        return Err(io::Error::other("a packet of too many bytes"));
     };
-    put_packet(bytes, &Packet::Bytes(payload))?;
+    let packet = Packet::Bytes(payload);
+    for _ in 0..times {
+        put_packet(bytes, &packet)?;
+    }
     Ok(())
 }
 
-fn put_signal(bytes: &mut Vec<u8>, number: i32) -> Result<()> {
-    let signal = Context::context(SignalNo::new(number), "a signal")?;
+fn put_signal(bytes: &mut Vec<u8>, number: i32) -> io::Result<()> {
+    let Some(signal) = SignalNo::new(number) else {
+        return Err(io::Error::other("a signal"));
+    };
     put_packet(bytes, &Packet::Signal(signal))?;
     Ok(())
-}
-
-// Gives some bytes.
-#[derive(Drop)]
-struct Rest<'a> {
-    rest: &'a [u8],
-}
-
-impl Read for Rest<'_> {
-    fn read(&mut self, buf: &mut [u8]) -> io::Result<usize> {
-        let count = buf.len().min(self.rest.len());
-        let (front, rest) = self.rest.split_at(count);
-        buf[..count].copy_from_slice(front);
-        self.rest = rest;
-        Ok(count)
-    }
-}
-
-// Takes every byte, and keeps none.
-#[derive(Drop)]
-struct Nowhere;
-
-impl Write for Nowhere {
-    fn write(&mut self, buf: &[u8]) -> io::Result<usize> {
-        Ok(buf.len())
-    }
-
-    fn flush(&mut self) -> io::Result<()> {
-        Ok(())
-    }
 }
 
 // A port that counts the records that it is given, and lets them go.
