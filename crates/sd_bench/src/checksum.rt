@@ -1,46 +1,29 @@
 // The checksum of a block, beside the plain table body and a copy.
-use crate::rate::{Length, print_rate};
+use crate::rate::{Length, print_rate, tell};
 use sd_crc::{crc32, crc32_by_table};
-use std::io;
-use std::rt::Clock;
 use std::time::Instant;
 
 /// Checksums of buffers of a usual and of the greatest block.
-pub fn run<R: Print + Clock + AllocGlobal>(rt: &R, length: Length) -> io::Result<()> {
-    checksums(rt, length, "64,512 bytes", 64_512)?;
-    checksums(rt, length, "1 MiB", 1_048_576)
+pub fn run(rt: HostRuntime, length: Length) -> bool {
+    checksums(rt, length, "64,512 bytes", 64_512) && checksums(rt, length, "1 MiB", 1_048_576)
 }
 
-fn checksums<R: Print + Clock + AllocGlobal>(
-    rt: &R,
-    length: Length,
-    label: &str,
-    size: usize,
-) -> io::Result<()> {
-    let buffer = vec![in rt.alloc(); 0x5au8; size]?;
-    checksums_of(rt, length, label, &buffer)
-}
-
-fn checksums_of<R: Print + Clock>(
-    rt: &R,
-    length: Length,
-    label: &str,
-    buffer: &[u8],
-) -> io::Result<()> {
-    let size = buffer.len();
+fn checksums(rt: HostRuntime, length: Length, label: &str, size: usize) -> bool {
+    let Ok(buffer) = vec![in rt.alloc(); 0x5au8; size] else {
+        return false;
+    };
     let rounds = length.rounds(size);
-    let start = Instant::now(rt)?;
+    let start = Instant::now(&rt);
     let mut sum = 0;
     for _ in 0..rounds {
-        sum ^= crc32(buffer);
+        sum ^= crc32(&buffer);
     }
-    print_rate(rt, length, "crc32", start, size, rounds)?;
-    let start = Instant::now(rt)?;
+    print_rate(rt, length, "crc32", start, size, rounds);
+    let start = Instant::now(&rt);
     let mut table_sum = 0;
     for _ in 0..rounds {
-        table_sum ^= crc32_by_table(buffer);
+        table_sum ^= crc32_by_table(&buffer);
     }
-    print_rate(rt, length, "crc32 by one table", start, size, rounds)?;
-    let same = sum == table_sum;
-    println!(rt; "checksums of {label} agree: {same}")
+    print_rate(rt, length, "crc32 by one table", start, size, rounds);
+    tell(rt, "checksums of", label, "agree", sum == table_sum)
 }

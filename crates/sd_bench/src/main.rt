@@ -15,27 +15,25 @@ mod spools;
 mod talk;
 mod volumes;
 
-use anyhow::Result;
+use anyhow::{Result, bail};
 use rate::Length;
 use sd_filedrive::FileDrive;
 use std::alloc::Global;
-use std::{env, io};
+use std::env;
 
 /// How much memory is taken and given back at the start.
 const KEPT: usize = 33_000_000;
 
 fn main(rt: HostRuntime) -> Result<()> {
     keep_memory(rt.alloc());
-    obey(rt)?;
-    Ok(())
-}
-
-fn obey(rt: HostRuntime) -> io::Result<()> {
     let mut arguments = env::args(&rt)?.skip(1);
     let first = arguments.next();
     let folder = arguments.next();
     let count = arguments.next();
-    run(rt, word(&first), word(&folder), word(&count))
+    if !run(rt, word(&first), word(&folder), word(&count)) {
+        bail!("a job isn't done");
+    }
+    Ok(())
 }
 
 fn word(argument: &Option<String>) -> &str {
@@ -45,33 +43,43 @@ fn word(argument: &Option<String>) -> &str {
     }
 }
 
-fn run(rt: HostRuntime, first: &str, folder: &str, count: &str) -> io::Result<()> {
-    if first == "files" || first == "spool" {
-        let Ok(count) = count.parse::<u64>() else {
-            return Err(io::Error::other("usage: files FOLDER COUNT, or spool FOLDER COUNT"));
-        };
-        if first == "spool" {
-            return spools::run(rt, folder, count);
-        }
-        return files(rt, folder, count);
+// Whether what the arguments ask for was done. The jobs answer so too, and no more: each way out of a function with an
+// error in hand would cost as much to prove as the job.
+fn run(rt: HostRuntime, first: &str, folder: &str, count: &str) -> bool {
+    match first {
+        "files" | "spool" => run_in_files(rt, first == "spool", folder, count),
+        "times" => run_jobs(rt, Length::Timed),
+        _ => run_jobs(rt, Length::Once),
     }
-    let length = if first == "times" {
-        Length::Timed
-    } else {
-        Length::Once
+}
+
+fn run_in_files(rt: HostRuntime, into_spool: bool, folder: &str, count: &str) -> bool {
+    let Ok(count) = count.parse::<u64>() else {
+        let _ = eprintln!(rt; "usage: files FOLDER COUNT, or spool FOLDER COUNT");
+        return false;
     };
-    checksum::run(&rt, length)?;
-    blocks::run(&rt, length)?;
-    packing::run(&rt, length)?;
-    volumes::run(&rt, length)?;
-    readback::run(&rt, length)?;
-    talk::run(&rt, length)
+    if into_spool {
+        spools::run(rt, folder, count)
+    } else {
+        files(rt, folder, count)
+    }
+}
+
+fn run_jobs(rt: HostRuntime, length: Length) -> bool {
+    checksum::run(rt, length)
+        && blocks::run(rt, length)
+        && packing::run(rt, length)
+        && volumes::run(rt, length)
+        && readback::run(rt, length)
+        && talk::run(rt, length)
 }
 
 // Writes so many blocks to a file of the folder.
-fn files(rt: HostRuntime, folder: &str, blocks: u64) -> io::Result<()> {
-    let mut drive = FileDrive::new(rt, rt.alloc(), folder)?;
-    volumes::write(&mut drive, blocks)
+fn files(rt: HostRuntime, folder: &str, blocks: u64) -> bool {
+    match FileDrive::new(rt, rt.alloc(), folder) {
+        Ok(mut drive) => volumes::write(&mut drive, blocks),
+        Err(_) => false,
+    }
 }
 
 // Takes one large piece of memory and gives it back, untouched. From then on the C library's heap keeps what is given

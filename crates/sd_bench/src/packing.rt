@@ -1,12 +1,10 @@
 // Packing records into bodies and unpacking them again, beside a copy of as many bytes.
-use crate::rate::{Length, print_copies, print_rate};
+use crate::rate::{Length, print_copies, print_rate, tell};
 use sd_base::{Bytes, JobId, MediaName, PoolName, Rec};
 use sd_label::SessionLabel;
 use sd_pack::{Body, Packer};
 use sd_unpack::Unpacker;
 use std::alloc::Global;
-use std::io;
-use std::rt::Clock;
 use std::time::Instant;
 
 /// The records of a timed run are some 400 MB; at any time 16 MB of them are packed.
@@ -15,184 +13,135 @@ const AT_ONCE: usize = 16_000_000;
 /// The block limit that the daemon has if nothing else is said.
 const BLOCK: usize = 64_512;
 
-/// Packs and unpacks records of a small and of a large file's size.
-pub fn run<R: Print + Clock + AllocGlobal>(rt: &R, length: Length) -> io::Result<()> {
-    pack_and_unpack(rt, length, "4,000 bytes", 4_000)?;
-    pack_and_unpack(rt, length, "1,000,000 bytes", 1_000_000)
-}
-
-/// How much a run goes over: so many records, of so many bytes together, so many times.
+/// What becomes of the bodies that a packer closes.
 #[derive(Clone, Copy)]
-struct Work {
-    count: usize,
-    whole: usize,
-    rounds: usize,
+pub enum Bodies {
+    /// Each is let go, as a session does.
+    PassedOn,
+    Kept,
 }
 
-impl Work {
-    fn new(length: Length, size: usize) -> Work {
-        let (count, rounds) = match length {
-            Length::Once => (2, 1),
-            Length::Timed => (AT_ONCE / size.max(1), 25),
-        };
-        Work {
-            count,
-            whole: size.wrapping_mul(count),
-            rounds,
-        }
-    }
+/// Packs and unpacks records of a small and of a large file's size.
+pub fn run(rt: HostRuntime, length: Length) -> bool {
+    pack_and_unpack(rt, length, "4,000 bytes", 4_000)
+        && pack_and_unpack(rt, length, "1,000,000 bytes", 1_000_000)
 }
 
-fn pack_and_unpack<R: Print + Clock + AllocGlobal>(
-    rt: &R,
-    length: Length,
-    label: &str,
-    size: usize,
-) -> io::Result<()> {
-    let work = Work::new(length, size);
-    let rec = record(rt.alloc(), size)?;
-    let mut bodies = Vec::new(rt.alloc());
-    print_packs(rt, length, work, &rec, &mut bodies)?;
-    print_unpacks(rt, length, label, work, &bodies)
-}
-
-/// A record of so many bytes.
-pub fn record(alloc: Global, size: usize) -> io::Result<Rec> {
-    let bytes = Bytes::from_vec(vec![in alloc; 0x5au8; size]?);
-    Rec::new(1, 2, bytes).ok_or(io::Error::other("a record"))
-}
-
-// Packs so many times, and lets each body go once it is closed, as a session does. The bodies of one time more.
-fn print_packs<R: Print + Clock + AllocGlobal>(
-    rt: &R,
-    length: Length,
-    work: Work,
-    rec: &Rec,
-    bodies: &mut Vec<Body>,
-) -> io::Result<()> {
-    let times = work.rounds.saturating_mul(work.count);
-    print_copies(
+fn pack_and_unpack(rt: HostRuntime, length: Length, label: &str, size: usize) -> bool {
+    let (count, rounds) = match length {
+        Length::Once => (2, 1),
+        Length::Timed => (AT_ONCE / size.max(1), 25),
+    };
+    let Some(rec) = record(rt.alloc(), size) else {
+        return false;
+    };
+    let bytes = rec.bytes.as_slice();
+    let mut all = print_copies(
         rt,
         length,
         "copy of the records",
-        rec.bytes.as_slice(),
-        times,
-    )?;
-    let start = Instant::now(rt)?;
-    let mut bytes = 0;
-    for _ in 0..work.rounds {
-        bytes = passed_on(rt.alloc(), rec, work.count)?;
+        bytes,
+        count.saturating_mul(rounds),
+    );
+    let mut bodies = Vec::new(rt.alloc());
+    let whole = size.wrapping_mul(count);
+    let start = Instant::now(&rt);
+    for _ in 0..rounds {
+        all &= pack(rt.alloc(), &rec, count, Bodies::PassedOn, &mut bodies) > whole;
     }
-    print_rate(rt, length, "pack", start, work.whole, work.rounds)?;
-    if bytes <= work.whole {
-        return Err(io::Error::other("bodies are missing"));
-    }
-    pack(rt.alloc(), rec, work.count, bodies)
+    print_rate(rt, length, "pack", start, whole, rounds);
+    all &= pack(rt.alloc(), &rec, count, Bodies::Kept, &mut bodies) > whole;
+    all && print_unpacks(rt, length, label, &bodies, whole, count, rounds)
 }
 
-// Unpacks so many times, and prints whether all records came out in the last of them.
-fn print_unpacks<R: Print + Clock + AllocGlobal>(
-    rt: &R,
-    length: Length,
-    label: &str,
-    work: Work,
-    bodies: &[Body],
-) -> io::Result<()> {
-    let start = Instant::now(rt)?;
-    let mut records = 0;
-    for _ in 0..work.rounds {
-        records = unpacked(rt.alloc(), bodies)?;
-    }
-    print_rate(rt, length, "unpack", start, work.whole, work.rounds)?;
-    let all = records == work.count;
-    println!(rt; "records of {label} come back: {all}")
+/// A record of so many bytes.
+pub fn record(alloc: Global, size: usize) -> Option<Rec> {
+    let bytes = vec![in alloc; 0x5au8; size].ok()?;
+    Rec::new(1, 2, Bytes::from_vec(bytes))
 }
 
-// Packs a session of so many of this record, and lets its bodies go. How many bytes they had.
-fn passed_on(alloc: Global, rec: &Rec, count: usize) -> io::Result<usize> {
-    let mut packer = Packer::new(alloc, BLOCK)?;
-    put_all(&mut packer, rec, count)
-}
-
-fn put_all(packer: &mut Packer, rec: &Rec, count: usize) -> io::Result<usize> {
-    put_label(packer)?;
+/// Packs a session of so many of this record, without its end label. How many bytes its bodies have; 0 without
+/// memory.
+pub fn pack(alloc: Global, rec: &Rec, count: usize, fate: Bodies, bodies: &mut Vec<Body>) -> usize {
+    let Ok(mut packer) = Packer::new(alloc, BLOCK) else {
+        return 0;
+    };
+    let mut all = put_label(&mut packer);
     let mut bytes = 0usize;
     for _ in 0..count {
-        packer.put(rec)?;
-        bytes = bytes.wrapping_add(take_all(packer));
+        all &= packer.put(rec).is_ok();
+        bytes = bytes.wrapping_add(take_all(&mut packer, fate, bodies));
     }
     packer.finish();
-    Ok(bytes.wrapping_add(take_all(packer)))
+    bytes = bytes.wrapping_add(take_all(&mut packer, fate, bodies));
+    if all { bytes } else { 0 }
 }
 
 // Takes the bodies that wait. How many bytes they had.
-fn take_all(packer: &mut Packer) -> usize {
+fn take_all(packer: &mut Packer, fate: Bodies, bodies: &mut Vec<Body>) -> usize {
     let mut bytes = 0usize;
     for _ in 0..packer.waiting() {
         if let Some(body) = packer.take_body() {
             bytes = bytes.wrapping_add(body.bytes.len());
+            if let Bodies::Kept = fate {
+                // One that finds no room is missed when they are unpacked.
+                let _ = bodies.push(body);
+            }
         }
     }
     bytes
 }
 
-/// Adds the bodies of a session of so many of this record, without its end label.
-pub fn pack(alloc: Global, rec: &Rec, count: usize, bodies: &mut Vec<Body>) -> io::Result<()> {
-    let mut packer = Packer::new(alloc, BLOCK)?;
-    keep_all(&mut packer, rec, count, bodies)
-}
-
-fn keep_all(
-    packer: &mut Packer,
-    rec: &Rec,
+// Unpacks so many times, and tells whether all records came out each time.
+fn print_unpacks(
+    rt: HostRuntime,
+    length: Length,
+    label: &str,
+    bodies: &[Body],
+    whole: usize,
     count: usize,
-    bodies: &mut Vec<Body>,
-) -> io::Result<()> {
-    put_label(packer)?;
-    for _ in 0..count {
-        packer.put(rec)?;
+    rounds: usize,
+) -> bool {
+    let start = Instant::now(&rt);
+    let mut all = true;
+    for _ in 0..rounds {
+        all &= unpacked(rt.alloc(), bodies) == count;
     }
-    packer.finish();
-    for _ in 0..packer.waiting() {
-        if let Some(body) = packer.take_body() {
-            bodies.push(body)?;
-        }
-    }
-    Ok(())
+    print_rate(rt, length, "unpack", start, whole, rounds);
+    tell(rt, "records of", label, "come back", all)
 }
 
-// How many records the bodies give.
-fn unpacked(alloc: Global, bodies: &[Body]) -> io::Result<usize> {
+// How many records the bodies give; 0 where one is damaged.
+fn unpacked(alloc: Global, bodies: &[Body]) -> usize {
     let mut unpacker = Unpacker::new(alloc);
+    let mut all = true;
     let mut records = 0usize;
     for body in bodies {
-        records = records.wrapping_add(unpack(&mut unpacker, body)?);
+        all &= unpacker.add(body.bytes.as_slice()).is_ok();
+        records = records.wrapping_add(take_records(&mut unpacker, body.bytes.len()));
     }
-    Ok(records)
+    if all { records } else { 0 }
 }
 
-// How many records are whole with this body.
-fn unpack(unpacker: &mut Unpacker, body: &Body) -> io::Result<usize> {
-    if unpacker.add(body.bytes.as_slice()).is_err() {
-        return Err(io::Error::other("a body is damaged"));
-    }
+// How many records were whole, of at most so many.
+fn take_records(unpacker: &mut Unpacker, most: usize) -> usize {
     let mut records = 0usize;
-    for _ in 0..body.bytes.len() {
+    for _ in 0..most {
         let Some(_rec) = unpacker.take_record() else {
             break;
         };
         records = records.wrapping_add(1);
     }
-    Ok(records)
+    records
 }
 
-fn put_label(packer: &mut Packer) -> io::Result<()> {
+fn put_label(packer: &mut Packer) -> bool {
     let (Some(job), Ok(pool), Ok(media)) = (
         JobId::new(7),
         PoolName::parse("Default"),
         MediaName::parse("File"),
     ) else {
-        return Err(io::Error::other("a label"));
+        return false;
     };
     let label = SessionLabel {
         job,
@@ -201,6 +150,5 @@ fn put_label(packer: &mut Packer) -> io::Result<()> {
         moment: 0,
         totals: None,
     };
-    packer.put_label(&label)?;
-    Ok(())
+    packer.put_label(&label).is_ok()
 }

@@ -2,9 +2,9 @@
 // one copy of each byte.
 ghost use Rattle.std.specs.Prelude.{◌≡◌, None};
 
-use crate::packing::{pack, record};
-use crate::rate::{Length, print_rate};
-use crate::volumes::{KEY, add, label, new_volume};
+use crate::packing::{Bodies, pack, record};
+use crate::rate::{Length, print_rate, tell, tell_sum};
+use crate::volumes::{KEY, add, label};
 use sd_base::{MOST_VOLUME, Rec};
 use sd_crc::crc32;
 use sd_driver::Driver;
@@ -13,10 +13,8 @@ use sd_memdrive::MemDrive;
 use sd_pack::Body;
 use sd_readback::{Seen, Sink, read_session};
 use sd_span::Span;
-use sd_volume::Volume;
+use sd_volume::{Volume, label_new};
 use std::alloc::{AllocError, Global};
-use std::io;
-use std::rt::Clock;
 use std::time::Instant;
 
 /// The bytes of a record.
@@ -24,37 +22,43 @@ const RECORD: usize = 64_000;
 
 /// Packs a session onto a volume of some 16 MB, and reads it back, again and again. A sink that lets each record
 /// go measures the reader; one that keeps them all measures the memory too that it takes anew in each round.
-pub fn run<R: Print + Clock + AllocGlobal>(rt: &R, length: Length) -> io::Result<()> {
+pub fn run(rt: HostRuntime, length: Length) -> bool {
     let count = match length {
         Length::Once => 2,
         Length::Timed => 250,
     };
-    let bodies = packed(rt.alloc(), count)?;
-    print_session(rt, length, count, &bodies)
+    let (Some(label), Some(rec)) = (label(), record(rt.alloc(), RECORD)) else {
+        return false;
+    };
+    let Ok(mut drive) = MemDrive::new(rt.alloc(), MOST_VOLUME, &[]) else {
+        return false;
+    };
+    let mut bodies = Vec::new(rt.alloc());
+    pack(rt.alloc(), &rec, count, Bodies::Kept, &mut bodies) > 0
+        && print_session(rt, length, count, &mut drive, &label, &bodies)
 }
 
-fn packed(alloc: Global, count: usize) -> io::Result<Vec<Body>> {
-    let rec = record(alloc, RECORD)?;
-    let mut bodies = Vec::new(alloc);
-    pack(alloc, &rec, count, &mut bodies)?;
-    Ok(bodies)
-}
-
-fn print_session<R: Print + Clock + AllocGlobal>(
-    rt: &R,
+fn print_session<D: Driver>(
+    rt: HostRuntime,
     length: Length,
     count: usize,
+    drive: &mut D,
+    label: &VolumeLabel,
     bodies: &[Body],
-) -> io::Result<()> {
+) -> bool
+    requires { (D.meaning drive.old).loaded ≡ None }
+{
     let rounds = match length {
         Length::Once => 1,
         Length::Timed => 25,
     };
-    let label = label()?;
-    let mut drive = MemDrive::new(rt.alloc(), MOST_VOLUME, &[])?;
-    let span = stored(rt.alloc(), &mut drive, &label, bodies)?;
-    let allowed = print_alone(rt, length, bodies, rounds)?;
-    print_both(rt, length, &mut drive, &span, count, rounds, allowed)
+    match stored(rt.alloc(), drive, label, bodies) {
+        Some(span) => {
+            let allowed = print_alone(rt, length, bodies, rounds);
+            print_both(rt, length, count, rounds, allowed, drive, &span)
+        }
+        None => false,
+    }
 }
 
 // Where the session stands, on a volume that is made for it.
@@ -63,15 +67,15 @@ fn stored<D: Driver>(
     drive: &mut D,
     label: &VolumeLabel,
     bodies: &[Body],
-) -> io::Result<Span>
+) -> Option<Span>
     requires { (D.meaning drive.old).loaded ≡ None }
 {
-    let mut volume = new_volume(alloc, drive, label)?;
+    let mut volume = label_new(alloc, drive, label).ok()?;
     let start = volume.end();
     if !store(alloc, drive, &mut volume, bodies) {
-        return Err(io::Error::other("a block wasn't added"));
+        return None;
     }
-    Ok(Span {
+    Some(Span {
         volume: label.name.copy(),
         vol_index: 1,
         first: 1,
@@ -98,26 +102,25 @@ fn store<D: Driver>(alloc: Global, drive: &mut D, volume: &mut Volume, bodies: &
 }
 
 // The checksums of the blocks and one copy of the bodies, as often; and the rate in GB/s that both together allow.
-fn print_alone<R: Print + Clock + AllocGlobal>(
-    rt: &R,
-    length: Length,
-    bodies: &[Body],
-    rounds: usize,
-) -> io::Result<f64> {
+fn print_alone(rt: HostRuntime, length: Length, bodies: &[Body], rounds: usize) -> f64 {
     let whole = RECORD.wrapping_mul(bodies.len());
-    let start = Instant::now(rt)?;
+    let start = Instant::now(&rt);
     let mut sum = 0;
     for _ in 0..rounds {
         sum ^= sum_of(bodies);
     }
-    let sums = print_rate(rt, length, "checksums of its bodies", start, whole, rounds)?;
-    let start = Instant::now(rt)?;
+    let sums = print_rate(rt, length, "checksums of its bodies", start, whole, rounds);
+    let start = Instant::now(&rt);
+    let mut all = true;
     for _ in 0..rounds {
-        copy_all(rt.alloc(), bodies)?;
+        all &= are_copied(rt.alloc(), bodies);
     }
-    let copies = print_rate(rt, length, "copy of its bodies", start, whole, rounds)?;
-    println!(rt; "checksums of a session's bodies: {sum:08x}")?;
-    Ok(1.0 / (1.0 / sums + 1.0 / copies))
+    let copies = print_rate(rt, length, "copy of its bodies", start, whole, rounds);
+    if all && tell_sum(rt, "a session's bodies", sum) {
+        1.0 / (1.0 / sums + 1.0 / copies)
+    } else {
+        0.0
+    }
 }
 
 fn sum_of(bodies: &[Body]) -> u32 {
@@ -128,37 +131,38 @@ fn sum_of(bodies: &[Body]) -> u32 {
     sum
 }
 
-fn copy_all(alloc: Global, bodies: &[Body]) -> Result<(), AllocError> {
+fn are_copied(alloc: Global, bodies: &[Body]) -> bool {
+    let mut all = true;
     for body in bodies {
-        let _copy = body.bytes.as_slice().to_vec(alloc)?;
+        all &= body.bytes.as_slice().to_vec(alloc).is_ok();
     }
-    Ok(())
+    all
 }
 
 // Reads the session back into each kind of sink, beside the rate that a checksum and a copy allow.
-fn print_both<R: Print + Clock + AllocGlobal, D: Driver>(
-    rt: &R,
+fn print_both<D: Driver>(
+    rt: HostRuntime,
     length: Length,
-    drive: &mut D,
-    span: &Span,
     count: usize,
     rounds: usize,
     allowed: f64,
-) -> io::Result<()> {
+    drive: &mut D,
+    span: &Span,
+) -> bool {
     let whole = RECORD.wrapping_mul(count);
-    let start = Instant::now(rt)?;
-    let passed = read_again::<Passed, D>(rt.alloc(), drive, span, rounds)?;
-    let rate = print_rate(rt, length, "read a session back", start, whole, rounds)?;
-    if length.is_timed() {
+    let start = Instant::now(&rt);
+    let passed = read_again::<Passed, D>(rt.alloc(), drive, span, rounds);
+    let rate = print_rate(rt, length, "read a session back", start, whole, rounds);
+    if let Length::Timed = length {
         let share = rate / allowed;
-        println!(rt; "{:<36} {share:>7.2} of a checksum and a copy", "")?;
+        let _ = println!(rt; "{:<36} {share:>7.2} of a checksum and a copy", "");
     }
-    let start = Instant::now(rt)?;
-    let kept = read_again::<Vec<Rec>, D>(rt.alloc(), drive, span, rounds)?;
+    let start = Instant::now(&rt);
+    let kept = read_again::<Vec<Rec>, D>(rt.alloc(), drive, span, rounds);
     let name = "read it back, and keep its records";
-    print_rate(rt, length, name, start, whole, rounds)?;
+    print_rate(rt, length, name, start, whole, rounds);
     let all = passed == whole as u64 && kept == count as u64;
-    println!(rt; "a session's records are read back: {all}")
+    tell(rt, "a session's", "records", "are read back", all)
 }
 
 /// A sink that is made anew for each reading, and counts what it got.
@@ -168,23 +172,23 @@ trait Target: Sink + Drop {
     fn count(&self) -> u64;
 }
 
-// Reads the session so many times, each time into a sink of its own. What the last of them counted.
+// Reads the session so many times, each time into a sink of its own. What the last of them counted; 0 where one
+// isn't read.
 fn read_again<S: Target, D: Driver>(
     alloc: Global,
     drive: &mut D,
     span: &Span,
     rounds: usize,
-) -> io::Result<u64> {
+) -> u64 {
     let spans = std::slice::from_ref(span);
+    let mut all = true;
     let mut count = 0;
     for _ in 0..rounds {
         let mut sink = S::empty(alloc);
-        if read_session(alloc, drive, KEY, spans, &mut sink).is_err() {
-            return Err(io::Error::other("the session isn't read"));
-        }
+        all &= read_session(alloc, drive, KEY, spans, &mut sink).is_ok();
         count = sink.count();
     }
-    Ok(count)
+    if all { count } else { 0 }
 }
 
 // Keeps the records.

@@ -3,43 +3,37 @@ use sd_base::{Bytes, DriveNo, LaneNo, MOST_VOLUME};
 use sd_pack::Body;
 use sd_spool::{FileSpool, JobSpool, SpoolStore};
 use std::alloc::Global;
-use std::io;
 
-/// Puts so many bodies of usual blocks into a spool in a file of the folder, and takes them out again.
-pub fn run(rt: HostRuntime, folder: &str, count: u64) -> io::Result<()> {
+/// Puts so many bodies of usual blocks into a spool in a file of the folder, and takes them out again. Whether all
+/// came back.
+pub fn run(rt: HostRuntime, folder: &str, count: u64) -> bool {
     let (Some(drive), Some(lane)) = (DriveNo::new(1), LaneNo::new(1)) else {
-        return Err(io::Error::other("a number"));
+        return false;
     };
-    let store = FileSpool::new(rt, rt.alloc(), folder, drive, lane)?;
-    let Ok(mut spool) = JobSpool::new(rt.alloc(), store, MOST_VOLUME) else {
-        return Err(io::Error::other("the spool can't be cleared"));
+    let Ok(store) = FileSpool::new(rt, rt.alloc(), folder, drive, lane) else {
+        return false;
     };
-    there_and_back(rt.alloc(), &mut spool, count)
+    match JobSpool::new(rt.alloc(), store, MOST_VOLUME) {
+        Ok(mut spool) => there_and_back(rt.alloc(), &mut spool, count),
+        Err(_) => false,
+    }
 }
 
-fn there_and_back<S: SpoolStore>(
-    alloc: Global,
-    spool: &mut JobSpool<S>,
-    count: u64,
-) -> io::Result<()> {
+fn there_and_back<S: SpoolStore>(alloc: Global, spool: &mut JobSpool<S>, count: u64) -> bool {
+    let Ok(bytes) = vec![in alloc; 0x5au8; 64_488] else {
+        return false;
+    };
     let body = Body {
-        bytes: Bytes::from_vec(vec![in alloc; 0x5au8; 64_488]?),
+        bytes: Bytes::from_vec(bytes),
         first: 1,
         last: 1,
     };
+    let mut all = true;
     for _ in 0..count {
-        if spool.put_body(&body).is_err() {
-            return Err(io::Error::other("a body isn't put"));
-        }
+        all = all && spool.put_body(&body).is_ok();
     }
-    take_all(spool, count)
-}
-
-fn take_all<S: SpoolStore>(spool: &mut JobSpool<S>, count: u64) -> io::Result<()> {
     for _ in 0..count {
-        let Ok(Some(_body)) = spool.next_body() else {
-            return Err(io::Error::other("a body doesn't come back"));
-        };
+        all = all && matches!(&spool.next_body(), Ok(Some(_)));
     }
-    Ok(())
+    all
 }

@@ -1,7 +1,7 @@
 // A talk over memory that appends records of several sizes, beside copying the same bytes once.
 ghost use Rattle.std.specs.Prelude.{◌≡◌, [], pos};
 
-use crate::rate::{Length, print_copies, print_rate};
+use crate::rate::{Length, print_copies, print_rate, tell};
 use sd_append::{Log, ReadBack, SessionPort, TalkEnd, talk};
 use sd_base::{Bytes, DriveNo, Items, Refusal, SessionKey, Ticket};
 use sd_bnet::{Packet, Payload, SignalNo, put_packet};
@@ -9,7 +9,6 @@ use sd_machine::{Event, Reply};
 use sd_readback::{ReadEnd, Sink};
 use sd_span::Span;
 use std::alloc::Global;
-use std::rt::Clock;
 use std::snapshot::Snapshot;
 use std::time::Instant;
 use std::{io, num};
@@ -25,56 +24,48 @@ static BEGINNING: [&[u8]; 3] = [
 ];
 
 /// Talks that append records of 64 KiB, of 4 KB and of 100 bytes.
-pub fn run<R: Print + Clock + AllocGlobal>(rt: &R, length: Length) -> io::Result<()> {
-    appends(rt, length, "talk, records of 64 KiB", "64 KiB", 65_536)?;
-    appends(rt, length, "talk, records of 4 KB", "4 KB", 4_000)?;
-    appends(rt, length, "talk, records of 100 bytes", "100 bytes", 100)
+pub fn run(rt: HostRuntime, length: Length) -> bool {
+    appends(rt, length, "talk, records of 64 KiB", "64 KiB", 65_536)
+        && appends(rt, length, "talk, records of 4 KB", "4 KB", 4_000)
+        && appends(rt, length, "talk, records of 100 bytes", "100 bytes", 100)
 }
 
-fn appends<R: Print + Clock + AllocGlobal>(
-    rt: &R,
-    length: Length,
-    name: &str,
-    words: &str,
-    size: usize,
-) -> io::Result<()> {
+fn appends(rt: HostRuntime, length: Length, name: &str, words: &str, size: usize) -> bool {
     let count = match length {
         Length::Once => 2,
         Length::Timed => TALK_BYTES / size.max(1),
     };
     let mut input = Vec::new(rt.alloc());
-    put_session(rt.alloc(), &mut input, size, count)?;
-    let all = print_talks(rt, length, name, &input, size, count)?;
-    println!(rt; "records of {words} are appended: {all}")
+    put_session(rt.alloc(), &mut input, size, count)
+        && print_talks(rt, length, name, words, &input, size, count)
 }
 
-// Whether each talk over these bytes appended so many records of that size.
-fn print_talks<R: Print + Clock + AllocGlobal>(
-    rt: &R,
+// Tells whether each talk over these bytes appended so many records of that size.
+fn print_talks(
+    rt: HostRuntime,
     length: Length,
     name: &str,
+    words: &str,
     input: &[u8],
     size: usize,
     count: usize,
-) -> io::Result<bool> {
+) -> bool {
     let rounds = match length {
         Length::Once => 1,
         Length::Timed => 25,
     };
-    print_copies(rt, length, "copy of a talk's bytes", input, rounds)?;
-    let start = Instant::now(rt)?;
-    let mut all = true;
+    let mut all = print_copies(rt, length, "copy of a talk's bytes", input, rounds);
+    let start = Instant::now(&rt);
     for _ in 0..rounds {
         all = all && talks(rt.alloc(), input, size, count);
     }
-    let rate = print_rate(rt, length, name, start, input.len(), rounds)?;
-    if length.is_timed() {
-        let share = num::nearest_u64_to_f64(count as u64)
-            / num::nearest_u64_to_f64(input.len() as u64);
-        let records = rate * 1e3 * share;
-        println!(rt; "{:<36} {records:>7.2} million records a second", "")?;
+    let rate = print_rate(rt, length, name, start, input.len(), rounds);
+    if let Length::Timed = length {
+        let records = num::nearest_u64_to_f64(count as u64) * 1e3;
+        let records = rate * records / num::nearest_u64_to_f64(input.len() as u64);
+        let _ = println!(rt; "{:<36} {records:>7.2} million records a second", "");
     }
-    Ok(all)
+    tell(rt, "records of", words, "are appended", all)
 }
 
 // Whether a talk over these bytes appends so many records of that size.
@@ -87,41 +78,43 @@ fn talks(alloc: Global, input: &[u8], size: usize, count: usize) -> bool {
         && port.bytes == (count as u64).wrapping_mul(size as u64)
 }
 
-// Adds the packets of a client that appends so many records of that size.
-fn put_session(alloc: Global, bytes: &mut Vec<u8>, size: usize, count: usize) -> io::Result<()> {
+// Adds the packets of a client that appends so many records of that size. Whether there was memory.
+fn put_session(alloc: Global, bytes: &mut Vec<u8>, size: usize, count: usize) -> bool {
+    let Ok(record) = vec![in alloc; b'x'; size] else {
+        return false;
+    };
+    let mut all = true;
     for line in BEGINNING {
-        put_text(alloc, bytes, line, 1)?;
+        all &= put_text(alloc, bytes, line, 1);
     }
-    put_records(alloc, bytes, size, count)?;
-    put_signal(bytes, -1)?;
-    put_signal(bytes, -1)?;
-    put_text(alloc, bytes, b"append end session 1", 1)?;
-    put_signal(bytes, -4)
-}
-
-fn put_records(alloc: Global, bytes: &mut Vec<u8>, size: usize, count: usize) -> io::Result<()> {
-    let record = vec![in alloc; b'x'; size]?;
-    put_text(alloc, bytes, &record, count)
+    all &= put_text(alloc, bytes, &record, count);
+    all &= put_signal(bytes, -1);
+    all &= put_signal(bytes, -1);
+    all &= put_text(alloc, bytes, b"append end session 1", 1);
+    all & put_signal(bytes, -4)
 }
 
 // Adds the packet of the text so many times.
-fn put_text(alloc: Global, bytes: &mut Vec<u8>, text: &[u8], times: usize) -> io::Result<()> {
-    let Some(payload) = Payload::new(Bytes::from_slice(alloc, text)?) else {
-        return Err(io::Error::other("a packet of too many bytes"));
+fn put_text(alloc: Global, bytes: &mut Vec<u8>, text: &[u8], times: usize) -> bool {
+    let Ok(text) = Bytes::from_slice(alloc, text) else {
+        return false;
+    };
+    let Some(payload) = Payload::new(text) else {
+        return false;
     };
     let packet = Packet::Bytes(payload);
+    let mut all = true;
     for _ in 0..times {
-        put_packet(bytes, &packet)?;
+        all &= put_packet(bytes, &packet).is_ok();
     }
-    Ok(())
+    all
 }
 
-fn put_signal(bytes: &mut Vec<u8>, number: i32) -> io::Result<()> {
-    let Some(signal) = SignalNo::new(number) else {
-        return Err(io::Error::other("a signal"));
-    };
-    put_packet(bytes, &Packet::Signal(signal))?;
-    Ok(())
+fn put_signal(bytes: &mut Vec<u8>, number: i32) -> bool {
+    match SignalNo::new(number) {
+        Some(signal) => put_packet(bytes, &Packet::Signal(signal)).is_ok(),
+        None => false,
+    }
 }
 
 // A port that counts the records that it is given, and lets them go.
