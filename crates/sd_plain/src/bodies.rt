@@ -20,14 +20,24 @@ pub(crate) struct Titles {
 }
 
 /// A body: where it ends, the first and the last FileIndex in it, and how many records are whole in it and in
-/// those before it.
+/// those before it, with how many data bytes.
 #[derive(Clone, Copy)]
 pub(crate) struct BodyEnd {
     pub end: usize,
     pub first: u32,
     pub last: u32,
-    pub whole: usize,
+    pub whole: u64,
+    pub bytes: u64,
 }
+
+/// What there is before the first body.
+const NO_BODY: BodyEnd = BodyEnd {
+    end: 0,
+    first: 0,
+    last: 0,
+    whole: 0,
+    bytes: 0,
+};
 
 /// The closed bodies of a session one behind the other, and behind the last of them the open one.
 #[derive(Drop)]
@@ -45,12 +55,7 @@ impl Bodies {
             room,
             bytes: Written::new(alloc),
             closed: Vec::new(alloc),
-            open: BodyEnd {
-                end: 0,
-                first: 0,
-                last: 0,
-                whole: 0,
-            },
+            open: NO_BODY,
         };
         bodies.label(START_LABEL, titles, moment, 0);
         bodies
@@ -61,35 +66,34 @@ impl Bodies {
         self.closed.len()
     }
 
+    /// How many records there are.
+    pub fn records(&self) -> u64 {
+        self.open.whole
+    }
+
     /// The closed body of that number, from 1 on.
     pub fn body(&self, number: usize) -> &[u8] {
         let end = self.end_of(number).end;
         let start = self.end_of(number.saturating_sub(1)).end;
-        self.bytes.as_slice().get(start..end).unwrap_or(&[])
+        self.bytes.bytes.get(start..end).unwrap_or(&[])
     }
 
     /// Where the closed body of that number ends; for the number 0 where the first one begins.
     pub fn end_of(&self, number: usize) -> BodyEnd {
-        let none = BodyEnd {
-            end: 0,
-            first: 0,
-            last: 0,
-            whole: 0,
-        };
-        self.closed
-            .get(number.wrapping_sub(1))
-            .copied()
-            .unwrap_or(none)
+        match self.closed.get(number.wrapping_sub(1)) {
+            None => NO_BODY,
+            Some(body) => *body,
+        }
     }
 
     fn free(&self) -> usize {
         let start = self.end_of(self.closed()).end;
-        let open = self.bytes.len().saturating_sub(start);
+        let open = self.bytes.bytes.len().saturating_sub(start);
         self.room.saturating_sub(open)
     }
 
     fn close(&mut self) {
-        self.open.end = self.bytes.len();
+        self.open.end = self.bytes.bytes.len();
         let _ = self.closed.push(self.open);
         self.open.first = 0;
         self.open.last = 0;
@@ -114,6 +118,7 @@ impl Bodies {
             left = left.saturating_sub(part.len());
         }
         self.open.whole = self.open.whole.saturating_add(1);
+        self.open.bytes = self.open.bytes.saturating_add(data.len() as u64);
     }
 
     fn part(&mut self, index: u32, stream: u32, size: usize, part: &[u8]) {
@@ -140,10 +145,10 @@ impl Bodies {
     }
 
     /// Adds the end label with the totals of the session, and closes the last body.
-    pub fn end(&mut self, titles: Titles, moment: i64, records: u64, bytes: u64) {
+    pub fn end(&mut self, titles: Titles, moment: i64) {
         self.label(END_LABEL, titles, moment, 20);
-        self.bytes.put(&records.to_be_bytes());
-        self.bytes.put(&bytes.to_be_bytes());
+        self.bytes.put(&self.open.whole.to_be_bytes());
+        self.bytes.put(&self.open.bytes.to_be_bytes());
         self.bytes.u32(84);
         self.close();
     }

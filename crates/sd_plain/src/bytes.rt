@@ -4,7 +4,7 @@ use std::alloc::Global;
 /// Bytes that grow. What finds no memory is left out.
 #[derive(Drop)]
 pub(crate) struct Written {
-    bytes: Vec<u8>,
+    pub bytes: Vec<u8>,
 }
 
 impl Written {
@@ -14,20 +14,8 @@ impl Written {
         }
     }
 
-    pub fn as_slice(&self) -> &[u8] {
-        &self.bytes
-    }
-
-    pub fn len(&self) -> usize {
-        self.bytes.len()
-    }
-
     pub fn put(&mut self, bytes: &[u8]) {
         let _ = self.bytes.extend_from_slice(bytes);
-    }
-
-    pub fn cut(&mut self, to: usize) {
-        self.bytes.truncate(to);
     }
 
     /// A number of four bytes, the highest first.
@@ -59,8 +47,8 @@ pub(crate) fn block_image(alloc: Global, time: u32, id: u32, number: u32, body: 
     summed.u32(time);
     summed.put(body);
     let mut image = Written::new(alloc);
-    image.u32(checksum(summed.as_slice()));
-    image.put(summed.as_slice());
+    image.u32(checksum(&summed.bytes));
+    image.put(&summed.bytes);
     image
 }
 

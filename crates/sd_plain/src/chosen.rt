@@ -9,7 +9,7 @@ use std::alloc::Global;
 const MOST_VOLUME: u64 = 68_719_476_736;
 
 /// A kind of call, and how many calls of it may pass before one fails.
-const CALLS: [(Call, u32); 11] = [
+static CALLS: [(Call, u32); 11] = [
     (Call::Create, 4),
     (Call::Load, 6),
     (Call::Load, 16),
@@ -23,15 +23,15 @@ const CALLS: [(Call, u32); 11] = [
     (Call::Cut, 3),
 ];
 
-const WHENS: [When; 3] = [When::Before, When::Half, When::After];
+static WHENS: [When; 3] = [When::Before, When::Half, When::After];
 
-const SPOOL_CALLS: [(SpoolCall, u32); 3] = [
+static SPOOL_CALLS: [(SpoolCall, u32); 3] = [
     (SpoolCall::Append, 12),
     (SpoolCall::Read, 12),
     (SpoolCall::Clear, 4),
 ];
 
-const SPOOL_WHENS: [SpoolWhen; 3] = [SpoolWhen::Before, SpoolWhen::Half, SpoolWhen::After];
+static SPOOL_WHENS: [SpoolWhen; 3] = [SpoolWhen::Before, SpoolWhen::Half, SpoolWhen::After];
 
 /// Settings with the lists that they name.
 #[derive(Drop)]

@@ -29,7 +29,7 @@ enum Kind {
 
 /// A kind, and how often it comes among 1,000 acts in each mood: all goes on; the queues fill; sessions come and
 /// go; the operator works.
-const KINDS: [(Kind, [u32; 4]); 19] = [
+static KINDS: [(Kind, [u32; 4]); 19] = [
     (Kind::Open, [60, 60, 140, 40]),
     (Kind::Rec, [150, 200, 100, 60]),
     (Kind::End, [40, 10, 100, 30]),
@@ -52,7 +52,7 @@ const KINDS: [(Kind, [u32; 4]); 19] = [
 ];
 
 /// The names of the volumes of each device.
-const NAMES: [[&str; 6]; 3] = [
+static NAMES: [[&str; 6]; 3] = [
     ["Vol-A1", "Vol-A2", "Vol-A3", "Vol-A4", "Vol-A5", "Vol-A6"],
     ["Vol-B1", "Vol-B2", "Vol-B3", "Vol-B4", "Vol-B5", "Vol-B6"],
     ["Vol-C1", "Vol-C2", "Vol-C3", "Vol-C4", "Vol-C5", "Vol-C6"],
@@ -106,18 +106,34 @@ impl Generator {
     fn useful(&mut self, ticket: u32, plain: &Plain) -> Act {
         let drive = self.chance.up_to(plain.count());
         if self.chance.once_in(2) {
-            return match (plain.next_turn(drive), plain.wanted_pool(drive)) {
-                (Some(act), _) => act,
-                (None, Some(pool)) => self.wanted_label(drive, pool, plain),
-                (None, None) => self.idle(drive, plain),
+            return match plain.next_turn(drive) {
+                Some(act) => act,
+                None => self.fresh_turn(drive, plain),
             };
         }
         match plain.next_step(ticket) {
             Some(act) => act,
-            None if plain.running(0).is_none() => self.open(plain),
-            None if self.chance.once_in(4) => Act::End(ticket, self.moment()),
-            None => self.rec(ticket, plain.last_index(ticket)),
+            None => self.fresh_step(ticket, plain),
         }
+    }
+
+    // An act of a drive that has no body to bring on, or of its operator.
+    fn fresh_turn(&mut self, drive: u32, plain: &Plain) -> Act {
+        match plain.wanted_pool(drive) {
+            Some(pool) => self.wanted_label(drive, pool, plain),
+            None => self.idle(drive, plain),
+        }
+    }
+
+    // An act of a session that has no body to bring on, or a new session where none is on its way.
+    fn fresh_step(&mut self, ticket: u32, plain: &Plain) -> Act {
+        if plain.running(0).is_none() {
+            return self.open(plain);
+        }
+        if self.chance.once_in(4) {
+            return Act::End(ticket, self.moment());
+        }
+        self.rec(ticket, plain.last_index(ticket))
     }
 
     // The label of a volume that the drive wants.
@@ -201,7 +217,7 @@ impl Generator {
 
     fn label(&mut self, drive: u32, plain: &Plain) -> Act {
         let mut name = self.name(drive, plain);
-        if plain.claimed(name).is_none() {
+        if plain.desk.claimed(name).is_none() {
             name = self.own_name(drive, plain);
         }
         let media = self.media(plain.media_of(drive));
@@ -246,18 +262,22 @@ impl Generator {
     // A name of a volume of any device, mostly of the drive's own.
     fn name(&mut self, drive: u32, plain: &Plain) -> &'static str {
         if self.chance.once_in(8) {
-            let names = self.chance.one_of(&NAMES, [""; 6]);
-            return self.chance.one_of(&names, "");
+            let device = self.chance.below(3) as usize;
+            return self.name_at(device);
         }
         self.own_name(drive, plain)
     }
 
     fn own_name(&mut self, drive: u32, plain: &Plain) -> &'static str {
-        let names = NAMES
-            .get(plain.device_of(drive))
-            .copied()
-            .unwrap_or([""; 6]);
-        self.chance.one_of(&names, "Vol-A1")
+        self.name_at(plain.device_of(drive))
+    }
+
+    // A name of a volume of that device.
+    fn name_at(&mut self, device: usize) -> &'static str {
+        match NAMES.get(device) {
+            None => "Vol-A1",
+            Some(names) => self.chance.one_of(names, "Vol-A1"),
+        }
     }
 
     fn moment(&mut self) -> i64 {

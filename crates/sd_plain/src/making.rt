@@ -1,9 +1,13 @@
 // How a plain machine begins, and begins again.
-use crate::device::{Device, Store};
-use crate::drive::{PlainDrive, PlainLane};
-use crate::line::Line;
-use crate::plain::Plain;
+use crate::desk::Desk;
+use crate::device::Device;
+use crate::drive::PlainDrive;
+use crate::inbox::Inbox;
+use crate::lane::PlainLane;
+use crate::plain::{Plain, Rules, Said};
+use crate::rack::Rack;
 use crate::settings::Settings;
+use crate::store::Store;
 use sd_base::Refusal;
 use sd_memdrive::Fail;
 use sd_spool::SpoolFail;
@@ -16,69 +20,59 @@ const BLOCK_HEADER: usize = 24;
 impl Plain {
     /// A machine in which nothing happened yet.
     pub fn new(alloc: Global, settings: &Settings<'_>, time: u32) -> Self {
-        let mut drives = Vec::new(alloc);
-        for (place, (media, lanes)) in settings.drives.iter().enumerate() {
-            let number: u32 = place.saturating_add(1).try_into().unwrap_or(0);
-            let fails = fails_of(alloc, settings, number);
-            let _ = drives.push(PlainDrive {
-                media: *media,
-                device: Device::new(alloc, place, settings.capacity, fails),
-                online: true,
-                volumes: Vec::new(alloc),
-                loaded: None,
-                pool: None,
-                hand: None,
-                queue: Vec::new(alloc),
-                lanes: lanes_of(alloc, settings, number, *lanes),
-            });
-        }
         Plain {
-            alloc,
-            room: settings.block.saturating_sub(BLOCK_HEADER),
-            volume: settings.volume,
-            spool: settings.spool,
-            queue: settings.queue,
-            time,
-            run: 0,
+            rules: Rules {
+                alloc,
+                room: settings.block.saturating_sub(BLOCK_HEADER),
+                volume: settings.volume,
+                spool: settings.spool,
+                queue: settings.queue,
+                time,
+            },
             first: 0,
             sessions: Vec::new(alloc),
-            drives,
-            claims: Vec::new(alloc),
-            requests: Vec::new(alloc),
+            drives: drives_of(alloc, settings),
+            desk: Desk {
+                claims: Vec::new(alloc),
+                requests: Vec::new(alloc),
+            },
         }
     }
 
     /// Begins a run of that time, over the devices as they are, where the first and the last change places.
-    pub fn restart(&mut self, time: u32, line: &mut Line) {
-        if self.drives.iter().any(|drive| !drive.online) {
-            return line.refuse(Refusal::DriveOffline);
+    pub(crate) fn restart(&mut self, time: u32) -> Said {
+        if !are_online(&self.drives) {
+            return Err(Refusal::DriveOffline);
         }
-        for drive in &mut self.drives {
-            begin_again(drive);
-        }
-        if let Some((first, rest)) = self.drives.split_first_mut() {
-            if let Some(last) = rest.last_mut() {
-                swap(&mut first.device, &mut last.device);
-            }
-        }
-        self.claims.clear();
-        self.requests.clear();
+        begin_again(&mut self.drives);
+        swap_devices(&mut self.drives);
+        self.desk.clear();
         self.first = self.sessions.len();
-        self.run = self.run.saturating_add(1);
-        self.time = time;
-        line.words("ok restarted");
+        self.rules.time = time;
+        Ok("ok restarted")
     }
 }
 
-fn begin_again(drive: &mut PlainDrive) {
-    drive.volumes.clear();
-    drive.loaded = None;
-    drive.pool = None;
-    drive.hand = None;
-    drive.queue.clear();
-    for lane in &mut drive.lanes {
-        lane.holder = None;
-        lane.store.begin_again();
+fn are_online(drives: &[PlainDrive]) -> bool {
+    for drive in drives {
+        if !drive.online {
+            return false;
+        }
+    }
+    true
+}
+
+fn begin_again(drives: &mut [PlainDrive]) {
+    for drive in drives {
+        drive.begin_again();
+    }
+}
+
+fn swap_devices(drives: &mut [PlainDrive]) {
+    if let Some((first, rest)) = drives.split_first_mut() {
+        if let Some(last) = rest.last_mut() {
+            swap(&mut first.device, &mut last.device);
+        }
     }
 }
 
@@ -102,6 +96,46 @@ pub fn spool_fails_of(alloc: Global, settings: &Settings<'_>, number: u32) -> Ve
         }
     }
     fails
+}
+
+fn drives_of(alloc: Global, settings: &Settings<'_>) -> Vec<PlainDrive> {
+    let mut drives = Vec::new(alloc);
+    for (at, (media, lanes)) in settings.drives.iter().enumerate() {
+        let _ = drives.push(drive_of(alloc, settings, at, media, *lanes));
+    }
+    drives
+}
+
+fn drive_of(
+    alloc: Global,
+    settings: &Settings<'_>,
+    at: usize,
+    media: &'static str,
+    lanes: u32,
+) -> PlainDrive {
+    let number: u32 = at.saturating_add(1).try_into().unwrap_or(0);
+    PlainDrive {
+        at,
+        media,
+        online: true,
+        pool: None,
+        device: Device {
+            number: at,
+            capacity: settings.capacity,
+            shelf: Vec::new(alloc),
+            fails: fails_of(alloc, settings, number),
+        },
+        rack: Rack {
+            volumes: Vec::new(alloc),
+            loaded: None,
+        },
+        inbox: Inbox {
+            hand: None,
+            queue: Vec::new(alloc),
+        },
+        lanes: lanes_of(alloc, settings, number, lanes),
+        unsynced: Vec::new(alloc),
+    }
 }
 
 fn lanes_of(alloc: Global, settings: &Settings<'_>, number: u32, count: u32) -> Vec<PlainLane> {

@@ -1,65 +1,47 @@
 // The plain machine: what a world is to answer, told from lists alone.
 use crate::act::Act;
+use crate::bodies::Titles;
+use crate::desk::Desk;
 use crate::drive::PlainDrive;
 use crate::line::Line;
 use crate::machine::Machine;
 use crate::record::record_of;
-use crate::reply_line::put_reply;
+use crate::reply_line::put_opened;
 use crate::session::PlainSession;
 use sd_base::Refusal;
-use sd_machine::Reply;
 use std::alloc::Global;
 
-/// A body on its way: whose it is, by the session's place, and which of its session's, from 1 on.
-#[derive(Clone, Copy)]
-pub(crate) struct Sent {
-    pub session: usize,
-    pub seq: usize,
+/// What a step comes to: the words that end its line, or why it is refused.
+pub(crate) type Said = Result<&'static str, Refusal>;
+
+/// The limits of a run: the most bytes of a body, of a volume and of a spool, and the most bodies of a queue; and the
+/// run's time.
+#[derive(Drop)]
+pub(crate) struct Rules {
+    pub alloc: Global,
+    pub room: usize,
+    pub volume: u64,
+    pub spool: u64,
+    pub queue: usize,
+    pub time: u32,
 }
 
-/// A volume's name, and the place of the drive that has it.
-#[derive(Clone, Copy)]
-pub(crate) struct Claim {
-    pub name: &'static str,
-    pub drive: usize,
-}
-
-/// The place of a drive that asked for a volume, and of which pool.
-#[derive(Clone, Copy)]
-pub(crate) struct Asked {
-    pub drive: usize,
-    pub pool: &'static str,
-}
-
-/// The sessions of all runs in the order in which they were opened, and the drives of this one.
+/// The sessions of all runs in the order in which they were opened, the place of the first one of this run, and this
+/// run's drives with their operator's desk.
 #[derive(Drop)]
 pub struct Plain {
-    pub(crate) alloc: Global,
-    /// The most bytes of a body, of a volume and of a spool, and the most bodies of a queue.
-    pub(crate) room: usize,
-    pub(crate) volume: u64,
-    pub(crate) spool: u64,
-    pub(crate) queue: usize,
-    pub(crate) time: u32,
-    pub(crate) run: u32,
-    /// The place of the first session of this run.
+    pub(crate) rules: Rules,
     pub(crate) first: usize,
     pub(crate) sessions: Vec<PlainSession>,
     pub(crate) drives: Vec<PlainDrive>,
-    pub(crate) claims: Vec<Claim>,
-    pub(crate) requests: Vec<Asked>,
+    pub(crate) desk: Desk,
 }
 
 impl Machine for Plain {
     fn play(&mut self, act: Act, line: &mut Line) {
-        match act {
-            Act::Status(ticket) => self.status(ticket, line),
-            Act::Read(number) => self.read(number, line),
-            Act::Restart(time) => self.restart(time, line),
-            _ => match self.step(act) {
-                Ok(reply) => put_reply(line, &reply),
-                Err(why) => line.refuse(why),
-            },
+        match self.step(act, line) {
+            Ok(words) => line.words(words),
+            Err(why) => line.refuse(why),
         }
     }
 
@@ -69,68 +51,135 @@ impl Machine for Plain {
 }
 
 impl Plain {
-    fn step(&mut self, act: Act) -> Result<Reply, Refusal> {
-        if let Act::Open(job, pool, media, moment) = act {
-            return self.open(job, pool, media, moment);
-        }
-        if let Some(ticket) = act.ticket() {
-            let place = self.place_of(ticket)?;
-            return self.step_session(act, place);
-        }
-        let place = self.online_place(act.drive().unwrap_or(0))?;
+    fn step(&mut self, act: Act, line: &mut Line) -> Said {
         match act {
-            Act::Take(_) => self.take(place),
-            Act::Place(_) => self.place(place),
-            Act::Sync(_) => self.sync(place),
-            Act::Label(_, name, pool, media, moment) => {
-                self.label(place, [name, pool, media], moment)
+            Act::Open(job, pool, media, moment) => {
+                self.open(Titles { job, pool, media }, moment, line)
             }
-            Act::Adopt(_, name) => self.adopt(place, name),
-            Act::Mount(_, name) => self.mount(place, name),
-            Act::Unmount(_) => self.unmount(place),
-            Act::Seek(_) => self.seek(place),
-            _ => self.retire(place),
+            Act::Read(number) => Ok(self.read(number, line)),
+            Act::Status(ticket) => Ok(self.status(ticket)),
+            Act::Restart(time) => self.restart(time),
+            _ => match act.ticket() {
+                Some(ticket) => self.step_session(act, self.place_of(ticket), line),
+                None => self.step_drive(act, line),
+            },
         }
     }
 
-    // The place of the session of that ticket.
-    pub(crate) fn place_of(&self, ticket: u32) -> Result<usize, Refusal> {
-        let place = self.first.saturating_add(ticket as usize).wrapping_sub(1);
-        if ticket == 0 || place >= self.sessions.len() {
-            return Err(Refusal::SessionNotOpen);
-        }
-        Ok(place)
-    }
-
-    // The place of the drive of that number, which is to be online.
-    fn online_place(&self, drive: u32) -> Result<usize, Refusal> {
-        let place = (drive as usize).wrapping_sub(1);
-        match self.drives.get(place) {
-            None => Err(Refusal::NoSuchDrive),
-            Some(drive) if drive.online => Ok(place),
-            Some(_) => Err(Refusal::DriveOffline),
+    // The place of the session of that ticket, behind all of them for none.
+    fn place_of(&self, ticket: u32) -> usize {
+        match (ticket as usize).checked_sub(1) {
+            None => usize::MAX,
+            Some(number) => self.first.saturating_add(number),
         }
     }
 
-    // How many sessions were opened in this run.
+    /// The session of that ticket.
+    pub(crate) fn session(&self, ticket: u32) -> Option<&PlainSession> {
+        self.sessions.get(self.place_of(ticket))
+    }
+
+    /// The sessions of this run.
+    pub(crate) fn of_run(&self) -> &[PlainSession] {
+        self.sessions.get(self.first..).unwrap_or(&[])
+    }
+
+    /// How many sessions were opened in this run.
     pub fn opened(&self) -> u32 {
-        let opened = self.sessions.len().saturating_sub(self.first);
-        opened.try_into().unwrap_or(0)
+        self.of_run().len().try_into().unwrap_or(0)
     }
 
-    fn step_session(&mut self, act: Act, place: usize) -> Result<Reply, Refusal> {
+    fn step_session(&mut self, act: Act, place: usize, line: &mut Line) -> Said {
         let Some(session) = self.sessions.get_mut(place) else {
             return Err(Refusal::SessionNotOpen);
         };
         match act {
-            Act::Rec(_, index, stream, data) => {
-                session.append(record_of(self.alloc, index, stream, data))
-            }
+            Act::Rec(..) => append(self.rules.alloc, session, act, line),
             Act::End(_, moment) => session.end(moment),
             Act::Cancel(_) => session.cancel(),
-            Act::Close(_) => self.close(place),
-            Act::Media(_) => self.media(place),
-            _ => self.send(act, place),
+            Act::Close(_) => session.close(self.rules.time, line),
+            _ => match self.drives.get_mut(session.drive) {
+                None => Err(Refusal::NoSuchDrive),
+                Some(drive) => drive.serve(act, session, &self.rules, line),
+            },
         }
     }
+
+    // A step of a drive, which is to be online, or of its operator.
+    fn step_drive(&mut self, act: Act, line: &mut Line) -> Said {
+        let number = act.drive().unwrap_or(0);
+        let Some(drive) = self.drives.get_mut((number as usize).wrapping_sub(1)) else {
+            return Err(Refusal::NoSuchDrive);
+        };
+        if !drive.online {
+            return Err(Refusal::DriveOffline);
+        }
+        match act {
+            Act::Take(_) => drive.inbox.take(line),
+            Act::Place(_) => drive.place(&mut self.sessions, &self.rules, line),
+            Act::Sync(_) => drive.sync(&mut self.sessions),
+            _ => drive.operate(act, &mut self.desk, &mut self.sessions, &self.rules, line),
+        }
+    }
+
+    /// Opens a session at the first drive of those that may take it, in its lowest free lane.
+    fn open(&mut self, titles: Titles, moment: i64, line: &mut Line) -> Said {
+        let at = self.reserve(titles.pool, titles.media)?;
+        let place = self.sessions.len();
+        let id = self.opened().saturating_add(1);
+        let Some(drive) = self.drives.get_mut(at) else {
+            return Err(Refusal::NoSuchDrive);
+        };
+        let lane = drive.open(place, titles.pool, self.rules.spool > 0, &self.sessions)?;
+        let session = PlainSession::new(&self.rules, titles, moment, (place, id), (at, lane));
+        let _ = self.sessions.push(session);
+        put_opened(line, id, at.saturating_add(1) as u64);
+        Ok("")
+    }
+
+    // The place of the drive that takes a session of the pool and media: the first one of the least rank.
+    fn reserve(&self, pool: &str, media: &str) -> Result<usize, Refusal> {
+        let mut why = Refusal::NoDriveOfMedia;
+        let mut best: Option<(usize, (bool, usize))> = None;
+        for drive in &self.drives {
+            match drive.rank(pool, media, &self.sessions) {
+                Ok(rank) if is_better(rank, best) => best = Some((drive.at, rank)),
+                Ok(_) => {}
+                Err(reason) => why = nearer(why, reason),
+            }
+        }
+        match best {
+            Some((place, _)) => Ok(place),
+            None => Err(why),
+        }
+    }
+}
+
+fn is_better(rank: (bool, usize), best: Option<(usize, (bool, usize))>) -> bool {
+    match best {
+        None => true,
+        Some((_, (far, busy))) => (!rank.0 && far) || (rank.0 == far && rank.1 < busy),
+    }
+}
+
+// Of two reasons why drives take no session the one of the drive that came nearer to it: one with no free lane before
+// one that is offline, and that before one of another media.
+fn nearer(why: Refusal, reason: Refusal) -> Refusal {
+    match (why, reason) {
+        (Refusal::NoFreeLane, _) | (_, Refusal::NoDriveOfMedia) => why,
+        _ => reason,
+    }
+}
+
+// The session takes a record.
+fn append(alloc: Global, session: &mut PlainSession, act: Act, line: &mut Line) -> Said {
+    let Act::Rec(_, index, stream, data) = act else {
+        return Ok("no record");
+    };
+    session.need_next(index)?;
+    match record_of(alloc, index, stream, data) {
+        None => return Err(Refusal::Memory),
+        Some(rec) => session.append(&rec, line),
+    }
+    Ok("")
 }

@@ -16,7 +16,7 @@ pub fn put_reply(line: &mut Line, reply: &Reply) {
         Reply::Taken { count } => line.put("ok taken", &[*count]),
         Reply::Closed { key, spans } => put_spans(line, "ok closed ", *key, spans.as_slice()),
         Reply::Media { spans } => put_spans(line, "ok media ", NO_KEY, spans.as_slice()),
-        Reply::Opened { ticket, drive } => put_opened(line, ticket.get(), drive.get()),
+        Reply::Opened { ticket, drive } => put_opened(line, ticket.get(), u64::from(drive.get())),
         Reply::InHand { ticket, seq } => line.put("ok hand", &[u64::from(ticket.get()), *seq]),
         Reply::Mounted { name } => line.put_named("ok mounted", name.as_str(), &[]),
         Reply::Placed { volume, start, end } => {
@@ -27,10 +27,10 @@ pub fn put_reply(line: &mut Line, reply: &Reply) {
     }
 }
 
-// Adds the line of a session that was opened.
-fn put_opened(line: &mut Line, ticket: u32, drive: u32) {
+/// Adds the line of a session that was opened.
+pub(crate) fn put_opened(line: &mut Line, ticket: u32, drive: u64) {
     line.put("ok ticket", &[u64::from(ticket)]);
-    line.put(" drive", &[u64::from(drive)]);
+    line.put(" drive", &[drive]);
 }
 
 fn put_spans(line: &mut Line, words: &str, key: SessionKey, spans: &[Span]) {

@@ -1,64 +1,75 @@
 // One session of the plain machine.
 use crate::bodies::{Bodies, Titles};
-use crate::device::Store;
-use crate::plain::Sent;
-use sd_base::{Items, Rec, Refusal, VolName};
-use sd_machine::Reply;
+use crate::inbox::Sent;
+use crate::line::Line;
+use crate::plain::{Rules, Said};
+use crate::store::Store;
+use crate::way::Way;
+use sd_base::{Rec, Refusal};
 use sd_session::Status;
-use sd_span::Span;
-use sd_spool::SpoolCall;
 use std::alloc::Global;
 
-/// Where a body lies, and whether it is synced.
+/// Where a body lies, or a run of bodies on one volume, with the first and the last FileIndex in them.
 #[derive(Clone, Copy)]
 pub(crate) struct Lying {
     pub volume: &'static str,
     pub start: u64,
     pub end: u64,
-    pub synced: bool,
+    pub first: u32,
+    pub last: u32,
 }
 
-/// A session: its run and its number there, its drive and its lane by their places, its list of records, its bodies, and
-/// how far they are. Of the closed ones the first `spooled` no longer wait, the first `out` of those are out of
-/// the spool again, and the first `sent` of those were sent.
+/// A session: its place among all that were opened and its number in its run, its drive and its lane by their
+/// places, the FileIndex of its last record, its bodies, how far they are, where they lie, and how many of those
+/// are synced.
 #[derive(Drop)]
 pub(crate) struct PlainSession {
-    pub run: u32,
+    pub place: usize,
     pub id: u32,
     pub drive: usize,
     pub lane: usize,
     pub titles: Titles,
     pub status: Status,
-    pub records: Vec<Rec>,
+    pub last: u32,
     pub has_end: bool,
     pub bodies: Bodies,
-    pub spooled: usize,
-    pub out: usize,
-    pub sent: usize,
-    /// The bytes of the bodies that went into the spool since it was last empty.
-    pub used: usize,
-    pub despooling: bool,
+    pub way: Way,
     pub placed: Vec<Lying>,
+    pub synced: usize,
     /// How many were placed when its spans were told last.
     pub told: Option<usize>,
 }
 
 impl PlainSession {
-    /// The FileIndex of its last record, 0 for none.
-    pub fn last_index(&self) -> u32 {
-        match self.records.last() {
-            None => 0,
-            Some(rec) => rec.index,
+    /// A new session of that place and number, in that lane of that drive.
+    pub fn new(
+        rules: &Rules,
+        titles: Titles,
+        moment: i64,
+        (place, id): (usize, u32),
+        (drive, lane): (usize, usize),
+    ) -> Self {
+        PlainSession {
+            place,
+            id,
+            drive,
+            lane,
+            titles,
+            status: Status::Active,
+            last: 0,
+            has_end: false,
+            bodies: Bodies::new(rules.alloc, rules.room, titles, moment),
+            way: Way {
+                spooled: 0,
+                out: 0,
+                sent: 0,
+                used: 0,
+                despooling: false,
+            },
+            placed: Vec::new(rules.alloc),
+            synced: 0,
+            told: None,
         }
-    }
-
-    /// The data bytes of its first so many records.
-    pub fn bytes_of(&self, count: usize) -> u64 {
-        let mut bytes = 0u64;
-        for rec in self.records.iter().take(count) {
-            bytes = bytes.saturating_add(rec.bytes.len() as u64);
-        }
-        bytes
     }
 
     /// It goes on, with its end label or without.
@@ -75,7 +86,7 @@ impl PlainSession {
     pub fn is_gone(&self) -> bool {
         match self.status {
             Status::Closed => true,
-            Status::Cancelled | Status::Failed => self.sent == self.placed.len(),
+            Status::Cancelled | Status::Failed => self.way.sent == self.placed.len(),
             Status::Active | Status::Ended => false,
         }
     }
@@ -103,41 +114,41 @@ impl PlainSession {
         Err(self.refusal())
     }
 
-    // How many closed bodies wait.
-    fn waiting(&self) -> usize {
-        self.bodies.closed().saturating_sub(self.spooled)
+    /// How many closed bodies wait.
+    pub fn waiting(&self) -> usize {
+        self.bodies.closed().saturating_sub(self.way.spooled)
     }
 
-    pub fn append(&mut self, rec: Option<Rec>) -> Result<Reply, Refusal> {
+    /// Why a record of that FileIndex isn't taken, if it isn't.
+    pub fn need_next(&self, index: u32) -> Result<(), Refusal> {
         self.need(Status::Active)?;
-        let rec = rec.ok_or(Refusal::Memory)?;
-        let last = self.last_index();
-        if rec.index != last && rec.index != last.saturating_add(1) {
+        if index != self.last && index != self.last.saturating_add(1) {
             return Err(Refusal::BadFileIndex);
         }
         if self.waiting() > 0 {
             return Err(Refusal::Busy);
         }
-        self.bodies.record(&rec);
-        let _ = self.records.push(rec);
-        let count = self.records.len() as u64;
-        Ok(Reply::Taken { count })
+        Ok(())
     }
 
-    pub fn end(&mut self, moment: i64) -> Result<Reply, Refusal> {
+    pub fn append(&mut self, rec: &Rec, line: &mut Line) {
+        self.bodies.record(rec);
+        self.last = rec.index;
+        line.put("ok taken", &[self.bodies.records()]);
+    }
+
+    pub fn end(&mut self, moment: i64) -> Said {
         self.need(Status::Active)?;
-        let count = self.records.len();
-        let bytes = self.bytes_of(count);
-        self.bodies.end(self.titles, moment, count as u64, bytes);
+        self.bodies.end(self.titles, moment);
         self.has_end = true;
         self.status = Status::Ended;
-        Ok(Reply::Ended)
+        Ok("ok ended")
     }
 
-    pub fn cancel(&mut self) -> Result<Reply, Refusal> {
+    pub fn cancel(&mut self) -> Said {
         self.need_running()?;
         self.status = Status::Cancelled;
-        Ok(Reply::Cancelled)
+        Ok("ok cancelled")
     }
 
     /// The session fails, if it goes on.
@@ -147,131 +158,146 @@ impl PlainSession {
         }
     }
 
-    // A call of the store, which fails the session where it fails.
-    fn call(&mut self, store: &mut Store, call: SpoolCall) -> Result<(), Refusal> {
-        let done = store.call(call);
-        if done.is_err() {
-            self.fail();
-        }
-        done
-    }
-
-    pub fn spool(&mut self, limit: u64, store: &mut Store) -> Result<Reply, Refusal> {
+    /// A call of the store that fails fails the session.
+    pub fn spool(&mut self, limit: u64, store: &mut Store) -> Said {
         self.need_running()?;
         if limit == 0 {
-            return Ok(Reply::NoSpool);
+            return Ok("ok no spool");
         }
         if self.waiting() == 0 {
-            return Ok(Reply::Nothing);
+            return Ok("ok nothing");
         }
-        let is_empty = self.spooled == self.out;
-        let before = if is_empty { 0 } else { self.used };
-        let next = self.spooled.saturating_add(1);
-        let used = before.saturating_add(self.bodies.body(next).len());
-        if self.despooling || used as u64 > limit {
-            self.despooling = true;
-            return Ok(Reply::SpoolFull);
+        let next = self.way.spooled.saturating_add(1);
+        let size = self.bodies.body(next).len();
+        let said = self.way.spool(size, limit, store);
+        if said.is_err() {
+            self.fail();
         }
-        if is_empty && self.used > 0 {
-            self.call(store, SpoolCall::Clear)?;
-        }
-        self.call(store, SpoolCall::Append)?;
-        self.used = used;
-        self.spooled = next;
-        Ok(Reply::Spooled)
+        said
     }
 
-    pub fn despool(
-        &mut self,
-        spools: bool,
-        store: &mut Store,
-        queue: &mut Vec<Sent>,
-        capacity: usize,
-        session: usize,
-    ) -> Result<Reply, Refusal> {
+    /// A call of the store that fails fails the session.
+    pub fn despool(&mut self, rules: &Rules, store: &mut Store, queue: &mut Vec<Sent>) -> Said {
         self.need_running()?;
+        let spools = rules.spool > 0;
         let is_last = self.status == Status::Ended && self.waiting() == 0;
-        if spools && !self.despooling && !is_last {
-            return Ok(Reply::NotDue);
+        if spools && !self.way.despooling && !is_last {
+            return Ok("ok not due");
         }
-        if !self.has_ready(spools, store)? {
-            return Ok(Reply::Nothing);
+        match self.way.is_ready(self.bodies.closed(), spools, store) {
+            Err(why) => {
+                self.fail();
+                Err(why)
+            }
+            Ok(false) => Ok("ok nothing"),
+            Ok(true) if queue.len() >= rules.queue => Ok("ok queue full"),
+            Ok(true) => {
+                let (session, id, seq) = (self.place, self.id, self.way.send());
+                let _ = queue.push(Sent { session, id, seq });
+                Ok("ok sent")
+            }
         }
-        if queue.len() >= capacity {
-            return Ok(Reply::LaneFull);
-        }
-        self.sent = self.out;
-        let seq = self.sent;
-        let _ = queue.push(Sent { session, seq });
-        if self.spooled == self.out {
-            self.despooling = false;
-        }
-        Ok(Reply::Sent)
     }
 
-    // Whether a body is ready to be sent: one that found the queue full, or the next, which is taken out.
-    fn has_ready(&mut self, spools: bool, store: &mut Store) -> Result<bool, Refusal> {
-        if self.out > self.sent {
-            return Ok(true);
-        }
-        if !spools {
-            self.spooled = self.bodies.closed().min(self.spooled.saturating_add(1));
-        }
-        if self.spooled == self.out {
-            return Ok(false);
-        }
-        if spools {
-            self.call(store, SpoolCall::Read)?;
-        }
-        self.out = self.out.saturating_add(1);
-        Ok(true)
+    /// The body of that number lies there.
+    pub fn lies(&mut self, seq: usize, volume: &'static str, start: u64, end: u64) {
+        let body = self.bodies.end_of(seq);
+        let _ = self.placed.push(Lying {
+            volume,
+            start,
+            end,
+            first: body.first,
+            last: body.last,
+        });
     }
 
-    /// Why it can't be closed, if it can't.
-    pub fn need_done(&self) -> Result<(), Refusal> {
+    /// A body of it more is synced, or its sync failed, and it fails.
+    pub fn sync(&mut self, done: bool) {
+        if done {
+            self.synced = self.synced.saturating_add(1);
+        } else {
+            self.fail();
+        }
+    }
+
+    /// Tells where the bodies of a session lie that ended and is synced.
+    pub fn close(&mut self, time: u32, line: &mut Line) -> Said {
         self.need(Status::Ended)?;
-        let synced = self.placed.iter().filter(|lying| lying.synced).count();
-        if self.bodies.closed() > synced {
+        if self.bodies.closed() > self.synced {
             return Err(Refusal::NotYet);
         }
-        Ok(())
+        self.status = Status::Closed;
+        self.tell("ok closed session", [time, self.id], line);
+        Ok("")
     }
 
-    /// Where its bodies lie, in runs on one volume.
-    pub fn spans(&self, alloc: Global) -> Items<Span> {
-        let mut spans: Vec<Span> = Vec::new(alloc);
-        let mut on = "";
-        for (place, lying) in self.placed.iter().enumerate() {
-            let body = self.bodies.end_of(place.saturating_add(1));
-            if lying.volume != on {
-                on = lying.volume;
-                push_span(&mut spans, *lying);
-            }
-            if let Some(span) = spans.last_mut() {
-                span.first = if span.first == 0 {
-                    body.first
-                } else {
-                    span.first
-                };
-                span.last = if body.last == 0 { span.last } else { body.last };
-                span.end = lying.end;
-            }
+    /// Adds the words, the session's key, and the lines of where its bodies lie.
+    pub fn tell(&mut self, words: &str, key: [u32; 2], line: &mut Line) {
+        let [time, id] = key;
+        self.told = Some(self.placed.len());
+        line.put(words, &[u64::from(time), u64::from(id)]);
+        line.words("\n");
+        put_spans(&self.placed, line);
+    }
+
+    /// Where the bodies lie whose spans were told last.
+    pub fn told_bodies(&self) -> Option<&[Lying]> {
+        match self.told {
+            None => None,
+            Some(told) => self.placed.get(..told),
         }
-        Items::from_vec(spans)
     }
 }
 
-// A span more, which begins with that body.
-fn push_span(spans: &mut Vec<Span>, lying: Lying) {
-    let vol_index = (spans.len() as u64).saturating_add(1);
-    if let Ok(volume) = VolName::parse(lying.volume) {
-        let _ = spans.push(Span {
-            volume,
-            vol_index,
-            first: 0,
-            last: 0,
-            start: lying.start,
-            end: lying.end,
-        });
+// Adds a line for each run of bodies on one volume.
+fn put_spans(placed: &[Lying], line: &mut Line) {
+    let mut number = 0u64;
+    let mut span = Lying {
+        volume: "",
+        start: 0,
+        end: 0,
+        first: 0,
+        last: 0,
+    };
+    for lying in placed {
+        if lying.volume == span.volume {
+            span = joined(span, *lying);
+        } else {
+            put_span(number, span, line);
+            number = number.saturating_add(1);
+            span = *lying;
+        }
+    }
+    put_span(number, span, line);
+}
+
+// The run with a body more.
+fn joined(span: Lying, lying: Lying) -> Lying {
+    Lying {
+        end: lying.end,
+        first: if span.first == 0 {
+            lying.first
+        } else {
+            span.first
+        },
+        last: if lying.last == 0 {
+            span.last
+        } else {
+            lying.last
+        },
+        ..span
+    }
+}
+
+// Adds the line of the span of that number, from 1 on.
+fn put_span(number: u64, span: Lying, line: &mut Line) {
+    if number > 0 {
+        let (first, last) = (u64::from(span.first), u64::from(span.last));
+        line.put_named(
+            "span",
+            span.volume,
+            &[number, first, last, span.start, span.end],
+        );
+        line.words("\n");
     }
 }

@@ -1,129 +1,114 @@
-// The steps of the plain machine's drives.
+// The steps of the plain machine's drives, and those of their sessions that take a drive.
+use crate::act::Act;
 use crate::bytes::block_image;
-use crate::plain::Plain;
-use crate::session::Lying;
-use sd_base::{Refusal, Ticket, VolName};
-use sd_machine::Reply;
+use crate::drive::PlainDrive;
+use crate::line::Line;
+use crate::plain::{Rules, Said};
+use crate::rack::PlainVolume;
+use crate::session::PlainSession;
+use sd_base::Refusal;
 use sd_memdrive::Call;
 use sd_volume::VolumeStatus;
 
-impl Plain {
-    pub(crate) fn take(&mut self, place: usize) -> Result<Reply, Refusal> {
-        let Some(drive) = self.drives.get_mut(place) else {
-            return Err(Refusal::NoSuchDrive);
-        };
-        if drive.hand.is_some() {
-            return Ok(Reply::HandFull);
+impl PlainDrive {
+    /// A step of spooling or of sending, or a look at where the bodies of a session lie.
+    pub fn serve(
+        &mut self,
+        act: Act,
+        session: &mut PlainSession,
+        rules: &Rules,
+        line: &mut Line,
+    ) -> Said {
+        if let Act::Media(_) = act {
+            if !self.online {
+                return Err(Refusal::DriveOffline);
+            }
+            session.tell("ok media session", [0, 0], line);
+            return Ok("");
         }
-        if drive.queue.is_empty() {
-            return Ok(Reply::Idle);
-        }
-        let sent = drive.queue.remove(0);
-        drive.hand = Some(sent);
-        let id = match self.sessions.get(sent.session) {
-            None => 0,
-            Some(session) => session.id,
+        let Some(lane) = self.lanes.get_mut(session.lane) else {
+            return Err(Refusal::NoFreeLane);
         };
-        let ticket = Ticket::new(id).ok_or(Refusal::SessionNotOpen)?;
-        Ok(Reply::InHand {
-            ticket,
-            seq: sent.seq as u64,
-        })
+        match act {
+            Act::Spool(_) => session.spool(rules.spool, &mut lane.store),
+            _ => session.despool(rules, &mut lane.store, &mut self.inbox.queue),
+        }
     }
 
-    pub(crate) fn place(&mut self, place: usize) -> Result<Reply, Refusal> {
-        let Some(drive) = self.drives.get_mut(place) else {
-            return Err(Refusal::NoSuchDrive);
+    /// The body in the hand goes onto the loaded volume.
+    pub fn place(&mut self, sessions: &mut [PlainSession], rules: &Rules, line: &mut Line) -> Said {
+        let Some(sent) = self.inbox.hand else {
+            return Ok("ok idle");
         };
-        let Some(sent) = drive.hand else {
-            return Ok(Reply::Idle);
+        let Some(volume) = self.fit_volume() else {
+            return Ok("ok need volume");
         };
-        let Some(volume) = drive.fit_volume() else {
-            return Ok(Reply::NeedVolume);
-        };
-        let Some(session) = self.sessions.get_mut(sent.session) else {
+        let Some(session) = sessions.get_mut(sent.session) else {
             return Err(Refusal::SessionNotOpen);
         };
         let body = session.bodies.body(sent.seq);
-        let image = block_image(self.alloc, self.time, session.id, volume.next, body);
-        let end = volume.end.saturating_add(image.len() as u64);
-        if end > self.volume {
-            drive.set_status(VolumeStatus::Full);
-            return Ok(Reply::VolumeFull);
+        let after = self.write(volume, sent.id, body, rules);
+        self.rack.change(after);
+        match after.status {
+            VolumeStatus::Full => return Ok("ok volume full"),
+            VolumeStatus::Error => return Ok("ok volume error"),
+            VolumeStatus::Append => {}
         }
-        match drive
-            .device
-            .append(volume.name, image.as_slice(), self.time)
-        {
-            Ok(()) => {}
-            Err(Refusal::NoRoom) => {
-                drive.set_status(VolumeStatus::Full);
-                return Ok(Reply::VolumeFull);
-            }
-            Err(_) => {
-                drive.set_status(VolumeStatus::Error);
-                return Ok(Reply::VolumeError);
-            }
-        }
-        drive.hand = None;
-        drive.advance(end);
-        let _ = session.placed.push(Lying {
-            volume: volume.name,
-            start: volume.end,
-            end,
-            synced: false,
-        });
-        placed_reply(volume.name, volume.end, end)
+        self.inbox.hand = None;
+        let _ = self.unsynced.push(sent.session);
+        session.lies(sent.seq, volume.name, volume.end, after.end);
+        line.put_named("ok placed", volume.name, &[volume.end, after.end]);
+        Ok("")
     }
 
-    pub(crate) fn sync(&mut self, place: usize) -> Result<Reply, Refusal> {
-        self.sync_loaded(place)?;
-        Ok(Reply::Synced)
+    // Writes the block with the body of that session: the volume as it is then.
+    fn write(&mut self, volume: PlainVolume, id: u32, body: &[u8], rules: &Rules) -> PlainVolume {
+        let image = block_image(rules.alloc, rules.time, id, volume.next, body);
+        let end = volume.end.saturating_add(image.bytes.len() as u64);
+        if end > rules.volume {
+            return volume.with(VolumeStatus::Full);
+        }
+        match self.device.append(volume.name, &image.bytes, rules.time) {
+            Ok(()) => volume.grown(end),
+            Err(Refusal::NoRoom) => volume.with(VolumeStatus::Full),
+            Err(_) => volume.with(VolumeStatus::Error),
+        }
+    }
+
+    pub fn sync(&mut self, sessions: &mut [PlainSession]) -> Said {
+        self.sync_loaded(sessions)?;
+        Ok("ok synced")
     }
 
     /// Syncs the loaded volume, if a body on it awaits that. Where that fails the volume is out, and the sessions
     /// fail that go on and have such a body.
-    pub(crate) fn sync_loaded(&mut self, place: usize) -> Result<(), Refusal> {
-        let Some(drive) = self.drives.get_mut(place) else {
+    pub fn sync_loaded(&mut self, sessions: &mut [PlainSession]) -> Result<(), Refusal> {
+        if self.unsynced.is_empty() {
             return Ok(());
-        };
-        let Some(volume) = drive.volume() else {
-            return Ok(());
-        };
-        let mut is_synced = None;
-        for session in &mut self.sessions {
-            if session.run != self.run || session.drive != place {
-                continue;
-            }
-            let mut is_lost = false;
-            for lying in &mut session.placed {
-                if lying.volume != volume.name || lying.synced {
-                    continue;
-                }
-                let done = match is_synced {
-                    Some(done) => done,
-                    None => drive.device.call(Call::Sync).is_ok(),
-                };
-                is_synced = Some(done);
-                lying.synced = done;
-                is_lost = !done;
-            }
-            if is_lost {
-                session.fail();
-            }
         }
-        if is_synced == Some(false) {
-            drive.set_status(VolumeStatus::Error);
-            drive.loaded = None;
-            return Err(Refusal::DeviceFault);
+        let done = self.device.call(Call::Sync);
+        note_sync(sessions, &self.unsynced, done.is_ok());
+        self.unsynced.clear();
+        if done.is_err() {
+            self.lose_loaded();
         }
-        Ok(())
+        done
+    }
+
+    // The loaded volume is out, and takes no more blocks.
+    fn lose_loaded(&mut self) {
+        if let Some(volume) = self.rack.volume() {
+            self.rack.change(volume.with(VolumeStatus::Error));
+        }
+        self.rack.loaded = None;
     }
 }
 
-fn placed_reply(volume: &str, start: u64, end: u64) -> Result<Reply, Refusal> {
-    let Ok(volume) = VolName::parse(volume) else {
-        return Err(Refusal::BadName);
-    };
-    Ok(Reply::Placed { volume, start, end })
+// Tells each of the sessions of these places that a body of it is synced, or that it isn't.
+fn note_sync(sessions: &mut [PlainSession], places: &[usize], done: bool) {
+    for place in places {
+        if let Some(session) = sessions.get_mut(*place) {
+            session.sync(done);
+        }
+    }
 }
