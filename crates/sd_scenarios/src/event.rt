@@ -1,5 +1,5 @@
 // The event of an act.
-use sd_base::{DriveNo, JobId, MediaName, PoolName, Ticket, VolName};
+use sd_base::{DriveNo, JobId, MediaName, PoolName, Rec, Ticket, VolName};
 use sd_machine::Event;
 use sd_plain::{Act, record_of};
 use std::alloc::Global;
@@ -10,19 +10,27 @@ pub fn event_of(alloc: Global, act: Act) -> Option<Event> {
     match act {
         Act::Open(job, pool, media, moment) => open_of(job, pool, media, moment),
         Act::Rec(ticket, index, stream, data) => {
-            let ticket = Ticket::new(ticket)?;
-            let rec = record_of(alloc, index, stream, data)?;
-            Some(Event::Append { ticket, rec })
+            append_of(ticket, record_of(alloc, index, stream, data))
         }
         Act::Label(drive, name, pool, media, moment) => label_of(drive, name, pool, media, moment),
         _ => match act.ticket() {
-            Some(ticket) => step_of(act, Ticket::new(ticket)?),
-            None => turn_of(act, DriveNo::new(act.drive()?)?),
+            Some(ticket) => step_of(act, ticket),
+            None => turn_of(act),
         },
     }
 }
 
-fn step_of(act: Act, ticket: Ticket) -> Option<Event> {
+fn append_of(ticket: u32, rec: Option<Rec>) -> Option<Event> {
+    match (Ticket::new(ticket), rec) {
+        (Some(ticket), Some(rec)) => Some(Event::Append { ticket, rec }),
+        _ => None,
+    }
+}
+
+fn step_of(act: Act, ticket: u32) -> Option<Event> {
+    let Some(ticket) = Ticket::new(ticket) else {
+        return None;
+    };
     match act {
         Act::End(_, moment) => Some(Event::End { ticket, moment }),
         Act::Close(_) => Some(Event::Close { ticket }),
@@ -34,7 +42,10 @@ fn step_of(act: Act, ticket: Ticket) -> Option<Event> {
     }
 }
 
-fn turn_of(act: Act, drive: DriveNo) -> Option<Event> {
+fn turn_of(act: Act) -> Option<Event> {
+    let Some(drive) = DriveNo::new(act.drive().unwrap_or(0)) else {
+        return None;
+    };
     match act {
         Act::Take(_) => Some(Event::Take { drive }),
         Act::Place(_) => Some(Event::Place { drive }),

@@ -33,26 +33,30 @@ const OPEN_BESIDE: Act = Act::Open(9, "Default", "File", 0);
 /// Plays two volumes, two sessions and a spool with the nth call of each kind failing in each way, n rising up to a run
 /// that meets no fault. Adds to the report what comes to anything else than is wanted, and which answers came too seldom.
 pub fn play_failing(alloc: Global, report: &mut Line) {
-    let mut tally = Tally::new(alloc);
-    for scenario in [&TWO_VOLUMES, &INTERLEAVED, &SPOOLED] {
-        fail_devices(alloc, scenario, &mut tally, report);
-        fail_spools(alloc, scenario, &mut tally, report);
-    }
-    tally.report(FAILING_FLOORS, report);
+    let mut tally = Tally::new(alloc, FAILING_FLOORS);
+    fail_calls(alloc, &TWO_VOLUMES, &mut tally, report);
+    fail_calls(alloc, &INTERLEAVED, &mut tally, report);
+    fail_calls(alloc, &SPOOLED, &mut tally, report);
+    tally.report(report);
+}
+
+fn fail_calls(alloc: Global, scenario: &Scenario, tally: &mut Tally, report: &mut Line) {
+    fail_devices(alloc, scenario, tally, report);
+    fail_spools(alloc, scenario, tally, report);
 }
 
 fn fail_devices(alloc: Global, scenario: &Scenario, tally: &mut Tally, report: &mut Line) {
-    for call in CALLS {
-        for when in WHENS {
-            fail_device(alloc, scenario, call, when, tally, report);
+    for call in &CALLS {
+        for when in &WHENS {
+            fail_device(alloc, scenario, *call, *when, tally, report);
         }
     }
 }
 
 fn fail_spools(alloc: Global, scenario: &Scenario, tally: &mut Tally, report: &mut Line) {
-    for call in SPOOL_CALLS {
-        for when in SPOOL_WHENS {
-            fail_spool(alloc, scenario, call, when, tally, report);
+    for call in &SPOOL_CALLS {
+        for when in &SPOOL_WHENS {
+            fail_spool(alloc, scenario, *call, *when, tally, report);
         }
     }
 }
@@ -105,22 +109,33 @@ fn meets_fault(
     tally: &mut Tally,
     report: &mut Line,
 ) -> bool {
-    let Some(mut pair) = Pair::new(alloc, settings) else {
-        report.words("no world\n");
-        return false;
-    };
-    let mut line = Line::new(alloc);
+    match Pair::new(alloc, settings, FAILING_FLOORS) {
+        None => {
+            report.words("no world\n");
+            false
+        }
+        Some(mut pair) => {
+            let mut line = Line::new(alloc);
+            play_steps(&mut pair, scenario, &mut line);
+            leave_all(&mut pair, &mut line);
+            pair.finish(scenario.name, tally);
+            report.words(pair.report().as_str());
+            pair.tally().has_fault()
+        }
+    }
+}
+
+fn play_steps(pair: &mut Pair<'_>, scenario: &Scenario, line: &mut Line) {
     for step in scenario.moves_online() {
-        play_step(&mut pair, *step, &mut line);
+        play_step(pair, *step, line);
     }
+}
+
+fn leave_all(pair: &mut Pair<'_>, line: &mut Line) {
     for ticket in 1..pair.plain().total().saturating_add(1) {
-        read_closed(&mut pair, ticket, &mut line);
-        leave(&mut pair, ticket, &mut line);
+        read_closed(pair, ticket, line);
+        leave(pair, ticket, line);
     }
-    let met = pair.tally().has_fault();
-    let differences = pair.finish(scenario.name, tally);
-    report.words(differences.as_str());
-    met
 }
 
 // A move of the scenario. Beside a drain another session is at work.
@@ -160,17 +175,14 @@ fn end_beside(pair: &mut Pair<'_>, ticket: u32, line: &mut Line) {
         (Act::Rec(ticket, 2, 2, Data::Text(b"b")), "ok taken 2"),
         line,
     );
-    play_steady(pair, (Act::End(ticket, 0), "ok ended"), line);
-    play_steady(pair, (Act::Cancel(ticket), "ok cancelled"), line);
+    end(pair, ticket, ["ok ended", "ok cancelled"], line);
 }
 
 // A move that is answered as without the fault, unless its session wasn't opened or has failed.
 fn play_steady(pair: &mut Pair<'_>, step: Move, line: &mut Line) {
-    line.clear();
-    pair.play(Act::Status(step.0.ticket().unwrap_or(0)), line);
+    answer(pair, Act::Status(step.0.ticket().unwrap_or(0)), line);
     let is_there = line.as_str() != "unknown" && line.as_str() != "failed";
-    line.clear();
-    pair.play(step.0, line);
+    answer(pair, step.0, line);
     if is_there {
         pair.compare("as before", step.1, line.as_str());
     }
@@ -178,32 +190,45 @@ fn play_steady(pair: &mut Pair<'_>, step: Move, line: &mut Line) {
 
 // Reads a closed session whole, at a second time where the first met a fault.
 fn read_closed(pair: &mut Pair<'_>, ticket: u32, line: &mut Line) {
-    line.clear();
-    pair.play(Act::Status(ticket), line);
+    answer(pair, Act::Status(ticket), line);
     if line.as_str() != "closed" {
         return;
     }
-    line.clear();
-    pair.play(Act::Read(ticket), line);
+    answer(pair, Act::Read(ticket), line);
     if line.as_str().starts_with("3940") {
-        line.clear();
-        pair.play(Act::Read(ticket), line);
+        answer(pair, Act::Read(ticket), line);
     }
-    if !line.as_str().starts_with("ok read") || !line.as_str().ends_with(" ended") {
-        pair.compare("closed", "its list", line.as_str());
+    let said = line.as_str();
+    if !said.starts_with("ok read") || !said.ends_with(" ended") {
+        pair.compare("closed", "its list", said);
     }
+}
+
+// The line is the answer to the act.
+fn answer(pair: &mut Pair<'_>, act: Act, line: &mut Line) {
+    line.clear();
+    pair.play(act, line);
 }
 
 // Ends and cancels a session that may go on.
 fn leave(pair: &mut Pair<'_>, ticket: u32, line: &mut Line) {
-    line.clear();
-    pair.play(Act::Status(ticket), line);
-    let (ends, cancels) = match line.as_str() {
-        "active" => ("ok ended", "ok cancelled"),
-        "ended" => ("3902 Session not open", "ok cancelled"),
-        "closed" => ("3902 Session not open", "3902 Session not open"),
-        _ => return,
-    };
+    answer(pair, Act::Status(ticket), line);
+    match line.as_str() {
+        "active" => end(pair, ticket, ["ok ended", "ok cancelled"], line),
+        "ended" => end(
+            pair,
+            ticket,
+            ["3902 Session not open", "ok cancelled"],
+            line,
+        ),
+        "closed" => end(pair, ticket, ["3902 Session not open"; 2], line),
+        _ => {}
+    }
+}
+
+// Ends and cancels the session, with these answers.
+fn end(pair: &mut Pair<'_>, ticket: u32, wanted: [&'static str; 2], line: &mut Line) {
+    let [ends, cancels] = wanted;
     play_steady(pair, (Act::End(ticket, 0), ends), line);
     play_steady(pair, (Act::Cancel(ticket), cancels), line);
 }

@@ -43,28 +43,20 @@ fn with_drive(
         return None;
     }
     let lanes = stores.len() as u32;
+    let mut ground = ground;
+    let Ok(()) = ground.stores.push(stores) else {
+        return None;
+    };
+    let Ok(()) = ground.drives.push((media, lanes)) else {
+        return None;
+    };
     let Ok(queue) = PlainLanes::new(alloc, lanes, room) else {
         return None;
     };
-    let Ground {
-        mut drives,
-        mut queues,
-        stores: mut all,
-    } = ground;
-    let Ok(()) = drives.push((media, lanes)) else {
+    let Ok(()) = ground.queues.push(queue) else {
         return None;
     };
-    let Ok(()) = queues.push(queue) else {
-        return None;
-    };
-    let Ok(()) = all.push(stores) else {
-        return None;
-    };
-    Some(Ground {
-        drives,
-        queues,
-        stores: all,
-    })
+    Some(ground)
 }
 
 // Adds each of the drives, the first one first. Calls itself for those behind the first.
@@ -87,25 +79,49 @@ fn with_drives(
         return Some(ground);
     };
     let number = ground.drives.len() as u32 + 1;
-    let media = MediaName::parse(*media).ok()?;
-    let stores = stores_of(alloc, settings, number, *lanes)?;
-    let more = with_drive(alloc, settings.queue, ground, media, stores)?;
-    with_drives(alloc, settings, rest, more)
+    let Some((media, stores)) = lanes_of(alloc, settings, number, *media, *lanes) else {
+        return None;
+    };
+    match with_drive(alloc, settings.queue, ground, media, stores) {
+        None => None,
+        Some(more) => with_drives(alloc, settings, rest, more),
+    }
 }
 
-// A store for each of so many lanes of that drive.
-fn stores_of(
+// The media of the drive of that number, and a store for each of its lanes.
+fn lanes_of(
+    alloc: Global,
+    settings: &Settings<'_>,
+    number: u32,
+    media: &str,
+    lanes: u32,
+) -> Option<(MediaName, Vec<MemSpool>)> {
+    let Ok(media) = MediaName::parse(media) else {
+        return None;
+    };
+    let mut stores = Vec::new(alloc);
+    if add_stores(alloc, settings, number, lanes, &mut stores) {
+        Some((media, stores))
+    } else {
+        None
+    }
+}
+
+// Adds a store for each of so many lanes of that drive; whether there was memory for them.
+fn add_stores(
     alloc: Global,
     settings: &Settings<'_>,
     drive: u32,
     lanes: u32,
-) -> Option<Vec<MemSpool>> {
-    let mut stores = Vec::new(alloc);
+    stores: &mut Vec<MemSpool>,
+) -> bool {
     for _ in 0..lanes {
-        let fails = spool_fails_of(alloc, settings, drive);
-        stores.push(MemSpool::with_plan(alloc, fails)).ok()?;
+        let store = MemSpool::with_plan(alloc, spool_fails_of(alloc, settings, drive));
+        if stores.push(store).is_err() {
+            return false;
+        }
     }
-    Some(stores)
+    true
 }
 
 /// A new world of that time over these devices; `None` without memory, and for settings that are none.
@@ -115,23 +131,23 @@ pub fn make_world(
     time: u32,
     devices: Vec<MemDrive>,
 ) -> Option<ListWorld> {
+    if settings.block < LEAST_BLOCK_LIMIT
+        || settings.block > MOST_BLOCK
+        || settings.volume > MOST_VOLUME
+        || time == 0
+        || time > MOST_NUMBER
+    {
+        return None;
+    }
     let none = Ground {
         drives: Vec::new(alloc),
         queues: Vec::new(alloc),
         stores: Vec::new(alloc),
     };
-    let Ground {
-        drives,
-        queues,
-        stores,
-    } = with_drives(alloc, settings, settings.drives, none)?;
-    if settings.block < LEAST_BLOCK_LIMIT
-        || settings.block > MOST_BLOCK
-        || settings.volume > MOST_VOLUME
-    {
+    let Some(ground) = with_drives(alloc, settings, settings.drives, none) else {
         return None;
-    }
-    if devices.len() != drives.len() || time == 0 || time > MOST_NUMBER {
+    };
+    if devices.len() != ground.drives.len() {
         return None;
     }
     let conf = WorldConf {
@@ -139,24 +155,41 @@ pub fn make_world(
         volume: settings.volume,
         spool: settings.spool,
         queue: settings.queue,
-        drives,
+        drives: ground.drives,
     };
-    World::new(alloc, conf, time, devices, queues, stores).ok()
+    World::new(alloc, conf, time, devices, ground.queues, ground.stores).ok()
 }
 
 /// A new world of that time over new devices.
 pub fn make_first(alloc: Global, settings: &Settings<'_>, time: u32) -> Option<ListWorld> {
-    let devices = devices_of(alloc, settings)?;
-    make_world(alloc, settings, time, devices)
+    let mut devices = Vec::new(alloc);
+    if add_devices(alloc, settings, &mut devices) {
+        make_world(alloc, settings, time, devices)
+    } else {
+        None
+    }
 }
 
-fn devices_of(alloc: Global, settings: &Settings<'_>) -> Option<Vec<MemDrive>> {
-    let mut devices = Vec::new(alloc);
+// Adds a device for each drive; whether there was memory for them.
+fn add_devices(alloc: Global, settings: &Settings<'_>, devices: &mut Vec<MemDrive>) -> bool {
     for place in 0..settings.drives.len() {
-        let number: u32 = place.saturating_add(1).try_into().ok()?;
-        let fails = fails_of(alloc, settings, number);
-        let device = MemDrive::new(alloc, settings.capacity, &fails).ok()?;
-        devices.push(device).ok()?;
+        let number: u32 = place.saturating_add(1).try_into().unwrap_or(0);
+        if !add_device(alloc, settings, number, devices) {
+            return false;
+        }
     }
-    Some(devices)
+    true
+}
+
+fn add_device(
+    alloc: Global,
+    settings: &Settings<'_>,
+    number: u32,
+    devices: &mut Vec<MemDrive>,
+) -> bool {
+    let fails = fails_of(alloc, settings, number);
+    match MemDrive::new(alloc, settings.capacity, &fails) {
+        Err(_) => false,
+        Ok(device) => devices.push(device).is_ok(),
+    }
 }

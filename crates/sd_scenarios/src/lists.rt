@@ -1,6 +1,6 @@
 // Generated lists, played by the world and by the plain machine.
 use crate::event::event_of;
-use crate::ground::make_first;
+use crate::ground::{ListWorld, make_first};
 use crate::pair::Pair;
 use crate::played_world::TIME;
 use crate::player::compare;
@@ -15,9 +15,10 @@ const LISTS: u32 = 300;
 /// The acts of a list.
 const LENGTH: usize = 400;
 
-/// The acts of a list before the first that is no event, and the world's answers to them, a line each.
+/// The world's last answer; the acts of a list before the first that is no event, and the answers to them, a line each.
 #[derive(Drop)]
 struct Kept {
+    line: Line,
     acts: Vec<Act>,
     answers: Line,
     goes_on: bool,
@@ -25,21 +26,29 @@ struct Kept {
 
 /// Plays all the lists, and adds to the report what differs in one, and which answers came too seldom.
 pub fn play_lists(alloc: Global, report: &mut Line) {
-    let mut tally = Tally::new(alloc);
+    let mut tally = Tally::new(alloc, LIST_FLOORS);
     for seed in 0..LISTS {
         play_list(alloc, seed, &mut tally, report);
     }
-    tally.report(LIST_FLOORS, report);
+    tally.report(report);
 }
 
 fn play_list(alloc: Global, seed: u32, tally: &mut Tally, report: &mut Line) {
     let mut generator = Generator::new(seed);
     let chosen = Chosen::new(alloc, &mut generator.chance);
     let settings = chosen.settings();
-    let Some(pair) = Pair::new(alloc, settings) else {
-        return report.words("no world\n");
-    };
-    let differences = play(alloc, pair, settings, &mut generator, tally);
+    let mut kept = Kept::new(alloc);
+    let mut differences = Line::new(alloc);
+    match Pair::new(alloc, settings, LIST_FLOORS) {
+        None => differences.words("no world\n"),
+        Some(mut pair) => {
+            play(&mut pair, &mut generator, &mut kept);
+            read_all(&mut pair, &mut kept.line);
+            pair.finish("list", tally);
+            differences.words(pair.report().as_str());
+        }
+    }
+    kept.run_again(alloc, &settings, &mut differences);
     if !differences.is_empty() {
         report.put("list", &[u64::from(seed)]);
         report.words("\n");
@@ -47,69 +56,69 @@ fn play_list(alloc: Global, seed: u32, tally: &mut Tally, report: &mut Line) {
     }
 }
 
-// Plays the acts up to the first difference, reads every session, and plays those that were kept again by
-// `World::run`. Gives what differs.
-fn play(
-    alloc: Global,
-    pair: Pair<'_>,
-    settings: Settings<'_>,
-    generator: &mut Generator,
-    tally: &mut Tally,
-) -> Line {
-    let mut pair = pair;
-    let mut line = Line::new(alloc);
-    let mut kept = Kept::new(alloc);
+// Plays the acts up to the first difference, and keeps the first of them.
+fn play(pair: &mut Pair<'_>, generator: &mut Generator, kept: &mut Kept) {
     for _ in 0..LENGTH {
         let act = generator.act(pair.plain());
-        line.clear();
-        pair.play(act, &mut line);
-        kept.note(act, line.as_str());
+        kept.line.clear();
+        pair.play(act, &mut kept.line);
+        kept.note(act);
         if !pair.report().is_empty() {
             break;
         }
     }
+}
+
+// Reads every session, and one that there isn't.
+fn read_all(pair: &mut Pair<'_>, line: &mut Line) {
     for session in 1..pair.plain().total().saturating_add(2) {
-        pair.play(Act::Read(session), &mut line);
+        line.clear();
+        pair.play(Act::Read(session), line);
     }
-    let mut differences = pair.finish("list", tally);
-    kept.run_again(alloc, &settings, &mut differences);
-    differences
 }
 
 impl Kept {
     fn new(alloc: Global) -> Self {
         Kept {
+            line: Line::new(alloc),
             acts: Vec::new(alloc),
             answers: Line::new(alloc),
             goes_on: true,
         }
     }
 
-    fn note(&mut self, act: Act, answer: &str) {
-        match act {
-            Act::Restart(_) | Act::Read(_) => self.goes_on = false,
-            _ if self.goes_on => {
-                let _ = self.acts.push(act);
-                self.answers.words(answer);
-                self.answers.words("\n");
-            }
-            _ => {}
+    // The last answer was to that act.
+    fn note(&mut self, act: Act) {
+        if let Act::Restart(_) | Act::Read(_) = act {
+            self.goes_on = false;
+        }
+        if self.goes_on {
+            let _ = self.acts.push(act);
+            self.answers.words(self.line.as_str());
+            self.answers.words("\n");
         }
     }
 
     // The acts in one call, on a new world.
     fn run_again(&self, alloc: Global, settings: &Settings<'_>, report: &mut Line) {
-        let Some(mut world) = make_first(alloc, settings, TIME) else {
-            return report.words("no world\n");
-        };
-        let mut got = Line::new(alloc);
-        if let Ok(replies) = world.run(events_of(alloc, &self.acts)) {
-            for reply in &replies {
-                put_reply(&mut got, reply);
-                got.words("\n");
+        match make_first(alloc, settings, TIME) {
+            None => report.words("no world\n"),
+            Some(mut world) => {
+                let mut got = Line::new(alloc);
+                run(&mut world, events_of(alloc, &self.acts), &mut got);
+                compare(report, "run", 0, self.answers.as_str(), got.as_str());
             }
         }
-        compare(report, "run", 0, self.answers.as_str(), got.as_str());
+    }
+}
+
+// Adds the lines of the world's replies to the events.
+fn run(world: &mut ListWorld, events: Vec<Event>, got: &mut Line) {
+    if let Ok(replies) = world.run(events) {
+        for reply in &replies {
+            put_reply(got, reply);
+            got.words("\n");
+        }
     }
 }
 

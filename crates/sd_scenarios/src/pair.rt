@@ -1,7 +1,7 @@
 // The world and the plain machine side by side.
 use crate::played_world::{PlayedWorld, TIME};
 use crate::player::compare;
-use crate::tally::Tally;
+use crate::tally::{Floor, Tally};
 use crate::volumes::compare_volumes;
 use sd_plain::{Act, Line, Machine, Plain, Settings};
 use std::alloc::Global;
@@ -22,15 +22,18 @@ pub struct Pair<'a> {
 
 impl<'a> Pair<'a> {
     /// A new world and a new plain machine; `None` without memory.
-    pub fn new(alloc: Global, settings: Settings<'a>) -> Option<Self> {
+    pub fn new(alloc: Global, settings: Settings<'a>, floors: &'static [Floor]) -> Option<Self> {
+        let Some(played) = PlayedWorld::new(alloc, settings) else {
+            return None;
+        };
         Some(Pair {
             alloc,
-            played: PlayedWorld::new(alloc, settings)?,
+            played,
             plain: Plain::new(alloc, &settings, TIME),
             got: Line::new(alloc),
             wanted: Line::new(alloc),
             number: 0,
-            tally: Tally::new(alloc),
+            tally: Tally::new(alloc, floors),
             report: Line::new(alloc),
         })
     }
@@ -53,20 +56,30 @@ impl<'a> Pair<'a> {
         compare(&mut self.report, name, self.number, wanted, got);
     }
 
-    /// Compares the volumes, and adds the answers to a tally. Gives what differed.
-    pub fn finish(self, name: &str, tally: &mut Tally) -> Line {
-        let Pair {
-            alloc,
-            played,
-            plain,
-            tally: answers,
-            report,
-            ..
-        } = self;
-        let mut report = report;
-        compare_volumes(alloc, &mut report, name, played, &plain);
-        tally.add(&answers);
-        report
+    /// Compares the volumes, and adds the answers to a tally. Nothing is played then.
+    pub fn finish(&mut self, name: &str, tally: &mut Tally) {
+        match self.played.take_devices() {
+            None => self.report.words("no devices\n"),
+            Some(mut devices) => {
+                compare_volumes(
+                    self.alloc,
+                    &mut self.report,
+                    name,
+                    &mut devices,
+                    &self.plain,
+                );
+            }
+        }
+        tally.add(&self.tally);
+    }
+}
+
+// Adds what the machine shows behind an answer: its lines, and the status of the session of the act.
+fn put_looks<M: Machine>(machine: &mut M, act: Act, line: &mut Line) {
+    line.words("\n");
+    machine.look(line);
+    if let Some(ticket) = act.ticket() {
+        machine.play(Act::Status(ticket), line);
     }
 }
 
@@ -78,22 +91,10 @@ impl Machine for Pair<'_> {
         self.plain.play(act, &mut self.wanted);
         self.tally.note(act, self.got.as_str());
         line.words(self.got.as_str());
-        self.got.words("\n");
-        self.wanted.words("\n");
-        self.played.look(&mut self.got);
-        self.plain.look(&mut self.wanted);
-        if let Some(ticket) = act.ticket() {
-            self.played.play(Act::Status(ticket), &mut self.got);
-            self.plain.play(Act::Status(ticket), &mut self.wanted);
-        }
-        let wanted = self.wanted.as_str();
-        compare(
-            &mut self.report,
-            act.word(),
-            self.number,
-            wanted,
-            self.got.as_str(),
-        );
+        put_looks(&mut self.played, act, &mut self.got);
+        put_looks(&mut self.plain, act, &mut self.wanted);
+        let (wanted, got) = (self.wanted.as_str(), self.got.as_str());
+        compare(&mut self.report, act.word(), self.number, wanted, got);
         self.number = self.number.saturating_add(1);
     }
 

@@ -57,35 +57,40 @@ impl<'a> PlayedWorld<'a> {
     }
 
     /// Its devices; it plays no more then.
-    pub fn into_devices(self) -> Option<Vec<MemDrive>> {
-        self.world?.into_drivers().ok()
+    pub fn take_devices(&mut self) -> Option<Vec<MemDrive>> {
+        devices_of(&mut self.world)
     }
 
     fn step(&mut self, act: Act, line: &mut Line) {
-        let Some(event) = event_of(self.alloc, act) else {
-            return line.words("no event");
+        let reply = match event_of(self.alloc, act) {
+            None => return line.words("no event"),
+            Some(event) => match &mut self.world {
+                None => return line.words("no world"),
+                Some(world) => give(world, event),
+            },
         };
-        let Some(world) = &mut self.world else {
-            return line.words("no world");
-        };
-        let reply = give(world, event);
         put_reply(line, &reply);
         self.note(act, reply);
     }
 
     fn note(&mut self, act: Act, reply: Reply) {
-        let session = self.before.saturating_add(act.ticket().unwrap_or(0));
         match reply {
-            Reply::Closed { key, spans } => self.note_told(session, key.id, spans),
-            Reply::Media { spans } => { self.note_told(session, act.ticket().unwrap_or(0), spans) }
+            Reply::Closed { key, spans } => self.note_told(act, key.id, spans),
+            Reply::Media { spans } => self.note_told(act, act.ticket().unwrap_or(0), spans),
             Reply::Opened { .. } => self.opened = self.opened.saturating_add(1),
             Reply::Retired => self.offline = true,
-            Reply::Taken { .. } => self.note_taken(act, session),
+            Reply::Taken { .. } => self.note_taken(act),
             _ => {}
         }
     }
 
-    fn note_told(&mut self, session: u32, id: u32, spans: Items<Span>) {
+    // The place of the session of the act among all that were opened.
+    fn place_of(&self, act: Act) -> u32 {
+        self.before.saturating_add(act.ticket().unwrap_or(0))
+    }
+
+    fn note_told(&mut self, act: Act, id: u32, spans: Items<Span>) {
+        let session = self.place_of(act);
         let key = SessionKey {
             time: self.time,
             id,
@@ -97,8 +102,9 @@ impl<'a> PlayedWorld<'a> {
         });
     }
 
-    fn note_taken(&mut self, act: Act, session: u32) {
+    fn note_taken(&mut self, act: Act) {
         if let Act::Rec(_, index, stream, data) = act {
+            let session = self.place_of(act);
             if let Some(rec) = record_of(self.alloc, index, stream, data) {
                 let _ = self.taken.push(Taken { session, rec });
             }
@@ -107,39 +113,26 @@ impl<'a> PlayedWorld<'a> {
 
     // Reads the session of that place by the spans that were told last.
     fn read(&mut self, session: u32, line: &mut Line) {
-        let Some(world) = &mut self.world else {
-            return line.words("no world");
-        };
-        let Some(told) = self.told.iter().rfind(|told| told.session == session) else {
-            return line.words("no spans");
-        };
-        let mut got = Vec::new(self.alloc);
-        let end = world.read(told.key, told.spans.as_slice(), &mut got);
-        if are_first_of(&got, &self.taken, session) {
-            put_reading(line, end, got.len() as u64);
-        } else {
-            line.words("other records");
+        match last_told(&self.told, session) {
+            None => line.words("no spans"),
+            Some(told) => {
+                let by = (told.key, told.spans.as_slice());
+                let taken = (self.taken.as_slice(), session);
+                put_read_of(self.alloc, &mut self.world, by, taken, line);
+            }
         }
     }
 
     /// Adds the line of what a session of the first run is read to from the spans; of a fault also how many
     /// records were handed over before it.
     pub fn read_spans(&mut self, key: SessionKey, spans: &[Span], line: &mut Line) {
-        let Some(world) = &mut self.world else {
-            return line.words("no world");
-        };
-        let mut got = Vec::new(self.alloc);
-        let end = world.read(key, spans, &mut got);
-        if are_first_of(&got, &self.taken, key.id) {
-            put_reading(line, end, got.len() as u64);
-        } else {
-            line.words("other records");
-        }
+        let taken = (self.taken.as_slice(), key.id);
+        put_read_of(self.alloc, &mut self.world, (key, spans), taken, line);
     }
 
     fn status(&self, ticket: u32, line: &mut Line) {
-        if let (Some(ticket), Some(world)) = (Ticket::new(ticket), &self.world) {
-            line.words(status_words(world.status(ticket)));
+        if let Some(world) = &self.world {
+            put_status(world, ticket, line);
         }
     }
 
@@ -149,11 +142,53 @@ impl<'a> PlayedWorld<'a> {
         }
         self.before = self.opened;
         self.time = time;
-        self.world = match self.world.take() {
-            None => None,
-            Some(world) => begin_again(self.alloc, &self.settings, time, world),
-        };
+        begin_again(self.alloc, &self.settings, time, &mut self.world);
         line.words("ok restarted");
+    }
+}
+
+// The spans that were told last of that session.
+fn last_told(told: &[Told], session: u32) -> Option<&Told> {
+    let mut last = None;
+    for one in told {
+        if one.session == session {
+            last = Some(one);
+        }
+    }
+    last
+}
+
+// Adds the line of what the world reads by a key and spans, if those are the first of the records that the session of
+// that place took.
+fn put_read_of(
+    alloc: Global,
+    world: &mut Option<ListWorld>,
+    (key, spans): (SessionKey, &[Span]),
+    (taken, session): (&[Taken], u32),
+    line: &mut Line,
+) {
+    let Some(world) = world else {
+        return line.words("no world");
+    };
+    let mut got = Vec::new(alloc);
+    let end = world.read(key, spans, &mut got);
+    if are_first_of(&got, taken, session) {
+        put_reading(line, end, got.len() as u64);
+    } else {
+        line.words("other records");
+    }
+}
+
+fn put_status(world: &ListWorld, ticket: u32, line: &mut Line) {
+    if let Some(ticket) = Ticket::new(ticket) {
+        line.words(status_words(world.status(ticket)));
+    }
+}
+
+fn devices_of(world: &mut Option<ListWorld>) -> Option<Vec<MemDrive>> {
+    match world.take() {
+        None => None,
+        Some(world) => world.into_drivers().ok(),
     }
 }
 
@@ -171,17 +206,18 @@ fn give(world: &mut ListWorld, event: Event) -> Reply {
     }
 }
 
-// A world of that time over the devices of another, where the first and the last change places.
-fn begin_again(
-    alloc: Global,
-    settings: &Settings<'_>,
-    time: u32,
-    world: ListWorld,
-) -> Option<ListWorld> {
-    let mut devices = world.into_drivers().ok()?;
-    let last = devices.len().checked_sub(1)?;
-    devices.swap(0, last);
-    make_world(alloc, settings, time, devices)
+// Puts a world of that time in the place of another, over its devices, where the first and the last change places.
+fn begin_again(alloc: Global, settings: &Settings<'_>, time: u32, world: &mut Option<ListWorld>) {
+    if let Some(mut devices) = devices_of(world) {
+        swap_ends(&mut devices);
+        *world = make_world(alloc, settings, time, devices);
+    }
+}
+
+fn swap_ends(devices: &mut [MemDrive]) {
+    if let Some(last) = devices.len().checked_sub(1) {
+        devices.swap(0, last);
+    }
 }
 
 fn put_reading(line: &mut Line, end: Result<ReadEnd, Refusal>, got: u64) {
@@ -203,23 +239,35 @@ impl Machine for PlayedWorld<'_> {
     }
 
     fn look(&self, line: &mut Line) {
-        let Some(world) = &self.world else {
-            return line.words("no world");
-        };
-        if let Ok(view) = world.view() {
-            put_view(line, &view);
+        match &self.world {
+            None => line.words("no world"),
+            Some(world) => put_world(line, world),
         }
-        line.words("on their way");
-        if let Ok(tickets) = world.tickets() {
-            for ticket in &tickets {
-                line.put("", &[u64::from(ticket.get())]);
-            }
-        }
-        line.words("\n");
-        for request in world.requests() {
-            let drive = u64::from(request.drive.get());
-            put_request(line, drive, request.pool.as_str(), request.media.as_str());
-        }
+    }
+}
+
+fn put_world(line: &mut Line, world: &ListWorld) {
+    if let Ok(view) = world.view() {
+        put_view(line, &view);
+    }
+    line.words("on their way");
+    if let Ok(tickets) = world.tickets() {
+        put_tickets(line, &tickets);
+    }
+    line.words("\n");
+    put_requests(line, world);
+}
+
+fn put_tickets(line: &mut Line, tickets: &[Ticket]) {
+    for ticket in tickets {
+        line.put("", &[u64::from(ticket.get())]);
+    }
+}
+
+fn put_requests(line: &mut Line, world: &ListWorld) {
+    for request in world.requests() {
+        let drive = u64::from(request.drive.get());
+        put_request(line, drive, request.pool.as_str(), request.media.as_str());
     }
 }
 

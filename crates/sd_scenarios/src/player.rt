@@ -29,12 +29,22 @@ fn play_on<'a>(alloc: Global, played: PlayedWorld<'a>, scenario: &Scenario, repo
     let mut plain = Plain::new(alloc, &scenario.settings, TIME);
     play_moves(alloc, &mut plain, scenario.name, scenario.moves, report);
     compare_looks(alloc, &played, &plain, scenario, report);
+    compare_bytes(&plain, scenario, report);
+    match played.take_devices() {
+        None => report.words("no devices\n"),
+        Some(mut devices) => {
+            compare_volumes(alloc, report, scenario.name, &mut devices, &plain);
+        }
+    }
+}
+
+// Adds to the report where the volume hasn't the bytes that are written down.
+fn compare_bytes(plain: &Plain, scenario: &Scenario, report: &mut Line) {
     if let Some(wanted) = scenario.volume {
         if plain.bytes_of(VOLUME) != wanted {
             report.put_named(scenario.name, "another volume", &[]);
         }
     }
-    compare_volumes(alloc, report, scenario.name, played, &plain);
 }
 
 /// Plays the moves, and adds to the report which of them come to anything else than is wanted. An answer's line has its
@@ -144,14 +154,29 @@ fn drain<M: Machine>(machine: &mut M, sessions: u32, drives: u32, line: &mut Lin
 
 // A drive's part of a round; whether something moved.
 fn turn<M: Machine>(machine: &mut M, drive: u32, placed: &mut u64, line: &mut Line) -> bool {
-    let took = says(machine, Act::Take(drive), "ok hand ", line) && line.as_str() != "ok hand full";
-    let mut moved = place(machine, drive, placed, line);
-    if line.as_str() == "ok need volume" && says(machine, Act::Seek(drive), "ok mounted", line) {
-        let _ = place(machine, drive, placed, line);
-        moved = true;
-    }
+    let took = says(machine, Act::Take(drive), "ok hand ", line)
+        & (line.as_str() != "ok hand full");
+    let moved = place_or_seek(machine, drive, placed, line);
     let _ = says(machine, Act::Sync(drive), "ok synced", line);
-    took || moved
+    took | moved
+}
+
+// Places what is in the hand, onto a volume that is sought where it needs one; whether something moved.
+fn place_or_seek<M: Machine>(
+    machine: &mut M,
+    drive: u32,
+    placed: &mut u64,
+    line: &mut Line,
+) -> bool {
+    let moved = place(machine, drive, placed, line);
+    if line.as_str() != "ok need volume" {
+        return moved;
+    }
+    let mounted = says(machine, Act::Seek(drive), "ok mounted", line);
+    if mounted {
+        let _ = place(machine, drive, placed, line);
+    }
+    mounted
 }
 
 // Places what is in the hand, and counts that; whether something moved.

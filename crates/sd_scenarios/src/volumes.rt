@@ -1,5 +1,4 @@
 // What stands on the devices at last.
-use crate::played_world::PlayedWorld;
 use sd_base::VolName;
 use sd_driver::Driver;
 use sd_memdrive::MemDrive;
@@ -14,37 +13,52 @@ pub fn compare_volumes(
     alloc: Global,
     report: &mut Line,
     name: &str,
-    played: PlayedWorld<'_>,
+    devices: &mut [MemDrive],
     plain: &Plain,
 ) {
-    let Some(devices) = played.into_devices() else {
-        return report.words("no devices\n");
-    };
-    let mut devices = devices;
     for (place, device) in devices.iter_mut().enumerate() {
-        for (volume, bytes) in plain.shelf(alloc, place) {
-            if !has_bytes(alloc, device, volume, bytes) {
-                report.put_named(name, "has another volume", &[]);
-                report.word(volume);
-                report.words("\n");
-            }
+        let shelf = plain.shelf(alloc, place);
+        compare_shelf(alloc, report, name, device, &shelf);
+    }
+}
+
+// Adds to the report where the device hasn't a volume of that name and with these bytes.
+fn compare_shelf(
+    alloc: Global,
+    report: &mut Line,
+    name: &str,
+    device: &mut MemDrive,
+    shelf: &[(&str, &[u8])],
+) {
+    for (volume, bytes) in shelf {
+        if !has_bytes(alloc, device, volume, bytes) {
+            report.put_named(name, "has another volume", &[]);
+            report.word(volume);
+            report.words("\n");
         }
     }
 }
 
 // Whether the volume on the device has these bytes.
 fn has_bytes(alloc: Global, device: &mut MemDrive, volume: &str, bytes: &[u8]) -> bool {
-    let (Ok(name), Ok(room)) = (
-        VolName::parse(volume),
-        vec![in alloc; 0; bytes.len().saturating_add(1)],
-    ) else {
-        return false;
+    match vec![in alloc; 0; bytes.len().saturating_add(1)] {
+        Err(_) => false,
+        Ok(mut room) => match read_whole(device, volume, &mut room) {
+            None => false,
+            Some(count) => room.get(..count) == Some(bytes),
+        },
+    }
+}
+
+// Reads the volume, as far as there is room for it: how many bytes that are.
+fn read_whole(device: &mut MemDrive, volume: &str, room: &mut [u8]) -> Option<usize> {
+    let Ok(name) = VolName::parse(volume) else {
+        return None;
     };
-    let mut room = room;
     for _ in 0..MOST_TRIES {
-        if let Ok(count) = device.read_at(&name, 0, &mut room) {
-            return room.get(..count) == Some(bytes);
+        if let Ok(count) = device.read_at(&name, 0, room) {
+            return Some(count);
         }
     }
-    false
+    None
 }
