@@ -44,8 +44,8 @@ const NO_BODY: BodyEnd = BodyEnd {
 pub(crate) struct Bodies {
     room: usize,
     bytes: Written,
-    closed: Vec<BodyEnd>,
-    open: BodyEnd,
+    pub closed: Vec<BodyEnd>,
+    pub open: BodyEnd,
 }
 
 impl Bodies {
@@ -59,16 +59,6 @@ impl Bodies {
         };
         bodies.label(START_LABEL, titles, moment, 0);
         bodies
-    }
-
-    /// How many are closed.
-    pub fn closed(&self) -> usize {
-        self.closed.len()
-    }
-
-    /// How many records there are.
-    pub fn records(&self) -> u64 {
-        self.open.whole
     }
 
     /// The closed body of that number, from 1 on.
@@ -87,7 +77,7 @@ impl Bodies {
     }
 
     fn free(&self) -> usize {
-        let start = self.end_of(self.closed()).end;
+        let start = self.end_of(self.closed.len()).end;
         let open = self.bytes.bytes.len().saturating_sub(start);
         self.room.saturating_sub(open)
     }

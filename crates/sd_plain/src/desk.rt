@@ -26,11 +26,6 @@ pub(crate) struct Desk {
 }
 
 impl Desk {
-    pub fn clear(&mut self) {
-        self.claims.clear();
-        self.requests.clear();
-    }
-
     /// The place of the drive for which the name is claimed.
     pub fn claimed(&self, name: &str) -> Option<usize> {
         for claim in &self.claims {

@@ -1,4 +1,5 @@
 // The devices of the plain machine.
+use crate::bytes::Written;
 use crate::shelved::{Found, Shelved};
 use sd_base::Refusal;
 use sd_memdrive::{Call, Fail, When};
@@ -67,12 +68,20 @@ impl Device {
         names: [&'static str; 3],
         image: &[u8],
     ) -> Result<(), Refusal> {
-        let [name, ..] = names;
+        let [name, pool, media] = names;
         let due = self.begin(Call::Create)?;
         if self.place_of(name).is_some() {
             return Err(Refusal::AlreadyLabelled);
         }
-        let _ = self.shelf.push(Shelved::new(alloc, names));
+        let _ = self.shelf.push(Shelved {
+            name,
+            pool,
+            media,
+            bytes: Written::new(alloc),
+            end: 0,
+            blocks: 0,
+            latest: 0,
+        });
         fault_if(due.is_some())?;
         self.append(name, image, 0)?;
         self.call(Call::Sync)
@@ -99,7 +108,8 @@ impl Device {
         let Some(shelved) = self.shelf.get_mut(place) else {
             return Err(Refusal::VolumeNotOnShelf);
         };
-        if shelved.end_with(image.len()) > self.capacity {
+        let end = shelved.bytes.bytes.len().saturating_add(image.len());
+        if end as u64 > self.capacity {
             return Err(Refusal::NoRoom);
         }
         if is_half {
@@ -136,7 +146,7 @@ impl Device {
             return Err(Refusal::VolumeNotOnShelf);
         };
         let found = shelved.found(media, time);
-        let has_header = shelved.end_with(0) >= 24;
+        let has_header = shelved.bytes.bytes.len() >= 24;
         match found {
             Err(Refusal::NotOurVolume) if has_header => self.call(Call::Read)?,
             _ => {}

@@ -108,11 +108,14 @@ impl PlainDrive {
     /// Begins a run, in which no volume is known, and nothing is on its way.
     pub fn begin_again(&mut self) {
         self.pool = None;
-        self.rack.clear();
-        self.inbox.clear();
+        self.rack.volumes.clear();
+        self.rack.loaded = None;
+        self.inbox.hand = None;
+        self.inbox.queue.clear();
         self.unsynced.clear();
         for lane in &mut self.lanes {
-            lane.begin_again();
+            lane.holder = None;
+            lane.store.calls.clear();
         }
     }
 }

@@ -127,7 +127,7 @@ impl Generator {
 
     // An act of a session that has no body to bring on, or a new session where none is on its way.
     fn fresh_step(&mut self, ticket: u32, plain: &Plain) -> Act {
-        if plain.running(0).is_none() {
+        if plain.one_of(0, false).is_none() {
             return self.open(plain);
         }
         if self.chance.once_in(4) {
@@ -193,8 +193,8 @@ impl Generator {
         let number = self.chance.below(64);
         match self.chance.below(24) {
             0 | 1 => any,
-            2 | 3 => plain.stopped(number).unwrap_or(any),
-            _ => plain.running(number).unwrap_or(any),
+            2 | 3 => plain.one_of(number, true).unwrap_or(any),
+            _ => plain.one_of(number, false).unwrap_or(any),
         }
     }
 

@@ -18,15 +18,6 @@ pub(crate) struct Inbox {
 }
 
 impl Inbox {
-    pub fn clear(&mut self) {
-        self.hand = None;
-        self.queue.clear();
-    }
-
-    pub fn is_empty(&self) -> bool {
-        self.hand.is_none() && self.queue.is_empty()
-    }
-
     pub fn take(&mut self, line: &mut Line) -> Said {
         if self.hand.is_some() {
             return Ok("ok hand full");

@@ -31,9 +31,4 @@ impl PlainLane {
         self.holder = Some(session);
         Ok(())
     }
-
-    pub fn begin_again(&mut self) {
-        self.holder = None;
-        self.store.begin_again();
-    }
 }

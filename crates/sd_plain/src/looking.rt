@@ -7,17 +7,6 @@ use crate::status_lines::{put_drive, put_session, put_volume};
 use std::alloc::Global;
 
 impl Plain {
-    /// Adds the lines of its drives, of their volumes, of the sessions of this run, of the requests, and of the
-    /// sessions that are on their way.
-    pub(crate) fn put_status(&self, line: &mut Line) {
-        put_drives(&self.drives, &self.sessions, line);
-        put_volumes(&self.drives, line);
-        let sessions = self.of_run();
-        put_sessions(sessions, line);
-        put_running(sessions, line);
-        self.desk.put(line);
-    }
-
     /// The names and bytes of the volumes on the device of the drive that is online at that place among those that
     /// are.
     pub fn shelf(&self, alloc: Global, place: usize) -> Vec<(&'static str, &[u8])> {
@@ -40,7 +29,8 @@ impl Plain {
     }
 }
 
-fn put_drives(drives: &[PlainDrive], sessions: &[PlainSession], line: &mut Line) {
+/// Adds the lines of the drives.
+pub(crate) fn put_drives(drives: &[PlainDrive], sessions: &[PlainSession], line: &mut Line) {
     for drive in drives {
         let number = (drive.at as u64).saturating_add(1);
         if drive.online {
@@ -56,20 +46,23 @@ fn put_drives(drives: &[PlainDrive], sessions: &[PlainSession], line: &mut Line)
     }
 }
 
-fn put_volumes(drives: &[PlainDrive], line: &mut Line) {
+/// Adds the lines of the volumes of the drives.
+pub(crate) fn put_volumes(drives: &[PlainDrive], line: &mut Line) {
     for drive in drives {
         drive.rack.put(drive.media, line);
     }
 }
 
-fn put_sessions(sessions: &[PlainSession], line: &mut Line) {
+/// Adds the lines of the sessions.
+pub(crate) fn put_sessions(sessions: &[PlainSession], line: &mut Line) {
     for session in sessions {
-        let records = session.bodies.records();
+        let records = session.bodies.open.whole;
         put_session(line, u64::from(session.id), session.status, records);
     }
 }
 
-fn put_running(sessions: &[PlainSession], line: &mut Line) {
+/// Adds the line of the sessions that are on their way.
+pub(crate) fn put_running(sessions: &[PlainSession], line: &mut Line) {
     line.words("on their way");
     for session in sessions {
         if session.is_running() {

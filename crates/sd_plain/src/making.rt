@@ -46,7 +46,8 @@ impl Plain {
         }
         begin_again(&mut self.drives);
         swap_devices(&mut self.drives);
-        self.desk.clear();
+        self.desk.claims.clear();
+        self.desk.requests.clear();
         self.first = self.sessions.len();
         self.rules.time = time;
         Ok("ok restarted")
@@ -143,7 +144,10 @@ fn lanes_of(alloc: Global, settings: &Settings<'_>, number: u32, count: u32) -> 
     for _ in 0..count {
         let _ = lanes.push(PlainLane {
             holder: None,
-            store: Store::new(alloc, spool_fails_of(alloc, settings, number)),
+            store: Store {
+                fails: spool_fails_of(alloc, settings, number),
+                calls: Vec::new(alloc),
+            },
         });
     }
     lanes

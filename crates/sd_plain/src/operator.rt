@@ -159,7 +159,7 @@ impl PlainDrive {
         sessions: &mut [PlainSession],
         line: &mut Line,
     ) -> Said {
-        self.sync_loaded(sessions)?;
+        self.sync(sessions)?;
         self.rack.loaded = None;
         self.device.call(Call::Load)?;
         self.rack.loaded = Some(at);
@@ -171,7 +171,7 @@ impl PlainDrive {
     }
 
     fn unmount(&mut self, sessions: &mut [PlainSession]) -> Said {
-        self.sync_loaded(sessions)?;
+        self.sync(sessions)?;
         self.rack.loaded = None;
         Ok("ok unmounted")
     }
@@ -195,12 +195,14 @@ impl PlainDrive {
     }
 
     fn retire(&mut self, sessions: &[PlainSession]) -> Said {
-        let is_idle = self.rack.loaded.is_none() && self.inbox.is_empty();
+        let is_idle = self.rack.loaded.is_none()
+            && self.inbox.hand.is_none()
+            && self.inbox.queue.is_empty();
         if !is_idle || self.busy_lanes(sessions) > 0 {
             return Err(Refusal::InUse);
         }
         self.online = false;
-        self.rack.clear();
+        self.rack.volumes.clear();
         Ok("ok retired")
     }
 }

@@ -4,6 +4,7 @@ use crate::bodies::Titles;
 use crate::desk::Desk;
 use crate::drive::PlainDrive;
 use crate::line::Line;
+use crate::looking::{put_drives, put_running, put_sessions, put_volumes};
 use crate::machine::Machine;
 use crate::record::record_of;
 use crate::reply_line::put_opened;
@@ -46,7 +47,12 @@ impl Machine for Plain {
     }
 
     fn look(&self, line: &mut Line) {
-        self.put_status(line);
+        put_drives(&self.drives, &self.sessions, line);
+        put_volumes(&self.drives, line);
+        let sessions = self.of_run();
+        put_sessions(sessions, line);
+        put_running(sessions, line);
+        self.desk.put(line);
     }
 }
 

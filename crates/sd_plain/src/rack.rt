@@ -18,20 +18,6 @@ impl PlainVolume {
     pub fn takes(self, pool: &str) -> bool {
         self.status == VolumeStatus::Append && self.pool == pool
     }
-
-    /// The same volume with that status.
-    pub fn with(self, status: VolumeStatus) -> Self {
-        PlainVolume { status, ..self }
-    }
-
-    /// The same volume with a block more, which ends there.
-    pub fn grown(self, end: u64) -> Self {
-        PlainVolume {
-            end,
-            next: self.next.saturating_add(1),
-            ..self
-        }
-    }
 }
 
 /// The volumes of a drive, and the place of the loaded one.
@@ -42,11 +28,6 @@ pub(crate) struct Rack {
 }
 
 impl Rack {
-    pub fn clear(&mut self) {
-        self.volumes.clear();
-        self.loaded = None;
-    }
-
     /// The loaded volume.
     pub fn volume(&self) -> Option<PlainVolume> {
         match self.loaded {
@@ -62,6 +43,16 @@ impl Rack {
                 *old = volume;
             }
         }
+    }
+
+    /// The loaded volume is out, and takes no more blocks.
+    pub fn lose(&mut self) {
+        if let Some(at) = self.loaded {
+            if let Some(volume) = self.volumes.get_mut(at) {
+                volume.status = VolumeStatus::Error;
+            }
+        }
+        self.loaded = None;
     }
 
     /// The place of the volume of that name.

@@ -53,7 +53,7 @@ fn put_reading(session: &PlainSession, bodies: usize, done: Result<(), Refusal>,
             ReadEnd {
                 records: body.whole,
                 bytes: body.bytes,
-                ended: session.has_end && bodies == session.bodies.closed(),
+                ended: session.has_end && bodies == session.bodies.closed.len(),
             },
         ),
     }

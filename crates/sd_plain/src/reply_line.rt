@@ -13,15 +13,22 @@ const NO_KEY: SessionKey = SessionKey { time: 0, id: 0 };
 pub fn put_reply(line: &mut Line, reply: &Reply) {
     match reply {
         Reply::Refused(why) => line.refuse(*why),
-        Reply::Taken { count } => line.put("ok taken", &[*count]),
         Reply::Closed { key, spans } => put_spans(line, "ok closed ", *key, spans.as_slice()),
         Reply::Media { spans } => put_spans(line, "ok media ", NO_KEY, spans.as_slice()),
-        Reply::Opened { ticket, drive } => put_opened(line, ticket.get(), u64::from(drive.get())),
-        Reply::InHand { ticket, seq } => line.put("ok hand", &[u64::from(ticket.get()), *seq]),
         Reply::Mounted { name } => line.put_named("ok mounted", name.as_str(), &[]),
         Reply::Placed { volume, start, end } => {
             line.put_named("ok placed", volume.as_str(), &[*start, *end])
         }
+        _ => put_numbers(line, reply),
+    }
+}
+
+// Adds the line of a reply that has no names in it.
+fn put_numbers(line: &mut Line, reply: &Reply) {
+    match reply {
+        Reply::Taken { count } => line.put("ok taken", &[*count]),
+        Reply::Opened { ticket, drive } => put_opened(line, ticket.get(), u64::from(drive.get())),
+        Reply::InHand { ticket, seq } => line.put("ok hand", &[u64::from(ticket.get()), *seq]),
         Reply::Adopted { end, next } => line.put("ok adopted", &[*end, u64::from(*next)]),
         _ => line.words(words_of(reply)),
     }

@@ -91,37 +91,26 @@ impl PlainSession {
         }
     }
 
-    // Why an event is refused for where it stands.
-    fn refusal(&self) -> Refusal {
+    // Refuses an event, unless it stands where the event may come.
+    fn need(&self, is_due: bool) -> Result<(), Refusal> {
+        if is_due {
+            return Ok(());
+        }
         match self.status {
-            Status::Cancelled => Refusal::SessionCancelled,
-            Status::Failed => Refusal::SessionFailed,
-            _ => Refusal::SessionNotOpen,
+            Status::Cancelled => Err(Refusal::SessionCancelled),
+            Status::Failed => Err(Refusal::SessionFailed),
+            _ => Err(Refusal::SessionNotOpen),
         }
-    }
-
-    fn need(&self, status: Status) -> Result<(), Refusal> {
-        if self.status == status {
-            return Ok(());
-        }
-        Err(self.refusal())
-    }
-
-    fn need_running(&self) -> Result<(), Refusal> {
-        if self.is_running() {
-            return Ok(());
-        }
-        Err(self.refusal())
     }
 
     /// How many closed bodies wait.
     pub fn waiting(&self) -> usize {
-        self.bodies.closed().saturating_sub(self.way.spooled)
+        self.bodies.closed.len().saturating_sub(self.way.spooled)
     }
 
     /// Why a record of that FileIndex isn't taken, if it isn't.
     pub fn need_next(&self, index: u32) -> Result<(), Refusal> {
-        self.need(Status::Active)?;
+        self.need(self.status == Status::Active)?;
         if index != self.last && index != self.last.saturating_add(1) {
             return Err(Refusal::BadFileIndex);
         }
@@ -134,11 +123,11 @@ impl PlainSession {
     pub fn append(&mut self, rec: &Rec, line: &mut Line) {
         self.bodies.record(rec);
         self.last = rec.index;
-        line.put("ok taken", &[self.bodies.records()]);
+        line.put("ok taken", &[self.bodies.open.whole]);
     }
 
     pub fn end(&mut self, moment: i64) -> Said {
-        self.need(Status::Active)?;
+        self.need(self.status == Status::Active)?;
         self.bodies.end(self.titles, moment);
         self.has_end = true;
         self.status = Status::Ended;
@@ -146,7 +135,7 @@ impl PlainSession {
     }
 
     pub fn cancel(&mut self) -> Said {
-        self.need_running()?;
+        self.need(self.is_running())?;
         self.status = Status::Cancelled;
         Ok("ok cancelled")
     }
@@ -160,7 +149,7 @@ impl PlainSession {
 
     /// A call of the store that fails fails the session.
     pub fn spool(&mut self, limit: u64, store: &mut Store) -> Said {
-        self.need_running()?;
+        self.need(self.is_running())?;
         if limit == 0 {
             return Ok("ok no spool");
         }
@@ -178,13 +167,13 @@ impl PlainSession {
 
     /// A call of the store that fails fails the session.
     pub fn despool(&mut self, rules: &Rules, store: &mut Store, queue: &mut Vec<Sent>) -> Said {
-        self.need_running()?;
+        self.need(self.is_running())?;
         let spools = rules.spool > 0;
         let is_last = self.status == Status::Ended && self.waiting() == 0;
         if spools && !self.way.despooling && !is_last {
             return Ok("ok not due");
         }
-        match self.way.is_ready(self.bodies.closed(), spools, store) {
+        match self.way.is_ready(self.bodies.closed.len(), spools, store) {
             Err(why) => {
                 self.fail();
                 Err(why)
@@ -222,8 +211,8 @@ impl PlainSession {
 
     /// Tells where the bodies of a session lie that ended and is synced.
     pub fn close(&mut self, time: u32, line: &mut Line) -> Said {
-        self.need(Status::Ended)?;
-        if self.bodies.closed() > self.synced {
+        self.need(self.status == Status::Ended)?;
+        if self.bodies.closed.len() > self.synced {
             return Err(Refusal::NotYet);
         }
         self.status = Status::Closed;

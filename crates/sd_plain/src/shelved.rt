@@ -1,7 +1,6 @@
 // A volume on the shelf of a device.
 use crate::bytes::Written;
 use sd_base::Refusal;
-use std::alloc::Global;
 
 /// A volume on the shelf: what its label says, its bytes, and the whole blocks that they begin with, the label's
 /// too: where those end, how many they are, and the latest time of a run that wrote one, which is 0 for the label.
@@ -11,9 +10,9 @@ pub(crate) struct Shelved {
     pub pool: &'static str,
     pub media: &'static str,
     pub bytes: Written,
-    end: usize,
-    blocks: u32,
-    latest: u32,
+    pub end: usize,
+    pub blocks: u32,
+    pub latest: u32,
 }
 
 /// What an adoption finds: the pool of the volume, where its blocks end, and the number of the next one.
@@ -25,25 +24,6 @@ pub(crate) struct Found {
 }
 
 impl Shelved {
-    /// A volume of that name, pool and media with no bytes.
-    pub fn new(alloc: Global, names: [&'static str; 3]) -> Self {
-        let [name, pool, media] = names;
-        Shelved {
-            name,
-            pool,
-            media,
-            bytes: Written::new(alloc),
-            end: 0,
-            blocks: 0,
-            latest: 0,
-        }
-    }
-
-    /// Where a block more of that size would end.
-    pub fn end_with(&self, size: usize) -> u64 {
-        self.bytes.bytes.len().saturating_add(size) as u64
-    }
-
     /// Adds a whole block.
     pub fn append(&mut self, image: &[u8], time: u32) {
         self.bytes.put(image);

@@ -1,28 +1,15 @@
 // The store of a spool.
 use sd_base::Refusal;
 use sd_spool::{SpoolCall, SpoolFail};
-use std::alloc::Global;
 
 /// A spool's store: which of its calls fail, and those made so far.
 #[derive(Drop)]
 pub(crate) struct Store {
-    fails: Vec<SpoolFail>,
-    calls: Vec<SpoolCall>,
+    pub fails: Vec<SpoolFail>,
+    pub calls: Vec<SpoolCall>,
 }
 
 impl Store {
-    pub fn new(alloc: Global, fails: Vec<SpoolFail>) -> Self {
-        Store {
-            fails,
-            calls: Vec::new(alloc),
-        }
-    }
-
-    /// A store that fails as this one, with no call made yet.
-    pub fn begin_again(&mut self) {
-        self.calls.clear();
-    }
-
     /// Makes a call.
     pub fn call(&mut self, call: SpoolCall) -> Result<(), Refusal> {
         let _ = self.calls.push(call);

@@ -65,42 +65,38 @@ impl PlainDrive {
     fn write(&mut self, volume: PlainVolume, id: u32, body: &[u8], rules: &Rules) -> PlainVolume {
         let image = block_image(rules.alloc, rules.time, id, volume.next, body);
         let end = volume.end.saturating_add(image.bytes.len() as u64);
+        let mut after = volume;
         if end > rules.volume {
-            return volume.with(VolumeStatus::Full);
+            after.status = VolumeStatus::Full;
+            return after;
         }
         match self.device.append(volume.name, &image.bytes, rules.time) {
-            Ok(()) => volume.grown(end),
-            Err(Refusal::NoRoom) => volume.with(VolumeStatus::Full),
-            Err(_) => volume.with(VolumeStatus::Error),
+            Ok(()) => {
+                after.end = end;
+                after.next = volume.next.saturating_add(1);
+            }
+            Err(Refusal::NoRoom) => after.status = VolumeStatus::Full,
+            Err(_) => after.status = VolumeStatus::Error,
         }
-    }
-
-    pub fn sync(&mut self, sessions: &mut [PlainSession]) -> Said {
-        self.sync_loaded(sessions)?;
-        Ok("ok synced")
+        after
     }
 
     /// Syncs the loaded volume, if a body on it awaits that. Where that fails the volume is out, and the sessions
     /// fail that go on and have such a body.
-    pub fn sync_loaded(&mut self, sessions: &mut [PlainSession]) -> Result<(), Refusal> {
+    pub fn sync(&mut self, sessions: &mut [PlainSession]) -> Said {
         if self.unsynced.is_empty() {
-            return Ok(());
+            return Ok("ok synced");
         }
         let done = self.device.call(Call::Sync);
         note_sync(sessions, &self.unsynced, done.is_ok());
         self.unsynced.clear();
-        if done.is_err() {
-            self.lose_loaded();
+        match done {
+            Ok(()) => Ok("ok synced"),
+            Err(why) => {
+                self.rack.lose();
+                Err(why)
+            }
         }
-        done
-    }
-
-    // The loaded volume is out, and takes no more blocks.
-    fn lose_loaded(&mut self) {
-        if let Some(volume) = self.rack.volume() {
-            self.rack.change(volume.with(VolumeStatus::Error));
-        }
-        self.rack.loaded = None;
     }
 }
 

@@ -30,14 +30,10 @@ impl Plain {
         }
     }
 
-    /// One of the tickets on their way, by a number that is taken round their count.
-    pub(crate) fn running(&self, number: u32) -> Option<u32> {
-        one_of(self.rules.alloc, self.of_run(), number, false)
-    }
-
-    /// One of those whose sessions were given up or failed, in the same way.
-    pub(crate) fn stopped(&self, number: u32) -> Option<u32> {
-        one_of(self.rules.alloc, self.of_run(), number, true)
+    /// One of the tickets on their way, by a number that is taken round their count; or one of those whose sessions
+    /// were given up or failed.
+    pub(crate) fn one_of(&self, number: u32, stopped: bool) -> Option<u32> {
+        one_of(self.rules.alloc, self.of_run(), number, stopped)
     }
 
     /// The name of one of the volumes that stand on the drive's device, in the same way.
@@ -107,19 +103,19 @@ fn one_of(alloc: Global, sessions: &[PlainSession], number: u32, stopped: bool) 
 
 impl PlainSession {
     fn next_step(&self, ticket: u32, spools: bool) -> Option<Act> {
-        let is_due = self.bodies.closed() > self.way.sent;
-        match self.status {
-            Status::Active | Status::Ended if is_due => Some(self.next_sending(ticket, spools)),
-            Status::Ended => Some(Act::Close(ticket)),
-            _ => None,
+        if !self.is_running() {
+            return None;
         }
-    }
-
-    fn next_sending(&self, ticket: u32, spools: bool) -> Act {
+        if self.bodies.closed.len() <= self.way.sent {
+            return match self.status {
+                Status::Ended => Some(Act::Close(ticket)),
+                _ => None,
+            };
+        }
         if spools && self.waiting() > 0 && !self.way.despooling {
-            Act::Spool(ticket)
+            Some(Act::Spool(ticket))
         } else {
-            Act::Despool(ticket)
+            Some(Act::Despool(ticket))
         }
     }
 }
@@ -127,7 +123,7 @@ impl PlainSession {
 impl PlainDrive {
     fn next_turn(&self, number: u32) -> Option<Act> {
         if self.inbox.hand.is_none() {
-            return if self.inbox.is_empty() {
+            return if self.inbox.queue.is_empty() {
                 None
             } else {
                 Some(Act::Take(number))
