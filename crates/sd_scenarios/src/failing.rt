@@ -115,14 +115,18 @@ fn meets_fault(
             false
         }
         Some(mut pair) => {
-            let mut line = Line::new(alloc);
-            play_steps(&mut pair, scenario, &mut line);
-            leave_all(&mut pair, &mut line);
-            pair.finish(scenario.name, tally);
-            report.words(pair.report().as_str());
-            pair.tally().has_fault()
+            play_faults(alloc, &mut pair, scenario, tally);
+            report.words(pair.notes.report.as_str());
+            pair.notes.tally.has_fault()
         }
     }
+}
+
+fn play_faults(alloc: Global, pair: &mut Pair<'_>, scenario: &Scenario, tally: &mut Tally) {
+    let mut line = Line::new(alloc);
+    play_steps(pair, scenario, &mut line);
+    leave_all(pair, &mut line);
+    pair.finish(scenario.name, tally);
 }
 
 fn play_steps(pair: &mut Pair<'_>, scenario: &Scenario, line: &mut Line) {
@@ -132,7 +136,7 @@ fn play_steps(pair: &mut Pair<'_>, scenario: &Scenario, line: &mut Line) {
 }
 
 fn leave_all(pair: &mut Pair<'_>, line: &mut Line) {
-    for ticket in 1..pair.plain().total().saturating_add(1) {
+    for ticket in 1..pair.plain.total().saturating_add(1) {
         read_closed(pair, ticket, line);
         leave(pair, ticket, line);
     }
@@ -159,7 +163,7 @@ fn begin_beside(pair: &mut Pair<'_>, line: &mut Line) -> u32 {
     if !line.as_str().starts_with("ok ticket") {
         return 0;
     }
-    let ticket = pair.plain().total();
+    let ticket = pair.plain.total();
     play_steady(
         pair,
         (Act::Rec(ticket, 1, 2, Data::Text(b"a")), "ok taken 1"),
@@ -184,7 +188,7 @@ fn play_steady(pair: &mut Pair<'_>, step: Move, line: &mut Line) {
     let is_there = line.as_str() != "unknown" && line.as_str() != "failed";
     answer(pair, step.0, line);
     if is_there {
-        pair.compare("as before", step.1, line.as_str());
+        pair.notes.compare("as before", step.1, line.as_str());
     }
 }
 
@@ -200,7 +204,7 @@ fn read_closed(pair: &mut Pair<'_>, ticket: u32, line: &mut Line) {
     }
     let said = line.as_str();
     if !said.starts_with("ok read") || !said.ends_with(" ended") {
-        pair.compare("closed", "its list", said);
+        pair.notes.compare("closed", "its list", said);
     }
 }
 

@@ -42,10 +42,8 @@ fn play_list(alloc: Global, seed: u32, tally: &mut Tally, report: &mut Line) {
     match Pair::new(alloc, settings, LIST_FLOORS) {
         None => differences.words("no world\n"),
         Some(mut pair) => {
-            play(&mut pair, &mut generator, &mut kept);
-            read_all(&mut pair, &mut kept.line);
-            pair.finish("list", tally);
-            differences.words(pair.report().as_str());
+            play(&mut pair, &mut generator, &mut kept, tally);
+            differences.words(pair.notes.report.as_str());
         }
     }
     kept.run_again(alloc, &settings, &mut differences);
@@ -56,14 +54,20 @@ fn play_list(alloc: Global, seed: u32, tally: &mut Tally, report: &mut Line) {
     }
 }
 
+fn play(pair: &mut Pair<'_>, generator: &mut Generator, kept: &mut Kept, tally: &mut Tally) {
+    play_acts(pair, generator, kept);
+    read_all(pair, &mut kept.line);
+    pair.finish("list", tally);
+}
+
 // Plays the acts up to the first difference, and keeps the first of them.
-fn play(pair: &mut Pair<'_>, generator: &mut Generator, kept: &mut Kept) {
+fn play_acts(pair: &mut Pair<'_>, generator: &mut Generator, kept: &mut Kept) {
     for _ in 0..LENGTH {
-        let act = generator.act(pair.plain());
+        let act = generator.act(&pair.plain);
         kept.line.clear();
         pair.play(act, &mut kept.line);
         kept.note(act);
-        if !pair.report().is_empty() {
+        if !pair.notes.report.is_empty() {
             break;
         }
     }
@@ -71,7 +75,7 @@ fn play(pair: &mut Pair<'_>, generator: &mut Generator, kept: &mut Kept) {
 
 // Reads every session, and one that there isn't.
 fn read_all(pair: &mut Pair<'_>, line: &mut Line) {
-    for session in 1..pair.plain().total().saturating_add(2) {
+    for session in 1..pair.plain.total().saturating_add(2) {
         line.clear();
         pair.play(Act::Read(session), line);
     }

@@ -17,23 +17,30 @@ const ROOM: u32 = 200;
 /// volumes. Adds to the report what comes to anything else than is wanted.
 pub fn play(alloc: Global, scenario: &Scenario, report: &mut Line) {
     match PlayedWorld::new(alloc, scenario.settings) {
-        Some(played) => play_on(alloc, played, scenario, report),
         None => report.words("no world\n"),
+        Some(mut played) => {
+            let mut plain = Plain::new(alloc, &scenario.settings, TIME);
+            play_both(alloc, &mut played, &mut plain, scenario, report);
+        }
     }
 }
 
-fn play_on<'a>(alloc: Global, played: PlayedWorld<'a>, scenario: &Scenario, report: &mut Line) {
-    let mut played = played;
-    play_moves(alloc, &mut played, scenario.name, scenario.moves, report);
-    play_readings(alloc, &mut played, scenario, report);
-    let mut plain = Plain::new(alloc, &scenario.settings, TIME);
-    play_moves(alloc, &mut plain, scenario.name, scenario.moves, report);
-    compare_looks(alloc, &played, &plain, scenario, report);
-    compare_bytes(&plain, scenario, report);
+fn play_both(
+    alloc: Global,
+    played: &mut PlayedWorld<'_>,
+    plain: &mut Plain,
+    scenario: &Scenario,
+    report: &mut Line,
+) {
+    play_moves(alloc, played, scenario.name, scenario.moves, report);
+    play_readings(alloc, played, scenario, report);
+    play_moves(alloc, plain, scenario.name, scenario.moves, report);
+    compare_looks(alloc, played, plain, scenario, report);
+    compare_bytes(plain, scenario, report);
     match played.take_devices() {
         None => report.words("no devices\n"),
         Some(mut devices) => {
-            compare_volumes(alloc, report, scenario.name, &mut devices, &plain);
+            compare_volumes(alloc, report, scenario.name, &mut devices, plain);
         }
     }
 }
