@@ -1,37 +1,46 @@
 // A drive in memory: its calls, and a stop after each of those that changed it.
 ghost use Rattle.std.specs.Prelude.{◌≡◌, None, IsSome, OnOk};
 
-use anyhow::Result;
 use sd_base::VolName;
 use sd_driver::{Driver, DriverFault};
 use sd_memdrive::MemDrive;
+use std::io;
 
 /// Writes a volume, syncs and cuts it, and stops the device after each call that changed its shelf.
-pub fn run<R: Print + AllocGlobal>(rt: &R) -> Result<()> {
-    let alloc = rt.alloc();
-    let Ok(name) = VolName::parse("Vol-0001") else {
-        anyhow::bail!("a name");
-    };
-    let mut drive = match MemDrive::new(alloc, 1000, &[]) {
+pub fn run(rt: HostRuntime, name: &VolName) -> io::Result<()> {
+    let mut drive = match MemDrive::new(rt.alloc(), 1000, &[]) {
         Ok(drive) => drive,
-        Err(_) => MemDrive::new(alloc, 1000, &[])?,
+        Err(_) => MemDrive::new(rt.alloc(), 1000, &[])?,
     };
-    let Ok(()) = write(&mut drive, &name) else {
-        anyhow::bail!("a device fault");
-    };
+    if write(&mut drive, name).is_err() {
+        return Err(io::Error::other("a device fault"));
+    }
+    print_stops(rt, &drive, name)
+}
+
+fn print_stops(rt: HostRuntime, drive: &MemDrive, name: &VolName) -> io::Result<()> {
     let calls = drive.calls();
     println!(rt; "calls that changed the shelf: {calls}")?;
     for call in 0..=calls {
-        let mut left = match drive.after_stop(alloc, call, b"tail") {
+        let mut left = match drive.after_stop(rt.alloc(), call, b"tail") {
             Ok(left) => left,
-            Err(_) => drive.after_stop(alloc, call, b"tail")?,
+            Err(_) => drive.after_stop(rt.alloc(), call, b"tail")?,
         };
-        match left.len(&name) {
-            Ok(length) => println!(rt; "after {call}: {length} bytes")?,
-            Err(_) => println!(rt; "after {call}: no volume")?,
-        }
+        print_left(rt, &mut left, name, call)?;
     }
     Ok(())
+}
+
+fn print_left<D: Driver>(
+    rt: HostRuntime,
+    left: &mut D,
+    name: &VolName,
+    call: u64,
+) -> io::Result<()> {
+    match left.len(name) {
+        Ok(length) => println!(rt; "after {call}: {length} bytes"),
+        Err(_) => println!(rt; "after {call}: no volume"),
+    }
 }
 
 fn write<D: Driver>(drive: &mut D, name: &VolName) -> Result<(), DriverFault>

@@ -6,8 +6,11 @@
 //! repository, makes each allocation fail in turn and compares the outputs.
 #![tactic(auto)]
 
+mod answers;
+mod data;
 mod devices;
 mod jobs;
+mod names;
 mod packets;
 mod scarce;
 mod session;
@@ -16,14 +19,30 @@ mod volumes;
 mod worlds;
 
 use anyhow::Result;
+use names::Names;
+use std::alloc::AllocError;
+use std::io;
 
 fn main(rt: HostRuntime) -> Result<()> {
-    packets::run(&rt)?;
-    session::run(&rt)?;
-    devices::run(&rt)?;
-    volumes::run(&rt)?;
-    stations::run(&rt)?;
-    jobs::run(&rt)?;
-    worlds::run(&rt)?;
-    Ok(())
+    match run(rt) {
+        Ok(()) => Ok(()),
+        // In the words by which `memory/run` knows it.
+        Err(error) if error.kind() == io::ErrorKind::OutOfMemory => Err(AllocError.into()),
+        Err(error) => Err(error.into()),
+    }
+}
+
+fn run(rt: HostRuntime) -> io::Result<()> {
+    let names = Names::new()?;
+    parts(rt, &names)?;
+    worlds::run(rt)
+}
+
+fn parts(rt: HostRuntime, names: &Names) -> io::Result<()> {
+    packets::run(rt)?;
+    session::run(rt, names)?;
+    devices::run(rt, &names.volume)?;
+    volumes::run(rt, &names.volume_label())?;
+    stations::run(rt, names)?;
+    jobs::run(rt, names)
 }

@@ -1,12 +1,12 @@
 // A world, to which what wanted memory is given once more.
-use anyhow::{Result, bail};
-use sd_base::{Bytes, Items, Rec, Refusal, SessionKey, Ticket};
-use sd_console::{requests_text, status_text};
-use sd_core::{Event, Reply, Span};
-use sd_plain::{Act, Data, Line, Machine, put_fault, put_read, put_reply, status_words};
-use sd_rounds::drain;
-use sd_scenarios::{ListWorld, Scenario, TIME, event_of, make_first};
-use std::alloc::Global;
+use crate::answers::{devices_of, drain_all, run_turn, show};
+use crate::data::{are_first_of, event};
+use sd_base::{Items, Rec, Refusal, SessionKey, Ticket};
+use sd_core::{Reply, Span};
+use sd_plain::{Act, Line, Machine, put_fault, put_read, put_reply, status_words};
+use sd_readback::ReadEnd;
+use sd_scenarios::{ListWorld, Scenario, TIME, make_first};
+use std::io;
 
 /// More sessions than a scenario tells the spans of.
 const MOST_TOLD: usize = 8;
@@ -21,17 +21,17 @@ struct Told {
 
 /// A world that plays a scenario; how many volumes it labelled, and the spans that it told.
 #[derive(Drop)]
-pub struct Scarce<'a, R> {
-    rt: &'a R,
+pub struct Scarce<'a> {
+    rt: HostRuntime,
     scenario: &'a Scenario,
     world: ListWorld,
     labels: usize,
     told: Vec<Told>,
 }
 
-impl<'a, R: Print + Eprint + AllocGlobal> Scarce<'a, R> {
+impl<'a> Scarce<'a> {
     /// A new world; `None` without memory.
-    pub fn new(rt: &'a R, scenario: &'a Scenario) -> Option<Self> {
+    pub fn new(rt: HostRuntime, scenario: &'a Scenario) -> Option<Self> {
         Some(Scarce {
             rt,
             scenario,
@@ -66,37 +66,30 @@ impl<'a, R: Print + Eprint + AllocGlobal> Scarce<'a, R> {
     // it: `memory/run` counts what is allocated in between.
     fn give(&mut self, act: Act) -> Option<Reply> {
         let event = event(self.rt.alloc(), act)?;
-        let takes_none = matches!(
-            &act,
-            Act::Take(_) | Act::Sync(_) | Act::Unmount(_) | Act::Cancel(_)
-        );
-        if !takes_none {
-            return Some(self.world.step(event));
-        }
-        let word = act.word();
-        let _ = print!(self.rt; "{word}");
+        self.print_free(act, act.word());
         let reply = self.world.step(event);
-        let _ = println!(self.rt; "");
+        self.print_free(act, "\n");
         Some(reply)
     }
 
+    // Prints the words where the act takes no memory.
+    fn print_free(&self, act: Act, words: &str) {
+        if let Act::Take(_) | Act::Sync(_) | Act::Unmount(_) | Act::Cancel(_) = act {
+            let _ = print!(self.rt; "{words}");
+        }
+    }
+
     fn note(&mut self, act: Act, reply: Reply) {
-        let session = act.ticket().unwrap_or(0);
-        let (key, spans) = match reply {
-            Reply::Closed { key, spans } => (key, spans),
-            Reply::Media { spans } => {
-                let key = SessionKey {
-                    time: TIME,
-                    id: session,
-                };
-                (key, spans)
-            }
-            Reply::Labelled => {
-                self.labels = self.labels.saturating_add(1);
-                return;
-            }
-            _ => return,
-        };
+        let id = act.ticket().unwrap_or(0);
+        match reply {
+            Reply::Closed { key, spans } => self.note_spans(id, key, spans),
+            Reply::Media { spans } => self.note_spans(id, SessionKey { time: TIME, id }, spans),
+            Reply::Labelled => self.labels = self.labels.saturating_add(1),
+            _ => {}
+        }
+    }
+
+    fn note_spans(&mut self, session: u32, key: SessionKey, spans: Items<Span>) {
         let _ = self.told.push(Told {
             session,
             key,
@@ -106,53 +99,48 @@ impl<'a, R: Print + Eprint + AllocGlobal> Scarce<'a, R> {
 
     // Reads the session by the spans that were told of it last, with a new sink where the first found no memory.
     fn read(&mut self, session: u32, line: &mut Line) {
-        let Some(told) = self.told.iter().rfind(|told| told.session == session) else {
-            return line.words("no spans");
-        };
-        let alloc = self.rt.alloc();
-        let mut got = Vec::new(alloc);
-        let mut end = self.world.read(told.key, told.spans.as_slice(), &mut got);
-        if let Err(Refusal::Memory) = &end {
+        let mut got = Vec::new(self.rt.alloc());
+        let mut read = self.read_told(session, &mut got);
+        if let Some(Err(Refusal::Memory)) = &read {
             let _ = eprintln!(self.rt; "again");
-            got = Vec::new(alloc);
-            end = self.world.read(told.key, told.spans.as_slice(), &mut got);
+            got = Vec::new(self.rt.alloc());
+            read = self.read_told(session, &mut got);
         }
-        if !are_first_of(self.scenario, session, &got) {
-            return line.words("other records");
+        match read {
+            None => line.words("no spans"),
+            Some(_) if !are_first_of(self.scenario, session, &got) => line.words("other records"),
+            Some(Ok(end)) => put_read(line, end),
+            Some(Err(why)) => put_fault(line, why, got.len() as u64),
         }
-        match end {
-            Ok(end) => put_read(line, end),
-            Err(why) => put_fault(line, why, got.len() as u64),
+    }
+
+    // What the reading comes to; `None` where no spans of the session were told.
+    fn read_told(&mut self, session: u32, got: &mut Vec<Rec>) -> Option<Result<ReadEnd, Refusal>> {
+        let mut last = None;
+        for told in &self.told {
+            if told.session == session {
+                last = Some(told);
+            }
         }
+        let told = last?;
+        Some(self.world.read(told.key, told.spans.as_slice(), got))
     }
 
     /// Makes the world's other calls that take memory, and prints what comes of them.
-    pub fn leave(self) -> Result<()> {
+    pub fn leave(self) -> io::Result<()> {
         let Scarce { rt, mut world, .. } = self;
-        let alloc = rt.alloc();
         show(rt, &world)?;
-        let replies = match run_turn(alloc, &mut world) {
-            None => run_turn(alloc, &mut world),
-            replies => replies,
+        let replies = run_turn(rt.alloc(), &mut world);
+        let drained = drain_all(&mut world);
+        let left = devices_of(world);
+        let (Some(replies), Ok(drained), Some(devices)) = (replies, drained, left) else {
+            return Err(io::Error::other("memory was wanted twice"));
         };
-        let drained = match drain(&mut world) {
-            Err(_) => drain(&mut world),
-            drained => drained,
-        };
-        let left = match world.into_drivers() {
-            Err(world) => world.into_drivers(),
-            left => left,
-        };
-        let (Some(replies), Ok(drained), Ok(devices)) = (replies, drained, left) else {
-            bail!("memory was wanted twice");
-        };
-        let devices = devices.len();
-        println!(rt; "{replies} events in a list; {drained} drained; {devices} devices left")?;
-        Ok(())
+        println!(rt; "{replies} events in a list; {drained} drained; {devices} devices left")
     }
 }
 
-impl<R: Print + Eprint + AllocGlobal> Machine for Scarce<'_, R> {
+impl Machine for Scarce<'_> {
     fn play(&mut self, act: Act, line: &mut Line) {
         match act {
             Act::Read(session) => self.read(session, line),
@@ -177,10 +165,10 @@ impl<R: Print + Eprint + AllocGlobal> Machine for Scarce<'_, R> {
 // Adds the line of the reply. The text of spans takes memory besides the line's; where it lacked some the line is
 // shorter, and is put once more.
 fn put_whole(line: &mut Line, reply: &Reply) {
-    let (Reply::Closed { .. } | Reply::Media { .. }) = reply else {
-        return put_reply(line, reply);
-    };
     put_reply(line, reply);
+    let (Reply::Closed { .. } | Reply::Media { .. }) = reply else {
+        return;
+    };
     let length = line.as_str().len();
     line.clear();
     put_reply(line, reply);
@@ -188,115 +176,4 @@ fn put_whole(line: &mut Line, reply: &Reply) {
         line.clear();
         put_reply(line, reply);
     }
-}
-
-// The event of the act; a record is made with a second try at its data.
-fn event(alloc: Global, act: Act) -> Option<Event> {
-    let Act::Rec(ticket, index, stream, data) = act else {
-        return event_of(alloc, act);
-    };
-    let rec = match record(alloc, index, stream, data) {
-        None => record(alloc, index, stream, data)?,
-        Some(rec) => rec,
-    };
-    Some(Event::Append {
-        ticket: Ticket::new(ticket)?,
-        rec,
-    })
-}
-
-fn record(alloc: Global, index: u32, stream: u32, data: Data) -> Option<Rec> {
-    let bytes = match data {
-        Data::Text(text) => Bytes::from_slice(alloc, text).ok()?,
-        Data::Fill(count) => {
-            let mut bytes = vec![in alloc; 0u8; count].ok()?;
-            for (place, byte) in bytes.iter_mut().enumerate() {
-                *byte = byte_at(place);
-            }
-            Bytes::from_vec(bytes)
-        }
-    };
-    Rec::new(index, stream, bytes)
-}
-
-// The byte at that place of a record that is filled: no two parts of one look the same.
-fn byte_at(place: usize) -> u8 {
-    let [high, ..] = (place as u64)
-        .wrapping_mul(0x9e37_79b9_7f4a_7c15)
-        .to_be_bytes();
-    high
-}
-
-// Whether the records are the first that the session took.
-fn are_first_of(scenario: &Scenario, session: u32, got: &[Rec]) -> bool {
-    let mut same = 0usize;
-    for step in scenario.moves {
-        if step.0.ticket() != Some(session) || !step.1.starts_with("ok taken") {
-            continue;
-        }
-        match got.get(same) {
-            None => return true,
-            Some(rec) if is_record(rec, step.0) => same = same.saturating_add(1),
-            Some(_) => return false,
-        }
-    }
-    same == got.len()
-}
-
-fn is_record(rec: &Rec, act: Act) -> bool {
-    let Act::Rec(_, index, stream, data) = act else {
-        return false;
-    };
-    rec.index == index && rec.stream == stream && is_data(rec.bytes.as_slice(), data)
-}
-
-fn is_data(bytes: &[u8], data: Data) -> bool {
-    match data {
-        Data::Text(text) => bytes == text,
-        Data::Fill(count) => bytes.len() == count && is_filled(bytes),
-    }
-}
-
-fn is_filled(bytes: &[u8]) -> bool {
-    bytes
-        .iter()
-        .enumerate()
-        .all(|(place, byte)| *byte == byte_at(place))
-}
-
-// Prints the world's status, its requests, and how many sessions are on their way.
-fn show<R: Print + AllocGlobal>(rt: &R, world: &ListWorld) -> Result<()> {
-    let status = match status_of(rt.alloc(), world) {
-        None => status_of(rt.alloc(), world),
-        status => status,
-    };
-    let requests = match requests_text(rt.alloc(), world.requests()) {
-        Err(_) => requests_text(rt.alloc(), world.requests()),
-        requests => requests,
-    };
-    let tickets = match world.tickets() {
-        Err(_) => world.tickets(),
-        tickets => tickets,
-    };
-    let (Some(status), Ok(requests), Ok(tickets)) = (status, requests, tickets) else {
-        bail!("memory was wanted twice");
-    };
-    let going = tickets.len();
-    println!(rt; "{status}{requests}{going} on their way")?;
-    Ok(())
-}
-
-fn status_of(alloc: Global, world: &ListWorld) -> Option<String> {
-    let view = world.view().ok()?;
-    status_text(alloc, &view).ok()
-}
-
-// How many answers a drive's turn in one list of events comes to; `None` without memory.
-fn run_turn(alloc: Global, world: &mut ListWorld) -> Option<usize> {
-    let mut events = Vec::with_capacity(alloc, 3).ok()?;
-    for act in [Act::Take(1), Act::Place(1), Act::Sync(1)] {
-        events.push(event(alloc, act)?).ok()?;
-    }
-    let replies = world.run(events).ok()?;
-    Some(replies.len())
 }

@@ -1,8 +1,8 @@
 // A volume labelled, written and adopted, on a drive in memory.
 ghost use Rattle.std.specs.Prelude.{◌≡◌, None, Some, OnOk, OnErr};
 
-use anyhow::{Result, bail};
-use sd_base::{MOST_VOLUME, MediaName, PoolName, SessionKey, VolName};
+use crate::names::KEY;
+use sd_base::{MOST_VOLUME, VolName};
 use sd_driver::{Driver, DriverFault};
 use sd_label::VolumeLabel;
 use sd_memdrive::MemDrive;
@@ -11,45 +11,49 @@ use sd_volume::{
     next_block,
 };
 use std::alloc::Global;
+use std::io;
 
 /// Labels a volume, adds two blocks, adopts it and goes over its blocks.
-pub fn run<R: Print + AllocGlobal>(rt: &R) -> Result<()> {
-    let alloc = rt.alloc();
-    let (Ok(name), Ok(pool), Ok(media)) = (
-        VolName::parse("Vol-0001"),
-        PoolName::parse("Default"),
-        MediaName::parse("File"),
-    ) else {
-        bail!("a name");
-    };
-    let label = VolumeLabel {
-        name,
-        pool,
-        media,
-        moment: 0,
-    };
+pub fn run(rt: HostRuntime, label: &VolumeLabel) -> io::Result<()> {
     // A label that wanted memory behind its create leaves the name on the shelf: the second try has a drive of
     // its own.
-    let mut drive = MemDrive::new(alloc, 10_000, &[])?;
-    let mut labelled = label_new(alloc, &mut drive, &label);
-    if labelled.is_err() {
-        drive = MemDrive::new(alloc, 10_000, &[])?;
-        labelled = label_new(alloc, &mut drive, &label);
+    if write(rt, label)? || write(rt, label)? {
+        return Ok(());
     }
-    let Ok(mut volume) = labelled else {
-        bail!("the volume isn't labelled");
+    Err(io::Error::other("the volume isn't labelled"))
+}
+
+// Whether the volume was labelled, on a new drive; if so, all the rest is done too.
+fn write(rt: HostRuntime, label: &VolumeLabel) -> io::Result<bool> {
+    let mut drive = MemDrive::new(rt.alloc(), 10_000, &[])?;
+    let Ok(mut volume) = label_new(rt.alloc(), &mut drive, label) else {
+        return Ok(false);
     };
-    let added = fill(alloc, &mut drive, &mut volume);
+    print_added(rt, &mut drive, &mut volume)?;
+    print_adopted(rt, &mut drive, label)?;
+    Ok(true)
+}
+
+fn print_added<D: Driver>(rt: HostRuntime, drive: &mut D, volume: &mut Volume) -> io::Result<()>
+    requires { (D.meaning drive.old).loaded ≡ None }
+    ensures { (D.meaning drive.new).loaded ≡ None }
+{
+    let added = fill(rt.alloc(), drive, volume);
     let end = volume.end();
-    println!(rt; "two blocks are added: {added}; volume of {end} bytes")?;
-    let mut adopted = take_over(alloc, &mut drive, &label);
-    if let Err(AdoptFault::Memory) = &adopted {
-        adopted = take_over(alloc, &mut drive, &label);
-    }
-    let Ok(volume) = adopted else {
-        bail!("the volume isn't adopted");
+    println!(rt; "two blocks are added: {added}; volume of {end} bytes")
+}
+
+fn print_adopted<D: Driver>(rt: HostRuntime, drive: &mut D, label: &VolumeLabel) -> io::Result<()>
+    requires { (D.meaning drive.old).loaded ≡ None }
+{
+    let adopted = match take_over(rt.alloc(), drive, label) {
+        Err(AdoptFault::Memory) => take_over(rt.alloc(), drive, label),
+        adopted => adopted,
     };
-    print_blocks(rt, &mut drive, &volume)
+    match &adopted {
+        Ok(volume) => print_blocks(rt, drive, volume),
+        Err(_) => Err(io::Error::other("the volume isn't adopted")),
+    }
 }
 
 // Whether two blocks were added.
@@ -84,11 +88,11 @@ fn add<D: Driver>(drive: &mut D, volume: &mut Volume, image: &mut Vec<u8>) -> bo
     ensures loaded { (D.meaning drive.new).loaded ≡ (D.meaning drive.old).loaded }
     ensures name { volume.new.name ≡ volume.old.name }
 {
-    let mut appended = append(drive, volume, image);
-    if let Appended::Memory = &appended {
-        appended = append(drive, volume, image);
-    }
-    matches!(&appended, Appended::At { .. })
+    let appended = match append(drive, volume, image) {
+        Appended::Memory => append(drive, volume, image),
+        appended => appended,
+    };
+    matches!(appended, Appended::At { .. })
 }
 
 fn append<D: Driver>(drive: &mut D, volume: &mut Volume, image: &mut Vec<u8>) -> Appended
@@ -99,8 +103,7 @@ fn append<D: Driver>(drive: &mut D, volume: &mut Volume, image: &mut Vec<u8>) ->
     let VolumeStatus::Append = volume.status() else {
         return Appended::Fault;
     };
-    let key = SessionKey { time: 1000, id: 1 };
-    append_block(drive, volume, image, key, &[7; 1000], MOST_VOLUME)
+    append_block(drive, volume, image, KEY, &[7; 1000], MOST_VOLUME)
 }
 
 // Adopts the volume in a run after the one that wrote it.
@@ -116,24 +119,30 @@ fn take_over<D: Driver>(
 }
 
 // Prints each block of the volume.
-fn print_blocks<R: Print + AllocGlobal>(
-    rt: &R,
-    drive: &mut MemDrive,
-    volume: &Volume,
-) -> Result<()> {
+fn print_blocks<D: Driver>(rt: HostRuntime, drive: &mut D, volume: &Volume) -> io::Result<()> {
     let mut reader = match VolumeReader::new(rt.alloc(), volume.name()) {
         Ok(reader) => reader,
         Err(_) => VolumeReader::new(rt.alloc(), volume.name())?,
     };
     let mut at = 0;
     for _ in 0..volume.next_number() {
-        let Ok(Some(head)) = next_block(drive, &mut reader, at) else {
-            bail!("no block stands there");
-        };
-        let number = head.number;
-        let size = head.size;
-        println!(rt; "block {number} at {at}, {size} bytes")?;
-        at = at.wrapping_add(size as u64);
+        at = print_block(rt, drive, &mut reader, at)?;
     }
     Ok(())
+}
+
+// Prints the block that begins there. Where it ends.
+fn print_block<D: Driver>(
+    rt: HostRuntime,
+    drive: &mut D,
+    reader: &mut VolumeReader,
+    at: u64,
+) -> io::Result<u64> {
+    let Ok(Some(head)) = next_block(drive, reader, at) else {
+        return Err(io::Error::other("no block stands there"));
+    };
+    let number = head.number;
+    let size = head.size;
+    println!(rt; "block {number} at {at}, {size} bytes")?;
+    Ok(at.wrapping_add(size as u64))
 }

@@ -1,13 +1,13 @@
 // The worked scenarios on worlds of their own.
 use crate::scarce::Scarce;
-use anyhow::{Result, bail};
 use sd_plain::Line;
 use sd_scenarios::{
     CANCELLED, HELLO, INTERLEAVED, SPOOLED, Scenario, THREE_BLOCKS, TWO_VOLUMES, play_moves,
 };
+use std::io;
 
 /// Plays each scenario, and prints whether every answer in it is the one that is wanted.
-pub fn run<R: Print + Eprint + AllocGlobal>(rt: &R) -> Result<()> {
+pub fn run(rt: HostRuntime) -> io::Result<()> {
     let scenarios = [
         &HELLO,
         &THREE_BLOCKS,
@@ -22,7 +22,7 @@ pub fn run<R: Print + Eprint + AllocGlobal>(rt: &R) -> Result<()> {
     Ok(())
 }
 
-fn play<R: Print + Eprint + AllocGlobal>(rt: &R, scenario: &Scenario) -> Result<()> {
+fn play(rt: HostRuntime, scenario: &Scenario) -> io::Result<()> {
     let name = scenario.name;
     println!(rt; "scenario {name}")?;
     let made = match Scarce::new(rt, scenario) {
@@ -30,13 +30,17 @@ fn play<R: Print + Eprint + AllocGlobal>(rt: &R, scenario: &Scenario) -> Result<
         made => made,
     };
     let Some(mut scarce) = made else {
-        bail!("no world");
+        return Err(io::Error::other("no world"));
     };
+    play_out(rt, scenario, &mut scarce)?;
+    scarce.leave()
+}
+
+fn play_out(rt: HostRuntime, scenario: &Scenario, scarce: &mut Scarce<'_>) -> io::Result<()> {
     let moves = scenario.moves_online();
     let mut report = Line::new(rt.alloc());
-    play_moves(rt.alloc(), &mut scarce, name, moves, &mut report);
+    play_moves(rt.alloc(), scarce, scenario.name, moves, &mut report);
     let text = report.as_str();
     let count = moves.len();
-    println!(rt; "{text}{count} moves are answered")?;
-    scarce.leave()
+    println!(rt; "{text}{count} moves are answered")
 }
