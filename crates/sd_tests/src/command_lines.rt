@@ -114,7 +114,8 @@ fn is_answered_so(alloc: Global, line: &CommandLine) -> Result<bool, AllocError>
 fn words_are_taken(alloc: Global) -> Result<bool, AllocError> {
     let words = split(alloc, "sdtool ls v/Vol-0001")?;
     let listed = match tool_task(alloc, &words) {
-        ToolTask::List { volume, progress } => volume == "v/Vol-0001" && progress == Progress::Silent,
+        ToolTask::List { volume, progress } => volume == "v/Vol-0001"
+            && progress == Progress::Silent,
         _ => false,
     };
     let words = split(alloc, "sdtool read --progress spans v")?;
