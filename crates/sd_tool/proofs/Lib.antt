@@ -1,4 +1,6 @@
+pub mod DoingLemmas
 pub mod MakingLemmas
 pub mod PrintedLemmas
+pub mod RunLemmas
 pub mod SettingLemmas
 pub mod StageLemmas

@@ -17,15 +17,13 @@ use Rattle.sd_moves.proofs.MoveLeaves.{leaves}
 use Rattle.sd_rounds.proofs.Online.{DrivesStay, drives_same, moves_stay, online_still}
 use Rattle.sd_rounds.proofs.RoundParts.{rounds_stay}
 use Rattle.sd_rounds.specs.Rounds.{Drains, PlaysMoving, online_flags}
-use Rattle.sd_script.specs.declared.console.ConsoleCmd.{ConsoleCmd}
-use Rattle.sd_script.specs.declared.console.ConsoleCmd.TheVariants as console
 use Rattle.sd_script.specs.declared.line.Tail.{Tail}
 use Rattle.sd_spool.specs.Meaning.{Meaning as StoreMeaning}
 use Rattle.sd_core.specs.Fresh.{AreNewDrives, new_bays}
 use Rattle.sd_core.specs.Reading.{ReadsWorld}
 use Rattle.sd_core.specs.View.{device_of, devices_of}
-use Rattle.sd_tool.specs.Doing.{Answers, AnswersSome, ConsoleDoes, console_event}
 use Rattle.sd_tool.specs.Restart.{unfit}
+use Rattle.sd_tool.specs.Stage.{retired_after}
 
 -- Steps and readings.
 
@@ -38,6 +36,11 @@ pub moves_online : {D : Type 0} (meaning : D → Meaning) (w w' : WorldView D) (
     → online_flags w' ≡ online_flags w
 moves_online meaning w w' event Retired other m = absurd (other refl)
 moves_online meaning w w' event reply other m = (moves_stay meaning w w' event reply tt m).flags
+
+-- and whether one was retired stays
+pub retired_other : (reply : Reply) (before : Bool) → (reply ≡ Retired → ⊥) → before ≡ retired_after reply before
+retired_other Retired before other = absurd (other refl)
+retired_other reply before other = refl
 
 -- a reading leaves them
 pub reads_stay : {D : Type 0} (meaning : D → Meaning) (key : _) (spans : List _) (got got' : List _) (result : _) (w w' : WorldView D)
@@ -99,12 +102,3 @@ pub unfit_none : (count : ℕ) (retired : Bool) (tail : Option Tail) (result : O
 unfit_none count false tail result is none = refl
 unfit_none count true None result is none = absurd (none DriveOffline is)
 unfit_none count true (Some tail) result is none = absurd (forbids (nat_lt count tail.drive) result is none)
-
--- Lines.
-
--- what a console's line does that is an event
-pub console_does : {D : Type 0} (meaning : D → Meaning) (moment : ℤ) (command : ConsoleCmd) (e : Event) (old new : WorldView D)
-    → console_event command moment ≡ Some e → Answers meaning e old new → ConsoleDoes meaning moment command old new
-console_does meaning moment (console.Mount drive volume) e old new is h = absurd (cc is)
-console_does meaning moment (console.JobMedia ticket) e old new is h = absurd (cc is)
-console_does meaning moment command e old new is h = subst (λ o. AnswersSome meaning o old new) (sym is) h

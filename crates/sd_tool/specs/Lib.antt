@@ -6,5 +6,8 @@ pub mod MemDrives
 pub mod Printed
 pub mod Refused
 pub mod Restart
+pub mod Run
+pub mod Script
 pub mod Settings
 pub mod Stage
+pub mod Told

@@ -4,7 +4,7 @@ use Rattle.sd_base.specs.declared.refusal.Refusal.{Refusal}
 use Rattle.sd_base.specs.declared.refusal.Refusal.TheVariants.{DriveOffline, Memory, NoSuchDrive}
 use Rattle.sd_script.specs.declared.line.Tail.{Tail}
 use Rattle.sd_tool.specs.Making.{StartsAs}
-use Rattle.sd_tool.specs.Settings.{drive_count}
+use Rattle.sd_tool.specs.Settings.{ValuesView, drive_count}
 use Rattle.sd_tool.specs.Stage.{StageView}
 use Rattle.sd_tool.specs.declared.restart.Restart.{Restart}
 use Rattle.sd_tool.specs.declared.restart.Restarted.{Restarted}
@@ -18,6 +18,12 @@ offline false = None
 abbrev pub unfit : ℕ → Bool → Option Tail → Option Refusal
 unfit count retired None = offline retired
 unfit count retired (Some tail) = if nat_lt count tail.drive then Some NoSuchDrive else offline retired
+
+-- a world of these settings, of their time, of which no drive was retired
+pub record BeginsAs {D : Type 0} (v : ValuesView) (s : StageView D) : Type 0 where
+  pub values : s.values ≡ v
+  pub retired : s.retired ≡ false
+  pub starts : StartsAs v v.time s.world
 
 -- a new world of the same settings, of that time
 pub record StartsAnew {D : Type 0} (old : StageView D) (time : ℕ) (new : StageView D) : Type 0 where

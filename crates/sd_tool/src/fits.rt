@@ -1,6 +1,7 @@
 // Whether settings go together, and what they come to for one drive.
 ghost use Rattle.std.specs.Prelude.{◌≡◌, IfOk};
 ghost use Rattle.sd_tool.specs.Settings.{capacity_for, drive_count, fails_for, given_capacity, has_stranger, is_spool_short, misfit_of, plan_for};
+ghost use Rattle.sd_tool.specs.Told.{misfit_word};
 
 use crate::values::Values;
 use sd_base::DriveNo;
@@ -30,7 +31,9 @@ pub enum Misfit {
 
 impl Misfit {
     /// The word that its setting begins with.
-    pub fn word(self) -> &'static str {
+    pub fn word(self) -> &'static str
+        ensures { result.now ≡ misfit_word self }
+    {
         match self {
             Misfit::Volume => "volume",
             Misfit::Spool => "spool",

@@ -2,6 +2,8 @@
 //! each of them comes to printed.
 #![tactic(auto)]
 
+mod acting;
+mod came;
 mod drives;
 mod events;
 mod fits;
@@ -9,16 +11,15 @@ mod lines;
 mod making;
 mod printed;
 mod reading;
-mod replies;
 mod restart;
 mod run;
 mod settings;
-mod sink;
 mod stage;
+mod told;
 mod values;
 
 pub use drives::memory_drives;
 pub use lines::LONGEST_LINE;
-pub use run::run_lines;
+pub use run::{Ran, run_lines, run_script};
 pub use settings::{Settings, read_settings};
 pub use values::Values;

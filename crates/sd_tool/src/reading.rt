@@ -1,145 +1,155 @@
-// The lines that print where a session lies, and that read it back.
-ghost use Rattle.std.specs.Prelude.{◌≡◌, ◌⊎◌, ◌<◌, List, vec_capacity, vec_len};
-ghost use Rattle.sd_machine.specs.declared.event.Event.TheVariants as event;
-ghost use Rattle.sd_moves.specs.Sessions.{StaysAs};
-ghost use Rattle.sd_span.specs.declared.span.Span.{Span as SpecSpan};
-ghost use Rattle.sd_tool.specs.Doing.{Answers, AnswersOrStays, ReadsBack, ReadsNow};
+// The lines that read a session back.
+ghost use Rattle.std.specs.Prelude.{◌≡◌};
+ghost use Rattle.std.specs.Option.{option_copied};
+ghost use Rattle.sd_core.specs.View.{status_at};
+ghost use Rattle.sd_printer.specs.Says.{said_view};
+ghost use Rattle.sd_tool.specs.Doing.{ReadsBack, ReadsOn, ReadsOut, ReadsPrinted, ReadsPrintedOn, ReadsUnless, plain_words};
 ghost use Rattle.sd_tool.specs.Refused.{unread_refusal};
+ghost use Rattle.sd_tool.specs.Script.{Prints, script_view};
 
 use crate::printed::Closed;
-use crate::replies::print_reply;
 use crate::run::Script;
-use crate::sink::RecordLines;
 use crate::stage::Stage;
-use sd_base::{Items, Refusal, SessionKey, Ticket};
+use sd_base::{Refusal, SessionKey, Ticket};
 use sd_driver::Driver;
 use sd_machine::{Event, Reply};
 use sd_printer::Printer;
 use sd_readback::ReadEnd;
 use sd_session::Status;
 use sd_span::Span;
+use sd_transcript::{Before, RecordPrinter, print_read, print_reply};
 use std::io::Write;
+use std::marker::Brand;
 
 impl<D: Driver + Drop, W: Write + Drop> Script<D, W> {
-    /// Closes a session, and keeps what is printed of it for a later `again`. Room for that is made first.
-    pub fn close(&mut self, ticket: Ticket)
-        ensures does { AnswersOrStays (λ d. D.meaning d) (event.Close ticket)
-            self.old.stage.world self.new.stage.world }
-        ensures moment { self.new.moment ≡ self.old.moment }
-    {
-        let Ok(()) = self.printed.reserve() else {
-            return self.refuse(Refusal::Memory);
-        };
-        match self.stage.step(Event::Close { ticket }) {
-            Reply::Closed { key, spans } => self.print_closed(key, spans),
-            reply => print_reply(&mut self.out, &reply),
-        }
-    }
-
-    /// Prints the lines of a closed session, and keeps them. There is room for them.
-    fn print_closed(&mut self, key: SessionKey, spans: Items<Span>)
-        requires { vec_len self.old.printed.sessions < vec_capacity self.old.printed.sessions }
-        ensures stage { self.new.stage ≡ self.old.stage }
-        ensures moment { self.new.moment ≡ self.old.moment }
-    {
-        self.out.line(format_args!("ok closed {}", spans.len()));
-        print_jobmedia(&mut self.out, key, spans.as_slice());
-        self.printed.add(Closed { key, spans });
-    }
-
-    pub fn jobmedia(&mut self, ticket: Ticket)
-        ensures does { Answers (λ d. D.meaning d) (event.Media ticket)
-            self.old.stage.world self.new.stage.world }
-        ensures moment { self.new.moment ≡ self.old.moment }
-    {
-        let key = self.stage.key_of(ticket);
-        match self.stage.step(Event::Media { ticket }) {
-            Reply::Media { spans } => print_jobmedia(&mut self.out, key, spans.as_slice()),
-            reply => print_reply(&mut self.out, &reply),
-        }
-    }
-
     /// Reads a closed or a cancelled session back, by its spans as they are now.
-    pub fn read(&mut self, ticket: Ticket)
-        ensures does { ReadsNow (λ d. D.meaning d) ticket
-            self.old.stage.world self.new.stage.world }
-        ensures moment { self.new.moment ≡ self.old.moment }
+    pub(crate) fn read(mut self, ticket: Ticket) -> Self
+        ensures { ReadsUnless (λ d. D.meaning d) ticket
+            (unread_refusal (status_at ticket self.stage.world.sessions))
+            (script_view W.contents self) (script_view W.contents result) }
     {
         let status = self.stage.status(ticket);
         if let Some(why) = unread(status) {
-            return self.refuse(why);
+            self.refuse(why);
+            return self;
         }
         let key = self.stage.key_of(ticket);
         match self.stage.step(Event::Media { ticket }) {
             Reply::Media { spans } => self.read_spans(key, spans.as_slice()),
-            reply => print_reply(&mut self.out, &reply),
+            reply => self.told(&reply),
         }
+    }
+
+    // A reply is printed.
+    fn told(mut self, reply: &Reply) -> Self
+        ensures { Prints (script_view W.contents self) (script_view W.contents result)
+            (plain_words reply.now) }
+    {
+        print_reply(reply, &mut self.out);
+        self
     }
 
     /// Reads a session back by what its close printed, in this run or an earlier one.
-    pub fn again(&mut self, key: SessionKey)
-        ensures does { ((spans : List SpecSpan) × ReadsBack (λ d. D.meaning d) key spans
-            self.old.stage.world self.new.stage.world)
-            ⊎ StaysAs self.old.stage.world self.new.stage.world }
-        ensures moment { self.new.moment ≡ self.old.moment }
+    pub(crate) fn again(self, key: SessionKey) -> Self
+        ensures { ReadsPrinted (λ d. D.meaning d) key (script_view W.contents self)
+            (script_view W.contents result) }
     {
-        let Some(closed) = self.printed.find(key) else {
-            return self.refuse(Refusal::SessionNotOpen);
-        };
-        let read = read_back(&mut self.stage, key, closed.spans.as_slice(), &mut self.out);
-        self.print_read(read);
+        let Script {
+            alloc,
+            mut stage,
+            moment,
+            printed,
+            out,
+        } = self;
+        let out = read_printed(&mut stage, key, printed.find(key), out);
+        Script {
+            alloc,
+            stage,
+            moment,
+            printed,
+            out,
+        }
     }
 
-    fn read_spans(&mut self, key: SessionKey, spans: &[Span])
-        ensures does { ReadsBack (λ d. D.meaning d) key spans.now
-            self.old.stage.world self.new.stage.world }
-        ensures moment { self.new.moment ≡ self.old.moment }
+    fn read_spans(self, key: SessionKey, spans: &[Span]) -> Self
+        ensures { ReadsBack (λ d. D.meaning d) key spans.now
+            (script_view W.contents self) (script_view W.contents result) }
     {
-        let read = read_back(&mut self.stage, key, spans, &mut self.out);
-        self.print_read(read);
-    }
-
-    /// Prints how a reading ended.
-    fn print_read(&mut self, read: Result<ReadEnd, Refusal>)
-        ensures stage { self.new.stage ≡ self.old.stage }
-        ensures moment { self.new.moment ≡ self.old.moment }
-    {
-        match read {
-            Ok(end) => print_end(&mut self.out, end),
-            Err(why) => self.refuse(why),
+        let Script {
+            alloc,
+            mut stage,
+            moment,
+            printed,
+            out,
+        } = self;
+        let out = read_back(&mut stage, key, spans, out);
+        Script {
+            alloc,
+            stage,
+            moment,
+            printed,
+            out,
         }
     }
 }
 
-/// Reads a session back, and prints its records as they come.
-fn read_back<D: Driver + Drop, W: Write + Drop>(
+// Reads a session back by what was printed of it, where something was.
+fn read_printed<D: Driver + Drop, W: Write>(
     stage: &mut Stage<D>,
     key: SessionKey,
-    spans: &[Span],
-    out: &mut Printer<W>,
-) -> Result<ReadEnd, Refusal>
-    ensures { ReadsBack (λ d. D.meaning d) key spans.now stage.old.world stage.new.world }
+    printed: Option<&Closed>,
+    mut out: Printer<W>,
+) -> Printer<W>
+    ensures { ReadsPrintedOn (λ d. D.meaning d) key (option_copied printed.entry) stage.old stage.new
+        (said_view W.contents out) (said_view W.contents result) }
 {
-    let mut records = RecordLines::new(out);
-    stage.read(key, spans, &mut records)
-}
-
-/// Prints the JobMedia text of a session.
-pub fn print_jobmedia<W: Write + Drop>(out: &mut Printer<W>, key: SessionKey, spans: &[Span]) {
-    out.line(format_args!("session {} {}", key.time, key.id));
-    for span in spans {
-        out.line(span);
+    match printed {
+        None => {
+            out.line(Refusal::SessionNotOpen);
+            out
+        }
+        Some(closed) => read_back(stage, key, closed.spans.as_slice(), out),
     }
 }
 
-/// Prints the line of a session that was read to its end.
-fn print_end<W: Write + Drop>(out: &mut Printer<W>, end: ReadEnd) {
-    let records = end.records;
-    let bytes = end.bytes;
-    if end.ended {
-        out.line(format_args!("ok read {records} {bytes} ended"));
-    } else {
-        out.line(format_args!("ok read {records} {bytes} cut"));
+// Reads a session back, and prints its records as they come, and how that ended.
+fn read_back<D: Driver + Drop, W: Write>(
+    stage: &mut Stage<D>,
+    key: SessionKey,
+    spans: &[Span],
+    out: Printer<W>,
+) -> Printer<W>
+    ensures { ReadsOn (λ d. D.meaning d) key spans.now stage.old stage.new
+        (said_view W.contents out) (said_view W.contents result) }
+{
+    let ReadTo { result, mut out } = read_out::<Brand, D, W>(stage, key, spans, out);
+    print_read(&result, &mut out);
+    out
+}
+
+/// What a session was read to, and what its records were printed to.
+#[derive(Drop)]
+struct ReadTo<W> {
+    result: Result<ReadEnd, Refusal>,
+    out: Printer<W>,
+}
+
+// Reads a session back, and prints its records as they come.
+fn read_out<K: Before, D: Driver + Drop, W: Write>(
+    stage: &mut Stage<D>,
+    key: SessionKey,
+    spans: &[Span],
+    out: Printer<W>,
+) -> ReadTo<W>
+    requires { said_view W.contents out ≡ K.before }
+    ensures { ReadsOut (λ d. D.meaning d) key spans.now stage.old stage.new result.result
+        K.before (said_view W.contents result.out) }
+{
+    let mut records: RecordPrinter<K, W> = RecordPrinter::new(out);
+    let result = stage.read(key, spans, &mut records);
+    ReadTo {
+        result,
+        out: records.into_printer(),
     }
 }
 

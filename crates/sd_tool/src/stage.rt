@@ -1,11 +1,11 @@
 // The world of a script.
 ghost use Rattle.std.specs.Prelude.{◌≡◌, None, IfOk, OnErr, length};
-ghost use Rattle.sd_moves.specs.Moves.{Moves};
 ghost use Rattle.sd_rounds.specs.Rounds.{Drains, PlaysMoving};
 ghost use Rattle.sd_core.specs.Reading.{ReadsWorld};
 ghost use Rattle.sd_core.specs.View.{status_at, view_of};
-ghost use Rattle.sd_tool.specs.Making.{StartsAs};
+ghost use Rattle.sd_tool.specs.Restart.{BeginsAs};
 ghost use Rattle.sd_tool.specs.Settings.{drive_count, misfit_of};
+ghost use Rattle.sd_tool.specs.Stage.{KeepsStage, StageMoves};
 
 use crate::making::{Room, ScriptWorld};
 use crate::values::Values;
@@ -49,7 +49,7 @@ impl<D: Driver + Drop> Stage<D> {
     pub fn new(alloc: Global, values: Values, drivers: Vec<D>) -> Result<Stage<D>, AllocError>
         requires fits { misfit_of values ≡ None }
         requires drivers { length drivers.items ≡ drive_count values }
-        ensures { IfOk result (λ stage. StartsAs values values.time stage.world) }
+        ensures { IfOk result (BeginsAs values) }
     {
         let room = Room::new(alloc, &values)?;
         let time = values.time;
@@ -64,7 +64,7 @@ impl<D: Driver + Drop> Stage<D> {
 
     /// One event.
     pub fn step(&mut self, event: Event) -> Reply
-        ensures moves { Moves (λ d. D.meaning d) self.old.world event result self.new.world }
+        ensures { StageMoves (λ d. D.meaning d) event result self.old self.new }
     {
         let reply = self.world.step(event);
         if let Reply::Retired = reply {
@@ -77,6 +77,7 @@ impl<D: Driver + Drop> Stage<D> {
     pub fn drain(&mut self) -> Result<u64, AllocError>
         ensures drains { IfOk result (λ placed. Drains (λ d. D.meaning d) self.old.world placed self.new.world) }
         ensures err { OnErr result (PlaysMoving (λ d. D.meaning d) self.old.world self.new.world) }
+        ensures keeps { KeepsStage self.old self.new }
     {
         drain(&mut self.world)
     }
@@ -90,6 +91,7 @@ impl<D: Driver + Drop> Stage<D> {
     ) -> Result<ReadEnd, Refusal>
         ensures reads { ReadsWorld (λ d. D.meaning d) key spans.now (K.got sink.old) (K.got sink.new)
             result self.old.world self.new.world }
+        ensures keeps { KeepsStage self.old self.new }
     {
         self.world.read(key, spans, sink)
     }

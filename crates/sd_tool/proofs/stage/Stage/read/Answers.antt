@@ -16,4 +16,7 @@ pub returns : goal.returns
 returns g c =
     let Reads : StageView g.row.D.Denot → Type 0 = λ s. ReadsWorld (λ d. g.D.Driver.meaning d) c.args.key c.args.spans.now (g.K.Sink.got c.args.sink.now)
     (g.K.Sink.got c.read.new.sink) c.read.result s.world c.read.new.self in
-    record { reads = subst Reads c.self.view_is c.read.ensures.reads }
+    record {
+      reads = subst Reads c.self.view_is c.read.ensures.reads;
+      keeps = (ap (λ (s : StageView g.row.D.Denot). s.values) c.self.view_is, ap (λ (s : StageView g.row.D.Denot). s.retired) c.self.view_is);
+    }

@@ -2,8 +2,8 @@ use Rattle.std.proofs.Common.{ap, subst, ◌∙◌}
 use Rattle.sd_drive.specs.declared.limits.Limits.{Limits}
 use Rattle.sd_driver.specs.Meaning.{Meaning}
 use Rattle.sd_moves.specs.Moves.{Moves}
-use Rattle.sd_tool.specs.Stage.{StageView}
-use Rattle.sd_tool.proofs.StageLemmas.{moves_limits, moves_online}
+use Rattle.sd_tool.specs.Stage.{StageView, retired_after}
+use Rattle.sd_tool.proofs.StageLemmas.{moves_limits, moves_online, retired_other}
 use Rattle.sd_tool.proofs.stage.Stage.step.Goals as goal
 
 pub invariant_of-self-in_default : goal.invariant_of-self-in_default
@@ -21,5 +21,8 @@ invariant_of-self-in_default g c =
 
 pub returns-in_default : goal.returns-in_default
 returns-in_default g c =
-    let Step : StageView g.row.D.Denot → Type 0 = λ s. Moves (λ d. g.D.Driver.meaning d) s.world c.args.event c.step-reply.result c.step-reply.new.self in
-    record { moves = subst Step c.self.view_is c.step-reply.ensures.moves }
+    let Step : StageView g.row.D.Denot → Type 0 = λ s. Moves (λ d. g.D.Driver.meaning d) s.world c.args.event c.step-reply.result c.step-reply.new.self in (
+      subst Step c.self.view_is c.step-reply.ensures.moves,
+      ap (λ (s : StageView g.row.D.Denot). s.values) c.self.view_is,
+      ap (λ (s : StageView g.row.D.Denot). s.retired) c.self.view_is ∙ retired_other c.step-reply.result c.args.self.now.retired c.in_default.not-Retired,
+    )

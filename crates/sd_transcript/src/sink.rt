@@ -1,0 +1,86 @@
+// The records of a session that is read back, a line each.
+ghost use Rattle.std.specs.Prelude.{◌≡◌, []};
+ghost use Rattle.sd_printer.specs.Says.{SaidView, Says, said_view};
+ghost use Rattle.sd_transcript.specs.Lines.{records_lines};
+
+use crate::record::print_record;
+use sd_base::Rec;
+use sd_printer::Printer;
+use sd_readback::{Seen, Sink};
+use std::alloc::AllocError;
+use std::io::Write;
+use std::marker::{Brand, Model, PhantomData};
+
+/// What had been printed before a reading.
+pub trait Before {
+    ghost before: { SaidView };
+}
+
+impl Before for Brand {
+    ghost use Rattle.std.specs.Prelude.{None, false};
+
+    ghost before = { record { written = None; failed = false } };
+}
+
+/// Prints the line of each record as it comes, and lets the record go. Its type keeps that what was printed since the
+/// reading began are the lines of the records that it got. In a contract it is a `SinkIs`.
+#[derive(Drop)]
+pub struct RecordPrinter<K: Before, W: Write> {
+    out: Printer<W>,
+    handed: Option<Seen<Rec>>,
+    of: PhantomData<K>,
+}
+
+impl<K: Before, W: Write> Model for RecordPrinter<K, W> {
+    ghost use Rattle.sd_transcript.specs.Lines.{records_lines};
+    ghost use Rattle.sd_transcript.specs.Sink.{SinkIs, records_of};
+    ghost use Rattle.sd_printer.specs.Says.{Says, said_view};
+
+    ghost Value = { SinkIs W };
+
+    ghost view = { λ s. record { out = s.out; got = records_of s.handed } };
+
+    ghost invariant = { λ s. Says K.before (said_view W.contents s.out)
+        (records_lines (records_of s.handed)) };
+}
+
+impl<K: Before, W: Write> RecordPrinter<K, W> {
+    /// One that got no record yet.
+    pub fn new(out: Printer<W>) -> Self
+        requires { said_view W.contents out ≡ K.before }
+        ensures { result.got ≡ [] }
+    {
+        RecordPrinter {
+            out,
+            handed: None,
+            of: PhantomData,
+        }
+    }
+
+    /// The printer, which printed the lines of what was got.
+    pub fn into_printer(self) -> Printer<W>
+        ensures { Says K.before (said_view W.contents result) (records_lines self.got) }
+    {
+        let RecordPrinter {
+            out,
+            handed: _,
+            of: _,
+        } = self;
+        out
+    }
+}
+
+impl<K: Before, W: Write> Sink for RecordPrinter<K, W> {
+    ghost got = { λ s. s.got };
+
+    /// Once nothing more can be printed, no record is taken.
+    fn put(&mut self, rec: Rec) -> Result<(), AllocError> {
+        if self.out.failed() {
+            return Err(AllocError);
+        }
+        let handed = Seen::with(&self.handed, &rec);
+        print_record(&rec, &mut self.out);
+        self.handed = Some(handed);
+        Ok(())
+    }
+}
