@@ -32,14 +32,14 @@ done_comes contents meaning part n bytes old between (On s) done shown = (betwee
 done_comes contents meaning part n bytes old between (Over ran) done shown = inr (between, done, shown.0, shown.1, shown.2)
 
 -- a new run begins, or not, and that is shown
-pub restart_done : {D W : Type 0} (contents : W → Option (List ℕ)) (restart : Restart) (refused : Option Refusal) (old between : ScriptView D) (came : Came D W)
-    → RestartsAs old.stage restart (record { stage = between.stage; refused = refused }) → between.moment ≡ old.moment → between.closed ≡ old.closed
-    → Says old.said between.said (as_line (restarted_text refused)) → Shown contents between came → RestartComes contents restart old came
-restart_done contents restart refused old between came restarts moment closed says shown = inl (between, (refused, restarts, (moment, closed), says), shown)
+pub restart_done : {D W : Type 0} (contents : W → Option (List ℕ)) (meaning : D → Meaning) (restart : Restart) (refused : Option Refusal) (old between : ScriptView D) (came : Came D W)
+    → RestartsAs meaning old.stage restart (record { stage = between.stage; refused = refused }) → between.moment ≡ old.moment → between.closed ≡ old.closed
+    → Says old.said between.said (as_line (restarted_text refused)) → Shown contents between came → RestartComes contents meaning restart old came
+restart_done contents meaning restart refused old between came restarts moment closed says shown = inl (between, (refused, restarts, (moment, closed), says), shown)
 
 -- a `restart` line
 pub restart_comes : {D W : Type 0} (contents : W → Option (List ℕ)) (meaning : D → Meaning) (part : Part) (bytes : List ℕ) (time : ℕ) (tail : Option Tail) (old : ScriptView D) (came : Came D W)
-    → HasForm bytes (line.Restart time tail) → StandsIn part (line.Restart time tail) → RestartComes contents (record { time = time; tail = tail }) old came
+    → HasForm bytes (line.Restart time tail) → StandsIn part (line.Restart time tail) → RestartComes contents meaning (record { time = time; tail = tail }) old came
     → Comes contents meaning part next.Line bytes old came
 restart_comes contents meaning part bytes time tail old came form stands (inl (between, restarts, shown)) =
     done_comes contents meaning part next.Line bytes old between came (inl (line.Restart time tail, form, stands, restarts)) shown

@@ -1,6 +1,6 @@
 -- The drives of a script's world: online while none was retired.
 use Rattle.std.proofs.Common.{cond, ◌≡◌, ℕ, zero, suc, Bool, true, false, Option, None, Some, List, [], ◌∷◌, Vec, map, replicate, length, refl, sym, ap, subst, inl, inr, arith}
-use Rattle.std.specs.Prelude.{is_some, nat_lt, ℤ, Result, Ok, Err, IfOk, OnErr}
+use Rattle.std.specs.Prelude.{is_some, nat_lt, Result, Ok, Err, IfOk, OnErr}
 use Rattle.std.proofs.lemmas.List.{length-append}
 use Rattle.sd_base.specs.declared.refusal.Refusal.{Refusal}
 use Rattle.sd_base.specs.declared.refusal.Refusal.TheVariants.{DriveOffline, NoSuchDrive}
@@ -22,8 +22,11 @@ use Rattle.sd_spool.specs.Meaning.{Meaning as StoreMeaning}
 use Rattle.sd_core.specs.Fresh.{AreNewDrives, new_bays}
 use Rattle.sd_core.specs.Reading.{ReadsWorld}
 use Rattle.sd_core.specs.View.{device_of, devices_of}
-use Rattle.sd_tool.specs.Restart.{unfit}
-use Rattle.sd_tool.specs.Stage.{retired_after}
+use Rattle.sd_tool.specs.Restart.{HandsOn, RestartsAs, RestartsBy, StartsAnew, unfit}
+use Rattle.sd_tool.specs.Settings.{drive_count}
+use Rattle.sd_tool.specs.Stage.{StageView, retired_after}
+use Rattle.sd_tool.specs.declared.restart.Restart.{Restart}
+use Rattle.sd_tool.specs.declared.restart.Restarted.{Restarted}
 
 -- Steps and readings.
 
@@ -102,3 +105,31 @@ pub unfit_none : (count : ℕ) (retired : Bool) (tail : Option Tail) (result : O
 unfit_none count false tail result is none = refl
 unfit_none count true None result is none = absurd (none DriveOffline is)
 unfit_none count true (Some tail) result is none = absurd (forbids (nat_lt count tail.drive) result is none)
+
+-- A new world's devices.
+
+-- each drive of a new world is in its bay
+pub new_drives : {D Q S Z : Type 0} (queue : Q → LanesView) (store : S → StoreMeaning) (ds : List (DriveIs D)) (qs : List Q) (ss : List (Vec S Z)) → length qs ≡ length ds → length ss ≡ length ds
+    → map (λ (b : BayView D). b.drive) (new_bays queue store ds qs ss) ≡ map Some ds
+new_drives queue store [] qs ss many_q many_s = refl
+new_drives queue store (d ∷ ds) [] ss many_q many_s = absurd (omega (arith, many_q))
+new_drives queue store (d ∷ ds) (q ∷ qs) [] many_q many_s = absurd (omega (arith, many_s))
+new_drives queue store (d ∷ ds) (q ∷ qs) (s ∷ ss) many_q many_s = ap (λ l. Some d ∷ l) (new_drives queue store ds qs ss (omega (arith, many_q)) (omega (arith, many_s)))
+
+-- there is a drive for each device
+pub drives_long : {D : Type 0} (meaning : D → Meaning) (limits : Limits) (medias : List (List ℕ × ℕ)) (devices : List D) (ds : List (DriveIs D)) → AreNewDrives meaning limits medias devices ds → length ds ≡ length devices
+drives_long meaning limits medias [] [] made = refl
+drives_long meaning limits medias [] (d ∷ ds) made = absurd made
+drives_long meaning limits medias (x ∷ xs) [] made = absurd made
+drives_long meaning limits [] (x ∷ xs) (d ∷ ds) made = absurd made
+drives_long meaning limits (m ∷ ms) (x ∷ xs) (d ∷ ds) made = ap suc (drives_long meaning limits ms xs ds made.1)
+
+-- as many devices are handed on
+pub hands_on_long : {D : Type 0} (tail : Option Tail) (old new : List D) → HandsOn tail old new → length new ≡ length old
+hands_on_long None old new handed = ap length handed
+hands_on_long (Some tail) old new handed = handed.0
+
+-- nothing forbids a new run
+pub restarts_anew : {D : Type 0} (meaning : D → Meaning) (old : StageView D) (restart : Restart) (new : Restarted D) → unfit (drive_count old.values) old.retired restart.tail ≡ None
+    → StartsAnew meaning restart.tail old restart.time new.stage → RestartsAs meaning old restart new
+restarts_anew meaning old restart new none anew = subst (λ o. RestartsBy meaning o restart.tail old restart.time new.stage new.refused) (sym none) (inr anew)

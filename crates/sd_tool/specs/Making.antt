@@ -1,8 +1,11 @@
 -- What the worlds of a script are made with.
-use Rattle.std.specs.Prelude.{◌≡◌, ℕ, [], replicate, true}
-use Rattle.sd_moves.specs.World.{WorldView}
+use Rattle.std.specs.Prelude.{◌≡◌, ℕ, Some, List, [], map, replicate, true}
+use Rattle.sd_driver.specs.Meaning.{Meaning}
+use Rattle.sd_drive.specs.View.{DriveIs}
+use Rattle.sd_moves.specs.World.{BayView, WorldView}
 use Rattle.sd_rounds.specs.Rounds.{online_flags}
 use Rattle.sd_core.specs.Conf.{IsConf, AreQueues, AreStores}
+use Rattle.sd_core.specs.Fresh.{AreNewDrives}
 use Rattle.sd_tool.specs.declared.making.Room.{Room}
 use Rattle.sd_tool.specs.Settings.{ValuesView, drive_count, drives_of}
 
@@ -17,8 +20,9 @@ pub record IsRoomOf (v : ValuesView) (room : Room) : Type 0 where
   pub queues : AreQueues (λ q. q) room.conf.queue room.conf.drives.items room.queues.items
   pub stores : AreStores room.conf.drives.items room.stores.items
 
--- a world that was just made of these settings, for the run of this time: no session was opened, and all drives are online
-pub record StartsAs {D : Type 0} (v : ValuesView) (time : ℕ) (w : WorldView D) : Type 0 where
+-- A world that was just made of these settings over these devices, for the run of this time: no session was opened, and
+-- all drives are online, each of them new over its device.
+pub record StartsAs {D : Type 0} (meaning : D → Meaning) (v : ValuesView) (time : ℕ) (devices : List D) (w : WorldView D) : Type 0 where
   pub block_is : w.limits.block ≡ v.block
   pub volume_is : w.limits.volume ≡ v.volume
   pub spool_is : w.limits.spool ≡ v.spool
@@ -26,3 +30,6 @@ pub record StartsAs {D : Type 0} (v : ValuesView) (time : ℕ) (w : WorldView D)
   pub queue_is : w.queue ≡ v.queue
   pub no_session : w.sessions ≡ []
   pub online : online_flags w ≡ replicate (drive_count v) true
+  pub drives : List (DriveIs D)
+  pub drives_are : AreNewDrives meaning w.limits (drives_of v) devices drives
+  pub bays_have : map (λ (b : BayView D). b.drive) w.bays ≡ map Some drives

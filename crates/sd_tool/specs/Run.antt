@@ -1,5 +1,5 @@
 -- The run of a script: its lines one after another, to its end.
-use Rattle.std.specs.Prelude.{◌≡◌, ◌⊎◌, ℕ, pos, ◌-◌, ◌^◌, Bool, true, false, Option, None, Some, List, [], ◌∷◌, length}
+use Rattle.std.specs.Prelude.{◌≡◌, ◌⊎◌, ℕ, pos, ◌-◌, ◌^◌, true, false, Option, None, Some, List, [], ◌∷◌, length}
 use Rattle.sd_base.specs.declared.refusal.Refusal.{Refusal}
 use Rattle.sd_base.specs.declared.refusal.Refusal.TheVariants as refusal
 use Rattle.sd_driver.specs.Meaning.{Meaning}
@@ -31,14 +31,14 @@ use Rattle.sd_tool.specs.declared.run.Script.{Script}
 -- One line.
 
 -- A new world stands, or the old one where there can't be a new one; which, is printed.
-abbrev pub Restarts : {D : Type 0} → Restart → ScriptView D → ScriptView D → Type 0
-Restarts restart old new =
-    (refused : Option Refusal) × RestartsAs old.stage restart (record { stage = new.stage; refused = refused })
+abbrev pub Restarts : {D : Type 0} → (D → Meaning) → Restart → ScriptView D → ScriptView D → Type 0
+Restarts meaning restart old new =
+    (refused : Option Refusal) × RestartsAs meaning old.stage restart (record { stage = new.stage; refused = refused })
     × KeepsRest old new × Says old.said new.said (as_line (restarted_text refused))
 
 -- what any line does
 abbrev pub Obeys : {D : Type 0} → (D → Meaning) → Line → ScriptView D → ScriptView D → Type 0
-Obeys meaning (line.Restart time tail) old new = Restarts (record { time = time; tail = tail }) old new
+Obeys meaning (line.Restart time tail) old new = Restarts meaning (record { time = time; tail = tail }) old new
 Obeys meaning other old new = LineDoes meaning other old new
 
 -- why these bytes are no line of that part
@@ -106,14 +106,14 @@ EndsForMemory contents old (On s) = ⊥
 EndsForMemory contents old (Over ran) = Says old (said_view contents ran.out) (refused_line refusal.Memory) × (ran.status ≡ 1)
 
 -- a `restart` line is done and shown, or there was no memory for the new world
-abbrev pub RestartComes : {D W : Type 0} → (W → Option (List ℕ)) → Restart → ScriptView D → Came D W → Type 0
-RestartComes {D} contents restart old came =
-    ((between : ScriptView D) × Restarts restart old between × Shown contents between came)
+abbrev pub RestartComes : {D W : Type 0} → (W → Option (List ℕ)) → (D → Meaning) → Restart → ScriptView D → Came D W → Type 0
+RestartComes {D} contents meaning restart old came =
+    ((between : ScriptView D) × Restarts meaning restart old between × Shown contents between came)
     ⊎ EndsForMemory contents old.said came
 
 -- a line is done and shown
 abbrev pub LineComes : {D W : Type 0} → (W → Option (List ℕ)) → (D → Meaning) → Line → ScriptView D → Came D W → Type 0
-LineComes contents meaning (line.Restart time tail) old came = RestartComes contents (record { time = time; tail = tail }) old came
+LineComes contents meaning (line.Restart time tail) old came = RestartComes contents meaning (record { time = time; tail = tail }) old came
 LineComes {D} contents meaning other old came = (between : ScriptView D) × LineDoes meaning other old between × Shown contents between came
 
 -- All lines.
@@ -136,17 +136,17 @@ RunsFrom {D} {W} contents meaning first begun ran =
     ⊎ ((later : List LineCame) × (s : Script D W) × (length later ≡ 2 ^ 64 - 1)
     × Reaches contents meaning Head first later begun (On s) × (ran.out ≡ s.out) × (ran.status ≡ 0))
 
--- the script begins: a world of these settings, at the moment 0; nothing was closed, and nothing printed yet
-pub record Begins {D : Type 0} (v : ValuesView) (said : SaidView) (s : ScriptView D) : Type 0 where
-  pub stage : BeginsAs v s.stage
+-- the script begins: a world of these settings over these devices, at the moment 0; nothing was closed, and nothing printed yet
+pub record Begins {D : Type 0} (meaning : D → Meaning) (v : ValuesView) (devices : List D) (said : SaidView) (s : ScriptView D) : Type 0 where
+  pub stage : BeginsAs meaning v devices s.stage
   pub moment_is : s.moment ≡ pos 0
   pub none_closed : s.closed ≡ []
   pub said_is : s.said ≡ said
 
--- A script of these settings is run. Where they don't go together, that is printed, and nothing is run; nor is it where
+-- A script of these settings is run over these devices. Where they don't go together, that is printed, and nothing is run; nor is it where
 -- there is no memory for its world.
-abbrev pub RunsScript : {D W : Type 0} → (W → Option (List ℕ)) → (D → Meaning) → ValuesView → LineCame → SaidView → Ran W → Type 0
-RunsScript {D} contents meaning v first said ran =
+abbrev pub RunsScript : {D W : Type 0} → (W → Option (List ℕ)) → (D → Meaning) → ValuesView → List D → LineCame → SaidView → Ran W → Type 0
+RunsScript {D} contents meaning v devices first said ran =
     ((m : Misfit) × (misfit_of v ≡ Some m) × Says said (said_view contents ran.out) (as_line (misfit_text m)) × (ran.status ≡ 1))
     ⊎ ((misfit_of v ≡ None) × Says said (said_view contents ran.out) (refused_line refusal.Memory) × (ran.status ≡ 1))
-    ⊎ ((misfit_of v ≡ None) × (begun : ScriptView D) × Begins v said begun × RunsFrom contents meaning first begun ran)
+    ⊎ ((misfit_of v ≡ None) × (begun : ScriptView D) × Begins meaning v devices said begun × RunsFrom contents meaning first begun ran)

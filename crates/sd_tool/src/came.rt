@@ -100,7 +100,8 @@ impl<D: Driver + Drop, W: Write + Drop> Script<D, W> {
     fn restarted(self, restart: Restart) -> Came<D, W>
         requires time_least { 1 ≤ restart.time }
         requires time_most { restart.time ≤ most_number }
-        ensures { RestartComes W.contents restart (script_view W.contents self) result }
+        ensures { RestartComes W.contents (λ d. D.meaning d) restart
+            (script_view W.contents self) result }
     {
         let Script {
             alloc,

@@ -65,7 +65,7 @@ impl Room {
         requires drivers { length drivers.items ≡ drive_count values.now }
         requires time_least { 1 ≤ time }
         requires time_most { time ≤ most_number }
-        ensures { IfOk result (StartsAs values.now time) }
+        ensures { IfOk result (StartsAs (λ d. D.meaning d) values.now time drivers.items) }
     {
         let Room {
             conf,

@@ -1,7 +1,7 @@
 // A new run over the drives of the last one.
-ghost use Rattle.std.specs.Prelude.{◌≡◌, ◌≤◌, length, IfOk, Some};
+ghost use Rattle.std.specs.Prelude.{◌≡◌, ◌≤◌, IfOk, Some};
 ghost use Rattle.sd_base.specs.Limits.{most_number};
-ghost use Rattle.sd_tool.specs.Restart.{RestartsAs, unfit};
+ghost use Rattle.sd_tool.specs.Restart.{HandsOn, RestartsAs, unfit};
 ghost use Rattle.sd_tool.specs.Settings.{drive_count};
 
 use crate::making::Room;
@@ -33,7 +33,7 @@ impl<D: Driver + Drop> Stage<D> {
     pub fn restarted(self, alloc: Global, restart: Restart) -> Result<Restarted<D>, AllocError>
         requires time_least { 1 ≤ restart.time }
         requires time_most { restart.time ≤ most_number }
-        ensures { IfOk result (RestartsAs self restart) }
+        ensures { IfOk result (RestartsAs (λ d. D.meaning d) self restart) }
     {
         let Restart { time, tail } = restart;
         if let Some(why) = self.unfit(&tail) {
@@ -105,7 +105,7 @@ fn append_tail<D: Driver>(
     drivers: &mut Vec<D>,
     tail: Option<Tail>,
 ) -> Option<Refusal>
-    ensures { length drivers.new.items ≡ length drivers.old.items }
+    ensures { HandsOn tail drivers.old.items drivers.new.items }
 {
     let Tail {
         drive,

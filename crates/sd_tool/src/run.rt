@@ -61,7 +61,7 @@ pub fn run_lines<D: Driver + Drop, R: BufRead, W: Write + Drop>(
 ) -> u8
     requires { length drivers.items ≡ drives_due settings.values }
     ensures { (ran : Ran W) × (result ≡ ran.status) × RunsScript W.contents (λ d. D.meaning d)
-        settings.values (settings.first, settings.lines.bytes)
+        settings.values drivers.items (settings.first, settings.lines.bytes)
         (record { written = W.contents writer; failed = false }) ran }
 {
     let Ran { status, out: _ } = run_script(alloc, settings, drivers, reader, Printer::new(writer));
@@ -81,7 +81,7 @@ pub fn run_script<D: Driver + Drop, R: BufRead, W: Write + Drop>(
 ) -> Ran<W>
     requires { length drivers.items ≡ drives_due settings.values }
     ensures { RunsScript W.contents (λ d. D.meaning d) settings.values
-        (settings.first, settings.lines.bytes) (said_view W.contents out) result }
+        drivers.items (settings.first, settings.lines.bytes) (said_view W.contents out) result }
 {
     let Settings {
         values,

@@ -49,7 +49,7 @@ impl<D: Driver + Drop> Stage<D> {
     pub fn new(alloc: Global, values: Values, drivers: Vec<D>) -> Result<Stage<D>, AllocError>
         requires fits { misfit_of values ≡ None }
         requires drivers { length drivers.items ≡ drive_count values }
-        ensures { IfOk result (BeginsAs values) }
+        ensures { IfOk result (BeginsAs (λ d. D.meaning d) values drivers.items) }
     {
         let room = Room::new(alloc, &values)?;
         let time = values.time;

@@ -1,4 +1,4 @@
-use Rattle.std.proofs.Common.{◌≡◌, ◌+◌, ◌^◌, ◌-◌, ℕ, refl, sym, ap, subst, inl, inr, arith, length, List, [], ◌∷◌, ◌++◌, ◌∙◌}
+use Rattle.std.proofs.Common.{◌≡◌, ◌^◌, ◌-◌, ℕ, refl, subst, inl, inr, arith, length, List, [], ◌∷◌, ◌++◌}
 use Rattle.std.proofs.lemmas.List.{length-append}
 use Rattle.sd_script.specs.declared.line.Part.TheVariants.{Body, Head}
 use Rattle.sd_tool.specs.Run.{Comes, LineCame, Reaches}

@@ -17,4 +17,4 @@ returns g c =
       | in-None w ↦ subst (λ (out : Printer g.row.W.Denot). Says_of out c.in-Ok.field-0.refused) (sym w.out-is) (subst (λ (r : Option Refusal). Says_of w.line.new.self r) (sym w.in-None.is) w.line.ensures.says)
       | in-Some w ↦ subst (λ (out : Printer g.row.W.Denot). Says_of out c.in-Ok.field-0.refused) (sym w.out-is) (subst (λ (r : Option Refusal). Says_of w.line-in-Some.new.self r) (sym w.in-Some.is) w.line-in-Some.ensures.says)
     ] in
-    restart_done g.W.Write.contents c.args.restart c.in-Ok.field-0.refused (script_view g.W.Write.contents c.args.self) _ c.shown.result c.in-Ok.ensures (search rules) refl says c.shown.ensures
+    restart_done g.W.Write.contents (λ d. g.D.Driver.meaning d) c.args.restart c.in-Ok.field-0.refused (script_view g.W.Write.contents c.args.self) _ c.shown.result c.in-Ok.ensures (search rules) refl says c.shown.ensures

@@ -1,4 +1,4 @@
-use Rattle.std.proofs.Common.{rules, ◌≡◌, sym, ◌∙◌}
+use Rattle.std.proofs.Common.{rules, ◌≡◌, ◌∙◌}
 use Rattle.sd_tool.specs.Doing.{step_event}
 use Rattle.sd_tool.specs.Script.{script_view}
 use Rattle.sd_tool.proofs.DoingLemmas.{gives_none}
