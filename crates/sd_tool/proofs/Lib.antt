@@ -1,4 +1,5 @@
 pub mod DoingLemmas
+pub mod LineLemmas
 pub mod MakingLemmas
 pub mod PrintedLemmas
 pub mod RunLemmas

@@ -1,6 +1,7 @@
 // The lines of the input, one at a time, in memory that the longest line bounds.
-ghost use Rattle.std.specs.Prelude.{◌≡◌, ◌⊎◌, []};
-ghost use Rattle.sd_tool.specs.Lines.{came_with};
+ghost use Rattle.std.specs.Prelude.{◌≡◌, ◌⊎◌, [], IfSome};
+ghost use Rattle.std.specs.Io.BufRead.{ends_with_byte};
+ghost use Rattle.sd_tool.specs.Lines.{ComesFirst, IsLineOf, came_with};
 
 use sd_base::MOST_DATA;
 use sd_readback::Seen;
@@ -69,7 +70,9 @@ impl Lines {
 
     /// Reads the next line. The last one may lack its newline.
     pub fn read_next<R: BufRead>(&mut self, reader: &mut R) -> Next
-        ensures { self.new.came ≡ came_with result self.old.came self.new.bytes }
+        ensures came { self.new.came ≡ came_with result self.old.came self.new.bytes }
+        ensures first { IfSome (R.remaining reader.old)
+            (λ input. ComesFirst input result self.new.bytes) }
     {
         let next = self.read_bytes(reader);
         if let Next::Line = next {
@@ -79,10 +82,12 @@ impl Lines {
     }
 
     fn read_bytes<R: BufRead>(&mut self, reader: &mut R) -> Next
-        ensures { self.new.came ≡ self.old.came }
+        ensures came { self.new.came ≡ self.old.came }
+        ensures first { IfSome (R.remaining reader.old)
+            (λ input. ComesFirst input result self.new.bytes) }
     {
         self.bytes.clear();
-        let mut limited = reader.by_ref().take(MOST_READ);
+        let mut limited = Read::take(&mut *reader, MOST_READ);
         match limited.read_until(b'\n', &mut self.bytes) {
             Ok(0) => Next::End,
             Ok(_) => self.without_newline(reader),
@@ -94,18 +99,29 @@ impl Lines {
         }
     }
 
+    // The line whose bytes were read, or that it is too long.
     fn without_newline<R: BufRead>(&mut self, reader: &mut R) -> Next
-        ensures { self.new.came ≡ self.old.came }
+        ensures came { self.new.came ≡ self.old.came }
+        ensures line { IsLineOf self.old.bytes result self.new.bytes }
     {
-        if self.bytes.last() == Some(&b'\n') {
-            self.bytes.pop();
+        let count = self.bytes.len();
+        if ends_with_newline(&self.bytes) {
+            self.bytes.truncate(count - 1);
             return Next::Line;
         }
-        if self.bytes.len() > LONGEST_LINE {
+        if count > LONGEST_LINE {
             return pass_over(reader, Next::TooLong);
         }
         Next::Line
     }
+}
+
+// Whether the bytes end with a newline.
+fn ends_with_newline(bytes: &[u8]) -> bool
+    ensures { result ≡ ends_with_byte 10 bytes.now }
+{
+    let count = bytes.len();
+    count > 0 && bytes[count - 1] == b'\n'
 }
 
 /// Reads on behind the next newline, or to the end of the input. A read fault is told in place of `next`.
