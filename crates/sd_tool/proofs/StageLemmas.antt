@@ -22,7 +22,7 @@ use Rattle.sd_spool.specs.Meaning.{Meaning as StoreMeaning}
 use Rattle.sd_core.specs.Fresh.{AreNewDrives, new_bays}
 use Rattle.sd_core.specs.Reading.{ReadsWorld}
 use Rattle.sd_core.specs.View.{device_of, devices_of}
-use Rattle.sd_tool.specs.Restart.{HandsOn, RestartsAs, RestartsBy, StartsAnew, unfit}
+use Rattle.sd_tool.specs.Restart.{HandsOn, RestartsAs, RestartsBy, StartsAnew, TellsTail, unfit}
 use Rattle.sd_tool.specs.Settings.{drive_count}
 use Rattle.sd_tool.specs.Stage.{StageView, retired_after}
 use Rattle.sd_tool.specs.declared.restart.Restart.{Restart}
@@ -131,5 +131,5 @@ hands_on_long (Some tail) old new handed = handed.0
 
 -- nothing forbids a new run
 pub restarts_anew : {D : Type 0} (meaning : D → Meaning) (old : StageView D) (restart : Restart) (new : Restarted D) → unfit (drive_count old.values) old.retired restart.tail ≡ None
-    → StartsAnew meaning restart.tail old restart.time new.stage → RestartsAs meaning old restart new
-restarts_anew meaning old restart new none anew = subst (λ o. RestartsBy meaning o restart.tail old restart.time new.stage new.refused) (sym none) (inr anew)
+    → StartsAnew meaning restart.tail old restart.time new.stage → TellsTail restart.tail new.refused → RestartsAs meaning old restart new
+restarts_anew meaning old restart new none anew told = subst (λ o. RestartsBy meaning o restart.tail old restart.time new.stage new.refused) (sym none) (inr (anew, told))

@@ -1,5 +1,5 @@
 -- What a `restart` line comes to.
-use Rattle.std.specs.Prelude.{◌≡◌, ◌≢◌, ◌⊎◌, ℕ, ◌+◌, nat_lt, Bool, true, false, if◌then◌else◌, Option, None, Some, List, length, slice_get}
+use Rattle.std.specs.Prelude.{◌≡◌, ◌≢◌, ◌⊎◌, ℕ, ◌+◌, nat_lt, Bool, true, false, if◌then◌else◌, Option, None, Some, List, length, slice_get, ⊤}
 use Rattle.sd_base.specs.declared.refusal.Refusal.{Refusal}
 use Rattle.sd_base.specs.declared.refusal.Refusal.TheVariants.{DriveOffline, Memory, NoSuchDrive}
 use Rattle.sd_core.specs.View.{devices_of}
@@ -40,10 +40,15 @@ pub record StartsAnew {D : Type 0} (meaning : D → Meaning) (tail : Option Tail
   pub handed_on : HandsOn tail (devices_of old.world.bays) devices
   pub starts : StartsAs meaning old.values time devices new.world
 
+-- only of a tail something is refused while a new world stands
+abbrev pub TellsTail : Option Tail → Option Refusal → Type 0
+TellsTail None refused = refused ≡ None
+TellsTail (Some tail) refused = ⊤
+
 -- where this forbids it the old world stands, and else a new one does, if memory lasts
 abbrev pub RestartsBy : {D : Type 0} → (D → Meaning) → Option Refusal → Option Tail → StageView D → ℕ → StageView D → Option Refusal → Type 0
 RestartsBy meaning (Some why) tail old time new refused = (new ≡ old) × (refused ≡ Some why)
-RestartsBy meaning None tail old time new refused = ((new ≡ old) × (refused ≡ Some Memory)) ⊎ StartsAnew meaning tail old time new
+RestartsBy meaning None tail old time new refused = ((new ≡ old) × (refused ≡ Some Memory)) ⊎ (StartsAnew meaning tail old time new × TellsTail tail refused)
 
 -- What stands behind a `restart` line. The old world stands where there can't be a new one, and the line is refused for
 -- that; it may stand for want of memory too. Else a new one of that time stands.

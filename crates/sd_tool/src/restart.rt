@@ -1,7 +1,7 @@
 // A new run over the drives of the last one.
 ghost use Rattle.std.specs.Prelude.{◌≡◌, ◌≤◌, IfOk, Some};
 ghost use Rattle.sd_base.specs.Limits.{most_number};
-ghost use Rattle.sd_tool.specs.Restart.{HandsOn, RestartsAs, unfit};
+ghost use Rattle.sd_tool.specs.Restart.{HandsOn, RestartsAs, TellsTail, unfit};
 ghost use Rattle.sd_tool.specs.Settings.{drive_count};
 
 use crate::making::Room;
@@ -105,7 +105,8 @@ fn append_tail<D: Driver>(
     drivers: &mut Vec<D>,
     tail: Option<Tail>,
 ) -> Option<Refusal>
-    ensures { HandsOn tail drivers.old.items drivers.new.items }
+    ensures handed_on { HandsOn tail drivers.old.items drivers.new.items }
+    ensures told { TellsTail tail result }
 {
     let Tail {
         drive,

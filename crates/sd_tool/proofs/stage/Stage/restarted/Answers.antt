@@ -15,7 +15,7 @@ into_world-requires-clause-drivers g c =
     let offline = unfit_none (drive_count c.args.self.values) c.args.self.retired c.args.restart.tail c.unfit.result c.unfit.ensures c.in_default.not-Some in
     let none : inside.retired ≡ false = ap (λ s. s.retired) c.self.view_is ∙ offline in
     let many : length c.append_tail-refused.new.drivers.items ≡ drive_count inside.values =
-    hands_on_long c.args.restart.tail _ c.append_tail-refused.new.drivers.items c.append_tail-refused.ensures ∙ ap length c.in-Ok-into_drivers.ensures.ok
+    hands_on_long c.args.restart.tail _ c.append_tail-refused.new.drivers.items c.append_tail-refused.ensures.handed_on ∙ ap length c.in-Ok-into_drivers.ensures.ok
     ∙ devices_long inside.world.bays (drive_count inside.values) (c.self.invariant.0.online none) in
     search rules
 
@@ -33,6 +33,6 @@ returns g c =
       values = values;
       retired = refl;
       devices = devices;
-      handed_on = subst (λ (ds : List g.row.D.Denot). HandsOn tail ds devices) before c.append_tail-refused.ensures;
+      handed_on = subst (λ (ds : List g.row.D.Denot). HandsOn tail ds devices) before c.append_tail-refused.ensures.handed_on;
       starts = subst (λ (v : ValuesView). StartsAs M v c.args.restart.time devices c.in_ok-world.world) values c.in_ok-world.ensures;
-    })
+    }) c.append_tail-refused.ensures.told
