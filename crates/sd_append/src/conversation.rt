@@ -67,7 +67,8 @@ pub fn talk<R: Read, W: Write, P: SessionPort>(
 ) -> Talked<W>
     ensures talks { (bytes : List ℕ)
         × Talks (P.clock port.old) (R.remaining reader.old) (R.remaining reader.new)
-        (P.asked port.old) (P.asked port.new) (W.contents writer) (W.contents result.writer) result.end bytes
+        (P.asked port.old) (P.asked port.new) (W.contents writer)
+        (W.contents result.writer) result.end bytes
         × IsWithin turns result.end bytes }
     ensures clock { P.clock port.new ≡ P.clock port.old }
 {
@@ -131,9 +132,11 @@ fn turn<R: Read, W: Write, P: SessionPort>(
         → Stands (P.clock port.old) start
         (around (R.remaining reader.old) (P.asked port.old) (out_view W.contents standing.outbox))
         standing.feeder standing.stage bytes
-        → (piece : List ℕ) × (length piece ≤ length input.old) × (IsNone result.end → 0 < length piece)
+        → (piece : List ℕ) × (length piece ≤ length input.old)
+        × (IsNone result.end → 0 < length piece)
         × Comes (P.clock port.old) result.end start
-        (around (R.remaining reader.new) (P.asked port.new) (out_view W.contents result.standing.outbox))
+        (around (R.remaining reader.new) (P.asked port.new)
+        (out_view W.contents result.standing.outbox))
         result.standing.feeder result.standing.stage (bytes ++ piece) }
     ensures clock { P.clock port.new ≡ P.clock port.old }
 {
@@ -217,7 +220,8 @@ fn finish<W: Write, P: SessionPort>(
     ensures talks { (start : Around) (left : Option (List ℕ)) (bytes : List ℕ)
         → start.out.waiting ≡ [] → start.out.failed ≡ false
         → Halts (P.clock port.old) start
-        (around left (P.asked port.old) (out_view W.contents standing.outbox)) standing.stage end bytes
+        (around left (P.asked port.old) (out_view W.contents standing.outbox)) standing.stage end
+        bytes
         → Talks (P.clock port.old) start.left left start.asked (P.asked port.new) start.out.written
         (W.contents result.writer) result.end bytes }
     ensures end { (result.end ≡ end) ⊎ IsCutOff result.end }

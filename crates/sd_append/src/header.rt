@@ -62,7 +62,8 @@ impl Header {
 
 /// The header of a packet, or `None` where the packet is none, or a number is out of its range.
 pub fn read_header(packet: &[u8]) -> Option<Header>
-    ensures found { (header : HeaderParts) → HasHeaderForm packet.now header → result ≡ Some header }
+    ensures found { (header : HeaderParts) → HasHeaderForm packet.now header
+        → result ≡ Some header }
     ensures form { IfSome result (λ header. HasHeaderForm packet.now header) }
 {
     let line = ascii_text(trimmed(packet))?;

@@ -47,7 +47,8 @@ pub(crate) fn open<W: Write, P: SessionPort>(
 
 /// Begins the data phase of the session that a command names.
 pub(crate) fn data<W: Write>(named: Result<Own, Option<Own>>, outbox: &mut Outbox<W>) -> Stage
-    ensures { (asked : List Exchange) → Does (λ more out. ObeysData named more out result) asked asked
+    ensures { (asked : List Exchange) → Does
+        (λ more out. ObeysData named more out result) asked asked
         (out_view W.contents outbox.old) (out_view W.contents outbox.new) }
 {
     match named {

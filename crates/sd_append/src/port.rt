@@ -33,7 +33,8 @@ pub trait SessionPort {
     fn read<S: Sink>(&mut self, key: SessionKey, spans: &[Span], sink: S) -> ReadBack<S>
         ensures asked { (records : List Record)
             × (S.got result.sink ≡ S.got sink ++ records)
-            × (asked self.new ≡ asked self.old ++ WasRead key spans.now records result.answer ∷ []) }
+            × (asked self.new ≡ asked self.old ++ WasRead key spans.now records
+            result.answer ∷ []) }
         ensures clock { clock self.new ≡ clock self.old };
 
     /// The lines that answer a console's line, each with its newline, or the refusal.

@@ -134,7 +134,8 @@ fn keyed_number<K, const MOST: u32>(
 
 /// The ticket that a number in decimal is, if it is one.
 fn ticket_of(text: &str) -> Result<Option<Ticket>, BadField>
-    ensures { MatchResult result (λ ticket. IsTicket text.now ticket) (λ _. IsDecimal text.now → ⊥) }
+    ensures { MatchResult result (λ ticket. IsTicket text.now ticket)
+        (λ _. IsDecimal text.now → ⊥) }
 {
     if !is_decimal(text) {
         return Err(BadField);

@@ -28,7 +28,8 @@ pub(crate) fn take_command<W: Write, P: SessionPort>(
     port: &mut P,
     outbox: &mut Outbox<W>,
 ) -> Stage
-    ensures does { Does (λ asked out. TakesCommand (P.clock port.old) own bytes.now asked out result)
+    ensures does { Does (λ asked out. TakesCommand
+        (P.clock port.old) own bytes.now asked out result)
         (P.asked port.old) (P.asked port.new)
         (out_view W.contents outbox.old) (out_view W.contents outbox.new) }
     ensures clock { P.clock port.new ≡ P.clock port.old }

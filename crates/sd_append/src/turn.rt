@@ -181,7 +181,8 @@ pub(crate) fn take_all<W: Write, P: SessionPort>(
     port: &mut P,
     outbox: Outbox<W>,
 ) -> Taken<W>
-    ensures does { Does (λ asked out. Converses (P.clock port.old) stage packets.items asked out result.stage)
+    ensures does { Does (λ asked out. Converses
+        (P.clock port.old) stage packets.items asked out result.stage)
         (P.asked port.old) (P.asked port.new)
         (out_view W.contents outbox) (out_view W.contents result.outbox) }
     ensures clock { P.clock port.new ≡ P.clock port.old }
@@ -199,7 +200,8 @@ fn take_next<W: Write, P: SessionPort>(
     packet: Packet,
     port: &mut P,
 ) -> Taken<W>
-    ensures does { Does (λ asked out. Takes (P.clock port.old) taken.stage packet asked out result.stage)
+    ensures does { Does (λ asked out. Takes
+        (P.clock port.old) taken.stage packet asked out result.stage)
         (P.asked port.old) (P.asked port.new)
         (out_view W.contents taken.outbox) (out_view W.contents result.outbox) }
     ensures clock { P.clock port.new ≡ P.clock port.old }

@@ -41,7 +41,8 @@ fn put_request(text: &mut String, request: &Request) -> Result<(), AllocError>
 }
 
 fn put_count(text: &mut String, count: usize) -> Result<(), AllocError>
-    ensures { OnOk result (string_bytes text.new ≡ string_bytes text.old ++ line (count_line count)) }
+    ensures { OnOk result (string_bytes text.new ≡ string_bytes text.old ++ line
+        (count_line count)) }
 {
     writeln!(text, "ok requests {count}")
 }

@@ -52,7 +52,11 @@ pub(crate) fn make_bays<D: Driver, Q: Lanes, S: SpoolStore + Drop>(
     requires none_made { bays.old.items ≡ [] }
     requires room { vec_len drives.old ≤ vec_capacity bays.old }
     ensures made { bays.new.items ≡ new_bays
-        (λ q. record { lanes = Q.lanes q; capacity = Q.capacity q; held = Q.held q }) (λ s. S.meaning s)
+        (λ q. record {
+          lanes = Q.lanes q;
+          capacity = Q.capacity q;
+          held = Q.held q;
+        }) (λ s. S.meaning s)
         drives.old.items queues.old.items spools.old.items }
     ensures len { vec_len bays.new ≡ vec_len drives.old }
     ensures capacity { vec_capacity bays.new ≡ vec_capacity bays.old }
@@ -91,7 +95,11 @@ pub(crate) fn fill_bays<D: Driver + Drop, Q: Lanes + Drop, S: SpoolStore + Drop>
     ensures made { IfOk result (λ bays. (drives : List (DriveIs D))
         × AreNewDrives (λ d. D.meaning d) limits medias.now drivers.old.items drives
         × (bays.items ≡ new_bays
-        (λ q. record { lanes = Q.lanes q; capacity = Q.capacity q; held = Q.held q }) (λ s. S.meaning s)
+        (λ q. record {
+          lanes = Q.lanes q;
+          capacity = Q.capacity q;
+          held = Q.held q;
+        }) (λ s. S.meaning s)
         drives queues.old.items spools.old.items)) }
     ensures drivers { OnErr result (AllZip (StaysDevice (λ d. D.meaning d))
         drivers.old.items drivers.new.items) }

@@ -16,7 +16,8 @@ use std::alloc::{AllocError, Global};
 /// last one, of which a world has 8 at most. Takes no memory.
 pub(crate) fn unmake_drives<D: Driver>(drives: &mut Vec<Drive<D>>, drivers: &mut Vec<D>)
     requires room { vec_len drivers.old + vec_len drives.old ≤ vec_capacity drivers.old }
-    ensures devices { drivers.new.items ≡ drivers.old.items ++ map (λ (d : DriveIs D). d.device) drives.old.items }
+    ensures devices { drivers.new.items ≡ drivers.old.items ++ map
+        (λ (d : DriveIs D). d.device) drives.old.items }
     ensures len { vec_len drivers.new ≡ vec_len drivers.old + vec_len drives.old }
     ensures capacity { vec_capacity drivers.new ≡ vec_capacity drivers.old }
     ensures empty { drives.new.items ≡ [] }
@@ -33,7 +34,8 @@ pub(crate) fn unmake_drives<D: Driver>(drives: &mut Vec<Drive<D>>, drivers: &mut
 /// at most. Takes no memory.
 pub(crate) fn make_lanes<S: SpoolStore>(stores: &mut Vec<S>, lanes: &mut Vec<LaneSlot<S>>)
     requires room { vec_len lanes.old + vec_len stores.old ≤ vec_capacity lanes.old }
-    ensures lanes { lanes.new.items ≡ lanes.old.items ++ map (λ s. new_lane (S.meaning s)) stores.old.items }
+    ensures lanes { lanes.new.items ≡ lanes.old.items ++ map
+        (λ s. new_lane (S.meaning s)) stores.old.items }
     ensures len { vec_len lanes.new ≡ vec_len lanes.old + vec_len stores.old }
     ensures capacity { vec_capacity lanes.new ≡ vec_capacity lanes.old }
     ensures empty { stores.new.items ≡ [] }

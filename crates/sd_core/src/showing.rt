@@ -152,7 +152,8 @@ pub(crate) fn show_sessions<S: SpoolStore + Drop>(
     alloc: Global,
     sessions: &[Entry<S>],
 ) -> Result<Items<SessionLine>, AllocError>
-    requires rise { (time : ℕ) × (next : ℕ) × (next ≤ most_number + 1) × NumbersRise time 1 next sessions.now }
+    requires rise { (time : ℕ) × (next : ℕ) × (next ≤ most_number + 1)
+        × NumbersRise time 1 next sessions.now }
     ensures { IfOk result (λ lines. lines ≡ map session_line sessions.now) }
 {
     let mut lines = Vec::with_capacity(alloc, sessions.len())?;

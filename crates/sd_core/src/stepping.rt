@@ -19,7 +19,8 @@ pub(crate) fn answer<D: Driver + Drop, Q: Lanes, S: SpoolStore + Drop>(
     event: Event,
 ) -> Reply
     requires world { IsWorld (world_of parts.old) }
-    ensures moves { Moves (λ d. D.meaning d) (world_of parts.old) event result (world_of parts.new) }
+    ensures moves { Moves (λ d. D.meaning d) (world_of parts.old) event result
+        (world_of parts.new) }
     ensures keep { WhereTells result (DrivesKeep (λ d. D.meaning d) (world_of parts.new).bays) }
 {
     let reply = apply(parts, event);
@@ -33,7 +34,8 @@ fn apply<D: Driver + Drop, Q: Lanes, S: SpoolStore + Drop>(
     event: Event,
 ) -> Reply
     requires world { IsWorld (world_of parts.old) }
-    ensures moves { Moves (λ d. D.meaning d) (world_of parts.old) event result (world_of parts.new) }
+    ensures moves { Moves (λ d. D.meaning d) (world_of parts.old) event result
+        (world_of parts.new) }
 {
     match event {
         Event::Open {

@@ -87,7 +87,8 @@ impl<D: Driver + Drop, Q: Lanes + Drop, S: SpoolStore + Drop> World<D, Q, S> {
             (λ q. record { lanes = Q.lanes q; capacity = Q.capacity q; held = Q.held q })
             (λ s. S.meaning s) (limits_of conf time) conf.queue conf.drives.items
             drivers.items lanes.items spools.items) }
-        ensures matches { IfOk result (λ world. Matches (λ d. D.meaning d) world (empty_machine time)) }
+        ensures matches { IfOk result (λ world. Matches (λ d. D.meaning d) world
+            (empty_machine time)) }
         ensures drivers { IfErr result (λ kept. AllZip (StaysDevice (λ d. D.meaning d))
             drivers.items kept.drivers.items) }
         ensures lanes { IfErr result (λ kept. kept.lanes ≡ lanes) }
@@ -165,7 +166,8 @@ impl<D: Driver + Drop, Q: Lanes, S: SpoolStore + Drop> World<D, Q, S> {
     pub fn run(&mut self, events: Vec<Event>) -> Result<Vec<Reply>, AllocError>
         ensures moves { IfOk result (λ replies. MovesAlong (λ d. D.meaning d)
             self.old events.items replies.items self.new) }
-        ensures follows { IfOk result (λ replies. (m : Machine) → Matches (λ d. D.meaning d) self.old m
+        ensures follows { IfOk result (λ replies. (m : Machine)
+            → Matches (λ d. D.meaning d) self.old m
             → RunsTo (λ d. D.meaning d) m events.items replies.items self.new) }
         ensures fails { IfOk result (λ replies. FailsAlong (λ d. D.meaning d)
             self.old events.items replies.items self.new) }
@@ -255,7 +257,8 @@ impl<D: Driver, Q: Lanes, S: SpoolStore + Drop> World<D, Q, S> {
         spans: &[Span],
         sink: &mut K,
     ) -> Result<ReadEnd, Refusal>
-        ensures reads { ReadsWorld (λ d. D.meaning d) key spans.now (K.got sink.old) (K.got sink.new)
+        ensures reads { ReadsWorld (λ d. D.meaning d) key spans.now (K.got sink.old)
+            (K.got sink.new)
             result self.old self.new }
         ensures matches { (m : Machine) → Matches (λ d. D.meaning d) self.old m
             → Matches (λ d. D.meaning d) self.new m }
@@ -264,8 +267,10 @@ impl<D: Driver, Q: Lanes, S: SpoolStore + Drop> World<D, Q, S> {
             → ReadsClosed m key (K.got sink.old) (K.got sink.new) result }
         ensures retired { IsRetired self.old key spans.now → spans.now ≢ []
             → result ≡ Err Refusal.DriveOffline }
-        ensures cancelled { (m : Machine) (before : WorldView D) → Matches (λ d. D.meaning d) self.old m
-            → WereTold before self.old key spans.now → HasCancelled self.old key → IsThere self.old key
+        ensures cancelled { (m : Machine) (before : WorldView D)
+            → Matches (λ d. D.meaning d) self.old m
+            → WereTold before self.old key spans.now → HasCancelled self.old key
+            → IsThere self.old key
             → IsHonestFor (λ d. D.meaning d) self.old key
             → ReadsCancelled m key (K.got sink.old) (K.got sink.new) result }
         ensures closed_last { ClosedLast self.old self.new }

@@ -20,7 +20,10 @@ impl Model for Desk {
 
     ghost Value = { DeskView };
 
-    ghost view = { λ d. record { claims = claims_of d.claims.entries; requests = d.requests.items } };
+    ghost view = { λ d. record {
+      claims = claims_of d.claims.entries;
+      requests = d.requests.items;
+    } };
 }
 
 impl Desk {
@@ -48,7 +51,8 @@ impl Desk {
 
     /// Claims a name that isn't claimed for a drive.
     pub fn claim(&mut self, name: &VolName, drive: DriveNo) -> Result<(), ClaimFault>
-        ensures taken { IsErrOf result ClaimFault.AlreadyLabelled ↔ (claimed_by self.old name.now ≢ None) }
+        ensures taken { IsErrOf result ClaimFault.AlreadyLabelled
+            ↔ (claimed_by self.old name.now ≢ None) }
         ensures claimed { OnOk result (claimed_by self.new name.now ≡ Some drive) }
         ensures others { OnOk result (OtherClaimsStay name.now self.old self.new) }
         ensures err { OnErr result (SameClaims self.old self.new) }
@@ -99,7 +103,8 @@ impl Desk {
 
     /// Takes the drive's request away, if it has one; takes no memory.
     pub fn answered(&mut self, drive: DriveNo)
-        ensures requests { self.new.requests ≡ filter (λ r. not (r.drive == drive)) self.old.requests }
+        ensures requests { self.new.requests ≡ filter
+            (λ r. not (r.drive == drive)) self.old.requests }
         ensures claims { SameClaims self.old self.new }
     {
         self.requests

@@ -9,7 +9,8 @@ use sd_volume::Volume;
 /// The first of the volumes to which blocks of the pool are added. Looks at them one after another.
 pub fn next_volume(volumes: &[Volume], pool: &PoolName) -> Option<VolName>
     ensures { MatchOption result (NoneOf (TakesBlocksOf pool.now) volumes.now)
-        (λ name. (place : _) × (first : FirstOf (TakesBlocksOf pool.now) (λ _ _. ⊥) volumes.now place)
+        (λ name. (place : _) × (first : FirstOf (TakesBlocksOf pool.now)
+        (λ _ _. ⊥) volumes.now place)
         × (name ≡ first.first.name)) }
 {
     for volume in volumes {

@@ -31,7 +31,13 @@ impl Broken {
 impl Driver for Broken {
     ghost use Rattle.std.specs.Prelude.{Bool, false, None, []};
 
-    ghost meaning = { λ d. record { honest = false; shelf = record { volume = λ _. None; moment = 0; kept = λ _ _. [] }; loaded = d.loaded; failures = d.failures; told = 0 } };
+    ghost meaning = { λ d. record {
+      honest = false;
+      shelf = record { volume = λ _. None; moment = 0; kept = λ _ _. [] };
+      loaded = d.loaded;
+      failures = d.failures;
+      told = 0;
+    } };
 
     fn create(&mut self, _name: &VolName) -> Result<(), DriverFault> {
         Err(self.fail())
@@ -84,7 +90,13 @@ struct Bare {
 impl Driver for Bare {
     ghost use Rattle.std.specs.Prelude.{true, None, []};
 
-    ghost meaning = { λ d. record { honest = true; shelf = record { volume = λ _. None; moment = 0; kept = λ _ _. [] }; loaded = d.loaded; failures = 0; told = 0 } };
+    ghost meaning = { λ d. record {
+      honest = true;
+      shelf = record { volume = λ _. None; moment = 0; kept = λ _ _. [] };
+      loaded = d.loaded;
+      failures = 0;
+      told = 0;
+    } };
 
     fn create(&mut self, _name: &VolName) -> Result<(), DriverFault> {
         Err(DriverFault::Memory)
@@ -138,7 +150,11 @@ enum Either {
 impl Driver for Either {
     ghost use Rattle.sd_devices.specs.declared.driver.Either.TheVariants.{Broken, Bare};
 
-    ghost meaning = { λ d. elim d [ Broken b ↦ ⟦<Broken as Driver>⟧.meaning b | Bare b ↦ ⟦<Bare as Driver>⟧.meaning b ] };
+    ghost meaning = { λ d. elim d [
+      | Broken b ↦ ⟦<Broken as Driver>⟧.meaning b
+      | Bare b ↦
+          ⟦<Bare as Driver>⟧.meaning b
+    ] };
 
     fn create(&mut self, name: &VolName) -> Result<(), DriverFault> {
         match self {

@@ -90,7 +90,8 @@ impl<D: Driver> Drive<D> {
         ensures ok { IfOk result (λ answer. AdoptsVolume name.now answer
             (D.meaning self.old.device) (D.meaning self.new.device) self.old self.new) }
         ensures err { OnErr result (AddsNone self.old self.new) }
-        ensures faults { IfErr result (λ fault. (cause : SpecFault) × (fault ≡ adopt_refusal cause)) }
+        ensures faults { IfErr result (λ fault. (cause : SpecFault)
+            × (fault ≡ adopt_refusal cause)) }
         ensures due { IsHonest (D.meaning self.old.device) → IfErr result (λ fault.
             fault ≢ Refusal.DeviceFault → fault ≢ Refusal.Memory
             → (cause : SpecFault) × (fault ≡ adopt_refusal cause) × IsDue cause name.now

@@ -99,7 +99,8 @@ impl<D: Driver> Drive<D> {
             (λ drive. StillLasts (D.meaning driver).shelf (D.meaning drive.device).shelf) }
         ensures same { IfOk result (λ drive. IsHonest (D.meaning driver)
             → SameShelf (D.meaning driver).shelf (D.meaning drive.device).shelf) }
-        ensures counts { IfOk result (λ drive. SameCounts (D.meaning driver) (D.meaning drive.device)) }
+        ensures counts { IfOk result (λ drive. SameCounts (D.meaning driver)
+            (D.meaning drive.device)) }
         ensures given_stable { IfOk result (λ drive.
             IsHonest (D.meaning driver) → LeavesStable (D.meaning driver).shelf) }
         ensures err { IfErr result (λ kept. kept.driver ≡ driver) }
@@ -144,7 +145,8 @@ impl<D: Driver> Drive<D> {
 
     /// What the drive's type keeps. Does nothing.
     pub fn know(&self)
-        ensures { Kept (D.meaning self.now.device) self.now.volumes self.now.loaded self.now.journal }
+        ensures { Kept (D.meaning self.now.device) self.now.volumes self.now.loaded
+            self.now.journal }
     {
         let _ = &self.journal;
     }

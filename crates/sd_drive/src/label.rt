@@ -34,7 +34,8 @@ impl<D: Driver> Drive<D> {
             → IsErrOf result fault }
         ensures unchanged { label_due self.old name.now media.now ≢ None → self.new ≡ self.old }
         ensures ok { OnOk result
-            (AddsVolume (new_volume (label_of name.now pool.now media.now moment)) self.old self.new) }
+            (AddsVolume (new_volume (label_of name.now pool.now media.now moment)) self.old
+            self.new) }
         ensures err { OnErr result (AddsNone self.old self.new) }
         ensures faults { label_due self.old name.now media.now ≡ None → IfErr result
             (λ fault. (cause : SpecFault) × (fault ≡ label_refusal cause)) }
@@ -53,11 +54,13 @@ impl<D: Driver> Drive<D> {
         ensures taken { IsHonest (D.meaning self.old.device)
             → IsSome ((D.meaning self.old.device).shelf.volume name.now)
             → IfErr result (λ fault. fault ≢ Refusal.NoRoom) }
-        ensures counted { Counted (IsErrOf result Refusal.DeviceFault) (IsErrOf result Refusal.NoRoom)
+        ensures counted { Counted (IsErrOf result Refusal.DeviceFault)
+            (IsErrOf result Refusal.NoRoom)
             (D.meaning self.old.device) (D.meaning self.new.device) }
         ensures keeps { KeepsPieces (D.meaning self.old.device) (D.meaning self.new.device)
             self.old.journal self.new.journal self.old.hand self.new.hand }
-        ensures later { StillLasts (D.meaning self.old.device).shelf (D.meaning self.new.device).shelf }
+        ensures later { StillLasts (D.meaning self.old.device).shelf
+            (D.meaning self.new.device).shelf }
     {
         self.may_label(name, media)?;
         self.add_new(&VolumeLabel {
@@ -75,7 +78,8 @@ impl<D: Driver> Drive<D> {
         ensures loaded { OnOk result (self.now.loaded ≡ None) }
         ensures fresh { OnOk result
             ((at : ℕ) → slice_get (names self.now.volumes) at ≢ Some name.now) }
-        ensures faults { IfErr result (λ fault. (fault ≢ Refusal.NoRoom) × (fault ≢ Refusal.DeviceFault)) }
+        ensures faults { IfErr result (λ fault. (fault ≢ Refusal.NoRoom)
+            × (fault ≢ Refusal.DeviceFault)) }
     {
         if !media.is_same(&self.media) {
             return Err(Refusal::OtherPoolOrMedia);
@@ -95,10 +99,12 @@ impl<D: Driver> Drive<D> {
         requires fresh { (at : ℕ) → slice_get (names self.old.volumes) at ≢ Some label.now.name }
         ensures ok { OnOk result (AddsVolume (new_volume label.now) self.old self.new) }
         ensures err { OnErr result (AddsNone self.old self.new) }
-        ensures faults { IfErr result (λ fault. (cause : SpecFault) × (fault ≡ label_refusal cause)) }
+        ensures faults { IfErr result (λ fault. (cause : SpecFault)
+            × (fault ≡ label_refusal cause)) }
         ensures labels { IsHonest (D.meaning self.old.device) → OnOk result (Labels label.now
             (D.meaning self.old.device).shelf (D.meaning self.new.device).shelf) }
-        ensures fails { IsHonest (D.meaning self.old.device) → OnErr result (MayCreate label.now.name
+        ensures fails { IsHonest (D.meaning self.old.device)
+            → OnErr result (MayCreate label.now.name
             (D.meaning self.old.device).shelf (D.meaning self.new.device).shelf) }
         ensures memory { IsHonest (D.meaning self.old.device) → IsErrOf result Refusal.Memory
             → MayCreateEmpty label.now.name
@@ -109,11 +115,13 @@ impl<D: Driver> Drive<D> {
         ensures taken { IsHonest (D.meaning self.old.device)
             → IsSome ((D.meaning self.old.device).shelf.volume label.now.name)
             → IfErr result (λ fault. fault ≢ Refusal.NoRoom) }
-        ensures counted { Counted (IsErrOf result Refusal.DeviceFault) (IsErrOf result Refusal.NoRoom)
+        ensures counted { Counted (IsErrOf result Refusal.DeviceFault)
+            (IsErrOf result Refusal.NoRoom)
             (D.meaning self.old.device) (D.meaning self.new.device) }
         ensures keeps { KeepsPieces (D.meaning self.old.device) (D.meaning self.new.device)
             self.old.journal self.new.journal self.old.hand self.new.hand }
-        ensures later { StillLasts (D.meaning self.old.device).shelf (D.meaning self.new.device).shelf }
+        ensures later { StillLasts (D.meaning self.old.device).shelf
+            (D.meaning self.new.device).shelf }
     {
         let Ok(()) = self.volumes.reserve(1) else {
             return Err(Refusal::Memory);

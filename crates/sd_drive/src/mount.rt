@@ -31,7 +31,8 @@ impl<D: Driver> Drive<D> {
             (D.meaning self.old.device) (D.meaning self.new.device) }
         ensures keeps { KeepsPieces (D.meaning self.old.device) (D.meaning self.new.device)
             self.old.journal self.new.journal self.old.hand self.new.hand }
-        ensures later { StillLasts (D.meaning self.old.device).shelf (D.meaning self.new.device).shelf }
+        ensures later { StillLasts (D.meaning self.old.device).shelf
+            (D.meaning self.new.device).shelf }
     {
         let at = self.mountable(name)?;
         self.unmount()?;
@@ -70,7 +71,8 @@ impl<D: Driver> Drive<D> {
             (D.meaning self.old.device) (D.meaning self.new.device) }
         ensures keeps { KeepsPieces (D.meaning self.old.device) (D.meaning self.new.device)
             self.old.journal self.new.journal self.old.hand self.new.hand }
-        ensures later { StillLasts (D.meaning self.old.device).shelf (D.meaning self.new.device).shelf }
+        ensures later { StillLasts (D.meaning self.old.device).shelf
+            (D.meaning self.new.device).shelf }
     {
         match self.driver.load(name) {
             Ok(()) => {

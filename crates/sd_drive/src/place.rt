@@ -44,7 +44,8 @@ impl<D: Driver> Drive<D> {
             (D.meaning self.old.device) (D.meaning self.new.device) }
         ensures keeps { KeepsPieces (D.meaning self.old.device) (D.meaning self.new.device)
             self.old.journal self.new.journal self.old.hand self.new.hand }
-        ensures later { StillLasts (D.meaning self.old.device).shelf (D.meaning self.new.device).shelf }
+        ensures later { StillLasts (D.meaning self.old.device).shelf
+            (D.meaning self.new.device).shelf }
         ensures unchanged { OnErr result
             (Unchanged (D.meaning self.old.device) (D.meaning self.new.device)) }
         ensures not_asked { ¬ LimitAllows self.old
@@ -84,7 +85,8 @@ fn empty_after(placed: &Result<Placed, AllocError>, hand: &mut Option<Piece>)
 // The place of the loaded volume, where it takes blocks of the pool.
 fn open_place(volumes: &[Volume], loaded: Option<usize>, pool: &Option<PoolName>) -> Option<usize>
     requires { IfSome loaded (λ at. at < length volumes.now) }
-    ensures open { IfSome result (λ at. (volume : _) × TakesOn volumes.now loaded pool.now at volume) }
+    ensures open { IfSome result (λ at. (volume : _)
+        × TakesOn volumes.now loaded pool.now at volume) }
     ensures within { IfSome result (λ at. at < length volumes.now) }
     ensures none { IfNone result
         ((at : ℕ) (volume : _) → ¬ TakesOn volumes.now loaded pool.now at volume) }

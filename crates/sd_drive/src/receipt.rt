@@ -52,14 +52,16 @@ impl<D: Driver> Drive<D> {
     /// them are synced. Takes memory there alone.
     pub fn receipt(&self, key: SessionKey, blocks: u64) -> Result<Option<Receipt>, AllocError>
         ensures exactly { IfOk result (λ receipt. IsSome receipt
-            ↔ ((placed_of key self.now.journal ≡ blocks) × (synced_of key self.now.journal ≡ blocks))) }
+            ↔ ((placed_of key self.now.journal ≡ blocks)
+            × (synced_of key self.now.journal ≡ blocks))) }
         ensures tells { IfOk result (λ receipt. IfSome receipt (λ r. r ≡ record {
           key = key;
           spans = spans_of key (placements self.now.journal);
           blocks = blocks;
         })) }
         ensures err { OnErr result
-            ((placed_of key self.now.journal ≡ blocks) × (synced_of key self.now.journal ≡ blocks)) }
+            ((placed_of key self.now.journal ≡ blocks)
+            × (synced_of key self.now.journal ≡ blocks)) }
     {
         let progress = self.progress(key);
         if progress.placed != blocks || progress.synced != blocks {

@@ -22,7 +22,8 @@ impl<D: Driver> Drive<D> {
             (D.meaning self.old.device) (D.meaning self.new.device) }
         ensures keeps { KeepsPieces (D.meaning self.old.device) (D.meaning self.new.device)
             self.old.journal self.new.journal self.old.hand self.new.hand }
-        ensures later { StillLasts (D.meaning self.old.device).shelf (D.meaning self.new.device).shelf }
+        ensures later { StillLasts (D.meaning self.old.device).shelf
+            (D.meaning self.new.device).shelf }
     {
         let Some(at) = self.loaded else {
             return Ok(());
@@ -55,7 +56,8 @@ impl<D: Driver> Drive<D> {
             (D.meaning self.old.device) (D.meaning self.new.device) }
         ensures keeps { KeepsPieces (D.meaning self.old.device) (D.meaning self.new.device)
             self.old.journal self.new.journal self.old.hand self.new.hand }
-        ensures later { StillLasts (D.meaning self.old.device).shelf (D.meaning self.new.device).shelf }
+        ensures later { StillLasts (D.meaning self.old.device).shelf
+            (D.meaning self.new.device).shelf }
     {
         self.sync()?;
         self.driver.unload();

@@ -43,7 +43,8 @@ impl Model for Journal {
 
     ghost view = { λ j. record { entries = entries_of j.noted.items; ready = j.ready.items } };
 
-    ghost invariant = { λ j. IsKept j.noted.items (vec_len j.noted) (vec_capacity j.noted) j.settled j.ready.items j.shares };
+    ghost invariant = { λ j. IsKept j.noted.items (vec_len j.noted)
+        (vec_capacity j.noted) j.settled j.ready.items j.shares };
 }
 
 impl Journal {
@@ -64,7 +65,9 @@ impl Journal {
     /// Makes room for the next placement of the session `key`. The entries stay, and what was ready is so
     /// still. After an Err all is as before.
     pub fn ready(&mut self, key: SessionKey) -> Result<(), AllocError>
-        ensures ok { OnOk result (self.new ≡ record self.old { ready = with_key key self.old.ready }) }
+        ensures ok { OnOk result (self.new ≡ record self.old {
+          ready = with_key key self.old.ready;
+        }) }
         ensures ready { OnOk result (IsReady key self.new) }
         ensures err { OnErr result (self.new ≡ self.old) }
     {
@@ -100,7 +103,9 @@ impl Journal {
 
     /// A sync of the volume succeeded: each entry on it that awaited it is synced. Takes no memory.
     pub fn synced(&mut self, volume: &VolName)
-        ensures { self.new ≡ record self.old { entries = settled Mark.Synced volume.now self.old.entries } }
+        ensures { self.new ≡ record self.old {
+          entries = settled Mark.Synced volume.now self.old.entries;
+        } }
     {
         self.settle(volume, Mark::Synced);
     }
@@ -108,7 +113,9 @@ impl Journal {
     /// A sync of the volume failed: each entry on it that awaited it is lost, and the sessions of those
     /// entries fail. Takes no memory.
     pub fn sync_failed(&mut self, volume: &VolName)
-        ensures { self.new ≡ record self.old { entries = settled Mark.Lost volume.now self.old.entries } }
+        ensures { self.new ≡ record self.old {
+          entries = settled Mark.Lost volume.now self.old.entries;
+        } }
     {
         self.settle(volume, Mark::Lost);
     }
@@ -117,7 +124,9 @@ impl Journal {
     // the oldest entry that may still be synced.
     fn settle(&mut self, volume: &VolName, mark: Mark)
         requires { is_unsynced mark ≡ false }
-        ensures { self.new ≡ record self.old { entries = settled mark volume.now self.old.entries } }
+        ensures { self.new ≡ record self.old {
+          entries = settled mark volume.now self.old.entries;
+        } }
     {
         settle(
             &mut self.noted,

@@ -65,12 +65,14 @@ pub(crate) fn settle(
     requires mark { is_unsynced mark ≡ false }
     requires settled { All IsSettled (take from noted.old.items) }
     requires shares { AreSharesOf (entries_of noted.old.items) shares.old }
-    ensures entries { entries_of noted.new.items ≡ settled mark volume.now (entries_of noted.old.items) }
+    ensures entries { entries_of noted.new.items ≡ settled mark volume.now
+        (entries_of noted.old.items) }
     ensures settled { All IsSettled (take from noted.new.items) }
     ensures count { vec_len noted.new ≡ vec_len noted.old }
     ensures capacity { vec_capacity noted.new ≡ vec_capacity noted.old }
     ensures shares { AreSharesOf (entries_of noted.new.items) shares.new }
-    ensures rooms { (key : _) → HasRoom (share_of shares.old key) → HasRoom (share_of shares.new key) }
+    ensures rooms { (key : _) → HasRoom (share_of shares.old key)
+        → HasRoom (share_of shares.new key) }
 {
     settle_each(noted, shares, from, volume, mark);
 }
@@ -82,7 +84,8 @@ fn settle_each(noted: &mut [Noted], shares: &mut Shares, from: usize, volume: &V
     ensures entries { entries_of noted.new ≡ settled mark volume.now (entries_of noted.old) }
     ensures settled { All IsSettled (take from noted.new) }
     ensures shares { AreSharesOf (entries_of noted.new) shares.new }
-    ensures rooms { (key : _) → HasRoom (share_of shares.old key) → HasRoom (share_of shares.new key) }
+    ensures rooms { (key : _) → HasRoom (share_of shares.old key)
+        → HasRoom (share_of shares.new key) }
 {
     for place in from..noted.len() {
         let key = noted[place].placement.key;

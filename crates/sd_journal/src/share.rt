@@ -29,7 +29,12 @@ impl Model for Share {
 
     ghost Value = { ShareView };
 
-    ghost view = { λ s. record { stretches = s.stretches.items; counts = s.counts; fails = s.fails; ready = s.ready } };
+    ghost view = { λ s. record {
+      stretches = s.stretches.items;
+      counts = s.counts;
+      fails = s.fails;
+      ready = s.ready;
+    } };
 
     ghost invariant = { λ s. s.ready ≡ true → vec_len s.stretches < vec_capacity s.stretches };
 }

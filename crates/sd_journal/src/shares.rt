@@ -52,7 +52,8 @@ impl Shares {
     pub(crate) fn note(&mut self, placement: &Placement)
         requires end { EndFits placement.now }
         requires room { HasRoom (share_of self.old placement.now.key) }
-        requires fits { ForSome (share_of self.old placement.now.key) (λ s. s.counts.placed + 1 < 2 ^ 64) }
+        requires fits { ForSome (share_of self.old placement.now.key)
+            (λ s. s.counts.placed + 1 < 2 ^ 64) }
         ensures { ChangesAt placement.now.key (with_placement placement.now) self.old self.new }
     {
         if let Some(share) = self.sessions.get_mut(&placement.key) {

@@ -41,15 +41,18 @@ pub trait Lane {
         ensures lanes { lanes self.new ≡ lanes self.old }
         ensures capacity { capacity self.new ≡ capacity self.old }
         ensures sent { OnOk result
-            (Sends (λ other. sent self.old other) (λ other. sent self.new other) (queued lane piece)) }
+            (Sends (λ other. sent self.old other) (λ other. sent self.new other)
+            (queued lane piece)) }
         ensures given_back { IfErr result (λ back. back ≡ piece) }
         ensures not_sent { OnErr result
             (SendsNone (λ other. sent self.old other) (λ other. sent self.new other)) }
 
-        ensures room { alone self.old ≡ true → OnOk result (length (held self.old) < capacity self.old) }
+        ensures room { alone self.old ≡ true
+            → OnOk result (length (held self.old) < capacity self.old) }
         ensures held { alone self.old ≡ true
             → OnOk result (held self.new ≡ held self.old ++ queued lane piece ∷ []) }
-        ensures full { alone self.old ≡ true → OnErr result (capacity self.old ≤ length (held self.old)) }
+        ensures full { alone self.old ≡ true
+            → OnErr result (capacity self.old ≤ length (held self.old)) }
         ensures kept { alone self.old ≡ true → OnErr result (held self.new ≡ held self.old) };
 }
 
@@ -60,7 +63,8 @@ pub trait Lanes: Lane {
         ensures opens { (other : ℕ) → Self.opens self.old other → Self.opens self.new other }
         ensures capacity { Self.capacity self.new ≡ Self.capacity self.old }
         ensures lanes { Self.lanes self.new ≡ Self.lanes self.old }
-        ensures first { IfSome result (λ piece. (lane : ℕ) × (Self.held self.old ≡ queued lane piece ∷ Self.held self.new)) }
+        ensures first { IfSome result (λ piece. (lane : ℕ)
+            × (Self.held self.old ≡ queued lane piece ∷ Self.held self.new)) }
         ensures empty { IfNone result ((Self.held self.old ≡ []) × (Self.held self.new ≡ [])) };
 
     /// Whether no piece is held.

@@ -26,13 +26,18 @@ impl Model for PlainLanes {
 
     ghost view = { λ q. record { lanes = q.lanes; capacity = q.capacity; held = q.pieces.items } };
 
-    ghost invariant = { λ q. (deque_len q.pieces ≤ q.capacity) × (q.capacity ≤ deque_capacity q.pieces) };
+    ghost invariant = { λ q. (deque_len q.pieces ≤ q.capacity)
+        × (q.capacity ≤ deque_capacity q.pieces) };
 }
 
 impl PlainLanes {
     /// An empty queue for the lanes 1 to `lanes`, with room for `capacity` pieces.
     pub fn new(alloc: Global, lanes: u32, capacity: usize) -> Result<Self, AllocError>
-        ensures { IfOk result (λ queue. queue ≡ record { lanes = lanes; capacity = capacity; held = [] }) }
+        ensures { IfOk result (λ queue. queue ≡ record {
+          lanes = lanes;
+          capacity = capacity;
+          held = [];
+        }) }
     {
         Ok(PlainLanes {
             lanes,
@@ -44,7 +49,9 @@ impl PlainLanes {
     // Adds a piece behind the others, where there is room.
     fn push(&mut self, lane: LaneNo, piece: Piece) -> Result<(), Piece>
         ensures room { IsOk result ↔ (length self.old.held < self.old.capacity) }
-        ensures ok { OnOk result (self.new ≡ record self.old { held = self.old.held ++ queued lane piece ∷ [] }) }
+        ensures ok { OnOk result (self.new ≡ record self.old {
+          held = self.old.held ++ queued lane piece ∷ [];
+        }) }
         ensures sent { OnOk result (Sends (λ other. pieces_of other self.old.held)
             (λ other. pieces_of other self.new.held) (queued lane piece)) }
         ensures given_back { IfErr result (λ back. back ≡ piece) }

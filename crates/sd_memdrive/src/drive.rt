@@ -285,7 +285,8 @@ impl Driver for MemDrive {
         ensures no_room { IsErrOf result DriverFault.NoRoom → LacksRoom bytes.now self.old }
         ensures plan { FollowsPlan Call.Append (LacksRoom bytes.now self.old)
             result self.old self.new }
-        ensures part { ¬ IsErrOf result DriverFault.Memory → AppendsPart bytes.now self.old self.new }
+        ensures part { ¬ IsErrOf result DriverFault.Memory
+            → AppendsPart bytes.now self.old self.new }
         ensures capacity { capacity_of self.new ≡ capacity_of self.old }
     {
         let due = self.plan.strike(Call::Append);

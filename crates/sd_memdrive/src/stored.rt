@@ -19,7 +19,10 @@ impl Model for Stored {
 
     ghost Value = { Volume };
 
-    ghost view = { λ s. record { name = s.name; held = record { bytes = s.bytes.items; stable = s.stable } } };
+    ghost view = { λ s. record {
+      name = s.name;
+      held = record { bytes = s.bytes.items; stable = s.stable };
+    } };
 
     ghost invariant = { λ s. s.stable ≤ vec_len s.bytes };
 }

@@ -26,7 +26,8 @@ pub fn seek<D: Driver, Q: Lanes, S: SpoolStore + Drop>(
     drive: DriveNo,
 ) -> Reply
     requires world { IsWorld (world_of parts.old) }
-    ensures moves { Moves (λ d. D.meaning d) (world_of parts.old) (Seek drive) result (world_of parts.new) }
+    ensures moves { Moves (λ d. D.meaning d) (world_of parts.old) (Seek drive) result
+        (world_of parts.new) }
 {
     let Some(bay) = parts.bays.get_mut(drive.get() as usize - 1) else {
         return Reply::Refused(Refusal::NoSuchDrive);

@@ -17,7 +17,8 @@ use sd_spool::SpoolStore;
 /// Takes the first piece of the drive's queue into its hand, if that is empty.
 pub fn take<D: Driver, Q: Lanes, S: SpoolStore>(parts: &mut Parts<D, Q, S>, drive: DriveNo) -> Reply
     requires world { IsWorld (world_of parts.old) }
-    ensures moves { Moves (λ d. D.meaning d) (world_of parts.old) (Take drive) result (world_of parts.new) }
+    ensures moves { Moves (λ d. D.meaning d) (world_of parts.old) (Take drive) result
+        (world_of parts.new) }
 {
     let Some(bay) = parts.bays.get_mut(drive.get() as usize - 1) else {
         return Reply::Refused(Refusal::NoSuchDrive);
@@ -31,8 +32,16 @@ pub fn take<D: Driver, Q: Lanes, S: SpoolStore>(parts: &mut Parts<D, Q, S>, driv
 // The same at the drive and its queue.
 fn take_into<D: Driver, Q: Lanes>(drive: &mut Drive<D>, queue: &mut Q) -> Reply
     ensures { MovesWith (λ d. D.meaning d) (λ number. Take number)
-        drive.old (record { lanes = Q.lanes queue.old; capacity = Q.capacity queue.old; held = Q.held queue.old }) result
-        drive.new (record { lanes = Q.lanes queue.new; capacity = Q.capacity queue.new; held = Q.held queue.new }) }
+        drive.old (record {
+          lanes = Q.lanes queue.old;
+          capacity = Q.capacity queue.old;
+          held = Q.held queue.old;
+        }) result
+        drive.new (record {
+          lanes = Q.lanes queue.new;
+          capacity = Q.capacity queue.new;
+          held = Q.held queue.new;
+        }) }
 {
     let None = drive.hand() else {
         return Reply::HandFull;

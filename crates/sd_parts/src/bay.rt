@@ -46,6 +46,10 @@ impl<D: Driver, Q: Lanes, S: SpoolStore> Model for Bay<D, Q, S> {
       media = b.media;
       drive = b.drive;
       lanes = b.lanes.items;
-      queue = record { lanes = Q.lanes b.queue; capacity = Q.capacity b.queue; held = Q.held b.queue };
+      queue = record {
+        lanes = Q.lanes b.queue;
+        capacity = Q.capacity b.queue;
+        held = Q.held b.queue;
+      };
     } };
 }

@@ -104,7 +104,8 @@ fn operate<D: Driver + Drop, Q: Lanes, S: SpoolStore + Drop>(
 ) -> Result<Items<Payload>, Refusal>
     requires { length words.now < 100 }
     ensures { (events : List SpecEvent) × (replies : List SpecReply)
-        × Operates (λ d. D.meaning d) event (told_done words.now) result events replies world.old world.new }
+        × Operates (λ d. D.meaning d) event
+        (told_done words.now) result events replies world.old world.new }
 {
     let done = match one_line(alloc, words) {
         Ok(done) => done,

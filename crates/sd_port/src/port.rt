@@ -98,7 +98,8 @@ impl<D: Driver + Drop, Q: Lanes, S: SpoolStore + Drop> WorldPort<D, Q, S> {
     /// drives sync at rest, they sync once nothing moved, and the event is given once more.
     pub fn step(&mut self, event: Event) -> Reply
         ensures answers { (events : List SpecEvent) × (replies : List SpecReply)
-            × Answers (λ d. D.meaning d) self.old.syncing self.old.rounds self.old.world event result events replies
+            × Answers (λ d. D.meaning d) self.old.syncing self.old.rounds self.old.world event
+            result events replies
             self.new.world }
         ensures port { self.new ≡ behind (Stepped event result) self.new.world self.old }
     {
@@ -115,7 +116,8 @@ impl<D: Driver + Drop, Q: Lanes, S: SpoolStore + Drop> WorldPort<D, Q, S> {
             × (K.got result.sink ≡ K.got sink ++ records)
             × ReadsWorld (λ d. D.meaning d) key spans.now [] records result.answer
             self.old.world self.new.world
-            × (self.new ≡ behind (WasRead key spans.now records result.answer) self.new.world self.old) }
+            × (self.new ≡ behind (WasRead key spans.now records result.answer) self.new.world
+            self.old) }
     {
         let read = read_watched::<Brand, D, Q, S, K>(&mut self.world, key, spans, sink);
         let Reading {

@@ -58,7 +58,8 @@ pub fn answer<D: Driver + Drop, Q: Lanes, S: SpoolStore + Drop>(
     event: Event,
 ) -> Reply
     ensures { (events : List SpecEvent) × (replies : List SpecReply)
-        × Answers (λ d. D.meaning d) syncing rounds world.old event result events replies world.new }
+        × Answers (λ d. D.meaning d) syncing rounds world.old event result events replies
+        world.new }
 {
     match event {
         Event::Append { ticket, rec } => {
@@ -76,7 +77,8 @@ fn repeat<D: Driver + Drop, Q: Lanes, S: SpoolStore + Drop>(
     event: &Again,
 ) -> Reply
     ensures { (events : List SpecEvent) × (replies : List SpecReply)
-        × Answers (λ d. D.meaning d) syncing rounds world.old (event_again event.now) result events replies world.new }
+        × Answers (λ d. D.meaning d) syncing rounds world.old
+        (event_again event.now) result events replies world.new }
 {
     for _tried in 0..rounds {
         let reply = event.give(world);
@@ -101,7 +103,8 @@ fn rest<D: Driver + Drop, Q: Lanes, S: SpoolStore + Drop>(
     answer: Reply,
 ) -> Reply
     ensures { (events : List SpecEvent) × (replies : List SpecReply)
-        × Rests (λ d. D.meaning d) syncing (event_again event.now) answer world.old result events replies world.new }
+        × Rests (λ d. D.meaning d) syncing
+        (event_again event.now) answer world.old result events replies world.new }
 {
     let Syncing::AtRest = syncing else {
         return answer;

@@ -37,7 +37,13 @@ impl Narrow {
 impl Driver for Narrow {
     ghost use Rattle.std.specs.Prelude.{false, None, []};
 
-    ghost meaning = { λ d. record { honest = false; shelf = record { volume = λ _. None; moment = 0; kept = λ _ _. [] }; loaded = d.loaded; failures = d.failures; told = 0 } };
+    ghost meaning = { λ d. record {
+      honest = false;
+      shelf = record { volume = λ _. None; moment = 0; kept = λ _ _. [] };
+      loaded = d.loaded;
+      failures = d.failures;
+      told = 0;
+    } };
 
     fn create(&mut self, _name: &VolName) -> Result<(), DriverFault> {
         Err(self.fail())

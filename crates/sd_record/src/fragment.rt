@@ -27,7 +27,12 @@ impl<'a> Model for Fragment<'a> {
 
     ghost Value = { SpecFragment };
 
-    ghost view = { λ f. record { index = f.index; stream = f.stream; size = f.size; part = f.part.now } };
+    ghost view = { λ f. record {
+      index = f.index;
+      stream = f.stream;
+      size = f.size;
+      part = f.part.now;
+    } };
 }
 
 /// Why no fragment stands at a place of a body.

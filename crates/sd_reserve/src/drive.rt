@@ -56,11 +56,14 @@ pub fn reserve(
     requires { length drives.now ≤ 8 }
     ensures ok { IfOk result (λ drive. (place : _) × (drive ≡ place + 1)
         × FirstOf (IsCandidate pool.now media.now) (Precedes pool.now) drives.now place) }
-    ensures no_drive { IsErrOf result ReserveFault.NoDriveOfMedia ↔ NoneOf (TakesMedia media.now) drives.now }
+    ensures no_drive { IsErrOf result ReserveFault.NoDriveOfMedia
+        ↔ NoneOf (TakesMedia media.now) drives.now }
     ensures offline { IsErrOf result ReserveFault.DriveOffline
-        ↔ ((NoneOf (TakesMedia media.now) drives.now → ⊥) × NoneOf (IsOnline media.now) drives.now) }
+        ↔ ((NoneOf (TakesMedia media.now) drives.now → ⊥)
+        × NoneOf (IsOnline media.now) drives.now) }
     ensures no_lane { IsErrOf result ReserveFault.NoFreeLane
-        ↔ ((NoneOf (IsOnline media.now) drives.now → ⊥) × NoneOf (IsCandidate pool.now media.now) drives.now) }
+        ↔ ((NoneOf (IsOnline media.now) drives.now → ⊥)
+        × NoneOf (IsCandidate pool.now media.now) drives.now) }
 {
     if !any_takes(drives, media) {
         return Err(ReserveFault::NoDriveOfMedia);

@@ -68,11 +68,13 @@ fn with_drives(
 ) -> Option<Ground>
     requires most { length ground.drives.items ≤ 8 }
     requires lanes { All (λ d. d.1 ≤ 32) ground.drives.items }
-    requires queues { AreQueues (λ q. q) settings.now.queue ground.drives.items ground.queues.items }
+    requires queues { AreQueues (λ q. q) settings.now.queue ground.drives.items
+        ground.queues.items }
     requires stores { AreStores ground.drives.items ground.stores.items }
     ensures most { IfSome result (λ g. length g.drives.items ≤ 8) }
     ensures lanes { IfSome result (λ g. All (λ d. d.1 ≤ 32) g.drives.items) }
-    ensures queues { IfSome result (λ g. AreQueues (λ q. q) settings.now.queue g.drives.items g.queues.items) }
+    ensures queues { IfSome result (λ g. AreQueues
+        (λ q. q) settings.now.queue g.drives.items g.queues.items) }
     ensures stores { IfSome result (λ g. AreStores g.drives.items g.stores.items) }
 {
     let Some(((media, lanes), rest)) = drives.split_first() else {

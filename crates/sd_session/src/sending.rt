@@ -39,7 +39,8 @@ fn take_spooled<S: SpoolStore>(spool: &mut JobSpool<S>) -> Result<Option<Body>, 
         (λ body. Takes body spool.old spool.new × (spool.new.store ≡ spool.old.store))) }
     ensures some { OnErr result (spool.old.shapes ≢ []) }
     ensures memory { IsErrOf result SpoolStoreFault.Memory → spool.new ≡ spool.old }
-    ensures device { IsErrOf result SpoolStoreFault.Device → HasFailed spool.old.store spool.new.store }
+    ensures device { IsErrOf result SpoolStoreFault.Device
+        → HasFailed spool.old.store spool.new.store }
 {
     spool.next_body()
 }

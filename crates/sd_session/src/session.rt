@@ -356,9 +356,11 @@ impl<S: SpoolStore + Drop> Session<S> {
     pub fn despool_step<L: Lane>(&mut self, lane: &mut L) -> Result<Despooled, Refusal>
         requires opens { L.opens lane.old self.old.lane }
         ensures ok { IfOk result (λ answer. Despools answer self.old
-            (queue_view (λ other. L.sent lane.old other) (L.alone lane.old) (L.held lane.old) (L.capacity lane.old))
+            (queue_view (λ other. L.sent lane.old other) (L.alone lane.old) (L.held lane.old)
+            (L.capacity lane.old))
             self.new
-            (queue_view (λ other. L.sent lane.new other) (L.alone lane.new) (L.held lane.new) (L.capacity lane.new))) }
+            (queue_view (λ other. L.sent lane.new other) (L.alone lane.new) (L.held lane.new)
+            (L.capacity lane.new))) }
         ensures err { IfErr result (λ why. DespoolRefused self.old why self.new) }
         ensures refused { OnErr result (lane.new ≡ lane.old) }
         ensures nothing { result ≡ Ok Despooled.Nothing → lane.new ≡ lane.old }
@@ -445,7 +447,8 @@ impl<S: SpoolStore + Drop> Session<S> {
     /// The lane's store, for the lane's next session, from a session that no longer goes on; none where it does, or
     /// has given it back already. All else of the session stays.
     pub fn give_back(&mut self) -> Option<S>
-        ensures some { IfSome result (λ store. GivesBack self.old (state_of (S.meaning store)) self.new) }
+        ensures some { IfSome result (λ store. GivesBack self.old
+            (state_of (S.meaning store)) self.new) }
         ensures none { IfNone result (KeepsStore self.old self.new) }
     {
         if self.running().is_ok() {

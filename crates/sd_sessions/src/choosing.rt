@@ -25,7 +25,8 @@ pub fn choose_drive<D: Driver, Q: Lanes, S: SpoolStore + Drop>(
 ) -> Result<DriveNo, Refusal>
     requires world { IsWorld (world_of parts.now) }
     ensures ok { IfOk result (λ drive. (place : _) × (drive ≡ place + 1)
-        × FirstOf (IsCandidate pool.now media.now) (Precedes pool.now) (drives_for (world_of parts.now)) place) }
+        × FirstOf (IsCandidate pool.now media.now) (Precedes pool.now)
+        (drives_for (world_of parts.now)) place) }
     ensures err { IfErr result (λ why. NoneReserved (world_of parts.now) pool.now media.now why) }
 {
     let drives = drives_of(&parts.sessions, &parts.bays, media);
@@ -43,7 +44,8 @@ fn drives_of<D: Driver, Q: Lanes, S: SpoolStore + Drop>(
 ) -> [DriveView; 8]
     requires rise { (time : ℕ) × (next : ℕ) × NumbersRise time 1 next sessions.now }
     requires bays_most { length bays.now ≤ 8 }
-    requires lanes_most { (at : ℕ) (bay : _) → slice_get bays.now at ≡ Some bay → length bay.lanes ≤ 32 }
+    requires lanes_most { (at : ℕ) (bay : _) → slice_get bays.now at ≡ Some bay
+        → length bay.lanes ≤ 32 }
     ensures { take (length bays.now) result ≡ map (bay_for sessions.now) bays.now }
 {
     let mut drives = array::from_fn(|_| offline(media, 0));
@@ -142,7 +144,8 @@ pub fn choose_lane<D: Driver, S: SpoolStore + Drop>(
 ) -> LaneNo
     requires rise { (time : ℕ) × (next : ℕ) × NumbersRise time 1 next sessions.now }
     requires most { length lanes.now ≤ 32 }
-    requires free { count_by not (free_lanes sessions.now drive.now.journal lanes.now) < length lanes.now }
+    requires free { count_by not (free_lanes sessions.now drive.now.journal lanes.now) < length
+        lanes.now }
     ensures lowest { (place : _) × (result ≡ place + 1)
         × FirstOf IsTrue (λ _ _. ⊥) (free_lanes sessions.now drive.now.journal lanes.now) place }
 {

@@ -31,7 +31,8 @@ pub fn open<D: Driver, Q: Lanes, S: SpoolStore + Drop>(
     moment: i64,
 ) -> Reply
     requires world { IsWorld (world_of parts.old) }
-    ensures moves { Moves (λ d. D.meaning d) (world_of parts.old) (Open job pool media moment) result
+    ensures moves { Moves (λ d. D.meaning d) (world_of parts.old)
+        (Open job pool media moment) result
         (world_of parts.new) }
 {
     let Some(ticket) = Ticket::new(parts.next) else {

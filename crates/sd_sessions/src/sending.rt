@@ -49,9 +49,17 @@ fn send<Q: Lanes, S: SpoolStore + Drop>(
     requires most { session.old.lane ≤ Q.lanes queue.old }
     ensures ok { IfOk result (λ answer. SendsStep answer
         session.old
-        (record { lanes = Q.lanes queue.old; capacity = Q.capacity queue.old; held = Q.held queue.old })
+        (record {
+          lanes = Q.lanes queue.old;
+          capacity = Q.capacity queue.old;
+          held = Q.held queue.old;
+        })
         session.new
-        (record { lanes = Q.lanes queue.new; capacity = Q.capacity queue.new; held = Q.held queue.new })) }
+        (record {
+          lanes = Q.lanes queue.new;
+          capacity = Q.capacity queue.new;
+          held = Q.held queue.new;
+        })) }
     ensures err { IfErr result (λ why. DespoolRefused session.old why session.new) }
     ensures refused { OnErr result (queue.new ≡ queue.old) }
 {

@@ -26,9 +26,11 @@ pub fn start<S: SpoolStore + Drop>(
     requires most { limits.block ≤ most_block }
     requires rise { (time : ℕ) × (next : ℕ) × NumbersRise time 1 next sessions.old.items }
     requires stored { CanTakeStore lane.old sessions.old.items }
-    ensures ok { IfOk result (λ session. StartsInLane limits ticket opening lane.old sessions.old.items
+    ensures ok { IfOk result (λ session. StartsInLane limits ticket opening lane.old
+        sessions.old.items
         session lane.new sessions.new.items) }
-    ensures err { IfErr result (λ why. StartsNot limits lane.old sessions.old.items why lane.new sessions.new.items) }
+    ensures err { IfErr result (λ why. StartsNot limits lane.old sessions.old.items why lane.new
+        sessions.new.items) }
     ensures len { vec_len sessions.new ≡ vec_len sessions.old }
     ensures capacity { vec_capacity sessions.new ≡ vec_capacity sessions.old }
 {
@@ -49,7 +51,8 @@ pub fn start<S: SpoolStore + Drop>(
 fn take_store<S: SpoolStore + Drop>(sessions: &mut Vec<Entry<S>>, lane: &mut LaneSlot<S>) -> S
     requires rise { (time : ℕ) × (next : ℕ) × NumbersRise time 1 next sessions.old.items }
     requires stored { CanTakeStore lane.old sessions.old.items }
-    ensures takes { TakesStore lane.old sessions.old.items (state_of (S.meaning result)) sessions.new.items }
+    ensures takes { TakesStore lane.old sessions.old.items
+        (state_of (S.meaning result)) sessions.new.items }
     ensures lane { lane.new ≡ record lane.old { store = None } }
     ensures len { vec_len sessions.new ≡ vec_len sessions.old }
     ensures capacity { vec_capacity sessions.new ≡ vec_capacity sessions.old }

@@ -154,7 +154,8 @@ fn lanes_of(
 ) -> Result<Vec<FileSpool<HostRuntime>>, AllocError>
     requires { lanes ≤ 32 }
     ensures many { IfOk result (λ spools. length spools.items ≡ lanes) }
-    ensures files { IfOk result (λ spools. map path_of spools.items ≡ lane_paths folder.now drive lanes) }
+    ensures files { IfOk result (λ spools. map path_of spools.items ≡ lane_paths folder.now drive
+        lanes) }
 {
     let alloc = rt.alloc();
     let Some(lane) = LaneNo::new(lanes) else {

@@ -137,7 +137,8 @@ pub(crate) fn find_end<D: Driver>(
         → Shows reader.old (D.meaning driver.old).shelf
         → (held : Held) → (D.meaning driver.old).shelf.volume reader.old.name ≡ Some held
         → (label : SpecLabel) → GoesUpTo start_time held.bytes label first 1
-        → IsErrOf result AdoptFault.BlocksOfThisRun → HasBlockOfThisRun start_time held.bytes label }
+        → IsErrOf result AdoptFault.BlocksOfThisRun
+        → HasBlockOfThisRun start_time held.bytes label }
     ensures not_there { IsHonest (D.meaning driver.old) → IsErrOf result AdoptFault.NotOnShelf
         → (D.meaning driver.old).shelf.volume reader.old.name ≡ None }
 {

@@ -30,7 +30,8 @@ impl<'a> Lines<'a> {
 
     /// The next line, or `None` where none is left.
     pub fn next_line(&mut self) -> Option<&'a str>
-        ensures { MatchOption result ((self.old ≡ []) × (self.new ≡ [])) (λ line. self.old ≡ line.now ∷ self.new) }
+        ensures { MatchOption result ((self.old ≡ []) × (self.new ≡ []))
+            (λ line. self.old ≡ line.now ∷ self.new) }
     {
         let rest = self.rest;
         if rest.is_empty() {

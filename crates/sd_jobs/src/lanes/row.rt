@@ -28,7 +28,11 @@ impl Model for Row {
 
 impl Row {
     pub fn new(alloc: Global, lanes: u32, capacity: usize) -> Result<Self, AllocError>
-        ensures { IfOk result (λ row. row ≡ record { lanes = lanes; capacity = capacity; held = [] }) }
+        ensures { IfOk result (λ row. row ≡ record {
+          lanes = lanes;
+          capacity = capacity;
+          held = [];
+        }) }
     {
         Ok(Row {
             lanes,
@@ -39,7 +43,9 @@ impl Row {
 
     fn push(&mut self, lane: LaneNo, piece: Piece) -> Result<(), Piece>
         ensures room { IsOk result ↔ (length self.old.held < self.old.capacity) }
-        ensures ok { OnOk result (self.new ≡ record self.old { held = self.old.held ++ queued lane piece ∷ [] }) }
+        ensures ok { OnOk result (self.new ≡ record self.old {
+          held = self.old.held ++ queued lane piece ∷ [];
+        }) }
         ensures sent { OnOk result (Sends (λ other. pieces_of other self.old.held)
             (λ other. pieces_of other self.new.held) (queued lane piece)) }
         ensures given_back { IfErr result (λ back. back ≡ piece) }
