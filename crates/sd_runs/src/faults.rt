@@ -1,6 +1,7 @@
 // A reader and a writer that fail, each at a call of its own.
 use crate::rows::{PRINTED, SCRIPT};
-use sd_tool::{memory_drives, read_settings, run_lines};
+use sd_settings::{memory_drives, read_settings};
+use sd_tool::run_lines;
 use std::alloc::{AllocError, Global};
 use std::io::{self, BufReader, Read, Write};
 use std::str;

@@ -1,6 +1,7 @@
 // Scripts run from their bytes to what they print.
 use crate::rows::LongScript;
-use sd_tool::{memory_drives, read_settings, run_lines};
+use sd_settings::{memory_drives, read_settings};
+use sd_tool::run_lines;
 use std::alloc::{AllocError, Global};
 use std::str;
 

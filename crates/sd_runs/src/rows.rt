@@ -1,5 +1,5 @@
 // Scripts with what they print.
-use sd_tool::LONGEST_LINE;
+use sd_settings::LONGEST_LINE;
 
 /// A script that comes to its end, what it prints, and its name.
 #[derive(Clone, Copy)]

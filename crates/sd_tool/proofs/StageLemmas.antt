@@ -23,7 +23,7 @@ use Rattle.sd_core.specs.Fresh.{AreNewDrives, new_bays}
 use Rattle.sd_core.specs.Reading.{ReadsWorld}
 use Rattle.sd_core.specs.View.{device_of, devices_of}
 use Rattle.sd_tool.specs.Restart.{HandsOn, RestartsAs, RestartsBy, StartsAnew, TellsTail, unfit}
-use Rattle.sd_tool.specs.Settings.{drive_count}
+use Rattle.sd_settings.specs.Settings.{drive_count}
 use Rattle.sd_tool.specs.Stage.{StageView, retired_after}
 use Rattle.sd_tool.specs.declared.restart.Restart.{Restart}
 use Rattle.sd_tool.specs.declared.restart.Restarted.{Restarted}

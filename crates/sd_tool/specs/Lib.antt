@@ -1,13 +1,9 @@
 pub mod Doing
-pub mod Head
-pub mod Lines
 pub mod Making
-pub mod MemDrives
 pub mod Printed
 pub mod Refused
 pub mod Restart
 pub mod Run
 pub mod Script
-pub mod Settings
 pub mod Stage
 pub mod Told

@@ -3,18 +3,10 @@ use Rattle.std.specs.Prelude.{ℕ, List, ◌++◌, Option, None, Some, codes}
 use Rattle.std.specs.Fmt.{decimal}
 use Rattle.sd_base.specs.Refusal.{refusal_text}
 use Rattle.sd_base.specs.declared.refusal.Refusal.{Refusal}
-use Rattle.sd_tool.specs.declared.fits.Misfit.{Misfit}
-use Rattle.sd_tool.specs.declared.fits.Misfit.TheVariants as misfit
+use Rattle.sd_settings.specs.Settings.{misfit_word}
+use Rattle.sd_settings.specs.declared.fits.Misfit.{Misfit}
 use Rattle.sd_tool.specs.declared.told.Told.{Told}
 use Rattle.sd_tool.specs.declared.told.Told.TheVariants as told
-
--- the word that the setting begins with
-abbrev pub misfit_word : Misfit → List ℕ
-misfit_word misfit.Volume = codes "volume"
-misfit_word misfit.Spool = codes "spool"
-misfit_word misfit.Drive = codes "drive"
-misfit_word misfit.Capacity = codes "capacity"
-misfit_word misfit.Fail = codes "fail"
 
 -- how many blocks were placed
 abbrev pub drained_text : ℕ → List ℕ

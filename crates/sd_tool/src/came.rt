@@ -6,7 +6,6 @@ ghost use Rattle.sd_script.specs.Grammar.{IsWithin};
 ghost use Rattle.sd_tool.specs.Run.{Comes, LineComes, Refuses, RestartComes, Shown};
 ghost use Rattle.sd_tool.specs.Script.{script_view};
 
-use crate::lines::Next;
 use crate::restart::{Restart, Restarted};
 use crate::run::{Came, DONE, FAILED, Ran, Script, given_up};
 use crate::told::Told;
@@ -14,6 +13,7 @@ use sd_base::Refusal;
 use sd_driver::Driver;
 use sd_printer::Printer;
 use sd_script::{Line, Part, read_line};
+use sd_settings::Next;
 use std::io::Write;
 
 impl<D: Driver + Drop, W: Write + Drop> Script<D, W> {

@@ -100,7 +100,8 @@ fn read_printed<D: Driver + Drop, W: Write>(
     printed: Option<&Closed>,
     mut out: Printer<W>,
 ) -> Printer<W>
-    ensures { ReadsPrintedOn (λ d. D.meaning d) key (option_copied printed.entry) stage.old stage.new
+    ensures { ReadsPrintedOn (λ d. D.meaning d) key
+        (option_copied printed.entry) stage.old stage.new
         (said_view W.contents out) (said_view W.contents result) }
 {
     match printed {

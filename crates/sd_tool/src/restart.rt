@@ -2,14 +2,14 @@
 ghost use Rattle.std.specs.Prelude.{◌≡◌, ◌≤◌, IfOk, Some};
 ghost use Rattle.sd_base.specs.Limits.{most_number};
 ghost use Rattle.sd_tool.specs.Restart.{HandsOn, RestartsAs, TellsTail, unfit};
-ghost use Rattle.sd_tool.specs.Settings.{drive_count};
+ghost use Rattle.sd_settings.specs.Settings.{drive_count};
 
 use crate::making::Room;
 use crate::stage::Stage;
-use crate::values::Values;
 use sd_base::{Refusal, VolName};
 use sd_driver::{Driver, DriverFault};
 use sd_script::Tail;
+use sd_settings::Values;
 use std::alloc::{AllocError, Global};
 
 /// What a `restart` line asks for: a world of that time, with these bytes appended before.

@@ -4,11 +4,10 @@ ghost use Rattle.sd_rounds.specs.Rounds.{Drains, PlaysMoving};
 ghost use Rattle.sd_core.specs.Reading.{ReadsWorld};
 ghost use Rattle.sd_core.specs.View.{status_at, view_of};
 ghost use Rattle.sd_tool.specs.Restart.{BeginsAs};
-ghost use Rattle.sd_tool.specs.Settings.{drive_count, misfit_of};
+ghost use Rattle.sd_settings.specs.Settings.{drive_count, misfit_of};
 ghost use Rattle.sd_tool.specs.Stage.{KeepsStage, StageMoves};
 
 use crate::making::{Room, ScriptWorld};
-use crate::values::Values;
 use sd_base::{Refusal, SessionKey, Ticket};
 use sd_desk::Request;
 use sd_driver::Driver;
@@ -16,6 +15,7 @@ use sd_machine::{Event, Reply};
 use sd_readback::{ReadEnd, Sink};
 use sd_rounds::drain;
 use sd_session::Status;
+use sd_settings::Values;
 use sd_span::Span;
 use sd_view::View;
 use std::alloc::{AllocError, Global};
@@ -75,7 +75,8 @@ impl<D: Driver + Drop> Stage<D> {
 
     /// Plays rounds until nothing moves, and counts the blocks that were placed.
     pub fn drain(&mut self) -> Result<u64, AllocError>
-        ensures drains { IfOk result (λ placed. Drains (λ d. D.meaning d) self.old.world placed self.new.world) }
+        ensures drains { IfOk result (λ placed. Drains
+            (λ d. D.meaning d) self.old.world placed self.new.world) }
         ensures err { OnErr result (PlaysMoving (λ d. D.meaning d) self.old.world self.new.world) }
         ensures keeps { KeepsStage self.old self.new }
     {
@@ -89,7 +90,8 @@ impl<D: Driver + Drop> Stage<D> {
         spans: &[Span],
         sink: &mut K,
     ) -> Result<ReadEnd, Refusal>
-        ensures reads { ReadsWorld (λ d. D.meaning d) key spans.now (K.got sink.old) (K.got sink.new)
+        ensures reads { ReadsWorld (λ d. D.meaning d) key spans.now (K.got sink.old)
+            (K.got sink.new)
             result self.old.world self.new.world }
         ensures keeps { KeepsStage self.old self.new }
     {

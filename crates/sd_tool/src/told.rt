@@ -1,5 +1,5 @@
 // The lines that are no reply's.
-use crate::fits::Misfit;
+use sd_settings::Misfit;
 use std::fmt;
 
 /// A line of a run. Displays it without the newline.

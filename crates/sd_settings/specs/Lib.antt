@@ -1,0 +1,4 @@
+pub mod Head
+pub mod Lines
+pub mod MemDrives
+pub mod Settings
