@@ -5,7 +5,7 @@ use Rattle.sd_script.specs.declared.line.Line.TheVariants.{Set}
 use Rattle.sd_script.specs.declared.line.Setting.{Setting}
 use Rattle.sd_settings.specs.declared.lines.Next.{Next}
 use Rattle.sd_settings.specs.declared.lines.Next.TheVariants as next
-use Rattle.sd_settings.specs.Lines.{LinesView, came_with}
+use Rattle.sd_settings.specs.Lines.{ComesFirst, LinesView, came_with}
 use Rattle.sd_settings.specs.Settings.{AreSettings, IsOther, ValuesView, usual_values, values_after}
 
 -- behind these lines came one that is no setting, or none; or there was no memory for the setting that came
@@ -21,3 +21,9 @@ pub record IsHead (values : ValuesView) (lines : LinesView) (first : Next) : Typ
   pub are_settings : AreSettings heads settings
   pub values_are : values ≡ values_after usual_values settings
   pub ends : EndsHead heads lines first
+
+-- Of an input that is known: the line that came first is its first one; or, where no line came, what came is what comes
+-- first of it.
+abbrev pub BeginsWith : List ℕ → List (List ℕ) → List ℕ → Next → Type 0
+BeginsWith input [] bytes first = ComesFirst input first bytes
+BeginsWith input (line ∷ later) bytes first = ComesFirst input next.Line line

@@ -3,7 +3,7 @@ ghost use Rattle.std.specs.Prelude.{◌≡◌, IfSome, IfNone};
 ghost use Rattle.sd_script.specs.Grammar.{HasForm};
 ghost use Rattle.sd_script.specs.declared.line.Line.TheVariants.{Set};
 ghost use Rattle.sd_script.specs.declared.line.Setting.{Setting as SpecSetting};
-ghost use Rattle.sd_settings.specs.Head.{IsHead};
+ghost use Rattle.sd_settings.specs.Head.{BeginsWith, IsHead};
 ghost use Rattle.sd_settings.specs.Settings.{IsOther};
 
 use crate::lines::{Lines, Next};
@@ -23,7 +23,9 @@ pub struct Settings {
 /// Reads the settings, and keeps the first other line: any line that is no setting ends them, an
 /// empty one and a refused one too. So does a setting for which there is no memory.
 pub fn read_settings<R: BufRead>(alloc: Global, reader: &mut R) -> Settings
-    ensures { IsHead result.values result.lines result.first }
+    ensures head { IsHead result.values result.lines result.first }
+    ensures begins { IfSome (R.remaining reader.old)
+        (λ input. BeginsWith input result.lines.came result.lines.bytes result.first) }
 {
     let mut values = Values::usual(alloc);
     let mut lines = Lines::new(alloc);
