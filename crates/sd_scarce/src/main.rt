@@ -1,20 +1,21 @@
 //! Want of memory, once, at each allocation in turn.
 //!
-//! Every call that takes memory is made here, and where it is refused for want of memory it is made
-//! once more with the same arguments. So whichever one allocation fails, the program ends with the
-//! output that it has with ample memory: a refusal left all as it was. `memory/run`, at the top of the
-//! repository, makes each allocation fail in turn and compares the outputs.
+//! Where a call is refused for want of memory it is made once more with the same arguments. So whichever
+//! one allocation fails, the program ends with the output that it has with ample memory: a refusal left
+//! all as it was. `memory/run`, at the top of the repository, makes each allocation fail in turn and
+//! compares the outputs.
+//!
+//! The packets, the codecs of records and blocks, a device and a volume are called by themselves. What
+//! stands behind them, from the desk to the drive, is called by the worlds.
 #![tactic(auto)]
 
 mod answers;
 mod data;
 mod devices;
-mod jobs;
 mod names;
 mod packets;
 mod scarce;
 mod session;
-mod stations;
 mod volumes;
 mod worlds;
 
@@ -42,7 +43,5 @@ fn parts(rt: HostRuntime, names: &Names) -> io::Result<()> {
     packets::run(rt)?;
     session::run(rt, names)?;
     devices::run(rt, &names.volume)?;
-    volumes::run(rt, &names.volume_label())?;
-    stations::run(rt, names)?;
-    jobs::run(rt, names)
+    volumes::run(rt, &names.volume_label())
 }

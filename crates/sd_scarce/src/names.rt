@@ -1,5 +1,5 @@
 // The names of what there is one of.
-use sd_base::{DriveNo, JobId, LaneNo, MediaName, PoolName, SessionKey, VolName};
+use sd_base::{JobId, MediaName, PoolName, SessionKey, VolName};
 use sd_label::{SessionLabel, Totals, VolumeLabel};
 use std::io;
 
@@ -10,8 +10,6 @@ pub const KEY: SessionKey = SessionKey { time: 1000, id: 1 };
 #[derive(Drop)]
 pub struct Names {
     pub job: JobId,
-    pub drive: DriveNo,
-    pub lane: LaneNo,
     pub volume: VolName,
     pub pool: PoolName,
     pub media: MediaName,
@@ -19,8 +17,7 @@ pub struct Names {
 
 impl Names {
     pub fn new() -> io::Result<Names> {
-        let (Some(job), Some(drive), Some(lane)) = (JobId::new(7), DriveNo::new(1), LaneNo::new(1))
-        else {
+        let Some(job) = JobId::new(7) else {
             return Err(io::Error::other("a number"));
         };
         let (Ok(volume), Ok(pool), Ok(media)) = (
@@ -32,8 +29,6 @@ impl Names {
         };
         Ok(Names {
             job,
-            drive,
-            lane,
             volume,
             pool,
             media,

@@ -2,14 +2,12 @@
 //! its values, or what is wrong with it.
 #![tactic(auto)]
 
-mod serve;
-mod serve_line;
-
 use sd_arguments::{DaemonTask, Serving, daemon_task, status_of};
 use sd_base::Refusal;
 use sd_check::check_conf;
+use sd_daemon::serve_file;
 use sd_printer::Printer;
-use serve::serve_file;
+use sd_serve::Log;
 use std::io::BufWriter;
 use std::process::ExitCode;
 use std::{env, io};
@@ -52,7 +50,8 @@ fn check_input<R: Input + Print + AllocGlobal>(rt: &R) -> ExitCode {
 fn serve_clients(rt: &HostRuntime, asked: &Serving<'_>) -> ExitCode {
     let log = if asked.log { Some(rt.stderr()) } else { None };
     let mut out = Printer::new(io::writer(rt));
-    ExitCode::from(serve_file(rt, asked, log, &mut out))
+    let status = serve_file(rt, asked.path, asked.talks, Log::new(log), &mut out);
+    ExitCode::from(status)
 }
 
 fn without_memory(rt: &impl Print) -> ExitCode {

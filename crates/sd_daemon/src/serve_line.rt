@@ -16,7 +16,7 @@ pub enum ServeLine {
 
 impl fmt::Display for ServeLine {
     ghost use Rattle.std.specs.Prelude.{Some};
-    ghost use Rattle.sdd.specs.Serve.{serve_text};
+    ghost use Rattle.sd_daemon.specs.Serve.{serve_text};
 
     ghost output = { λ l. Some (serve_text l) };
 

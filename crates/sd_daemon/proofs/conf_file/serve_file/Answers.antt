@@ -1,8 +1,8 @@
 use Rattle.std.proofs.Common.{ap, ◌∙◌}
 use Rattle.sd_printer.specs.Says.{said_view}
 use Rattle.sd_printer.proofs.SaysLemmas.{says_then_nothing}
-use Rattle.sdd.specs.Serve.{status_of}
-use Rattle.sdd.proofs.serve.serve_file.Goals as goal
+use Rattle.sd_daemon.specs.Serve.{status_of}
+use Rattle.sd_daemon.proofs.conf_file.serve_file.Goals as goal
 
 pub returns : goal.returns
 returns g c = record {

@@ -10,10 +10,10 @@ use Rattle.sd_words.specs.Lines.{line}
 use Rattle.sd_check.specs.Check.{Input, fault_line}
 use Rattle.sd_check.specs.declared.check.CheckFault.{CheckFault}
 use Rattle.sd_check.specs.declared.check.CheckFault.TheVariants.{Conf as Bad}
-use Rattle.sdd.specs.declared.serve.Outcome.{Outcome}
-use Rattle.sdd.specs.declared.serve.Outcome.TheVariants.{Served, NoFile, NoConf, NotServed}
-use Rattle.sdd.specs.declared.serve_line.ServeLine.{ServeLine}
-use Rattle.sdd.specs.declared.serve_line.ServeLine.TheVariants as says
+use Rattle.sd_daemon.specs.declared.conf_file.Outcome.{Outcome}
+use Rattle.sd_daemon.specs.declared.conf_file.Outcome.TheVariants.{Served, NoFile, NoConf, NotServed}
+use Rattle.sd_daemon.specs.declared.serve_line.ServeLine.{ServeLine}
+use Rattle.sd_daemon.specs.declared.serve_line.ServeLine.TheVariants as says
 
 -- a line without its newline
 abbrev pub serve_text : ServeLine → List ℕ

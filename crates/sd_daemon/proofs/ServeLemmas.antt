@@ -4,7 +4,7 @@ use Rattle.std.specs.Prelude.{IfErr, IfOk}
 use Rattle.sd_conf.specs.declared.conf.Conf.{Conf}
 use Rattle.sd_conf.specs.declared.fault.ConfFault.TheVariants.{Memory as NoMemory}
 use Rattle.sd_check.specs.Check.{Input}
-use Rattle.sdd.specs.Serve.{IsConfOf, IsFaultOf}
+use Rattle.sd_daemon.specs.Serve.{IsConfOf, IsFaultOf}
 use Rattle.sd_check.specs.declared.check.CheckFault.{CheckFault}
 use Rattle.sd_check.specs.declared.check.CheckFault.TheVariants.{Input as NoInput, Conf as Bad}
 

@@ -2,13 +2,13 @@
 ghost use Rattle.std.specs.Prelude.{◌≡◌, IfErr, IfOk};
 ghost use Rattle.sd_conf.specs.Conf.{IsWithinLimits};
 ghost use Rattle.sd_printer.specs.Says.{Says, said_view};
-ghost use Rattle.sdd.specs.Serve.{IsConfOf, IsFaultOf, IsOutcomeOf, PrintsServe, outcome_lines, status_of};
+ghost use Rattle.sd_daemon.specs.Serve.{IsConfOf, IsFaultOf, IsOutcomeOf, PrintsServe, outcome_lines, status_of};
 
+use crate::daemon::{ServeFault, serve};
+use crate::files::ServedPort;
 use crate::serve_line::ServeLine;
-use sd_arguments::Serving;
 use sd_check::{CheckFault, conf_in, print_conf_fault};
 use sd_conf::{Conf, ConfFault};
-use sd_daemon::{ServeFault, ServedPort, serve};
 use sd_printer::Printer;
 use sd_serve::Log;
 use std::fs;
@@ -38,14 +38,15 @@ pub enum Outcome {
 /// the status: 0 where clients were served, and else 1.
 pub fn serve_file<W: Write, L: Write + Drop>(
     rt: &HostRuntime,
-    asked: &Serving<'_>,
-    log: Option<L>,
+    path: &str,
+    connections: u32,
+    log: Log<L>,
     out: &mut Printer<W>,
 ) -> u8
-    ensures { PrintsServe asked.now.talks
+    ensures { PrintsServe connections
         (said_view W.contents out.old) (said_view W.contents out.new) result }
 {
-    let outcome = outcome_of(rt, asked, log);
+    let outcome = outcome_of(rt, path, connections, log);
     print_outcome(&outcome, out);
     out.flush();
     status_of(&outcome, out.failed())
@@ -62,15 +63,20 @@ fn status_of(outcome: &Outcome, failed: bool) -> u8
 }
 
 // What comes of the file.
-fn outcome_of<L: Write + Drop>(rt: &HostRuntime, asked: &Serving<'_>, log: Option<L>) -> Outcome
-    ensures { IsOutcomeOf asked.now.talks result }
+fn outcome_of<L: Write + Drop>(
+    rt: &HostRuntime,
+    path: &str,
+    connections: u32,
+    log: Log<L>,
+) -> Outcome
+    ensures { IsOutcomeOf connections result }
 {
-    let conf = match read_file(rt, asked.path) {
+    let conf = match read_file(rt, path) {
         Ok(conf) => conf,
         Err(CheckFault::Input) => return Outcome::NoFile,
         Err(CheckFault::Conf(fault)) => return Outcome::NoConf(fault),
     };
-    match serve(rt, &conf, asked.talks, Log::new(log)) {
+    match serve(rt, &conf, connections, log) {
         Ok(port) => Outcome::Served(port),
         Err(fault) => Outcome::NotServed(fault),
     }
