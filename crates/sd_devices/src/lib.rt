@@ -1,6 +1,6 @@
-//! Devices, and volumes on them, tested: what a driver of any kind promises, a device in memory beside a plain
-//! model, and histories of labels, blocks, listings and adoptions on a device of any kind, told as text, beside
-//! those of a plain model.
+//! Devices and what stands on them, tested: what a driver of any kind promises, a device in memory beside a plain
+//! model, histories of labels, blocks, listings and adoptions on a device of any kind, told as text, and those of a
+//! drive's calls beside a plain model; and sessions read back from volumes in memory.
 #![tactic(auto)]
 
 #[cfg(test)]
@@ -8,6 +8,12 @@ mod bench;
 #[cfg(test)]
 mod driver;
 #[cfg(test)]
+mod drives;
+#[cfg(test)]
+mod failures;
+#[cfg(test)]
 mod memory_drives;
+#[cfg(test)]
+mod readings;
 #[cfg(test)]
 mod tests;

@@ -5,6 +5,7 @@ ghost use Rattle.std.specs.Prelude.{◌≡◌, false, None, IsTrue, IsSome};
 mod memory;
 mod table;
 
+use crate::failures::{EACH_WAY, History, tell_all};
 use sd_base::VolName;
 use sd_driver::{Driver, DriverFault};
 use sd_memdrive::{Call, Fail, MemDrive, When};
@@ -223,58 +224,38 @@ fn play<D: Driver + Drop>(
     Ok(())
 }
 
-// The history under a plan, told as the tables tell it.
-fn history(alloc: Global, plan: &[Fail]) -> Result<String, TestFail> {
-    let mut text = String::new(alloc);
-    let mut bench = make_bench(alloc, plan)?;
-    play(&mut text, &mut bench, &HISTORY)?;
-    text.push_str("| ")?;
-    bench.shelf(&mut text)?;
-    text.push_str(" | ")?;
-    let calls = bench.driver.calls();
-    stopped(alloc, &mut text, &bench.driver, calls, &[])?;
-    let failures = bench.driver.failures();
-    write!(text, " | {failures} {calls}")?;
-    Ok(text)
-}
-
-// The kinds of call, and how many of each the history makes.
-static KINDS: [(Call, u64); 7] = [
-    (Call::Create, 3),
-    (Call::Load, 2),
-    (Call::Len, 3),
-    (Call::Read, 3),
-    (Call::Append, 6),
-    (Call::Sync, 3),
-    (Call::Cut, 3),
+// The calls that the history makes.
+static KINDS: [(Call, u64, &[When]); 7] = [
+    (Call::Create, 3, EACH_WAY),
+    (Call::Load, 2, EACH_WAY),
+    (Call::Len, 3, EACH_WAY),
+    (Call::Read, 3, EACH_WAY),
+    (Call::Append, 6, EACH_WAY),
+    (Call::Sync, 3, EACH_WAY),
+    (Call::Cut, 3, EACH_WAY),
 ];
 
-// The history where each call of a kind in turn fails so, a line for each.
-fn tell_failing(
-    alloc: Global,
-    text: &mut String,
-    call: Call,
-    count: u64,
-    when: When,
-) -> Result<(), TestFail> {
-    for nth in 1..=count {
-        let told = history(alloc, &[Fail { call, nth, when }])?;
-        writeln!(text, "{call:?} {nth} {when:?}: {told}")?;
-    }
-    Ok(())
-}
+// The history, told as the tables tell it.
+struct Calls;
 
-// The history without a failure, and where each call of it in turn fails in each way.
-fn tell_all(alloc: Global) -> Result<String, TestFail> {
-    let mut text = String::new(alloc);
-    let told = history(alloc, &[])?;
-    writeln!(text, "no failure: {told}")?;
-    for (call, count) in KINDS.iter() {
-        tell_failing(alloc, &mut text, *call, *count, When::Before)?;
-        tell_failing(alloc, &mut text, *call, *count, When::Half)?;
-        tell_failing(alloc, &mut text, *call, *count, When::After)?;
+impl History for Calls {
+    fn told(alloc: Global, plan: &[Fail]) -> Result<String, TestFail> {
+        let mut text = String::new(alloc);
+        let mut bench = make_bench(alloc, plan)?;
+        play(&mut text, &mut bench, &HISTORY)?;
+        text.push_str("| ")?;
+        bench.shelf(&mut text)?;
+        text.push_str(" | ")?;
+        let calls = bench.driver.calls();
+        stopped(alloc, &mut text, &bench.driver, calls, &[])?;
+        let failures = bench.driver.failures();
+        write!(text, " | {failures} {calls}")?;
+        Ok(text)
     }
-    Ok(text)
+
+    fn kinds() -> &'static [(Call, u64, &'static [When])] {
+        &KINDS
+    }
 }
 
 // A drive after the history.
@@ -299,7 +280,7 @@ fn tell_stops(alloc: Global) -> Result<String, TestFail> {
 
 #[test]
 fn every_call_fails(rt: HostRuntime) -> Result<(), TestFail> {
-    assert_eq!(rt; tell_all(rt.alloc())?.as_str(), TOLD);
+    assert_eq!(rt; tell_all::<Calls>(rt.alloc())?.as_str(), TOLD);
     Ok(())
 }
 

@@ -7,6 +7,7 @@ mod memory;
 mod table;
 
 use crate::bench::{Step, play};
+use crate::failures::{EACH_WAY, History, TWO_WAYS, tell_all};
 use sd_base::VolName;
 use sd_driver::Driver;
 use sd_memdrive::{Call, Fail, MemDrive, When};
@@ -42,17 +43,6 @@ static HISTORY: [Step; 12] = [
     Step::Append(2000, LONG_BODY),
 ];
 
-// How many calls of each kind the history makes.
-static KINDS: [(Call, u64); 7] = [
-    (Call::Create, 2),
-    (Call::Load, 6),
-    (Call::Len, 4),
-    (Call::Read, 6),
-    (Call::Append, 5),
-    (Call::Sync, 6),
-    (Call::Cut, 1),
-];
-
 // The length and a digest of a volume's bytes.
 fn tell_shelf<D: Driver>(driver: &mut D, text: &mut String) -> Result<(), TestFail> {
     let name = VolName::parse("Vol-0001")?;
@@ -70,54 +60,43 @@ fn tell_shelf<D: Driver>(driver: &mut D, text: &mut String) -> Result<(), TestFa
     Ok(())
 }
 
-// The history under a plan, told as the table tells it.
-fn history(alloc: Global, plan: &[Fail]) -> Result<String, TestFail> {
-    let mut text = String::new(alloc);
-    let mut drive = MemDrive::new(alloc, 400, plan)?;
-    play(alloc, &mut drive, &HISTORY, &mut text)?;
-    text.push_str("| ")?;
-    let failures = drive.failures();
-    let mut left = drive.after_stop(alloc, drive.calls(), &[])?;
-    tell_shelf(&mut drive, &mut text)?;
-    text.push_str(" | ")?;
-    tell_shelf(&mut left, &mut text)?;
-    write!(text, " | {failures}")?;
-    Ok(text)
-}
+// The calls that the history makes.
+static KINDS: [(Call, u64, &[When]); 7] = [
+    (Call::Create, 2, TWO_WAYS),
+    (Call::Load, 6, TWO_WAYS),
+    (Call::Len, 4, TWO_WAYS),
+    (Call::Read, 6, TWO_WAYS),
+    (Call::Append, 5, EACH_WAY),
+    (Call::Sync, 6, TWO_WAYS),
+    (Call::Cut, 1, TWO_WAYS),
+];
 
-// The history where each call of a kind in turn fails so, a line for each.
-fn tell_failing(
-    alloc: Global,
-    text: &mut String,
-    call: Call,
-    count: u64,
-    when: When,
-) -> Result<(), TestFail> {
-    for nth in 1..=count {
-        let told = history(alloc, &[Fail { call, nth, when }])?;
-        writeln!(text, "{call:?} {nth} {when:?}: {told}")?;
-    }
-    Ok(())
-}
+// The history, told as the table tells it.
+struct Volumes;
 
-fn tell_all(alloc: Global) -> Result<String, TestFail> {
-    let mut text = String::new(alloc);
-    let told = history(alloc, &[])?;
-    writeln!(text, "no failure: {told}")?;
-    for row in KINDS.iter() {
-        let (call, count) = *row;
-        tell_failing(alloc, &mut text, call, count, When::Before)?;
-        if call == Call::Append {
-            tell_failing(alloc, &mut text, call, count, When::Half)?;
-        }
-        tell_failing(alloc, &mut text, call, count, When::After)?;
+impl History for Volumes {
+    fn told(alloc: Global, plan: &[Fail]) -> Result<String, TestFail> {
+        let mut text = String::new(alloc);
+        let mut drive = MemDrive::new(alloc, 400, plan)?;
+        play(alloc, &mut drive, &HISTORY, &mut text)?;
+        text.push_str("| ")?;
+        let failures = drive.failures();
+        let mut left = drive.after_stop(alloc, drive.calls(), &[])?;
+        tell_shelf(&mut drive, &mut text)?;
+        text.push_str(" | ")?;
+        tell_shelf(&mut left, &mut text)?;
+        write!(text, " | {failures}")?;
+        Ok(text)
     }
-    Ok(text)
+
+    fn kinds() -> &'static [(Call, u64, &'static [When])] {
+        &KINDS
+    }
 }
 
 #[test]
 fn every_call_fails(rt: HostRuntime) -> Result<(), TestFail> {
-    assert_eq!(rt; tell_all(rt.alloc())?.as_str(), TOLD);
+    assert_eq!(rt; tell_all::<Volumes>(rt.alloc())?.as_str(), TOLD);
     Ok(())
 }
 

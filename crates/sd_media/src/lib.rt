@@ -1,5 +1,4 @@
-//! The libraries of the media format together: the law that what is packed comes back, and the example
-//! volume of docs/FORMATS.md made and read by them.
+//! The libraries of the media format together: the law that what is packed comes back.
 #![tactic(auto)]
 
 mod round_trip;

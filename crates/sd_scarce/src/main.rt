@@ -5,13 +5,15 @@
 //! all as it was. `memory/run`, at the top of the repository, makes each allocation fail in turn and
 //! compares the outputs.
 //!
-//! The packets, the codecs of records and blocks, a device and a volume are called by themselves. What
-//! stands behind them, from the desk to the drive, is called by the worlds.
+//! The packets, the codecs of records and blocks, a device and a volume are called by themselves, and of a
+//! drive the one call that no world makes. What else stands behind them, from the desk to the drive, is
+//! called by the worlds.
 #![tactic(auto)]
 
 mod answers;
 mod data;
 mod devices;
+mod drives;
 mod names;
 mod packets;
 mod scarce;
@@ -43,5 +45,6 @@ fn parts(rt: HostRuntime, names: &Names) -> io::Result<()> {
     packets::run(rt)?;
     session::run(rt, names)?;
     devices::run(rt, &names.volume)?;
-    volumes::run(rt, &names.volume_label())
+    volumes::run(rt, &names.volume_label())?;
+    drives::run(rt, names)
 }

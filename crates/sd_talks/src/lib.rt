@@ -1,8 +1,10 @@
-//! Talks with scripted clients over a port that answers by rule, tested: the protocol's dialogues whole and cut
-//! anywhere, each refusal, readers and writers that fail, and generated talks beside a plain slow one. Commands,
-//! headers and lines as their texts, too.
+//! Talks, tested: scripted clients over a port that answers by rule, the protocol's dialogues whole and cut anywhere,
+//! each refusal, readers and writers that fail, and generated talks beside a plain slow one; commands, headers and
+//! lines as their texts; and dialogues of clients with a world.
 #![tactic(auto)]
 
+#[cfg(test)]
+mod dialogues;
 #[cfg(test)]
 mod generated;
 #[cfg(test)]
@@ -11,6 +13,7 @@ mod plain;
 mod port;
 #[cfg(test)]
 mod rows;
+#[cfg(test)]
 mod sent;
 #[cfg(test)]
 mod talks;
@@ -18,7 +21,5 @@ mod talks;
 mod tests;
 #[cfg(test)]
 mod texts;
+#[cfg(test)]
 mod wire;
-
-pub use sent::{Sent, bytes_of};
-pub use wire::{Kept, Pieces};

@@ -1,5 +1,4 @@
 // Sessions read from volumes in memory, and all that is printed of them.
-mod failing;
 mod player;
 mod table;
 

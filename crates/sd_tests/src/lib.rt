@@ -11,8 +11,14 @@ mod console;
 #[cfg(test)]
 mod extractions;
 #[cfg(test)]
+mod failing;
+#[cfg(test)]
 mod lines;
 #[cfg(test)]
 mod listings;
 #[cfg(test)]
 mod packets;
+#[cfg(test)]
+mod runs;
+#[cfg(test)]
+mod serving;

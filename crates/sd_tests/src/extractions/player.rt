@@ -1,6 +1,6 @@
 // Volumes put on a drive in memory, and read by a JobMedia text.
-use super::failing::{Failing, Refusing};
 use super::table::{CUT, Row, VOLUME};
+use crate::failing::{Failing, Refusing};
 use sd_base::VolName;
 use sd_driver::{Driver, DriverFault};
 use sd_extract::extract;

@@ -1,0 +1,47 @@
+// A history as it is, and where each call of it in turn fails: told as text, a line for each.
+use sd_memdrive::{Call, Fail, When};
+use std::alloc::Global;
+use std::test::Fail as TestFail;
+
+/// A history over a device in memory.
+pub trait History {
+    /// What it comes to under a plan.
+    fn told(alloc: Global, plan: &[Fail]) -> Result<String, TestFail>;
+
+    /// The kinds of call, how many of each it makes, and how they fail.
+    fn kinds() -> &'static [(Call, u64, &'static [When])];
+}
+
+/// The ways in which a call fails that can be half done.
+pub const EACH_WAY: &[When] = &[When::Before, When::Half, When::After];
+
+/// The ways in which any other call fails.
+pub const TWO_WAYS: &[When] = &[When::Before, When::After];
+
+/// The history without a failure, and where each call of it in turn fails in each way.
+pub fn tell_all<H: History>(alloc: Global) -> Result<String, TestFail> {
+    let mut text = String::new(alloc);
+    let told = H::told(alloc, &[])?;
+    writeln!(text, "no failure: {told}")?;
+    for (call, count, ways) in H::kinds().iter() {
+        for when in ways.iter() {
+            tell_failing::<H>(alloc, &mut text, *call, *count, *when)?;
+        }
+    }
+    Ok(text)
+}
+
+// The history where each call of a kind in turn fails so.
+fn tell_failing<H: History>(
+    alloc: Global,
+    text: &mut String,
+    call: Call,
+    count: u64,
+    when: When,
+) -> Result<(), TestFail> {
+    for nth in 1..=count {
+        let told = H::told(alloc, &[Fail { call, nth, when }])?;
+        writeln!(text, "{call:?} {nth} {when:?}: {told}")?;
+    }
+    Ok(())
+}
