@@ -1,35 +1,17 @@
--- Records printed one after another, and how a reading ends.
-use Rattle.std.proofs.Common.{◌≡◌, ℕ, sym, ap, ap₂, subst, ◌∙◌, List, [], ◌∷◌, ◌++◌, length, Option, Some, None}
-use Rattle.std.specs.Prelude.{IfSome, IfOk, Result, Ok, Err}
-use Rattle.std.proofs.lemmas.List.{append_assoc, append-nil}
+-- A record that is printed, and how a reading ends.
+use Rattle.std.proofs.Common.{◌≡◌, ℕ, sym, ap, ap₂, subst, ◌∙◌, List, [], ◌∷◌, ◌++◌, length}
+use Rattle.std.specs.Prelude.{IfOk, Result, Ok, Err}
 use Rattle.sd_base.specs.Record.{Record}
 use Rattle.sd_base.specs.declared.number.SessionKey.{SessionKey}
 use Rattle.sd_label.specs.Cutting.{total_bytes}
 use Rattle.sd_printer.specs.Says.{SaidView, Says}
-use Rattle.sd_printer.proofs.SaysLemmas.{says_none, says_then}
+use Rattle.sd_printer.proofs.SaysLemmas.{says_then}
 use Rattle.sd_readback.specs.Reading.{Reads, Volumes}
 use Rattle.sd_readback.specs.declared.fault.ReadFault.{ReadFault}
 use Rattle.sd_readback.specs.declared.read.ReadEnd.{ReadEnd}
 use Rattle.sd_span.specs.declared.span.Span.{Span}
-use Rattle.sd_span.specs.declared.jobmedia.SessionSpans.{SessionSpans}
 use Rattle.sd_words.specs.Lines.{line}
-use Rattle.sd_extract.specs.Extract.{Input}
-use Rattle.sd_extract.specs.declared.input.SpansFault.{SpansFault}
-use Rattle.sd_extract.specs.Lines.{record_lines, record_text, records_lines}
-
-records-last : (rs : List Record) (r : Record) → records_lines (rs ++ r ∷ []) ≡ records_lines rs ++ record_lines r
-records-last [] r = append-nil (record_lines r)
-records-last (s ∷ rs) r =
-    ap (λ (l : List ℕ). record_lines s ++ l) (records-last rs r) ∙ sym (append_assoc (record_lines s) (records_lines rs) (record_lines r))
-
--- the lines of one record more
-pub one_more : (a b c : SaidView) (rs : List Record) (r : Record) (all : List Record) → all ≡ rs ++ r ∷ [] → Says a b (records_lines rs) → Says b c (record_lines r) → Says a c (records_lines all)
-one_more a b c rs r all is p q =
-    subst (λ (l : List ℕ). Says a c l) (sym (ap records_lines is ∙ records-last rs r)) (says_then a b c (records_lines rs) (record_lines r) p q)
-
--- none yet
-pub none_yet : (a b : SaidView) → b ≡ a → Says a b (records_lines [])
-none_yet a b is = subst (λ (v : SaidView). Says a v []) (sym is) (says_none a)
+use Rattle.sd_extract.specs.Lines.{record_lines, record_text}
 
 -- a record's line, its bytes, and a newline
 pub record_says : (a b c d : SaidView) (r : Record) (index stream : ℕ) (data_bytes : List ℕ) → index ≡ r.index → stream ≡ r.stream → data_bytes ≡ r.bytes
@@ -39,16 +21,6 @@ record_says a b c d r index stream data_bytes index_is stream_is same p q s =
     ap₂ (λ i j. record_text i j (length data_bytes)) index_is stream_is ∙ ap (λ (bs : List ℕ). record_text r.index r.stream (length bs)) same in
     let body = says_then b c d data_bytes (10 ∷ []) q s in
     says_then a b d _ (line r.bytes) (subst (λ (l : List ℕ). Says a b (line l)) head p) (subst (λ (l : List ℕ). Says b d (line l)) same body)
-
--- an input whose bytes were all read
-pub all_read : (input : Option (List ℕ)) (bytes : List ℕ) (result : Result SessionSpans SpansFault) → IfSome input (λ xs. bytes ≡ [] ++ xs) → Input bytes result → IfSome input (λ text. Input text result)
-all_read None bytes result is read = tt
-all_read (Some xs) bytes result is read = subst (λ (text : List ℕ). Input text result) is read
-
--- what holds of any text
-pub any_input : (input : Option (List ℕ)) (P : List ℕ → Type 0) → ((text : List ℕ) → P text) → IfSome input P
-any_input None P all = tt
-any_input (Some xs) P all = all xs
 
 -- What was handed over to a sink that had nothing.
 

@@ -1,5 +1,5 @@
 -- What is printed of a reading: two lines for each record, and one for how it ended.
-use Rattle.std.specs.Prelude.{ℕ, Bool, true, false, List, ◌++◌, length, Result, Ok, Err, codes}
+use Rattle.std.specs.Prelude.{ℕ, List, ◌++◌, length, Result, Ok, Err, codes}
 use Rattle.std.specs.List.{flat_map}
 use Rattle.std.specs.Fmt.{decimal}
 use Rattle.sd_base.specs.Record.{Record}
@@ -7,6 +7,7 @@ use Rattle.sd_base.specs.Refusal.{refusal_text}
 use Rattle.sd_readback.specs.Faults.{fault_refusal}
 use Rattle.sd_readback.specs.declared.fault.ReadFault.{ReadFault}
 use Rattle.sd_readback.specs.declared.read.ReadEnd.{ReadEnd}
+use Rattle.sd_records.specs.End.{end_text}
 use Rattle.sd_words.specs.Lines.{line}
 use Rattle.sd_extract.specs.declared.lines.Line.{Line}
 use Rattle.sd_extract.specs.declared.lines.Line.TheVariants as lines
@@ -14,16 +15,6 @@ use Rattle.sd_extract.specs.declared.lines.Line.TheVariants as lines
 -- a record: its FileIndex, its Stream, and how many bytes it has
 abbrev pub record_text : ℕ → ℕ → ℕ → List ℕ
 record_text index stream size = codes "rec " ++ decimal index ++ codes " " ++ decimal stream ++ codes " " ++ decimal size
-
--- whether the end label of the session was there
-abbrev pub ended_text : Bool → List ℕ
-ended_text true = codes "ended"
-ended_text false = codes "cut"
-
--- what a session was read to: how many records, how many data bytes, and whether to its end label
-abbrev pub end_text : ReadEnd → List ℕ
-end_text end =
-    codes "ok read " ++ decimal end.records ++ codes " " ++ decimal end.bytes ++ codes " " ++ ended_text end.ended
 
 -- a line without its newline
 abbrev pub line_text : Line → List ℕ

@@ -1,6 +1,7 @@
 // The lines of a reading.
 use sd_base::Refusal;
 use sd_readback::ReadEnd;
+use sd_records::EndLine;
 use std::fmt;
 
 /// A line of a reading. Displays it without the newline.
@@ -33,10 +34,7 @@ impl fmt::Display for Line {
                 stream,
                 size,
             } => write!(f, "rec {index} {stream} {size}"),
-            Line::End(end) if end.ended => {
-                write!(f, "ok read {} {} ended", end.records, end.bytes)
-            }
-            Line::End(end) => write!(f, "ok read {} {} cut", end.records, end.bytes),
+            Line::End(end) => write!(f, "{}", EndLine(*end)),
             Line::NoFile => write!(f, "fault file"),
             Line::Refused(why) => write!(f, "{why}"),
         }

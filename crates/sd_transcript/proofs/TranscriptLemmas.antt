@@ -1,4 +1,4 @@
--- Records and spans printed one after another, and the words of replies.
+-- Spans printed one after another, a record, and the words of replies.
 use Rattle.std.proofs.Common.{◌≡◌, ℕ, ◌+◌, ◌<◌, refl, sym, ap, subst, ◌∙◌, List, [], ◌∷◌, ◌++◌, length, take, get_or, codes}
 use Rattle.std.proofs.lemmas.Grind.{flat_map-append}
 use Rattle.std.proofs.lemmas.List.{append_assoc, append-nil, take_more}
@@ -14,7 +14,7 @@ use Rattle.sd_printer.proofs.SaysLemmas.{says_then}
 use Rattle.sd_span.specs.JobMedia.{jobmedia_text, session_text, span_text}
 use Rattle.sd_span.specs.declared.span.Span.{Span}
 use Rattle.sd_words.specs.Lines.{line}
-use Rattle.sd_transcript.specs.Lines.{closed_words, media_words, mounted_words, record_lines, records_lines, shown_text}
+use Rattle.sd_transcript.specs.Lines.{closed_words, media_words, mounted_words, record_lines, shown_text}
 
 -- Replies.
 
@@ -46,13 +46,6 @@ one_span_more key spans i s a b c within is p q =
     (says_then a b c (jobmedia_text key (take i spans)) (line (span_text s)) p q)
 
 -- Records.
-
--- the lines of one record more
-pub one_record_more : (a b c : SaidView) (rs : List Record) (r : Record) (all : List Record) → all ≡ rs ++ r ∷ [] → Says a b (records_lines rs) → Says b c (record_lines r) → Says a c (records_lines all)
-one_record_more a b c rs r all is p q =
-    let last : records_lines (r ∷ []) ≡ record_lines r = append-nil (record_lines r) in
-    let lines = ap records_lines is ∙ flat_map-append record_lines rs (r ∷ []) ∙ ap (λ (l : List ℕ). records_lines rs ++ l) last in
-    subst (λ (l : List ℕ). Says a c l) (sym lines) (says_then a b c (records_lines rs) (record_lines r) p q)
 
 -- the pieces of a record's line
 record_pieces : (index stream size shown : List ℕ)

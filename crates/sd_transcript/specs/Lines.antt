@@ -1,5 +1,5 @@
 -- What is printed of a script's lines.
-use Rattle.std.specs.Prelude.{ℕ, Bool, true, false, List, [], ◌∷◌, ◌++◌, length, take, Result, Ok, Err, codes}
+use Rattle.std.specs.Prelude.{ℕ, List, [], ◌∷◌, ◌++◌, length, take, Result, Ok, Err, codes}
 use Rattle.std.specs.List.{flat_map}
 use Rattle.std.specs.Fmt.{decimal}
 use Rattle.hex.specs.Hex.{encode_lower}
@@ -14,11 +14,10 @@ use Rattle.sd_desk.specs.declared.request.Request.{Request}
 use Rattle.sd_machine.specs.declared.reply.Reply.{Reply}
 use Rattle.sd_machine.specs.declared.reply.Reply.TheVariants.{Closed, Media, Mounted}
 use Rattle.sd_readback.specs.declared.read.ReadEnd.{ReadEnd}
-use Rattle.sd_span.specs.JobMedia.{jobmedia_text, session_text}
+use Rattle.sd_records.specs.End.{end_text}
+use Rattle.sd_span.specs.JobMedia.{jobmedia_text}
 use Rattle.sd_view.specs.declared.view.View.{View}
 use Rattle.sd_words.specs.Lines.{line}
-use Rattle.sd_transcript.specs.declared.line.Line.{Line}
-use Rattle.sd_transcript.specs.declared.line.Line.TheVariants as says
 
 -- the line of a refusal
 abbrev pub refused_line : Refusal → List ℕ
@@ -45,25 +44,10 @@ record_lines r = line (record_text r)
 abbrev pub records_lines : List Record → List ℕ
 records_lines records = flat_map record_lines records
 
--- whether the end label of the session was there
-abbrev pub ended_text : Bool → List ℕ
-ended_text true = codes "ended"
-ended_text false = codes "cut"
-
--- what a session was read to: how many records, how many data bytes, and whether to its end label
-abbrev pub end_text : ReadEnd → List ℕ
-end_text end =
-    codes "ok read " ++ decimal end.records ++ codes " " ++ decimal end.bytes ++ codes " " ++ ended_text end.ended
-
 -- how a reading ended
 abbrev pub read_text : Result ReadEnd Refusal → List ℕ
 read_text (Ok end) = end_text end
 read_text (Err why) = refusal_text why
-
--- a line of a session, without its newline
-abbrev pub line_text : Line → List ℕ
-line_text (says.Session key) = session_text key
-line_text (says.End end) = end_text end
 
 -- Replies.
 

@@ -5,11 +5,10 @@
 mod line;
 mod record;
 mod replies;
-mod sink;
 
-pub use record::print_record;
+pub use record::{FirstBytes, RecordPrinter, print_record};
 pub use replies::{
     print_closed, print_jobmedia, print_media, print_mounted, print_read, print_reply,
     print_requests, print_status,
 };
-pub use sink::{Before, RecordPrinter};
+pub use sd_records::Before;

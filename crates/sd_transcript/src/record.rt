@@ -6,7 +6,23 @@ ghost use Rattle.sd_transcript.specs.Lines.{record_lines, shown_text};
 use itoa::Buffer;
 use sd_base::Rec;
 use sd_printer::Printer;
+use sd_records::PrintRecord;
 use std::io::Write;
+
+/// Prints the line of each record as it comes, and lets the record go. In a contract it is a `SinkIs`.
+pub type RecordPrinter<K, W> = sd_records::RecordPrinter<K, FirstBytes, W>;
+
+/// Prints of each record its line, with the first of its bytes.
+#[derive(Clone, Copy)]
+pub struct FirstBytes;
+
+impl PrintRecord for FirstBytes {
+    ghost lines = { record_lines };
+
+    fn print<W: Write>(rec: &Rec, out: &mut Printer<W>) {
+        print_record(rec, out);
+    }
+}
 
 /// The most bytes of a record that its line shows.
 const SHOWN: usize = 16;

@@ -7,13 +7,14 @@ ghost use Rattle.sd_span.specs.JobMedia.{jobmedia_text};
 ghost use Rattle.sd_transcript.specs.Lines.{closed_words, media_words, mounted_words, read_text, refused_line, requests_text, status_text};
 ghost use Rattle.sd_words.specs.Lines.{line};
 
-use crate::line::Line;
+use crate::line::SessionLine;
 use sd_base::{Refusal, SessionKey};
 use sd_console::{ReplyLine, requests_text, status_text};
 use sd_desk::Request;
 use sd_machine::Reply;
 use sd_printer::Printer;
 use sd_readback::ReadEnd;
+use sd_records::EndLine;
 use sd_span::Span;
 use sd_view::View;
 use std::alloc::Global;
@@ -65,7 +66,7 @@ pub fn print_jobmedia<W: Write>(key: SessionKey, spans: &[Span], out: &mut Print
     ensures { Says (said_view W.contents out.old) (said_view W.contents out.new)
         (jobmedia_text key spans.now) }
 {
-    out.line(Line::Session(key));
+    out.line(SessionLine(key));
     for span in spans {
         out.line(span);
     }
@@ -101,7 +102,7 @@ pub fn print_read<W: Write>(read: &Result<ReadEnd, Refusal>, out: &mut Printer<W
         (line (read_text read.now)) }
 {
     match read {
-        Ok(end) => out.line(Line::End(*end)),
+        Ok(end) => out.line(EndLine(*end)),
         Err(why) => out.line(*why),
     }
 }

@@ -2,7 +2,7 @@ use Rattle.std.proofs.Common.{ap, ◌∙◌}
 use Rattle.sd_base.specs.Record.{Record}
 use Rattle.sd_printer.specs.Says.{said_view}
 use Rattle.sd_extract.proofs.ExtractLemmas.{record_says}
-use Rattle.sd_extract.proofs.record.print_record.Goals as goal
+use Rattle.sd_extract.proofs.record.WholeRecordsPrintRecord.print.Goals as goal
 
 pub returns : goal.returns
 returns g c =

@@ -1,9 +1,9 @@
-// The records of a session that is read back, a line each.
-ghost use Rattle.std.specs.Prelude.{◌≡◌, []};
+// The records of a session that is read back, printed as they come.
+ghost use Rattle.std.specs.Prelude.{◌≡◌, ℕ, List, []};
+ghost use Rattle.std.specs.List.{flat_map};
+ghost use Rattle.sd_base.specs.Record.{Record};
 ghost use Rattle.sd_printer.specs.Says.{SaidView, Says, said_view};
-ghost use Rattle.sd_transcript.specs.Lines.{records_lines};
 
-use crate::record::print_record;
 use sd_base::Rec;
 use sd_printer::Printer;
 use sd_readback::{Seen, Sink};
@@ -22,29 +22,38 @@ impl Before for Brand {
     ghost before = { record { written = None; failed = false } };
 }
 
-/// Prints the line of each record as it comes, and lets the record go. Its type keeps that what was printed since the
-/// reading began are the lines of the records that it got. In a contract it is a `SinkIs`.
-#[derive(Drop)]
-pub struct RecordPrinter<K: Before, W: Write> {
-    out: Printer<W>,
-    handed: Option<Seen<Rec>>,
-    of: PhantomData<K>,
+/// How a record is printed. In a contract `lines` is what is printed of it.
+pub trait PrintRecord {
+    ghost lines: { Record → List ℕ };
+
+    fn print<W: Write>(rec: &Rec, out: &mut Printer<W>)
+        ensures { Says (said_view W.contents out.old) (said_view W.contents out.new)
+            (lines rec.now) };
 }
 
-impl<K: Before, W: Write> Model for RecordPrinter<K, W> {
-    ghost use Rattle.sd_transcript.specs.Lines.{records_lines};
-    ghost use Rattle.sd_transcript.specs.Sink.{SinkIs, records_of};
+/// Prints each record as it comes, and lets it go. Its type keeps that what was printed since the reading began are
+/// the lines of the records that it got. In a contract it is a `SinkIs`.
+#[derive(Drop)]
+pub struct RecordPrinter<K: Before, P: PrintRecord, W: Write> {
+    out: Printer<W>,
+    handed: Option<Seen<Rec>>,
+    of: PhantomData<(K, P)>,
+}
+
+impl<K: Before, P: PrintRecord, W: Write> Model for RecordPrinter<K, P, W> {
+    ghost use Rattle.std.specs.List.{flat_map};
     ghost use Rattle.sd_printer.specs.Says.{Says, said_view};
+    ghost use Rattle.sd_records.specs.Sink.{SinkIs, records_of};
 
     ghost Value = { SinkIs W };
 
     ghost view = { λ s. record { out = s.out; got = records_of s.handed } };
 
     ghost invariant = { λ s. Says K.before (said_view W.contents s.out)
-        (records_lines (records_of s.handed)) };
+        (flat_map P.lines (records_of s.handed)) };
 }
 
-impl<K: Before, W: Write> RecordPrinter<K, W> {
+impl<K: Before, P: PrintRecord, W: Write> RecordPrinter<K, P, W> {
     /// One that got no record yet.
     pub fn new(out: Printer<W>) -> Self
         requires { said_view W.contents out ≡ K.before }
@@ -59,7 +68,7 @@ impl<K: Before, W: Write> RecordPrinter<K, W> {
 
     /// The printer, which printed the lines of what was got.
     pub fn into_printer(self) -> Printer<W>
-        ensures { Says K.before (said_view W.contents result) (records_lines self.got) }
+        ensures { Says K.before (said_view W.contents result) (flat_map P.lines self.got) }
     {
         let RecordPrinter {
             out,
@@ -70,7 +79,7 @@ impl<K: Before, W: Write> RecordPrinter<K, W> {
     }
 }
 
-impl<K: Before, W: Write> Sink for RecordPrinter<K, W> {
+impl<K: Before, P: PrintRecord, W: Write> Sink for RecordPrinter<K, P, W> {
     ghost got = { λ s. s.got };
 
     /// Once nothing more can be printed, no record is taken.
@@ -79,7 +88,7 @@ impl<K: Before, W: Write> Sink for RecordPrinter<K, W> {
             return Err(AllocError);
         }
         let handed = Seen::with(&self.handed, &rec);
-        print_record(&rec, &mut self.out);
+        P::print(&rec, &mut self.out);
         self.handed = Some(handed);
         Ok(())
     }
