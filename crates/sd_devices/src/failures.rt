@@ -12,10 +12,10 @@ pub trait History {
     fn kinds() -> &'static [(Call, u64, &'static [When])];
 }
 
-/// The ways in which a call fails that can be half done.
+/// Each way in which a plan makes a call fail. One that can't be half done then fails before it does anything.
 pub const EACH_WAY: &[When] = &[When::Before, When::Half, When::After];
 
-/// The ways in which any other call fails.
+/// The same without the half, which says more of an append alone.
 pub const TWO_WAYS: &[When] = &[When::Before, When::After];
 
 /// The history without a failure, and where each call of it in turn fails in each way.
