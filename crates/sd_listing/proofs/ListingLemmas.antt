@@ -1,8 +1,7 @@
 -- The lines of a volume's blocks, one after another.
 use Rattle.std.proofs.Common.{◌≡◌, ◌≢◌, inl, inr, Option, Some, None, Result, Err, ℕ, ◌+◌, List, [], ◌∷◌, ◌++◌, length, take, drop, ap, ap₂, sym, ◌∙◌, subst, arith, refl}
 use Rattle.std.proofs.lemmas.List.{append_assoc, append-nil, drop-drop, length-append, length-drop, take-append-drop}
-use Rattle.sd_base.specs.Limits.{most_block}
-use Rattle.sd_block.specs.Image.{IsImage, block_image}
+use Rattle.sd_block.specs.Image.{block_image}
 use Rattle.std.specs.Prelude.{IsErrOf}
 use Rattle.sd_driver.specs.Shelf.{Held, BeginsWith}
 use Rattle.sd_driver.specs.Meaning.{Meaning}
@@ -10,40 +9,16 @@ use Rattle.sd_driver.specs.declared.driver.DriverFault.{DriverFault}
 use Rattle.sd_driver.specs.declared.driver.DriverFault.TheVariants as driver
 use Rattle.sd_volume.specs.Device.{OnlyReads}
 use Rattle.sd_volume.proofs.DeviceLemmas.{OnlyReads-as}
-use Rattle.sd_listing.specs.declared.listing.ListFault.{ListFault}
 use Rattle.sd_listing.specs.declared.listing.ListFault.TheVariants as fault
-use Rattle.sd_volume.specs.Adopt.{BlockStandsAt}
-use Rattle.sd_block.proofs.ImageLemmas.{one_image, length-block_image}
+use Rattle.sd_volume.specs.Adopt.{BlockStandsAt, IsLabelled}
+use Rattle.sd_block.proofs.ImageLemmas.{length-block_image}
 use Rattle.sd_block.specs.declared.head.Head.{Head}
 use Rattle.sd_label.specs.declared.label.VolumeLabel.{VolumeLabel}
-use Rattle.sd_label.specs.Label.{IsVolumeLabel, volume_label_bytes}
-use Rattle.sd_volume.specs.Image.{Block, BeginsWithBlock, NoBlockNext, images, no_session, label_block, VolumeImage}
-use Rattle.sd_volume.specs.Reader.{IsBlockOf}
-use Rattle.sd_volume.proofs.ImageLemmas.{block_and_behind, label_image, length-label_block, one_block_more, volume_end-more}
+use Rattle.sd_label.specs.Label.{IsVolumeLabel}
+use Rattle.sd_volume.specs.Image.{Block, BeginsWithBlock, NoBlockNext, images, label_block, VolumeImage}
+use Rattle.sd_volume.proofs.ImageLemmas.{one_block_more, volume_end-more}
 use Rattle.sd_words.specs.Lines.{line}
-use Rattle.sd_listing.specs.Listing.{IsLabelled, Lists, list_fault_of, ListsFront, ListsUpTo, ListsWhole, block_lines, head_of, head_text, label_text, tail_text}
-
--- a volume begins with its label block
-pub label_begins : (name bytes : List ℕ) (label : VolumeLabel) → IsLabelled name bytes label → BeginsWithBlock bytes no_session 0 (volume_label_bytes label)
-label_begins name bytes label is =
-    let image = label_image label is.label_is in
-    let long = length-label_block label in
-    record {
-      image_is = ap (λ n. take n bytes) (sym long) ∙ is.begins;
-      fits = image.fits;
-      least = image.least;
-      most = image.most;
-    }
-
--- so the block that was shown at its front is its label block
-pub shown_is_label : (name bytes shown : List ℕ) (head : Head) (label : VolumeLabel) → shown ≡ take head.size bytes → IsBlockOf shown head → IsLabelled name bytes label
-    → shown ≡ label_block label
-shown_is_label name bytes shown head label is block ours =
-    let own : IsImage most_block shown = record { key = head.key; number = head.number; body = block.body; block = block.image } in
-    let other : IsImage most_block (label_block label) = record { key = no_session; number = 0; body = volume_label_bytes label; block = label_image label ours.label_is } in
-    let both : shown ++ drop head.size bytes ≡ label_block label ++ drop (24 + length (volume_label_bytes label)) bytes =
-    ap (λ (l : List ℕ). l ++ drop head.size bytes) is ∙ take-append-drop head.size bytes ∙ block_and_behind bytes no_session 0 (volume_label_bytes label) (label_begins name bytes label ours) in
-    (one_image most_block most_block shown (label_block label) _ _ own other both).0
+use Rattle.sd_listing.specs.Listing.{Lists, list_fault_of, ListsFront, ListsUpTo, ListsWhole, block_lines, head_of, head_text, label_text, tail_text}
 
 -- What is listed.
 
@@ -148,14 +123,6 @@ lists_none name found driver.Exists never gone = absurd (never.0 refl)
 lists_none name found driver.NoRoom never gone = absurd (never.1 refl)
 lists_none name found driver.Device never gone = inl refl
 lists_none name found driver.Memory never gone = inl refl
-
--- there was no label
-pub lists_no_label : (name : List ℕ) (found : Option Held) (held : Held) (e : ListFault) → found ≡ Some held → (e ≡ fault.NotOnShelf → ⊥)
-    → (e ≡ fault.NotOurVolume → (label : VolumeLabel) → ¬ IsLabelled name held.bytes label) → Lists name found (Err e) []
-lists_no_label name found held fault.NotOnShelf there gone none = absurd (gone refl)
-lists_no_label name found held fault.NotOurVolume there gone none = (refl, (held, there, none refl))
-lists_no_label name found held fault.Device there gone none = inl refl
-lists_no_label name found held fault.Memory there gone none = inl refl
 
 -- a fault was met among the blocks
 pub lists_given_up : (name : List ℕ) (found : Option Held) (held : Held) (e : DriverFault) (due : List ℕ) → found ≡ Some held → (e ≢ driver.Exists) × (e ≢ driver.NoRoom) → (e ≡ driver.NotThere → ⊥)

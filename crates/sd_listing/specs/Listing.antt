@@ -8,9 +8,9 @@ use Rattle.sd_base.specs.declared.refusal.Refusal.TheVariants as refusal
 use Rattle.sd_block.specs.declared.head.Head.{Head}
 use Rattle.sd_driver.specs.declared.driver.DriverFault.{DriverFault}
 use Rattle.sd_driver.specs.declared.driver.DriverFault.TheVariants as driver
-use Rattle.sd_driver.specs.Shelf.{Held, BeginsWith}
-use Rattle.sd_label.specs.Label.{IsVolumeLabel}
+use Rattle.sd_driver.specs.Shelf.{Held}
 use Rattle.sd_label.specs.declared.label.VolumeLabel.{VolumeLabel}
+use Rattle.sd_volume.specs.Adopt.{IsLabelled}
 use Rattle.sd_volume.specs.Image.{Block as StoredBlock, NoBlockNext, label_block, volume_end, VolumeImage, WholeImage}
 use Rattle.sd_words.specs.Lines.{line}
 use Rattle.sd_listing.specs.declared.list_line.ListLine.{ListLine}
@@ -58,18 +58,6 @@ front_lines label blocks = line (label_text label) ++ block_lines 1 (length (lab
 -- all lines of a volume with a tail of so many bytes
 abbrev pub volume_lines : VolumeLabel → List StoredBlock → ℕ → List ℕ
 volume_lines label blocks count = front_lines label blocks ++ line (tail_text count)
-
--- the bytes begin with the block of this label, which has this name
-pub record IsLabelled (name bytes : List ℕ) (label : VolumeLabel) : Type 0 where
-  pub label_is : IsVolumeLabel label
-  pub name_is : label.name ≡ name
-  pub begins : BeginsWith bytes (label_block label)
-
--- the block is the label block of this label, which has this name
-pub record IsLabelOf (name block : List ℕ) (label : VolumeLabel) : Type 0 where
-  pub label_is : IsVolumeLabel label
-  pub name_is : label.name ≡ name
-  pub block_is : block ≡ label_block label
 
 -- The bytes are listed whole: the label of that name, all blocks behind it, numbered 1, 2 and on, up to the first
 -- place where no whole block with the next number stands, and how many bytes stand there still.

@@ -11,7 +11,7 @@ use Rattle.sd_label.specs.declared.label.VolumeLabel.{VolumeLabel}
 use Rattle.sd_label.specs.Label.{IsVolumeLabel, volume_label_bytes}
 use Rattle.sd_volume.specs.Image.{Block, BeginsWithBlock, no_session, label_block, VolumeImage}
 use Rattle.sd_volume.specs.Reader.{IsBlockOf}
-use Rattle.sd_volume.specs.Adopt.{GoesUpTo, HasBlockOfThisRun, BlockStandsAt, IsVolumeOf}
+use Rattle.sd_volume.specs.Adopt.{GoesUpTo, HasBlockOfThisRun, BlockStandsAt, IsLabelled}
 use Rattle.sd_volume.proofs.ImageLemmas.{block_and_behind, own_image, one_block_there, one_block_more, volume_end-more, length-image, label_image, length-label_block}
 
 -- at one place begins one block
@@ -80,7 +80,7 @@ pub block_header_least : (block : List ℕ) (head : Head) → IsBlockOf block he
 block_header_least block head is = omega (arith, length-image block head.key head.number is.body is.image)
 
 -- a volume begins with its label block
-pub label_begins : (name bytes : List ℕ) (label : VolumeLabel) → IsVolumeOf name bytes label → BeginsWithBlock bytes no_session 0 (volume_label_bytes label)
+pub label_begins : (name bytes : List ℕ) (label : VolumeLabel) → IsLabelled name bytes label → BeginsWithBlock bytes no_session 0 (volume_label_bytes label)
 label_begins name bytes label is =
     let image = label_image label is.label_is in
     let long = length-label_block label in
@@ -92,7 +92,7 @@ label_begins name bytes label is =
     }
 
 -- so the block that was shown at its front is its label block
-pub shown_is_label : (name bytes shown : List ℕ) (head : Head) (label : VolumeLabel) → shown ≡ take head.size bytes → IsBlockOf shown head → IsVolumeOf name bytes label
+pub shown_is_label : (name bytes shown : List ℕ) (head : Head) (label : VolumeLabel) → shown ≡ take head.size bytes → IsBlockOf shown head → IsLabelled name bytes label
     → shown ≡ label_block label
 shown_is_label name bytes shown head label is block ours =
     let own : IsImage most_block shown = record { key = head.key; number = head.number; body = block.body; block = block.image } in

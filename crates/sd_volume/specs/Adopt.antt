@@ -9,9 +9,20 @@ use Rattle.sd_volume.specs.declared.volume.VolumeStatus.{VolumeStatus}
 use Rattle.sd_volume.specs.declared.volume.VolumeStatus.TheVariants.{Append, Full}
 use Rattle.sd_volume.specs.declared.fault.AdoptFault.{AdoptFault}
 use Rattle.sd_volume.specs.declared.fault.AdoptFault.TheVariants.{NotOnShelf, NotOurVolume, OtherMedia, BlocksOfThisRun, Device, Memory}
-use Rattle.sd_volume.specs.declared.survey.Labelled.{Labelled}
 use Rattle.sd_volume.specs.Image.{Block, label_block, volume_end, BeginsWithBlock, VolumeImage, WholeImage}
 use Rattle.sd_volume.specs.Volume.{VolumeView, StandsOn}
+
+-- the bytes begin with the block of this label, which has this name
+pub record IsLabelled (name bytes : List ℕ) (label : VolumeLabel) : Type 0 where
+  pub label_is : IsVolumeLabel label
+  pub name_is : label.name ≡ name
+  pub begins : BeginsWith bytes (label_block label)
+
+-- the block is the label block of this label, which has this name
+pub record IsLabelOf (name block : List ℕ) (label : VolumeLabel) : Type 0 where
+  pub label_is : IsVolumeLabel label
+  pub name_is : label.name ≡ name
+  pub block_is : block ≡ label_block label
 
 -- the bytes are a volume of this profile with this name: the block of its label begins them, and they are no
 -- longer than a volume may be
@@ -121,10 +132,3 @@ abbrev pub BlockStandsAt : ℕ → ℕ → List ℕ → Head → Type 0
 BlockStandsAt at number bytes head =
     (body : List ℕ) × BeginsWithBlock (drop at bytes) head.key number body
     × (head.size ≡ block_header + length body)
-
--- the block is the label block of what was read from it, under that name
-pub record IsLabelled (name block : List ℕ) (found : Labelled) : Type 0 where
-  pub label_is : IsVolumeLabel found.label
-  pub name_is : found.label.name ≡ name
-  pub block_is : block ≡ label_block found.label
-  pub first_is : found.first ≡ length block

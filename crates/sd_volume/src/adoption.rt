@@ -128,7 +128,9 @@ fn find_volume<D: Driver>(
         → IfErr result (λ fault. fault ≢ AdoptFault.Device → fault ≢ AdoptFault.Memory
         → IsDue fault name.now media.now start_time (D.meaning driver.old).shelf) }
 {
-    let found = read_label(driver, reader, name, size)?;
+    let Some(found) = read_label(driver, reader, name, size)? else {
+        return Err(AdoptFault::NotOurVolume);
+    };
     if !found.label.media.is_same(media) {
         return Err(AdoptFault::OtherMedia);
     }

@@ -21,4 +21,5 @@ pub use laws::{
     whole_image_goes_on,
 };
 pub use reader::VolumeReader;
+pub use survey::{Labelled, numbered_block, read_label};
 pub use volume::{Volume, VolumeStatus};

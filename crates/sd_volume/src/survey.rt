@@ -5,7 +5,7 @@ ghost use Rattle.sd_driver.specs.Meaning.{IsHonest};
 ghost use Rattle.sd_driver.specs.Shelf.{Held, BeginsWith};
 ghost use Rattle.sd_label.specs.Label.{IsVolumeLabel};
 ghost use Rattle.sd_label.specs.declared.label.VolumeLabel.{VolumeLabel as SpecLabel};
-ghost use Rattle.sd_volume.specs.Adopt.{IsVolumeOf, HasBlockOfThisRun, GoesUpTo, BlockStandsAt, IsLabelled};
+ghost use Rattle.sd_volume.specs.Adopt.{IsLabelled, IsLabelOf, HasBlockOfThisRun, GoesUpTo, BlockStandsAt};
 ghost use Rattle.sd_volume.specs.Device.{OnlyReads};
 ghost use Rattle.sd_volume.specs.Image.{NoBlockNext, no_session, label_block};
 ghost use Rattle.sd_volume.specs.Reader.{Shows, IsBlockOf};
@@ -21,9 +21,9 @@ use sd_label::{VolumeLabel, read_volume_label};
 
 /// The label of a volume, and where its first block begins.
 #[derive(Drop)]
-pub(crate) struct Labelled {
-    pub(crate) label: VolumeLabel,
-    pub(crate) first: u64,
+pub struct Labelled {
+    pub label: VolumeLabel,
+    pub first: u64,
 }
 
 /// Where the blocks of a volume end, and which number the next one gets.
@@ -33,67 +33,69 @@ pub(crate) struct End {
     pub(crate) next_number: u32,
 }
 
-/// The label of a volume of that size, which is to have that name.
-pub(crate) fn read_label<D: Driver>(
+/// The label of a volume of that size, which is to have that name, or `None` where no label block of that name
+/// begins it.
+pub fn read_label<D: Driver>(
     driver: &mut D,
     reader: &mut VolumeReader,
     name: &VolName,
     size: u64,
-) -> Result<Labelled, AdoptFault>
+) -> Result<Option<Labelled>, DriverFault>
     ensures name { reader.new.name ≡ reader.old.name }
-    ensures device { OnlyReads (IsErrOf result AdoptFault.Device)
+    ensures device { OnlyReads (IsErrOf result DriverFault.Device)
         (D.meaning driver.old) (D.meaning driver.new) }
     ensures faults { IfErr result
-        (λ fault. (fault ≢ AdoptFault.OtherMedia) × (fault ≢ AdoptFault.BlocksOfThisRun)) }
-    ensures label { IfOk result (λ found. IsVolumeLabel found.label) }
-    ensures named { IfOk result (λ found. found.label.name ≡ name.now) }
-    ensures first { IfOk result (λ found. found.first ≡ length (label_block found.label)) }
-    ensures within { IfOk result (λ found. found.first ≤ size) }
+        (λ fault. (fault ≢ DriverFault.Exists) × (fault ≢ DriverFault.NoRoom)) }
+    ensures label { IfOk result (λ read. IfSome read (λ found. IsVolumeLabel found.label)) }
+    ensures named { IfOk result (λ read. IfSome read (λ found. found.label.name ≡ name.now)) }
+    ensures first { IfOk result (λ read. IfSome read
+        (λ found. found.first ≡ length (label_block found.label))) }
+    ensures within { IfOk result (λ read. IfSome read (λ found. found.first ≤ size)) }
 
     ensures begins { IsHonest (D.meaning driver.old) → Shows reader.old (D.meaning driver.old).shelf
         → (held : Held) → (D.meaning driver.old).shelf.volume reader.old.name ≡ Some held
-        → IfOk result (λ found. BeginsWith held.bytes (label_block found.label)) }
+        → IfOk result (λ read. IfSome read
+        (λ found. BeginsWith held.bytes (label_block found.label))) }
     ensures not_ours { IsHonest (D.meaning driver.old)
         → Shows reader.old (D.meaning driver.old).shelf
         → (held : Held) → (D.meaning driver.old).shelf.volume reader.old.name ≡ Some held
-        → size ≡ length held.bytes → IsErrOf result AdoptFault.NotOurVolume
-        → (label : SpecLabel) → ¬ IsVolumeOf name.now held.bytes label }
+        → size ≡ length held.bytes → IfOk result (λ read. IfNone read
+        ((label : SpecLabel) → ¬ IsLabelled name.now held.bytes label)) }
     ensures shows { IsHonest (D.meaning driver.old) → Shows reader.old (D.meaning driver.old).shelf
         → Shows reader.new (D.meaning driver.new).shelf }
-    ensures not_there { IsHonest (D.meaning driver.old) → IsErrOf result AdoptFault.NotOnShelf
+    ensures not_there { IsHonest (D.meaning driver.old) → IsErrOf result DriverFault.NotThere
         → (D.meaning driver.old).shelf.volume reader.old.name ≡ None }
 {
     let Some(head) = next_block(driver, reader, 0)? else {
-        return Err(AdoptFault::NotOurVolume);
+        return Ok(None);
     };
-    if head.size as u64 > size {
-        return Err(AdoptFault::NotOurVolume);
+    let first = head.size as u64;
+    if first > size {
+        return Ok(None);
     }
-    label_of(name, &head, reader.shown())
+    let Some(label) = label_of(name, &head, reader.shown()) else {
+        return Ok(None);
+    };
+    Ok(Some(Labelled { label, first }))
 }
 
-// The label that a block holds, which is to be a label block with that name.
-fn label_of(name: &VolName, head: &Head, block: &[u8]) -> Result<Labelled, AdoptFault>
+// The label that a block holds, where it is a label block with that name.
+fn label_of(name: &VolName, head: &Head, block: &[u8]) -> Option<VolumeLabel>
     requires { IsBlockOf block.now head.now }
-    ensures ok { IfOk result (λ found. IsLabelled name.now block.now found) }
-    ensures err { IfErr result (λ fault. (fault ≡ AdoptFault.NotOurVolume)
-        × ((label : SpecLabel) → IsVolumeLabel label → label.name ≡ name.now
-        → block.now ≢ label_block label)) }
+    ensures some { IfSome result (IsLabelOf name.now block.now) }
+    ensures none { IfNone result ((label : SpecLabel) → ¬ IsLabelOf name.now block.now label) }
 {
     if !is_label_head(head) {
-        return Err(AdoptFault::NotOurVolume);
+        return None;
     }
     let (_, body) = block.split_at(BLOCK_HEADER);
     let Ok(label) = read_volume_label(body) else {
-        return Err(AdoptFault::NotOurVolume);
+        return None;
     };
     if !label.name.is_same(name) {
-        return Err(AdoptFault::NotOurVolume);
+        return None;
     }
-    Ok(Labelled {
-        label,
-        first: block.len() as u64,
-    })
+    Some(label)
 }
 
 // Whether the head is a label block's: it has the number 0, and is of no session.
@@ -144,7 +146,7 @@ pub(crate) fn find_end<D: Driver>(
 {
     let mut end = first;
     let mut next_number = 1;
-    while let Some(head) = numbered_block(driver, reader, end, next_number, size)? {
+    while let Some(head) = numbered_block(driver, reader, end, next_number as u64, size)? {
         if head.key.time >= start_time {
             return Err(AdoptFault::BlocksOfThisRun);
         }
@@ -154,12 +156,13 @@ pub(crate) fn find_end<D: Driver>(
     Ok(End { end, next_number })
 }
 
-// The block with that number at a place of a volume of that size.
-fn numbered_block<D: Driver>(
+/// The block with that number at a place of a volume of that size, or `None` where no such block stands there
+/// whole.
+pub fn numbered_block<D: Driver>(
     driver: &mut D,
     reader: &mut VolumeReader,
     at: u64,
-    number: u32,
+    number: u64,
     size: u64,
 ) -> Result<Option<Head>, DriverFault>
     requires { at ≤ size }
@@ -170,6 +173,7 @@ fn numbered_block<D: Driver>(
         (λ fault. (fault ≢ DriverFault.Exists) × (fault ≢ DriverFault.NoRoom)) }
     ensures within { IfOk result (λ found. IfSome found
         (λ head. (least_block ≤ head.size) × (at + head.size ≤ size))) }
+    ensures number { IfOk result (λ found. IfSome found (λ head. head.number ≡ number)) }
 
     ensures there { IsHonest (D.meaning driver.old) → Shows reader.old (D.meaning driver.old).shelf
         → (held : Held) → (D.meaning driver.old).shelf.volume reader.old.name ≡ Some held
@@ -186,7 +190,7 @@ fn numbered_block<D: Driver>(
     let Some(head) = next_block(driver, reader, at)? else {
         return Ok(None);
     };
-    if head.number != number {
+    if head.number as u64 != number {
         return Ok(None);
     }
     if head.size as u64 > size - at {
