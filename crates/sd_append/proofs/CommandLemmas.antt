@@ -17,7 +17,7 @@ use Rattle.sd_append.specs.declared.command.CommandFault.TheVariants.{BadCommand
 use Rattle.sd_append.specs.declared.command.Kind.{Kind}
 use Rattle.sd_append.specs.declared.command.Kind.TheVariants as kinds
 use Rattle.sd_append.specs.Text.{trimmed}
-use Rattle.sd_append.specs.Command.{head_text, kind_of, IsNumber, HasBody, HasShape, HasForm, AreNames}
+use Rattle.sd_append.specs.Command.{head_text, kind_of, IsNumber, HasBody, HasShape, SpellsCommand, AreNames}
 use Rattle.sd_append.specs.Reading.{behind, keyed_at, keyed_number_at, open_shape, read_shape, Gives, Tells}
 
 -- What stands behind a key.
@@ -251,7 +251,7 @@ shape_from packet kind rest command line kind_is body = record {
 }
 
 pub told_found : (packet : List ℕ) (kind : Kind) (rest : List ℕ) (r : Result Command CommandFault) → Begins packet kind rest → Tells kind rest r
-    → (command : Command) → HasForm packet command → r ≡ Ok command
+    → (command : Command) → SpellsCommand packet command → r ≡ Ok command
 told_found packet kind rest (Ok found) line told command has =
     let is = shape_of packet kind rest command line has.shape in
     ap Ok (body_one rest found command (told.0 ∙ sym is.kind_is) told.1 is.body)

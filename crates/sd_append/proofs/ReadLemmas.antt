@@ -9,9 +9,9 @@ use Rattle.sd_bnet.specs.declared.packet.Packet.TheVariants.{Bytes}
 use Rattle.sd_append.specs.declared.line.Line.TheVariants as lines
 use Rattle.sd_append.specs.Header.{HeaderParts}
 use Rattle.sd_append.specs.Line.{line_text}
-use Rattle.sd_append.specs.Out.{OutView, Puts}
+use Rattle.sd_append.specs.Out.{OutView, PutsOut}
 use Rattle.sd_append.specs.Talk.{end_of_data, record_said}
-use Rattle.sd_append.proofs.OutLemmas.{puts_none, puts_then}
+use Rattle.sd_append.proofs.OutLemmas.{puts_then}
 use Rattle.sd_append.proofs.TalkLemmas.{says_one, says_then}
 use Rattle.std.proofs.lemmas.List.{append_assoc, append-nil}
 
@@ -21,23 +21,19 @@ records-last (s ∷ rs) r =
     ap (λ (l : List Packet). record_said s ++ l) (records-last rs r) ∙ sym (append_assoc (record_said s) (flat_map record_said rs) (record_said r))
 
 -- the packets of one record more
-pub one_more : (a b c : OutView) (rs : List Record) (r : Record) (all : List Record) → all ≡ rs ++ r ∷ [] → Puts a b (stream_of (flat_map record_said rs))
-    → Puts b c (stream_of (record_said r)) → Puts a c (stream_of (flat_map record_said all))
+pub one_more : (a b c : OutView) (rs : List Record) (r : Record) (all : List Record) → all ≡ rs ++ r ∷ [] → PutsOut a b (stream_of (flat_map record_said rs))
+    → PutsOut b c (stream_of (record_said r)) → PutsOut a c (stream_of (flat_map record_said all))
 one_more a b c rs r all is p q =
-    subst (λ (ps : List Packet). Puts a c (stream_of ps)) (sym (ap (flat_map record_said) is ∙ records-last rs r))
+    subst (λ (ps : List Packet). PutsOut a c (stream_of ps)) (sym (ap (flat_map record_said) is ∙ records-last rs r))
     (says_then a b c (flat_map record_said rs) (record_said r) p q)
 
--- none yet
-pub none_yet : (a b : OutView) → b ≡ a → Puts a b (stream_of (flat_map record_said []))
-none_yet a b is = subst (λ (v : OutView). Puts a v []) (sym is) (puts_none a)
-
 pub record_says : (a b c d : OutView) (r : Record) (header : HeaderParts) (data_bytes : List ℕ) → header.index ≡ r.index → header.stream ≡ r.stream → data_bytes ≡ r.bytes
-    → Puts a b (packet_bytes (Bytes (line_text (lines.Header header)))) → Puts b c (packet_bytes (Bytes data_bytes)) → Puts c d (packet_bytes end_of_data) → Puts a d (stream_of (record_said r))
+    → PutsOut a b (packet_bytes (Bytes (line_text (lines.Header header)))) → PutsOut b c (packet_bytes (Bytes data_bytes)) → PutsOut c d (packet_bytes end_of_data) → PutsOut a d (stream_of (record_said r))
 record_says a b c d r header data_bytes index stream same p q s =
     let own : HeaderParts = record { index = r.index; stream = r.stream } in
     let is : header ≡ own = ap₂ (λ (i j : ℕ). record { index = i; stream = j }) index stream in
-    let first = subst (λ (h : HeaderParts). Puts a b (packet_bytes (Bytes (line_text (lines.Header h))))) is p in
-    let second = subst (λ (bytes : List ℕ). Puts b c (packet_bytes (Bytes bytes))) same q in
+    let first = subst (λ (h : HeaderParts). PutsOut a b (packet_bytes (Bytes (line_text (lines.Header h))))) is p in
+    let second = subst (λ (bytes : List ℕ). PutsOut b c (packet_bytes (Bytes bytes))) same q in
     let ending = says_one c d end_of_data s in
     puts_then a b d (packet_bytes (Bytes (line_text (lines.Header own)))) (packet_bytes (Bytes r.bytes) ++ stream_of (end_of_data ∷ [])) first
     (puts_then b c d (packet_bytes (Bytes r.bytes)) (stream_of (end_of_data ∷ [])) second ending)

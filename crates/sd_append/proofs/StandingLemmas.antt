@@ -18,7 +18,7 @@ use Rattle.sd_append.specs.declared.stage.Stage.{Stage}
 use Rattle.sd_append.specs.declared.stage.Stage.TheVariants.{Command}
 use Rattle.sd_append.specs.Conversation.{Converses}
 use Rattle.sd_append.specs.Does.{Does}
-use Rattle.sd_append.specs.Out.{OutView, Puts}
+use Rattle.sd_append.specs.Out.{OutView, PutsOut}
 use Rattle.sd_append.specs.Port.{Exchange}
 use Rattle.sd_append.specs.Standing.{Around, Comes, EndsBehind, EndsInput, Halts, Stands, around, fault_end}
 use Rattle.sd_append.proofs.ConverseLemmas.{converses_none, does_then}
@@ -94,7 +94,7 @@ stands_first moment left asked out state fits = record {
   goes_on = ((λ over. over), new_waits state fits);
 }
 
-does_written : (f : List Exchange → List Packet → Type 0) (before after : List Exchange) (a b c : OutView) → Does f before after a b → Puts b c [] → Does f before after a c
+does_written : (f : List Exchange → List Packet → Type 0) (before after : List Exchange) (a b c : OutView) → Does f before after a b → PutsOut b c [] → Does f before after a c
 does_written f before after a b c does puts = record {
   asked = does.asked;
   out = does.out;
@@ -104,7 +104,7 @@ does_written f before after a b c does puts = record {
 }
 
 -- what waited was written out
-pub stands_written : (moment : ℤ) (start : Around) (left : Option (List ℕ)) (asked : List Exchange) (old new : OutView) (state : FeederState) (stage : Stage) (bytes : List ℕ) → Puts old new []
+pub stands_written : (moment : ℤ) (start : Around) (left : Option (List ℕ)) (asked : List Exchange) (old new : OutView) (state : FeederState) (stage : Stage) (bytes : List ℕ) → PutsOut old new []
     → Stands moment start (around left asked old) state stage bytes → Stands moment start (around left asked new) state stage bytes
 stands_written moment start left asked old new state stage bytes puts h = record {
   packets = h.packets;
@@ -115,22 +115,6 @@ stands_written moment start left asked old new state stage bytes puts h = record
 }
 
 -- Pieces of the input.
-
--- memory was wanted for the packets of a piece
-pub piece_lost : (moment : ℤ) (start : Around) (left remains : Option (List ℕ)) (asked : List Exchange) (out : OutView) (state next : FeederState) (stage : Stage) (bytes piece : List ℕ) (e : AllocError)
-    → Consumes left remains piece → Stands moment start (around left asked out) state stage bytes → Comes moment (Some (Err e)) start (around remains asked out) next stage (bytes ++ piece)
-piece_lost moment start left remains asked out state next stage bytes piece e more h =
-    let p = parts state bytes h.packets h.fits in (
-      record {
-        packets = h.packets;
-        rest = p.0;
-        read = consumes_then start.left left remains bytes piece h.read more;
-        parted = (bytes, piece, refl, p.1);
-        takes = h.takes;
-        ends = tt;
-      },
-      λ wrong. cc wrong,
-    )
 
 -- the packets of a piece were taken
 pub piece_taken : (moment : ℤ) (end : Option (Result TalkEnd AllocError)) (start : Around) (left remains : Option (List ℕ)) (asked asks : List Exchange) (old new : OutView)
@@ -270,7 +254,7 @@ TurnComes moment end start now state stage bytes room =
 
 -- what waited could not be written out
 pub turn_unwritten : (moment : ℤ) (fault : OutFault) (end : Result TalkEnd AllocError) (start : Around) (left : Option (List ℕ)) (asked : List Exchange) (old new : OutView) (state : FeederState) (stage : Stage) (bytes : List ℕ) (room : ℕ)
-    → end ≡ fault_end fault → Puts old new [] → Stands moment start (around left asked old) state stage bytes → TurnComes moment (Some end) start (around left asked new) state stage bytes room
+    → end ≡ fault_end fault → PutsOut old new [] → Stands moment start (around left asked old) state stage bytes → TurnComes moment (Some end) start (around left asked new) state stage bytes room
 turn_unwritten moment fault end start left asked old new state stage bytes room is puts h =
     no_piece moment end start (around left asked new) state stage bytes room
     (subst (λ (e : Result TalkEnd AllocError). Comes moment (Some e) start (around left asked new) state stage bytes) (sym is)
@@ -283,7 +267,7 @@ take_none (x ∷ xs) = refl
 -- the reader gave nothing
 pub turn_at_end : (moment : ℤ) (end : TalkEnd) (start : Around) (left remains : Option (List ℕ)) (asked : List Exchange) (old new : OutView) (state : FeederState) (stage : Stage) (bytes gave : List ℕ) (count room : ℕ)
     → count ≡ 0 → 0 < length gave → (Consumes left remains (take count gave) × (count ≡ 0 → 0 < length gave → IsAtEnd remains)) → EndsInput end state stage
-    → Puts old new [] → Stands moment start (around left asked old) state stage bytes → TurnComes moment (Some (Ok end)) start (around remains asked new) state stage bytes room
+    → PutsOut old new [] → Stands moment start (around left asked old) state stage bytes → TurnComes moment (Some (Ok end)) start (around remains asked new) state stage bytes room
 turn_at_end moment end start left remains asked old new state stage bytes gave count room none some_there read ends puts h =
     no_piece moment (Ok end) start (around remains asked new) state stage bytes room
     (input_ended moment end start left remains asked new state stage bytes ends
@@ -292,7 +276,7 @@ turn_at_end moment end start left remains asked old new state stage bytes gave c
 
 -- the reader failed
 pub turn_unread : (moment : ℤ) (start : Around) (left remains : Option (List ℕ)) (asked : List Exchange) (old new : OutView) (state : FeederState) (stage : Stage) (bytes : List ℕ) (room : ℕ)
-    → Keeps left remains → Puts old new [] → Stands moment start (around left asked old) state stage bytes → TurnComes moment (Some (Ok ReadFault)) start (around remains asked new) state stage bytes room
+    → Keeps left remains → PutsOut old new [] → Stands moment start (around left asked old) state stage bytes → TurnComes moment (Some (Ok ReadFault)) start (around remains asked new) state stage bytes room
 turn_unread moment start left remains asked old new state stage bytes room keeps puts h =
     no_piece moment (Ok ReadFault) start (around remains asked new) state stage bytes room
     (reading_failed moment start left remains asked new state stage bytes keeps (stands_written moment start left asked old new state stage bytes puts h))
@@ -300,7 +284,7 @@ turn_unread moment start left remains asked old new state stage bytes room keeps
 -- the reader gave a piece
 pub turn_taken : (moment : ℤ) (end : Option (Result TalkEnd AllocError)) (start now : Around) (left remains : Option (List ℕ)) (asked : List Exchange) (old new : OutView) (state next : FeederState) (stage stands : Stage)
     (bytes gave : List ℕ) (count room : ℕ) → 0 < count → count ≤ length gave → length gave ≤ room → (Consumes left remains (take count gave) × (count ≡ 0 → 0 < length gave → IsAtEnd remains))
-    → Puts old new [] → Stands moment start (around left asked old) state stage bytes
+    → PutsOut old new [] → Stands moment start (around left asked old) state stage bytes
     → (Consumes left remains (take count gave) → Stands moment start (around left asked new) state stage bytes → Comes moment end start now next stands (bytes ++ take count gave))
     → TurnComes moment end start now next stands bytes room
 turn_taken moment end start now left remains asked old new state next stage stands bytes gave count room some_there within fits read puts h comes = (

@@ -18,13 +18,13 @@ use Rattle.sd_append.specs.declared.command.CommandFault.TheVariants.{BadCommand
 use Rattle.sd_append.specs.declared.stage.Own.{Own}
 use Rattle.sd_append.specs.declared.stage.Stage.{Stage}
 use Rattle.sd_append.specs.declared.stage.Stage.TheVariants.{Command, Header, Records, Spans, BadSpans}
-use Rattle.sd_append.specs.Command.{AreNames, HasForm, HasShape, command_refusal}
+use Rattle.sd_append.specs.Command.{AreNames, SpellsCommand, HasShape, command_refusal}
 use Rattle.sd_append.specs.Does.{Does}
 use Rattle.sd_append.specs.Header.{HeaderParts}
-use Rattle.sd_append.specs.Out.{OutView, Puts}
+use Rattle.sd_append.specs.Out.{OutView, PutsOut}
 use Rattle.sd_append.specs.Port.{Exchange}
 use Rattle.sd_append.specs.Stage.{is_running, own_with}
-use Rattle.sd_append.specs.Talk.{Only, TakesSpan, is_one_line, Obeys, ObeysOpen, ObeysData, ObeysEnd, ObeysClose, ObeysConsole, TakesCommand, TakesHeader, TakesRecord, TakesBytes, refused}
+use Rattle.sd_append.specs.Talk.{Only, TakesSpan, is_one_line, Obeys, ObeysOpen, ObeysData, ObeysEnd, ObeysClose, ObeysConsole, TakesCommand, TakesHeader, TakesRecordPacket, TakesBytes, refused}
 use Rattle.sd_append.specs.Text.{trimmed}
 use Rattle.sd_append.proofs.OutLemmas.{puts_none}
 use Rattle.sd_append.proofs.TalkLemmas.{obeys_as, only_says}
@@ -85,7 +85,7 @@ read_obeyed moment own command key text asked v is same =
 -- a packet that is no command
 pub fault_taken : (moment : ℤ) (own : Option Own) (bytes : List ℕ) (r : Result Asked CommandFault) (fault : CommandFault) (asked : List Exchange) (old new : OutView) → r ≡ Err fault
     → ((r ≡ Err BadName) ↔ ((command : Asked) × HasShape bytes command × (AreNames command → ⊥))) → ((r ≡ Err BadCommand) ↔ ((command : Asked) → HasShape bytes command → ⊥))
-    → Puts old new (stream_of (refused (command_refusal fault) ∷ [])) → Does (λ more out. TakesCommand moment own bytes more out (Command own)) asked asked old new
+    → PutsOut old new (stream_of (refused (command_refusal fault) ∷ [])) → Does (λ more out. TakesCommand moment own bytes more out (Command own)) asked asked old new
 fault_taken moment own bytes r BadName asked old new is bad_name bad_command puts =
     let named = bad_name.0 is in
     does_map (λ more out. Only (refused refusals.BadName ∷ []) (Command own) more out (Command own)) (λ more out. TakesCommand moment own bytes more out (Command own)) asked asked old new
@@ -96,7 +96,7 @@ fault_taken moment own bytes r BadCommand asked old new is bad_name bad_command 
     (λ more out says. inr (inr (bad_command.0 is, says)))
     (only_says (refused refusals.BadCommand ∷ []) (Command own) asked old new puts)
 
-pub command_taken : (moment : ℤ) (own : Option Own) (bytes : List ℕ) (command : Asked) (next : Stage) (before after : List Exchange) (old new : OutView) → HasForm bytes command
+pub command_taken : (moment : ℤ) (own : Option Own) (bytes : List ℕ) (command : Asked) (next : Stage) (before after : List Exchange) (old new : OutView) → SpellsCommand bytes command
     → Does (λ asked out. Obeys moment own command asked out next) before after old new → Does (λ asked out. TakesCommand moment own bytes asked out next) before after old new
 command_taken moment own bytes command next before after old new form does =
     does_map (λ asked out. Obeys moment own command asked out next) (λ asked out. TakesCommand moment own bytes asked out next) before after old new
@@ -155,9 +155,9 @@ header_step moment stage own bytes slice next before after v is same step =
     (quiet_step (λ asked out. TakesHeader own slice asked out next) before after v step))
 
 pub record_step : (moment : ℤ) (stage : Stage) (own : Own) (header : HeaderParts) (bytes : List ℕ) (next : Stage) (before after : List Exchange) (v : OutView) → stage ≡ Records own header
-    → ((asked : List Exchange) × TakesRecord own header bytes asked [] next × (after ≡ before ++ asked)) → Does (λ asked out. TakesBytes moment stage bytes asked out next) before after v v
+    → ((asked : List Exchange) × TakesRecordPacket own header bytes asked [] next × (after ≡ before ++ asked)) → Does (λ asked out. TakesBytes moment stage bytes asked out next) before after v v
 record_step moment stage own header bytes next before after v is step =
-    bytes_as moment stage (Records own header) bytes next before after v v is (quiet_step (λ asked out. TakesRecord own header bytes asked out next) before after v step)
+    bytes_as moment stage (Records own header) bytes next before after v v is (quiet_step (λ asked out. TakesRecordPacket own header bytes asked out next) before after v step)
 
 pub span_step : (moment : ℤ) (stage : Stage) (own : Option Own) (text bytes slice : List ℕ) (next : Stage) (before : List Exchange) (v : OutView) → stage ≡ Spans own text → slice ≡ bytes
     → TakesSpan (is_one_line (trimmed slice)) own text (trimmed slice) [] [] next → Does (λ asked out. TakesBytes moment stage bytes asked out next) before before v v

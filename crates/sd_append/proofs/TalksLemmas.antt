@@ -2,6 +2,7 @@
 use Rattle.std.proofs.Common.{◌≡◌, ◌≢◌, ◌⊎◌, ℕ, ℤ, ◌+◌, ◌*◌, ◌<◌, ◌≤◌, refl, sym, ap, subst, ◌∙◌, arith, inl, inr, Bool, false, List, [], ◌++◌, length, Option, Some, None, Result, Ok, Err, length-append}
 use Rattle.std.specs.Prelude.{is_some}
 use Rattle.std.specs.declared.alloc.AllocError.{AllocError}
+use Rattle.std.proofs.KnownBytes.{Appends-nil}
 use Rattle.std.proofs.lemmas.List.{append_assoc, append-nil}
 use Rattle.sd_bnet.specs.Feeder.{FeederState}
 use Rattle.sd_bnet.specs.Stream.{stream_of}
@@ -13,12 +14,12 @@ use Rattle.sd_append.specs.declared.stage.Own.{Own}
 use Rattle.sd_append.specs.declared.stage.Stage.{Stage}
 use Rattle.sd_append.specs.declared.stage.Stage.TheVariants.{Command}
 use Rattle.sd_append.specs.Conversation.{GivesUpLast, end_says}
-use Rattle.sd_append.specs.Out.{OutView, Puts, PutsBy}
+use Rattle.sd_append.specs.Out.{OutView, PutsOut, PutsBy}
 use Rattle.sd_append.specs.Port.{Exchange}
 use Rattle.sd_append.specs.Stage.{own_of}
 use Rattle.sd_append.specs.Standing.{Around, Halts, Stands, around, written_end}
 use Rattle.sd_append.specs.Talks.{AreWritten, IsCutOff, IsWithin, Talks}
-use Rattle.sd_append.proofs.OutLemmas.{appends_none, puts_all, puts_front, puts_then_nothing}
+use Rattle.sd_append.proofs.OutLemmas.{puts_all, puts_front, puts_then_nothing}
 use Rattle.sd_append.proofs.StandingLemmas.{TurnComes, consumes_none}
 use Rattle.sd_append.proofs.TalkLemmas.{says_then}
 
@@ -31,7 +32,7 @@ written_by (Some faults.Memory) held holds bytes end puts = inr (tt, puts_front 
 
 -- the same of an outbox in which nothing waits, at first and at last
 written_of : (fault : Option OutFault) (old new : OutView) (bytes : List ℕ) (end : Result TalkEnd AllocError) → old.waiting ≡ [] → old.failed ≡ false → new.waiting ≡ []
-    → new.failed ≡ is_some fault → Puts old new bytes → AreWritten old.written new.written bytes end (written_end fault end)
+    → new.failed ≡ is_some fault → PutsOut old new bytes → AreWritten old.written new.written bytes end (written_end fault end)
 written_of fault old new bytes end first well last fails puts =
     written_by fault old.written new.written bytes end
     (subst (λ (b : Bool). PutsBy old.written new.written false b [] [] bytes) fails
@@ -43,7 +44,7 @@ written_of fault old new bytes end first well last fails puts =
 pub talk_ended : (moment : ℤ) (fault : Option OutFault) (start : Around) (left : Option (List ℕ)) (asked after : List Exchange) (old said new : OutView) (stage : Stage) (end : Result TalkEnd AllocError) (bytes : List ℕ)
     → start.out.waiting ≡ [] → start.out.failed ≡ false → Halts moment start (around left asked old) stage end bytes
     → ((giving : List Exchange) × GivesUpLast (own_of stage) giving × (after ≡ asked ++ giving))
-    → Puts old said (stream_of (end_says end)) → Puts said new [] → new.waiting ≡ [] → new.failed ≡ is_some fault
+    → PutsOut old said (stream_of (end_says end)) → PutsOut said new [] → new.waiting ≡ [] → new.failed ≡ is_some fault
     → Talks moment start.left left start.asked after start.out.written new.written (written_end fault end) bytes
 talk_ended moment fault start left asked after old said new stage end bytes first well h gave says ending last fails = record {
   packets = h.packets;
@@ -75,19 +76,13 @@ pub talk_done : (moment : ℤ) (fault given : Option OutFault) (start : Around) 
     → given ≡ fault → own ≡ own_of stage → ended ≡ written_end given end → holds ≡ new.written
     → start.out.waiting ≡ [] → start.out.failed ≡ false → Halts moment start (around left asked old) stage end bytes
     → ((giving : List Exchange) × GivesUpLast own giving × (after ≡ asked ++ giving))
-    → Puts old said (stream_of (end_says end)) → Puts said new [] → new.waiting ≡ [] → new.failed ≡ is_some fault
+    → PutsOut old said (stream_of (end_says end)) → PutsOut said new [] → new.waiting ≡ [] → new.failed ≡ is_some fault
     → Talks moment start.left left start.asked after start.out.written holds ended bytes
 talk_done moment fault given start left asked after old said new stage own end ended holds bytes same whose is held first well h gave says ending last fails =
     subst (λ (w : Option (List ℕ)). Talks moment start.left left start.asked after start.out.written w ended bytes) (sym held)
     (subst (λ (e : Result TalkEnd AllocError). Talks moment start.left left start.asked after start.out.written new.written e bytes) (sym (is ∙ ap (λ (f : Option OutFault). written_end f end) same))
     (talk_ended moment fault start left asked after old said new stage end bytes first well h
     (subst (λ (o : Option Own). (giving : List Exchange) × GivesUpLast o giving × (after ≡ asked ++ giving)) whose gave) says ending last fails))
-
--- its end is the one that was due, or it was cut off
-pub end_or_cut_off : (fault : Option OutFault) (end : Result TalkEnd AllocError) → (written_end fault end ≡ end) ⊎ IsCutOff (written_end fault end)
-end_or_cut_off None end = inl refl
-end_or_cut_off (Some faults.Write) end = inr tt
-end_or_cut_off (Some faults.Memory) end = inr tt
 
 -- without memory for its buffers a talk comes to nothing
 pub talk_without_memory : (moment : ℤ) (left : Option (List ℕ)) (asked : List Exchange) (held : Option (List ℕ)) (e : AllocError) → Talks moment left left asked asked held held (Err e) []
@@ -111,7 +106,7 @@ talk_without_memory moment left asked held e = record {
     ends = tt;
   };
   asked_is = sym (append-nil asked);
-  written = inl (refl, appends_none held);
+  written = inl (refl, Appends-nil held);
 }
 
 -- How much was read.

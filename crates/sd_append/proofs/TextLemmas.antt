@@ -1,8 +1,7 @@
 -- The text of a packet, and the numbers in it.
-use Rattle.std.proofs.Common.{◌≡◌, ◌≢◌, ◌⊎◌, ℕ, ◌^◌, ◌<◌, refl, sym, ap, ap₂, ◌∙◌, arith, inl, inr, true, false, List, [], ◌∷◌, ◌++◌, Option, Some, None}
-use Rattle.std.specs.Prelude.{◌||◌}
+use Rattle.std.proofs.Common.{◌≡◌, ◌≢◌, ◌⊎◌, ℕ, ◌^◌, ◌<◌, refl, sym, ap, ◌∙◌, arith, inl, inr, true, false, List, [], ◌∷◌, ◌++◌, Option, Some, None}
 use Rattle.std.specs.Fmt.{decimal}
-use Rattle.std.proofs.lemmas.Bool.{cond-true, cond-false, ne_eqb}
+use Rattle.std.proofs.lemmas.Bool.{cond-true, cond-false}
 use Rattle.std.proofs.lemmas.Fmt.{digits_decimal}
 use Rattle.std.proofs.lemmas.List.Elements.{All-from_get_or}
 use Rattle.std.proofs.lemmas.Str.Parse.{digit_at}
@@ -17,9 +16,6 @@ use Rattle.sd_append.specs.Text.{is_end, trimmed}
 pub ends : (byte : ℕ) → (byte ≡ 10) ⊎ (byte ≡ 0) → is_end byte ≡ true
 ends byte (inl e) = ap is_end e
 ends byte (inr e) = ap is_end e
-
-pub ends_not : (byte : ℕ) → byte ≢ 10 → byte ≢ 0 → is_end byte ≡ false
-ends_not byte newline zero = ap₂ (λ a b. a || b) (ne_eqb byte 10 newline) (ne_eqb byte 0 zero)
 
 pub trimmed-ended : (front : List ℕ) (last : ℕ) → is_end last ≡ true → trimmed (front ++ last ∷ []) ≡ front
 trimmed-ended [] last e = cond-true (is_end last) _ _ e

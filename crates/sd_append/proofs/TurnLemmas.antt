@@ -19,7 +19,7 @@ use Rattle.sd_append.specs.declared.stage.Own.{Own}
 use Rattle.sd_append.specs.declared.stage.Stage.{Stage}
 use Rattle.sd_append.specs.declared.stage.Stage.TheVariants.{Command}
 use Rattle.sd_append.specs.Does.{Does}
-use Rattle.sd_append.specs.Out.{OutView, Puts}
+use Rattle.sd_append.specs.Out.{OutView, PutsOut}
 use Rattle.sd_append.specs.Port.{Exchange, WasRead}
 use Rattle.sd_append.specs.Stage.{meaning_of}
 use Rattle.sd_append.specs.Talk.{Only, ReadsBack, Takes, TakesEnd, TakesSignal, end_of_data, read_end_said, record_said, refused}
@@ -53,8 +53,8 @@ end_as stage given next before after old new is does =
 -- a session was read back
 pub read_done : (own : Option Own) (text : List ℕ) (key : SessionKey) (spans slice : List Span) (answer : Result ReadEnd Refusal) (before after : List Exchange) (a b c : OutView)
     → IsJobMedia text key spans → slice ≡ spans
-    → ((records : List Record) × (after ≡ before ++ WasRead key slice records answer ∷ []) × Puts a b (stream_of (flat_map record_said records)))
-    → Puts b c (stream_of (end_of_data ∷ read_end_said answer ∷ [])) → Does (λ asked out. ReadsBack own text asked out (Command own)) before after a c
+    → ((records : List Record) × (after ≡ before ++ WasRead key slice records answer ∷ []) × PutsOut a b (stream_of (flat_map record_said records)))
+    → PutsOut b c (stream_of (end_of_data ∷ read_end_said answer ∷ [])) → Does (λ asked out. ReadsBack own text asked out (Command own)) before after a c
 read_done own text key spans slice answer before after a b c says same read ending = record {
   asked = WasRead key spans read.0 answer ∷ [];
   out = flat_map record_said read.0 ++ end_of_data ∷ read_end_said answer ∷ [];
@@ -66,7 +66,7 @@ read_done own text key spans slice answer before after a b c says same read endi
 -- a session can't be read back
 pub read_refused : (own : Option Own) (text : List ℕ) (r : Result SessionSpans JobMediaFault) (fault : JobMediaFault) (before : List Exchange) (a c : OutView) → r ≡ Err fault
     → (r ≡ Err BadSpan → (key : SessionKey) (spans : List Span) → IsJobMedia text key spans → ⊥)
-    → Puts a c (stream_of (end_of_data ∷ refused (jobmedia_refusal fault) ∷ [])) → Does (λ asked out. ReadsBack own text asked out (Command own)) before before a c
+    → PutsOut a c (stream_of (end_of_data ∷ refused (jobmedia_refusal fault) ∷ [])) → Does (λ asked out. ReadsBack own text asked out (Command own)) before before a c
 read_refused own text r BadSpan before a c is none puts =
     does_map (λ asked out. Only (end_of_data ∷ refused refusals.BadSpan ∷ []) (Command own) asked out (Command own)) (λ asked out. ReadsBack own text asked out (Command own)) before before a c
     (λ asked out only. inr (inl (none is, only)))

@@ -65,7 +65,7 @@ pub record HasShape (packet : List ℕ) (command : Command) : Type 0 where
   pub body : HasBody text command
 
 -- the packet's text is ASCII and spells this command
-pub record HasForm (packet : List ℕ) (command : Command) : Type 0 where
+pub record SpellsCommand (packet : List ℕ) (command : Command) : Type 0 where
   pub shape : HasShape packet command
   pub names : AreNames command
 

@@ -22,9 +22,9 @@ Converses moment old (packet ∷ packets) asked out new =
     × (asked ≡ first ++ more) × (out ≡ says ++ later)
 
 -- the client has ended the talk
-abbrev pub IsOver : Stage → Type 0
-IsOver (Over own) = Unit {0}
-IsOver stage = ⊥
+abbrev pub IsEndedByClient : Stage → Type 0
+IsEndedByClient (Over own) = Unit {0}
+IsEndedByClient stage = ⊥
 
 -- a command is due
 abbrev pub IsCommandDue : Stage → Type 0
@@ -46,12 +46,12 @@ end_says end = []
 -- a packet or where no command was due; by a length above the limit; or, before any of these, by a fault of the reader
 -- or by its last turn; or, at any place, by a fault of the writer or for want of memory.
 abbrev pub MayEnd : Result TalkEnd AllocError → Stage → List ℕ → Type 0 → Type 0
-MayEnd (Ok Finished) stage rest ended = IsOver stage ⊎ (IsCommandDue stage × (rest ≡ []) × ended)
+MayEnd (Ok Finished) stage rest ended = IsEndedByClient stage ⊎ (IsCommandDue stage × (rest ≡ []) × ended)
 MayEnd (Ok Truncated) stage rest ended =
-    (IsOver stage → ⊥) × IsUnfinished rest × ((IsCommandDue stage → ⊥) ⊎ IsFront rest) × ended
-MayEnd (Ok TooLong) stage rest ended = (IsOver stage → ⊥) × IsTooLong rest
-MayEnd (Ok ReadFault) stage rest ended = (IsOver stage → ⊥) × IsUnfinished rest
-MayEnd (Ok OutOfTurns) stage rest ended = (IsOver stage → ⊥) × IsUnfinished rest
+    (IsEndedByClient stage → ⊥) × IsUnfinished rest × ((IsCommandDue stage → ⊥) ⊎ IsFront rest) × ended
+MayEnd (Ok TooLong) stage rest ended = (IsEndedByClient stage → ⊥) × IsTooLong rest
+MayEnd (Ok ReadFault) stage rest ended = (IsEndedByClient stage → ⊥) × IsUnfinished rest
+MayEnd (Ok OutOfTurns) stage rest ended = (IsEndedByClient stage → ⊥) × IsUnfinished rest
 MayEnd (Ok WriteFault) stage rest ended = Unit {0}
 MayEnd (Err e) stage rest ended = Unit {0}
 

@@ -2,7 +2,7 @@
 use Rattle.std.specs.Prelude.{◌≡◌, List, ◌++◌}
 use Rattle.sd_bnet.specs.Stream.{stream_of}
 use Rattle.sd_bnet.specs.declared.packet.Packet.{Packet}
-use Rattle.sd_append.specs.Out.{OutView, Puts}
+use Rattle.sd_append.specs.Out.{OutView, PutsOut}
 use Rattle.sd_append.specs.Port.{Exchange}
 
 -- The port was asked something more, and packets went out, so that the outcome holds of them.
@@ -11,4 +11,4 @@ pub record Does (outcome : List Exchange → List Packet → Type 0) (before aft
   pub out : List Packet
   pub outcome_is : outcome asked out
   pub after_is : after ≡ before ++ asked
-  pub puts : Puts old new (stream_of out)
+  pub puts : PutsOut old new (stream_of out)

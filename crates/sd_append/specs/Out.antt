@@ -1,6 +1,5 @@
 -- What a talk puts out: what stands in the writer, and what waits to be written.
 use Rattle.std.specs.Prelude.{◌≡◌, ℕ, Bool, true, false, List, ◌++◌, Option, Some, None, is_some, ⊤}
-use Rattle.std.specs.Io.KnownBytes.{Appends}
 use Rattle.sd_append.specs.declared.outbox.Outbox.{Outbox}
 
 -- the bytes that the writer holds, where they are known; those that wait; and whether writing has failed
@@ -13,11 +12,7 @@ pub record OutView : Type 0 where
 abbrev pub out_view : {W : Type 0} → (W → Option (List ℕ)) → Outbox W → OutView
 out_view contents o = record { written = contents o.writer; waiting = o.waiting.items; failed = is_some o.fault }
 
--- of some bytes these are left, and those before them were appended to what is known
-abbrev pub Sends : Option (List ℕ) → Option (List ℕ) → List ℕ → List ℕ → Type 0
-Sends old new bytes rest = (front : List ℕ) × (bytes ≡ front ++ rest) × Appends old new front
-
--- `Puts`, by what is known of the writer before and after, and by whether writing had failed and has failed
+-- `PutsOut`, by what is known of the writer before and after, and by whether writing had failed and has failed
 abbrev pub PutsBy : Option (List ℕ) → Option (List ℕ) → Bool → Bool → List ℕ → List ℕ → List ℕ → Type 0
 PutsBy None new failed fails waiting waits bytes = ⊤
 PutsBy (Some xs) None failed fails waiting waits bytes = ⊥
@@ -30,5 +25,5 @@ PutsBy (Some xs) (Some ys) true true waiting waits bytes = ys ≡ xs
 
 -- These bytes were put behind what waited: what was written since, and then what waits now, is what waited and then
 -- the bytes. Where writing fails, a front of that was written, and from then on nothing is.
-abbrev pub Puts : OutView → OutView → List ℕ → Type 0
-Puts old new bytes = PutsBy old.written new.written old.failed new.failed old.waiting new.waiting bytes
+abbrev pub PutsOut : OutView → OutView → List ℕ → Type 0
+PutsOut old new bytes = PutsBy old.written new.written old.failed new.failed old.waiting new.waiting bytes

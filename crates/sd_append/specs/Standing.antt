@@ -12,7 +12,7 @@ use Rattle.sd_append.specs.declared.outbox.OutFault.{OutFault}
 use Rattle.sd_append.specs.declared.outbox.OutFault.TheVariants as faults
 use Rattle.sd_append.specs.declared.stage.Stage.{Stage}
 use Rattle.sd_append.specs.declared.stage.Stage.TheVariants.{Command}
-use Rattle.sd_append.specs.Conversation.{Converses, IsCommandDue, IsOver, MayEnd}
+use Rattle.sd_append.specs.Conversation.{Converses, IsCommandDue, IsEndedByClient, MayEnd}
 use Rattle.sd_append.specs.Does.{Does}
 use Rattle.sd_append.specs.Out.{OutView}
 use Rattle.sd_append.specs.Port.{Exchange}
@@ -29,7 +29,7 @@ around left asked out = record { left = left; asked = asked; out = out }
 
 -- the client hasn't ended the talk, and no length was too great
 abbrev pub GoesOn : FeederState → Stage → Type 0
-GoesOn state stage = (IsOver stage → ⊥) × (state ≢ Failed)
+GoesOn state stage = (IsEndedByClient stage → ⊥) × (state ≢ Failed)
 
 -- A talk goes on that has read these bytes and taken their packets at this moment, one after another.
 pub record Stands (moment : ℤ) (start now : Around) (state : FeederState) (stage : Stage) (bytes : List ℕ) : Type 0 where
@@ -61,9 +61,9 @@ Comes moment (Some end) start now state stage bytes = Halts moment start now sta
 
 -- how a talk ends that stands so behind a piece of its input, and whether the piece left its feeder failed; if it ends
 abbrev pub EndsBehind : Option (Result TalkEnd AllocError) → Bool → Stage → Type 0
-EndsBehind None failed stage = (IsOver stage → ⊥) × (IsTrue failed → ⊥)
-EndsBehind (Some (Ok Finished)) failed stage = IsOver stage
-EndsBehind (Some (Ok TooLong)) failed stage = (IsOver stage → ⊥) × IsTrue failed
+EndsBehind None failed stage = (IsEndedByClient stage → ⊥) × (IsTrue failed → ⊥)
+EndsBehind (Some (Ok Finished)) failed stage = IsEndedByClient stage
+EndsBehind (Some (Ok TooLong)) failed stage = (IsEndedByClient stage → ⊥) × IsTrue failed
 EndsBehind (Some end) failed stage = ⊥
 
 -- how a talk ends that stands so where its input ends

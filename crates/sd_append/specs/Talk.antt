@@ -23,7 +23,7 @@ use Rattle.sd_append.specs.declared.signal.Meaning.TheVariants.{EndOfData, Termi
 use Rattle.sd_append.specs.declared.stage.Own.{Own}
 use Rattle.sd_append.specs.declared.stage.Stage.{Stage}
 use Rattle.sd_append.specs.declared.stage.Stage.TheVariants.{Command, Header, Records, Refused, Dropped, Spans, BadSpans, Over}
-use Rattle.sd_append.specs.Command.{AreNames, HasForm, HasShape}
+use Rattle.sd_append.specs.Command.{AreNames, SpellsCommand, HasShape}
 use Rattle.sd_append.specs.Header.{HasHeaderForm, HeaderParts}
 use Rattle.sd_append.specs.Line.{line_text}
 use Rattle.sd_append.specs.Port.{Exchange, Stepped, WasRead, Said}
@@ -142,7 +142,7 @@ Obeys moment own (commands.Console text) asked out new = ObeysConsole own text a
 -- what a packet comes to at this moment where a command is due: a command; or one but for its names; or none
 abbrev pub TakesCommand : ℤ → Option Own → List ℕ → List Exchange → List Packet → Stage → Type 0
 TakesCommand moment own bytes asked out new =
-    ((command : Asked) × HasForm bytes command × Obeys moment own command asked out new)
+    ((command : Asked) × SpellsCommand bytes command × Obeys moment own command asked out new)
     ⊎ ((command : Asked) × HasShape bytes command × (AreNames command → ⊥) × Only (refused BadName ∷ []) (Command own) asked out new)
     ⊎ (((command : Asked) → HasShape bytes command → ⊥) × Only (refused BadCommand ∷ []) (Command own) asked out new)
 
@@ -171,7 +171,7 @@ AppendsIf true own header reply asked out new = Only [] (Records own header) ask
 AppendsIf false own header reply asked out new = Drops (by_reply own reply) (refusal_in reply) asked out new
 
 -- what a packet comes to where a record is due
-pub record TakesRecord (own : Own) (header : HeaderParts) (bytes : List ℕ) (asked : List Exchange) (out : List Packet) (new : Stage) : Type 0 where
+pub record TakesRecordPacket (own : Own) (header : HeaderParts) (bytes : List ℕ) (asked : List Exchange) (out : List Packet) (new : Stage) : Type 0 where
   pub reply : Reply
   pub more : List Exchange
   pub asked_is : asked ≡ Stepped (events.Append own.ticket (record_of header bytes)) reply ∷ more
@@ -205,7 +205,7 @@ TakesSpan false own text more asked out new = Only [] (BadSpans own BadSpan) ask
 abbrev pub TakesBytes : ℤ → Stage → List ℕ → List Exchange → List Packet → Stage → Type 0
 TakesBytes moment (Command own) bytes asked out new = TakesCommand moment own bytes asked out new
 TakesBytes moment (Header own) bytes asked out new = TakesHeader own bytes asked out new
-TakesBytes moment (Records own header) bytes asked out new = TakesRecord own header bytes asked out new
+TakesBytes moment (Records own header) bytes asked out new = TakesRecordPacket own header bytes asked out new
 TakesBytes moment (Refused own refusal) bytes asked out new = Only [] (Dropped own refusal) asked out new
 TakesBytes moment (Dropped own refusal) bytes asked out new = Only [] (Dropped own refusal) asked out new
 TakesBytes moment (Spans own text) bytes asked out new = TakesSpan (is_one_line (trimmed bytes)) own text (trimmed bytes) asked out new

@@ -4,10 +4,10 @@ use Rattle.std.specs.Io.KnownBytes.{Appends, Consumes, IsAtEnd}
 use Rattle.std.specs.declared.alloc.AllocError.{AllocError}
 use Rattle.sd_bnet.specs.Stream.{stream_of}
 use Rattle.sd_bnet.specs.declared.packet.Packet.{Packet}
+use Rattle.sd_printer.specs.Says.{SendsUpTo}
 use Rattle.sd_append.specs.declared.end.TalkEnd.{TalkEnd}
 use Rattle.sd_append.specs.declared.end.TalkEnd.TheVariants.{OutOfTurns, WriteFault}
 use Rattle.sd_append.specs.Conversation.{Conversation}
-use Rattle.sd_append.specs.Out.{Sends}
 use Rattle.sd_append.specs.Port.{Exchange}
 use Rattle.sd_append.specs.Standing.{AreRead}
 
@@ -21,7 +21,7 @@ IsCutOff end = ⊥
 -- written.
 abbrev pub AreWritten : Option (List ℕ) → Option (List ℕ) → List ℕ → Result TalkEnd AllocError → Result TalkEnd AllocError → Type 0
 AreWritten old new bytes due end =
-    ((end ≡ due) × Appends old new bytes) ⊎ (IsCutOff end × ((rest : List ℕ) × Sends old new bytes rest))
+    ((end ≡ due) × Appends old new bytes) ⊎ (IsCutOff end × ((rest : List ℕ) × SendsUpTo old new bytes rest))
 
 -- These bytes were read of what a reader has left, exchanges joined those of a port, and bytes were written behind what
 -- a writer held; and they are a conversation at this moment: its packets in are those of what was read, its packets out

@@ -2,7 +2,7 @@
 ghost use Rattle.std.specs.Prelude.{◌∷◌, [], map};
 ghost use Rattle.sd_bnet.specs.Stream.{stream_of};
 ghost use Rattle.sd_bnet.specs.declared.packet.Packet.TheVariants.{Bytes};
-ghost use Rattle.sd_append.specs.Out.{Puts, out_view};
+ghost use Rattle.sd_append.specs.Out.{PutsOut, out_view};
 ghost use Rattle.sd_append.specs.Talk.{close_said, console_said, end_of_data, end_said, open_said, read_end_said, record_said, refused, said, span_said};
 
 use crate::header::Header;
@@ -18,7 +18,7 @@ use std::io::Write;
 
 /// Says a line.
 pub(crate) fn say<W: Write>(outbox: &mut Outbox<W>, text: Line)
-    ensures { Puts (out_view W.contents outbox.old) (out_view W.contents outbox.new)
+    ensures { PutsOut (out_view W.contents outbox.old) (out_view W.contents outbox.new)
         (stream_of (said text ∷ [])) }
 {
     outbox.line(text);
@@ -26,7 +26,7 @@ pub(crate) fn say<W: Write>(outbox: &mut Outbox<W>, text: Line)
 
 /// Says a refusal.
 pub(crate) fn refuse<W: Write>(outbox: &mut Outbox<W>, refusal: Refusal)
-    ensures { Puts (out_view W.contents outbox.old) (out_view W.contents outbox.new)
+    ensures { PutsOut (out_view W.contents outbox.old) (out_view W.contents outbox.new)
         (stream_of (refused refusal ∷ [])) }
 {
     say(outbox, Line::Refused(refusal));
@@ -34,7 +34,7 @@ pub(crate) fn refuse<W: Write>(outbox: &mut Outbox<W>, refusal: Refusal)
 
 /// Says the reply to an open.
 pub(crate) fn say_open<W: Write>(outbox: &mut Outbox<W>, reply: &Reply)
-    ensures { Puts (out_view W.contents outbox.old) (out_view W.contents outbox.new)
+    ensures { PutsOut (out_view W.contents outbox.old) (out_view W.contents outbox.new)
         (stream_of (open_said reply.now)) }
 {
     match reply {
@@ -45,7 +45,7 @@ pub(crate) fn say_open<W: Write>(outbox: &mut Outbox<W>, reply: &Reply)
 
 /// Says the reply to an end.
 pub(crate) fn say_end<W: Write>(outbox: &mut Outbox<W>, reply: &Reply)
-    ensures { Puts (out_view W.contents outbox.old) (out_view W.contents outbox.new)
+    ensures { PutsOut (out_view W.contents outbox.old) (out_view W.contents outbox.new)
         (stream_of (end_said reply.now)) }
 {
     match reply {
@@ -56,7 +56,7 @@ pub(crate) fn say_end<W: Write>(outbox: &mut Outbox<W>, reply: &Reply)
 
 /// Says the reply to a close.
 pub(crate) fn say_close<W: Write>(outbox: &mut Outbox<W>, reply: &Reply)
-    ensures { Puts (out_view W.contents outbox.old) (out_view W.contents outbox.new)
+    ensures { PutsOut (out_view W.contents outbox.old) (out_view W.contents outbox.new)
         (stream_of (close_said reply.now)) }
 {
     match reply {
@@ -71,7 +71,7 @@ pub(crate) fn say_close<W: Write>(outbox: &mut Outbox<W>, reply: &Reply)
 }
 
 fn say_spans<W: Write>(outbox: &mut Outbox<W>, spans: &[Span])
-    ensures { Puts (out_view W.contents outbox.old) (out_view W.contents outbox.new)
+    ensures { PutsOut (out_view W.contents outbox.old) (out_view W.contents outbox.new)
         (stream_of (map span_said spans.now)) }
 {
     for span in spans {
@@ -84,7 +84,7 @@ pub(crate) fn say_console<W: Write>(
     outbox: &mut Outbox<W>,
     answer: &Result<Items<Payload>, Refusal>,
 )
-    ensures { Puts (out_view W.contents outbox.old) (out_view W.contents outbox.new)
+    ensures { PutsOut (out_view W.contents outbox.old) (out_view W.contents outbox.new)
         (stream_of (console_said answer.now)) }
 {
     match answer {
@@ -97,7 +97,7 @@ pub(crate) fn say_console<W: Write>(
 }
 
 fn say_texts<W: Write>(outbox: &mut Outbox<W>, texts: &[Payload])
-    ensures { Puts (out_view W.contents outbox.old) (out_view W.contents outbox.new)
+    ensures { PutsOut (out_view W.contents outbox.old) (out_view W.contents outbox.new)
         (stream_of (map Bytes texts.now)) }
 {
     for text in texts {
@@ -107,7 +107,7 @@ fn say_texts<W: Write>(outbox: &mut Outbox<W>, texts: &[Payload])
 
 /// Says the end of a read.
 pub(crate) fn say_read_end<W: Write>(outbox: &mut Outbox<W>, answer: Result<ReadEnd, Refusal>)
-    ensures { Puts (out_view W.contents outbox.old) (out_view W.contents outbox.new)
+    ensures { PutsOut (out_view W.contents outbox.old) (out_view W.contents outbox.new)
         (stream_of (end_of_data ∷ read_end_said answer ∷ [])) }
 {
     outbox.end_of_data();
@@ -119,7 +119,7 @@ pub(crate) fn say_read_end<W: Write>(outbox: &mut Outbox<W>, answer: Result<Read
 
 /// Says a record: its header, its data and their end.
 pub(crate) fn say_record<W: Write>(outbox: &mut Outbox<W>, rec: &Rec)
-    ensures { Puts (out_view W.contents outbox.old) (out_view W.contents outbox.new)
+    ensures { PutsOut (out_view W.contents outbox.old) (out_view W.contents outbox.new)
         (stream_of (record_said rec.now)) }
 {
     outbox.text(Line::Header(Header::of(rec)));

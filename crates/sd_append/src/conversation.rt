@@ -3,7 +3,7 @@ ghost use Rattle.std.specs.Prelude.{◌≡◌, ◌⊎◌, ◌<◌, ◌≤◌, �
 ghost use Rattle.std.specs.Io.KnownBytes.{Consumes};
 ghost use Rattle.sd_bnet.specs.Stream.{stream_of};
 ghost use Rattle.sd_append.specs.Conversation.{GivesUpLast, end_says};
-ghost use Rattle.sd_append.specs.Out.{Puts, out_view};
+ghost use Rattle.sd_append.specs.Out.{PutsOut, out_view};
 ghost use Rattle.sd_append.specs.Port.{Exchange};
 ghost use Rattle.sd_append.specs.Standing.{Around, Comes, Halts, Stands, around};
 ghost use Rattle.sd_append.specs.Talks.{IsCutOff, IsWithin, Talks};
@@ -255,7 +255,7 @@ fn give_up_last<P: SessionPort>(own: Option<Own>, port: &mut P)
 
 /// Says what is to be said at this end of a talk.
 fn say_end<W: Write>(end: &Result<TalkEnd, AllocError>, outbox: &mut Outbox<W>)
-    ensures { Puts (out_view W.contents outbox.old) (out_view W.contents outbox.new)
+    ensures { PutsOut (out_view W.contents outbox.old) (out_view W.contents outbox.new)
         (stream_of (end_says end.now)) }
 {
     if let Ok(TalkEnd::TooLong) = end {

@@ -2,7 +2,7 @@
 ghost use Rattle.std.specs.Prelude.{◌≡◌, ◌++◌, [], List};
 ghost use Rattle.sd_append.specs.Port.{Exchange};
 ghost use Rattle.sd_append.specs.Stage.{by_reply, refusal_in};
-ghost use Rattle.sd_append.specs.Talk.{Drops, TakesHeader, TakesRecord, record_of};
+ghost use Rattle.sd_append.specs.Talk.{Drops, TakesHeader, TakesRecordPacket, record_of};
 
 use crate::header::{Header, read_header};
 use crate::obey::give_up;
@@ -31,7 +31,7 @@ pub(crate) fn take_record<P: SessionPort>(
     payload: Payload,
     port: &mut P,
 ) -> Stage
-    ensures asked { (asked : List Exchange) × TakesRecord own header payload asked [] result
+    ensures asked { (asked : List Exchange) × TakesRecordPacket own header payload asked [] result
         × (P.asked port.new ≡ P.asked port.old ++ asked) }
     ensures clock { P.clock port.new ≡ P.clock port.old }
 {

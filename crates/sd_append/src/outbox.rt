@@ -1,15 +1,15 @@
 // What goes out to a client: packets one after another, in as few writes as fit the buffer.
-ghost use Rattle.std.specs.Prelude.{◌≡◌, ◌<◌, ◌≤◌, ◌++◌, ℕ, pos, negsuc, List, [], length, None, OnOk, OnErr, IfSome};
-ghost use Rattle.std.specs.Io.KnownBytes.{Appends};
+ghost use Rattle.std.specs.Prelude.{◌≡◌, ◌<◌, ◌≤◌, ◌++◌, ℕ, pos, negsuc, List, [], length, None, IfSome};
 ghost use Rattle.sd_base.specs.Field.{i32_bytes};
 ghost use Rattle.sd_base.specs.Limits.{most_data};
 ghost use Rattle.sd_words.specs.Lines.{line};
 ghost use Rattle.sd_bnet.specs.Packet.{packet_bytes};
 ghost use Rattle.sd_bnet.specs.declared.packet.Packet.TheVariants.{Bytes, Signal};
-ghost use Rattle.sd_append.specs.Out.{Puts, Sends, out_view};
+ghost use Rattle.sd_append.specs.Out.{PutsOut, out_view};
 
 use arrayvec::ArrayString;
 use sd_base::put_i32;
+use sd_printer::{WriteFault, line_of, write_all};
 use std::fmt::{Display, Write as _};
 use std::io::Write;
 
@@ -79,7 +79,7 @@ impl<W: Write> Outbox<W> {
     /// Puts a packet of these bytes.
     pub(crate) fn packet(&mut self, payload: &[u8])
         requires { length payload.now ≤ most_data }
-        ensures { Puts (out_view W.contents self.old) (out_view W.contents self.new)
+        ensures { PutsOut (out_view W.contents self.old) (out_view W.contents self.new)
             (packet_bytes (Bytes payload.now)) }
     {
         self.put(&length_field(payload.len()));
@@ -88,7 +88,7 @@ impl<W: Write> Outbox<W> {
 
     /// Puts the signal that ends data.
     pub(crate) fn end_of_data(&mut self)
-        ensures { Puts (out_view W.contents self.old) (out_view W.contents self.new)
+        ensures { PutsOut (out_view W.contents self.old) (out_view W.contents self.new)
             (packet_bytes (Signal (negsuc 0))) }
     {
         self.put(&field_of(END_OF_DATA));
@@ -96,7 +96,7 @@ impl<W: Write> Outbox<W> {
 
     /// Puts the signal that answers a heartbeat.
     pub(crate) fn heartbeat_response(&mut self)
-        ensures { Puts (out_view W.contents self.old) (out_view W.contents self.new)
+        ensures { PutsOut (out_view W.contents self.old) (out_view W.contents self.new)
             (packet_bytes (Signal (negsuc 6))) }
     {
         self.put(&field_of(HEARTBEAT_RESPONSE));
@@ -105,10 +105,10 @@ impl<W: Write> Outbox<W> {
     /// Puts a packet of this text and a newline.
     pub(crate) fn line<D: Display + Drop>(&mut self, text: D)
         ensures { IfSome (D.output text) (λ said.
-            Puts (out_view W.contents self.old) (out_view W.contents self.new)
+            PutsOut (out_view W.contents self.old) (out_view W.contents self.new)
             (packet_bytes (Bytes (line said)))) }
     {
-        match line_of(text) {
+        match line_of::<D, LINE_BYTES>(text) {
             Some(said) => self.packet(said.as_str().as_bytes()),
             None => self.fail(OutFault::Memory),
         }
@@ -117,7 +117,7 @@ impl<W: Write> Outbox<W> {
     /// Puts a packet of this text, without a newline.
     pub(crate) fn text<D: Display + Drop>(&mut self, text: D)
         ensures { IfSome (D.output text) (λ said.
-            Puts (out_view W.contents self.old) (out_view W.contents self.new)
+            PutsOut (out_view W.contents self.old) (out_view W.contents self.new)
             (packet_bytes (Bytes said))) }
     {
         match text_of(text) {
@@ -128,7 +128,7 @@ impl<W: Write> Outbox<W> {
 
     /// Writes out what waits.
     pub(crate) fn write_out(&mut self)
-        ensures puts { Puts (out_view W.contents self.old) (out_view W.contents self.new) [] }
+        ensures puts { PutsOut (out_view W.contents self.old) (out_view W.contents self.new) [] }
         ensures empty { self.new.waiting.items ≡ [] }
     {
         if self.fault.is_some() {
@@ -146,7 +146,7 @@ impl<W: Write> Outbox<W> {
 
     /// Puts bytes.
     fn put(&mut self, bytes: &[u8])
-        ensures { Puts (out_view W.contents self.old) (out_view W.contents self.new) bytes.now }
+        ensures { PutsOut (out_view W.contents self.old) (out_view W.contents self.new) bytes.now }
     {
         let mut rest = bytes;
         while !rest.is_empty() {
@@ -158,7 +158,7 @@ impl<W: Write> Outbox<W> {
     fn put_front<'a>(&mut self, bytes: &'a [u8]) -> &'a [u8]
         requires { 0 < length bytes.now }
         ensures puts { (front : List ℕ) × (bytes.now ≡ front ++ result.now)
-            × Puts (out_view W.contents self.old) (out_view W.contents self.new) front }
+            × PutsOut (out_view W.contents self.old) (out_view W.contents self.new) front }
         ensures less { length result.now < length bytes.now }
     {
         let room = self.room();
@@ -170,7 +170,7 @@ impl<W: Write> Outbox<W> {
     /// How many bytes fit, at least one: where none do, what waits is written out first.
     fn room(&mut self) -> usize
         ensures least { 0 < result }
-        ensures puts { Puts (out_view W.contents self.old) (out_view W.contents self.new) [] }
+        ensures puts { PutsOut (out_view W.contents self.old) (out_view W.contents self.new) [] }
     {
         let room = OUT_BYTES.saturating_sub(self.waiting.len());
         if room > 0 {
@@ -181,7 +181,7 @@ impl<W: Write> Outbox<W> {
     }
 
     fn keep(&mut self, bytes: &[u8])
-        ensures { Puts (out_view W.contents self.old) (out_view W.contents self.new) bytes.now }
+        ensures { PutsOut (out_view W.contents self.old) (out_view W.contents self.new) bytes.now }
     {
         if self.fault.is_some() {
             return;
@@ -195,40 +195,9 @@ impl<W: Write> Outbox<W> {
     /// Nothing more goes out, and nothing of what was to come.
     fn fail(&mut self, fault: OutFault)
         ensures { (bytes : List ℕ)
-            → Puts (out_view W.contents self.old) (out_view W.contents self.new) bytes }
+            → PutsOut (out_view W.contents self.old) (out_view W.contents self.new) bytes }
     {
         self.fault = Some(fault);
-    }
-}
-
-/// The writer failed, or took no byte.
-#[derive(Drop)]
-struct WriteFault;
-
-fn write_all<W: Write>(writer: &mut W, bytes: &[u8]) -> Result<(), WriteFault>
-    ensures ok { OnOk result (Appends (W.contents writer.old) (W.contents writer.new) bytes.now) }
-    ensures err { OnErr result ((rest : List ℕ)
-        × Sends (W.contents writer.old) (W.contents writer.new) bytes.now rest) }
-{
-    let mut rest = bytes;
-    while !rest.is_empty() {
-        match writer.write(rest) {
-            Ok(0) => return Err(WriteFault),
-            Ok(count) => rest = rest.split_at(count).1,
-            Err(_) => return Err(WriteFault),
-        }
-    }
-    Ok(())
-}
-
-/// The bytes of a text and a newline, where there is room for them.
-fn line_of<D: Display + Drop>(text: D) -> Option<ArrayString<LINE_BYTES>>
-    ensures { IfSome result (λ said. IfSome (D.output text) (λ bytes. said.bytes ≡ line bytes)) }
-{
-    let mut said = ArrayString::new();
-    match said.writeln(text) {
-        Ok(()) => Some(said),
-        Err(_) => None,
     }
 }
 

@@ -1,8 +1,8 @@
 // The commands of a client, read: what is read has the form of the command, and what has a form is read.
 ghost use Rattle.std.specs.Prelude.{◌≡◌, ◌++◌, ◌↔◌, List, ℕ, Ok, Err, IfOk, IfSome, IfNone, MatchResult};
-ghost use Rattle.sd_words.specs.Reading.{Reads};
+ghost use Rattle.sd_words.specs.Reading.{ReadsFirst};
 ghost use Rattle.sd_append.specs.Text.{IsDecimal};
-ghost use Rattle.sd_append.specs.Command.{HasForm, HasShape, AreNames, IsTicket, head_text};
+ghost use Rattle.sd_append.specs.Command.{SpellsCommand, HasShape, AreNames, IsTicket, head_text};
 ghost use Rattle.sd_append.specs.Reading.{Gives, Tells, keyed_at, keyed_number_at, open_shape, read_shape};
 ghost use Rattle.sd_append.specs.declared.command.Command.{Command as SpecCommand};
 ghost use Rattle.sd_append.specs.declared.command.Kind.{Kind as SpecKind};
@@ -17,9 +17,10 @@ use sd_words::{BadField, Words};
 /// The command of a packet.
 pub fn read_command(packet: &[u8]) -> Result<Command<'_>, CommandFault>
     // What is read has the form of that command,
-    ensures ok { IfOk result (λ command. HasForm packet.now command) }
+    ensures ok { IfOk result (λ command. SpellsCommand packet.now command) }
     // and what has the form of a command is read as that.
-    ensures found { (command : SpecCommand) → HasForm packet.now command → result ≡ Ok command }
+    ensures found { (command : SpecCommand) → SpellsCommand packet.now command
+        → result ≡ Ok command }
     // A bad name: the form is there, but for a name that is none.
     ensures bad_name { (result ≡ Err CommandFault.BadName)
         ↔ ((command : SpecCommand) × HasShape packet.now command × (AreNames command → ⊥)) }
@@ -108,7 +109,7 @@ fn read(mut words: Words<'_>) -> Result<Command<'_>, CommandFault>
 /// The value of the next field, which has this key.
 #[tactic(auto, unfolding(crate::specs::Reading::keyed_at))]
 fn keyed<'a>(words: &mut Words<'a>, key: &str) -> Result<&'a str, BadField>
-    ensures { Reads (λ value. value.now) result words.new (keyed_at key.now words.old) }
+    ensures { ReadsFirst (λ value. value.now) result words.new (keyed_at key.now words.old) }
 {
     let word = words.word()?;
     match word.strip_prefix(key) {
@@ -123,7 +124,7 @@ fn keyed_number<K, const MOST: u32>(
     words: &mut Words<'_>,
     key: &str,
 ) -> Result<Number<K, MOST>, BadField>
-    ensures { Reads (λ n. n) result words.new (keyed_number_at key.now MOST words.old) }
+    ensures { ReadsFirst (λ n. n) result words.new (keyed_number_at key.now MOST words.old) }
 {
     let value = keyed(words, key)?;
     match number_of(value) {

@@ -3,7 +3,7 @@ ghost use Rattle.std.specs.Prelude.{◌≡◌, ◌∷◌, ◌++◌, [], List};
 ghost use Rattle.std.specs.List.{flat_map};
 ghost use Rattle.sd_base.specs.Record.{Record};
 ghost use Rattle.sd_bnet.specs.Stream.{stream_of};
-ghost use Rattle.sd_append.specs.Out.{OutView, Puts, out_view};
+ghost use Rattle.sd_append.specs.Out.{OutView, PutsOut, out_view};
 ghost use Rattle.sd_append.specs.Port.{WasRead};
 ghost use Rattle.sd_append.specs.Reader.{SinkIs};
 ghost use Rattle.sd_append.specs.Talk.{record_said};
@@ -42,7 +42,7 @@ pub(crate) struct RecordPackets<K: Before, W: Write> {
 impl<K: Before, W: Write> Model for RecordPackets<K, W> {
     ghost use Rattle.std.specs.List.{flat_map};
     ghost use Rattle.sd_bnet.specs.Stream.{stream_of};
-    ghost use Rattle.sd_append.specs.Out.{Puts, out_view};
+    ghost use Rattle.sd_append.specs.Out.{PutsOut, out_view};
     ghost use Rattle.sd_append.specs.Reader.{SinkIs, records_of};
     ghost use Rattle.sd_append.specs.Talk.{record_said};
 
@@ -50,7 +50,7 @@ impl<K: Before, W: Write> Model for RecordPackets<K, W> {
 
     ghost view = { λ s. record { outbox = s.outbox; got = records_of s.handed } };
 
-    ghost invariant = { λ s. Puts K.before (out_view W.contents s.outbox)
+    ghost invariant = { λ s. PutsOut K.before (out_view W.contents s.outbox)
         (stream_of (flat_map record_said (records_of s.handed))) };
 }
 
@@ -89,7 +89,7 @@ pub(crate) fn read_out<K: Before, W: Write, P: SessionPort>(
     requires { out_view W.contents outbox ≡ K.before }
     ensures asked { (records : List Record)
         × (P.asked port.new ≡ P.asked port.old ++ WasRead key spans.now records result.answer ∷ [])
-        × Puts K.before (out_view W.contents result.outbox)
+        × PutsOut K.before (out_view W.contents result.outbox)
         (stream_of (flat_map record_said records)) }
     ensures clock { P.clock port.new ≡ P.clock port.old }
 {

@@ -1,6 +1,6 @@
 // Where a talk stands between two reads.
 ghost use Rattle.std.specs.Prelude.{◌≡◌, ◌↔◌, IsTrue};
-ghost use Rattle.sd_append.specs.Conversation.{IsCommandDue, IsOver};
+ghost use Rattle.sd_append.specs.Conversation.{IsCommandDue, IsEndedByClient};
 ghost use Rattle.sd_append.specs.Standing.{EndsBehind, EndsInput, fault_end, written_end};
 
 use crate::end::TalkEnd;
@@ -26,7 +26,7 @@ pub(crate) struct Turned<W> {
 
 /// Whether the client has ended the talk.
 fn is_over(stage: &Stage) -> bool
-    ensures { IsTrue result ↔ IsOver stage.now }
+    ensures { IsTrue result ↔ IsEndedByClient stage.now }
 {
     matches!(stage, Stage::Over(_))
 }

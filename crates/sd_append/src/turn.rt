@@ -3,7 +3,7 @@ ghost use Rattle.std.specs.Prelude.{◌≡◌};
 ghost use Rattle.sd_append.specs.Conversation.{Converses};
 ghost use Rattle.sd_append.specs.Does.{Does};
 ghost use Rattle.sd_bnet.specs.Stream.{stream_of};
-ghost use Rattle.sd_append.specs.Out.{Puts, out_view};
+ghost use Rattle.sd_append.specs.Out.{PutsOut, out_view};
 ghost use Rattle.sd_append.specs.Talk.{ReadsBack, Takes, TakesEnd, TakesSignal, poll_said};
 
 use crate::answers::{refuse, say, say_read_end};
@@ -79,7 +79,7 @@ fn take_signal<W: Write, P: SessionPort>(
 
 /// Answers a poll or a heartbeat, where a command is due.
 fn answer_poll<W: Write>(stage: &Stage, outbox: &mut Outbox<W>)
-    ensures { Puts (out_view W.contents outbox.old) (out_view W.contents outbox.new)
+    ensures { PutsOut (out_view W.contents outbox.old) (out_view W.contents outbox.new)
         (stream_of (poll_said stage.now)) }
 {
     if let Stage::Command(_) = stage {

@@ -14,7 +14,7 @@ state_of (Payload pending) = Waiting (i32_bytes (pos pending.size) ++ pending.by
 state_of TooLong = Failed
 
 -- what is due isn't whole, and within the limit
-abbrev pub IsDue : Due → Type 0
-IsDue (Length begun) = length begun < 4
-IsDue (Payload pending) = (length pending.bytes.items < pending.size) × (pending.size ≤ most_data)
-IsDue TooLong = Unit {0}
+abbrev pub IsStillDue : Due → Type 0
+IsStillDue (Length begun) = length begun < 4
+IsStillDue (Payload pending) = (length pending.bytes.items < pending.size) × (pending.size ≤ most_data)
+IsStillDue TooLong = Unit {0}

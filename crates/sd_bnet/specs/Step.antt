@@ -1,6 +1,6 @@
 -- What a length and the bytes behind it are.
 use Rattle.std.specs.Prelude.{◌≡◌, ℕ, List, [], ◌++◌}
-use Rattle.sd_bnet.specs.Due.{state_of, IsDue}
+use Rattle.sd_bnet.specs.Due.{state_of, IsStillDue}
 use Rattle.sd_bnet.specs.Feeder.{Fits}
 use Rattle.sd_bnet.specs.Packet.{packet_bytes, IsPacket}
 use Rattle.sd_bnet.specs.declared.stream.Step.{Step}
@@ -8,6 +8,6 @@ use Rattle.sd_bnet.specs.declared.stream.Step.TheVariants.{Whole, Part}
 
 -- a whole packet and what follows it, or no whole packet: nothing, the front of one, or a length that
 -- is too great
-abbrev pub IsStep : Step → List ℕ → Type 0
-IsStep (Whole packet after) bytes = IsPacket packet × (bytes ≡ packet_bytes packet ++ after.now)
-IsStep (Part due) bytes = IsDue due × Fits (state_of due) bytes []
+abbrev pub SplitsOff : Step → List ℕ → Type 0
+SplitsOff (Whole packet after) bytes = IsPacket packet × (bytes ≡ packet_bytes packet ++ after.now)
+SplitsOff (Part due) bytes = IsStillDue due × Fits (state_of due) bytes []

@@ -1,6 +1,6 @@
 // A feeder takes a stream in pieces and hands out its packets.
 ghost use Rattle.std.specs.Prelude.{◌≡◌, ◌↔◌, ℕ, List, [], ◌++◌, IsTrue, IfOk, IsOkAnd, OnErr};
-ghost use Rattle.sd_bnet.specs.Due.{state_of, IsDue};
+ghost use Rattle.sd_bnet.specs.Due.{state_of, IsStillDue};
 ghost use Rattle.sd_bnet.specs.Feeder.{Fits, IsMidway};
 ghost use Rattle.sd_bnet.specs.Feeder.FeederState.{Waiting, Failed};
 ghost use Rattle.sd_bnet.specs.declared.packet.Packet.{Packet};
@@ -43,13 +43,13 @@ pub struct Feeder {
 
 impl Model for Feeder {
     ghost use Rattle.sd_bnet.specs.Feeder.{FeederState};
-    ghost use Rattle.sd_bnet.specs.Due.{state_of, IsDue};
+    ghost use Rattle.sd_bnet.specs.Due.{state_of, IsStillDue};
 
     ghost Value = { FeederState };
 
     ghost view = { λ f. state_of f.due };
 
-    ghost invariant = { λ f. IsDue f.due };
+    ghost invariant = { λ f. IsStillDue f.due };
 }
 
 impl Feeder {
@@ -95,7 +95,7 @@ impl Feeder {
     }
 
     fn hand_out(&mut self, taken: Taken) -> Fed
-        requires { IsDue taken.due }
+        requires { IsStillDue taken.due }
         ensures due { self.new ≡ state_of taken.due }
         ensures packets { result.packets ≡ taken.packets.items }
         ensures failed { IsTrue result.failed ↔ (self.new ≡ Failed) }

@@ -2,9 +2,9 @@
 ghost use Rattle.std.specs.Prelude.{◌≡◌, ◌+◌, ◌<◌, ◌≤◌, pos, [], ◌++◌, length, vec_len, IfOk, OnOk, OnErr};
 ghost use Rattle.sd_base.specs.Field.{i32_bytes};
 ghost use Rattle.sd_base.specs.Limits.{most_data};
-ghost use Rattle.sd_bnet.specs.Due.{state_of, IsDue};
+ghost use Rattle.sd_bnet.specs.Due.{state_of, IsStillDue};
 ghost use Rattle.sd_bnet.specs.Feeder.{Fits};
-ghost use Rattle.sd_bnet.specs.Step.{IsStep};
+ghost use Rattle.sd_bnet.specs.Step.{SplitsOff};
 
 use crate::due::{Due, Pending};
 use crate::length::LengthBytes;
@@ -37,7 +37,7 @@ pub(crate) fn take_packets(
     begun: &LengthBytes,
     piece: &[u8],
 ) -> Result<Taken, AllocError>
-    ensures due { IfOk result (λ taken. IsDue taken.due) }
+    ensures due { IfOk result (λ taken. IsStillDue taken.due) }
     ensures packets { IfOk result (λ taken.
         Fits (state_of taken.due) (begun.now ++ piece.now) taken.packets.items) }
 {
@@ -63,7 +63,7 @@ pub(crate) fn take_whole(
     requires begun { vec_len pending.old.bytes < pending.old.size }
     requires within { pending.old.size ≤ most_data }
     requires whole { pending.old.size ≤ vec_len pending.old.bytes + length piece.now }
-    ensures due { IfOk result (λ taken. IsDue taken.due) }
+    ensures due { IfOk result (λ taken. IsStillDue taken.due) }
     ensures packets { IfOk result (λ taken.
         let begun = i32_bytes (pos pending.old.size) ++ pending.old.bytes.items in
         Fits (state_of taken.due) (begun ++ piece.now) taken.packets.items) }
@@ -84,7 +84,7 @@ pub(crate) fn take_whole(
 
 fn next_step(alloc: Global, field: LengthBytes, rest: &[u8]) -> Result<Step<'_>, AllocError>
     requires { length field < 4 → rest.now ≡ [] }
-    ensures { IfOk result (λ step. IsStep step (field ++ rest.now)) }
+    ensures { IfOk result (λ step. SplitsOff step (field ++ rest.now)) }
 {
     match get_i32(field.as_slice(), 0) {
         Ok(number) => step_behind(alloc, number, rest),
@@ -93,7 +93,7 @@ fn next_step(alloc: Global, field: LengthBytes, rest: &[u8]) -> Result<Step<'_>,
 }
 
 fn step_behind(alloc: Global, number: i32, rest: &[u8]) -> Result<Step<'_>, AllocError>
-    ensures { IfOk result (λ step. IsStep step (i32_bytes number ++ rest.now)) }
+    ensures { IfOk result (λ step. SplitsOff step (i32_bytes number ++ rest.now)) }
 {
     if let Some(signal) = SignalNo::new(number) {
         return Ok(Step::Whole(Packet::Signal(signal), rest));

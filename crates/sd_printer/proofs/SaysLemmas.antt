@@ -7,12 +7,12 @@ use Rattle.std.specs.Io.KnownBytes.{Appends, Keeps}
 use Rattle.std.proofs.KnownBytes.{Appends-nil, Appends-trans, Appends-kept}
 use Rattle.std.proofs.lemmas.Fmt.{contents_after_writes}
 use Rattle.sd_words.specs.Lines.{line}
-use Rattle.sd_printer.specs.Says.{SaidView, Sends, Says, SaysBy, CutsShort, CutsShortBy}
+use Rattle.sd_printer.specs.Says.{SaidView, SendsUpTo, Says, SaysBy, CutsShort, CutsShortBy}
 
-pub sends_none : (a : Option (List ℕ)) (bytes : List ℕ) → Sends a a bytes bytes
+pub sends_none : (a : Option (List ℕ)) (bytes : List ℕ) → SendsUpTo a a bytes bytes
 sends_none a bytes = ([], refl, Appends-nil a)
 
-pub sends_more : (a b c : Option (List ℕ)) (bytes rest : List ℕ) (n : ℕ) → Sends a b bytes rest → Appends b c (take n rest) → Sends a c bytes (drop n rest)
+pub sends_more : (a b c : Option (List ℕ)) (bytes rest : List ℕ) (n : ℕ) → SendsUpTo a b bytes rest → Appends b c (take n rest) → SendsUpTo a c bytes (drop n rest)
 sends_more a b c bytes rest n s more =
     (s.0 ++ take n rest, s.1 ∙ ap (λ l. s.0 ++ l) (sym (take-append-drop n rest)) ∙ sym (append_assoc s.0 (take n rest) (drop n rest)), Appends-trans a b c s.0 (take n rest) s.2 more)
 

@@ -13,17 +13,17 @@ abbrev pub said_view : {W : Type 0} → (W → Option (List ℕ)) → Printer W 
 said_view contents p = record { written = contents p.writer; failed = p.failed }
 
 -- of some bytes these are left, and those before them were appended to what is known
-abbrev pub Sends : Option (List ℕ) → Option (List ℕ) → List ℕ → List ℕ → Type 0
-Sends old new bytes rest = (front : List ℕ) × (bytes ≡ front ++ rest) × Appends old new front
+abbrev pub SendsUpTo : Option (List ℕ) → Option (List ℕ) → List ℕ → List ℕ → Type 0
+SendsUpTo old new bytes rest = (front : List ℕ) × (bytes ≡ front ++ rest) × Appends old new front
 
 -- some first bytes of these were appended to what is known, and some are left
 abbrev pub SendsFront : Option (List ℕ) → Option (List ℕ) → List ℕ → Type 0
-SendsFront old new bytes = (rest : List ℕ) × (0 < length rest) × Sends old new bytes rest
+SendsFront old new bytes = (rest : List ℕ) × (0 < length rest) × SendsUpTo old new bytes rest
 
 -- `Says`, by what is known of the writer before and after, and by whether writing had failed and has failed
 abbrev pub SaysBy : Option (List ℕ) → Option (List ℕ) → Bool → Bool → List ℕ → Type 0
 SaysBy old new false false bytes = Appends old new bytes
-SaysBy old new false true bytes = (rest : List ℕ) × Sends old new bytes rest
+SaysBy old new false true bytes = (rest : List ℕ) × SendsUpTo old new bytes rest
 SaysBy old new true false bytes = ⊥
 SaysBy old new true true bytes = new ≡ old
 

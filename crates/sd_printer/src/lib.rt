@@ -1,7 +1,12 @@
 //! What programs print, piece by piece, on any writer. Where the writer fails, what it holds is a front of what was
-//! to be printed, and nothing more is written.
+//! to be printed, and nothing more is written. Whoever else writes takes its loop (`write_all`) and its lines
+//! (`line_of`).
 #![tactic(auto)]
 
+mod line;
 mod printer;
+mod write;
 
+pub use line::line_of;
 pub use printer::Printer;
+pub use write::{WriteFault, write_all};

@@ -1,11 +1,11 @@
 // What a listing or a reading prints, as it comes.
-ghost use Rattle.std.specs.Prelude.{◌≡◌, ◌<◌, ℕ, List, [], length, OnOk, OnErr, IfSome, Some, true, false};
-ghost use Rattle.std.specs.Io.KnownBytes.{Appends};
+ghost use Rattle.std.specs.Prelude.{◌≡◌, ◌<◌, ℕ, List, [], length, IfSome, Some, true, false};
 ghost use Rattle.sd_words.specs.Lines.{line};
-ghost use Rattle.sd_printer.specs.Says.{CutsShort, Says, SendsFront, said_view};
+ghost use Rattle.sd_printer.specs.Says.{CutsShort, Says, said_view};
 
-use arrayvec::ArrayString;
-use std::fmt::{Display, Write as _};
+use crate::line::line_of;
+use crate::write::{WriteFault, write_all};
+use std::fmt::Display;
 use std::io::Write;
 
 /// For how many bytes of a line there is room: the longest says four names.
@@ -53,7 +53,7 @@ impl<W: Write> Printer<W> {
         ensures cut { IfSome (D.output text) (λ said.
             CutsShort (said_view W.contents self.old) (said_view W.contents self.new) (line said)) }
     {
-        match line_of(text) {
+        match line_of::<D, LINE_BYTES>(text) {
             Some(said) => self.bytes(said.as_str().as_bytes()),
             None => self.fail(),
         }
@@ -94,36 +94,5 @@ impl<W: Write> Printer<W> {
         if self.writer.flush().is_err() {
             self.failed = true;
         }
-    }
-}
-
-/// The writer failed, or took no byte.
-#[derive(Drop)]
-struct WriteFault;
-
-fn write_all<W: Write>(writer: &mut W, bytes: &[u8]) -> Result<(), WriteFault>
-    ensures ok { OnOk result (Appends (W.contents writer.old) (W.contents writer.new) bytes.now) }
-    ensures err { OnErr result
-        (SendsFront (W.contents writer.old) (W.contents writer.new) bytes.now) }
-{
-    let mut rest = bytes;
-    while !rest.is_empty() {
-        match writer.write(rest) {
-            Ok(0) => return Err(WriteFault),
-            Ok(count) => rest = rest.split_at(count).1,
-            Err(_) => return Err(WriteFault),
-        }
-    }
-    Ok(())
-}
-
-/// The bytes of a text and a newline, where there is room for them.
-fn line_of<D: Display + Drop>(text: D) -> Option<ArrayString<LINE_BYTES>>
-    ensures { IfSome result (λ said. IfSome (D.output text) (λ bytes. said.bytes ≡ line bytes)) }
-{
-    let mut said = ArrayString::new();
-    match said.writeln(text) {
-        Ok(()) => Some(said),
-        Err(_) => None,
     }
 }

@@ -1,6 +1,6 @@
 // The lines that set what the world is made with.
 ghost use Rattle.std.specs.Prelude.{◌≡◌};
-ghost use Rattle.sd_words.specs.Reading.{Reads};
+ghost use Rattle.sd_words.specs.Reading.{ReadsFirst};
 ghost use Rattle.sd_script.specs.Reading.{Gives, call_at, shape, when_at};
 ghost use Rattle.sd_script.specs.declared.command.Command.TheVariants as commands;
 
@@ -92,7 +92,7 @@ pub fn fail(mut words: Words<'_>) -> Result<Line<'_>, LineFault>
 /// The next field, a kind of call of a drive.
 #[tactic(auto, unfolding(crate::specs::Reading::call_at))]
 fn next_call(words: &mut Words<'_>) -> Result<Call, BadField>
-    ensures { Reads (λ call. call) result words.new (call_at words.old) }
+    ensures { ReadsFirst (λ call. call) result words.new (call_at words.old) }
 {
     match words.word()? {
         "create" => Ok(Call::Create),
@@ -109,7 +109,7 @@ fn next_call(words: &mut Words<'_>) -> Result<Call, BadField>
 /// The next field, how a call fails.
 #[tactic(auto, unfolding(crate::specs::Reading::when_at))]
 fn next_when(words: &mut Words<'_>) -> Result<When, BadField>
-    ensures { Reads (λ when. when) result words.new (when_at words.old) }
+    ensures { ReadsFirst (λ when. when) result words.new (when_at words.old) }
 {
     match words.word()? {
         "before" => Ok(When::Before),

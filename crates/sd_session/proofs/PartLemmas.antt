@@ -12,7 +12,7 @@ use Rattle.sd_session.proofs.SessionLemmas.{none_left}
 use Rattle.sd_session.specs.declared.status.Status.TheVariants.{Failed}
 use Rattle.sd_session.specs.Session.{SessionView, spooled_in, SpoolIsHonest, home_of, IsRunning}
 use Rattle.sd_session.specs.Spooling.{StaysOut, WouldGoIn, HasFailed, FailsBySpool}
-use Rattle.sd_session.specs.Sending.{QueueView, PutsIn, IsFull, Stations, stations, stations_of, TakesNext, HasNoNext, NoneIn, IsDue, goes_on, goes_on_with, SendsBody, FindsLaneFull, ReadsSpool, FailsToTakeNext}
+use Rattle.sd_session.specs.Sending.{QueueView, PutsIn, IsFull, Stations, stations, stations_of, TakesNext, HasNoNext, NoneIn, IsDueToSend, goes_on, goes_on_with, SendsBody, FindsLaneFull, ReadsSpool, FailsToTakeNext}
 
 -- what is first in a list
 pub first_waits : (waiting : List PackedBody) (body : PackedBody) → Some body ≡ slice_get waiting 0 → (rest : List PackedBody) × (waiting ≡ body ∷ rest)
@@ -147,12 +147,12 @@ takes_first body s t (inr (inr (none, no_spool, stops))) honest =
 
 -- The body is sent; `now` is the session before it, as is `old`.
 pub sends_body : (old now : SessionView) (queue queue' : QueueView) (body : PackedBody) (between : Stations) (despooling : Bool)
-    → old ≡ now → IsRunning now.status → IsDue now → TakesNext body (stations_of old) between
+    → old ≡ now → IsRunning now.status → IsDueToSend now → TakesNext body (stations_of old) between
     → PutsIn queue (queued old.lane (record { key = old.key; seq = old.sent + 1; body = body })) queue'
     → despooling ≡ goes_on between.spool old.despooling
     → SendsBody now queue (record old { sent = old.sent + 1; ready = between.ready; spool = between.spool; despooling = despooling; packer = between.packer }) queue'
 sends_body old now queue queue' body between despooling now-is running due takes puts_in on =
-    subst (λ (v : SessionView). IsRunning v.status → IsDue v → SendsBody v queue (record old { sent = old.sent + 1; ready = between.ready; spool = between.spool; despooling = despooling; packer = between.packer }) queue') now-is
+    subst (λ (v : SessionView). IsRunning v.status → IsDueToSend v → SendsBody v queue (record old { sent = old.sent + 1; ready = between.ready; spool = between.spool; despooling = despooling; packer = between.packer }) queue') now-is
     (λ is_running is_due. record {
       running = is_running;
       due = is_due;
@@ -168,11 +168,11 @@ sends_body old now queue queue' body between despooling now-is running due takes
 
 -- The queue is full; the body that comes back is ready.
 pub finds_lane_full : (old now : SessionView) (queue queue' : QueueView) (body back : PackedBody) (between : Stations)
-    → old ≡ now → IsRunning now.status → IsDue now → TakesNext body (stations_of old) between
+    → old ≡ now → IsRunning now.status → IsDueToSend now → TakesNext body (stations_of old) between
     → IsFull queue queue' → back ≡ body
     → FindsLaneFull now queue (record old { ready = Some back; spool = between.spool; packer = between.packer }) queue'
 finds_lane_full old now queue queue' body back between now-is running due takes is_full same =
-    subst (λ (v : SessionView). IsRunning v.status → IsDue v → FindsLaneFull v queue (record old { ready = Some back; spool = between.spool; packer = between.packer }) queue') now-is
+    subst (λ (v : SessionView). IsRunning v.status → IsDueToSend v → FindsLaneFull v queue (record old { ready = Some back; spool = between.spool; packer = between.packer }) queue') now-is
     (λ is_running is_due. record {
       running = is_running;
       due = is_due;
@@ -189,7 +189,7 @@ finds_lane_full old now queue queue' body back between now-is running due takes 
 
 -- The store of the spool fails as a body is to come out; `now` is the session before it, as is `old`.
 pub fails_by_despooling : (old now : SessionView) (fault : SpoolStoreFault) (after : Stations) (ready : Option PackedBody) (store : Option StoreState) (spool : Option JobView) (packer : PackerView)
-    → old ≡ now → IsRunning now.status → IsDue now → fault ≡ Device → FailsToTakeNext fault (stations_of old) after
+    → old ≡ now → IsRunning now.status → IsDueToSend now → fault ≡ Device → FailsToTakeNext fault (stations_of old) after
     → ready ≡ None → store ≡ home_of old.store after.spool → spool ≡ None → bodies_of packer ≡ [] → packer.room ≡ after.packer.room
     → (reads : ReadsSpool now) × FailsBySpool now reads.job (record old { status = Failed; ready = ready; store = store; spool = spool; despooling = false; packer = packer })
 fails_by_despooling old now fault after ready store spool packer now-is running due device fails none-ready store-is none-spooled none room = (

@@ -89,8 +89,8 @@ HasNoNext at = (at.ready ≡ None) × NoneIn at.spool at.packer
 
 -- a session that spools is due to send while it despools, and once it is ended and nothing waits any more; one
 -- that doesn't spool always is
-abbrev pub IsDue : SessionView → Type 0
-IsDue s = (s.spool ≡ None) ⊎ (s.despooling ≡ true) ⊎ ((s.status ≡ Ended) × (s.packer.waiting ≡ []))
+abbrev pub IsDueToSend : SessionView → Type 0
+IsDueToSend s = (s.spool ≡ None) ⊎ (s.despooling ≡ true) ⊎ ((s.status ≡ Ended) × (s.packer.waiting ≡ []))
 
 -- despooling goes on with these bodies in the spool, and not with none
 abbrev pub goes_on_with : List BodyShape → Bool → Bool
@@ -106,7 +106,7 @@ goes_on (Some job) despooling = goes_on_with job.shapes despooling
 -- nothing is left in the spool. With an honest store, that body was the first of the session's.
 pub record SendsBody (old : SessionView) (queue : QueueView) (new : SessionView) (queue' : QueueView) : Type 0 where
   pub running : IsRunning old.status
-  pub due : IsDue old
+  pub due : IsDueToSend old
   pub body : PackedBody
   pub between : Stations
   pub takes : TakesNext body (stations_of old) between
@@ -118,7 +118,7 @@ pub record SendsBody (old : SessionView) (queue : QueueView) (new : SessionView)
 -- that it had.
 pub record FindsLaneFull (old : SessionView) (queue : QueueView) (new : SessionView) (queue' : QueueView) : Type 0 where
   pub running : IsRunning old.status
-  pub due : IsDue old
+  pub due : IsDueToSend old
   pub body : PackedBody
   pub between : Stations
   pub takes : TakesNext body (stations_of old) between
@@ -129,14 +129,14 @@ pub record FindsLaneFull (old : SessionView) (queue : QueueView) (new : SessionV
 -- it is due, but there is nothing to send
 pub record HasNothingDue (old new : SessionView) : Type 0 where
   pub running : IsRunning old.status
-  pub due : IsDue old
+  pub due : IsDueToSend old
   pub none_next : HasNoNext (stations_of old)
   pub is : new ≡ old
 
 -- it isn't due
 pub record IsNotDue (old new : SessionView) : Type 0 where
   pub running : IsRunning old.status
-  pub not_due : IsDue old → ⊥
+  pub not_due : IsDueToSend old → ⊥
   pub is : new ≡ old
 
 -- what one step of sending did
@@ -149,7 +149,7 @@ Despools NotDue old queue new queue' = IsNotDue old new
 -- a body is to come out of the spool now
 pub record ReadsSpool (s : SessionView) : Type 0 where
   pub running : IsRunning s.status
-  pub due : IsDue s
+  pub due : IsDueToSend s
   pub none_ready : s.ready ≡ None
   pub job : JobView
   pub spool_is : s.spool ≡ Some job

@@ -182,8 +182,8 @@ store_refusal OutOfMemory = Memory
 
 -- Why no session is opened: want of memory, which leaves the store as it was; or, last of all, the store could
 -- not be cleared for a spool.
-abbrev pub OpenRefused : ℕ → Meaning → Refusal → Meaning → Type 0
-OpenRefused limit store why store' =
+abbrev pub StartRefused : ℕ → Meaning → Refusal → Meaning → Type 0
+StartRefused limit store why store' =
     ((why ≡ Memory) × (store' ≡ store))
     ⊎ ((limit ≢ 0) × (why ≡ SpoolFault) × FailsToClear Device store store')
 

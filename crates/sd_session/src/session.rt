@@ -6,9 +6,9 @@ ghost use Rattle.sd_label.specs.Cutting.{Between};
 ghost use Rattle.sd_label.specs.Label.{IsSessionLabel, session_label_bytes};
 ghost use Rattle.sd_pack.specs.Packing.{HasOpen, Packs, bodies_of, all_bytes};
 ghost use Rattle.sd_spool.specs.Job.{state_of};
-ghost use Rattle.sd_session.specs.Session.{IsRunning, NotRunning, MayTake, status_refusal, start_label, due_of, spooled_in, store_refusal, spooled_count, IsWhole, IsSessionView, StartsSession, OpenRefused, TakesRecord, AppendRefused, EndsSession, EndRefused, CancelsSession, FailsSession, HasOutstanding, ClosesSession, CloseRefused, GivesBack, KeepsStore};
+ghost use Rattle.sd_session.specs.Session.{IsRunning, NotRunning, MayTake, status_refusal, start_label, due_of, spooled_in, store_refusal, spooled_count, IsWhole, IsSessionView, StartsSession, StartRefused, TakesRecord, AppendRefused, EndsSession, EndRefused, CancelsSession, FailsSession, HasOutstanding, ClosesSession, CloseRefused, GivesBack, KeepsStore};
 ghost use Rattle.sd_session.specs.Spooling.{Spools, SpoolRefused};
-ghost use Rattle.sd_session.specs.Sending.{queue_view, IsDue, goes_on, Despools, DespoolRefused};
+ghost use Rattle.sd_session.specs.Sending.{queue_view, IsDueToSend, goes_on, Despools, DespoolRefused};
 
 use crate::answer::{Despooled, Spooling};
 use crate::dropping::drop_parts;
@@ -112,7 +112,7 @@ impl<S: SpoolStore + Drop> Session<S> {
         ensures ok { IfOk result
             (λ s. StartsSession opening (block - block_header) spool (S.meaning store) s) }
         ensures err { IfErr result
-            (λ kept. OpenRefused spool (S.meaning store) kept.why (S.meaning kept.store)) }
+            (λ kept. StartRefused spool (S.meaning store) kept.why (S.meaning kept.store)) }
     {
         let Ok(packer) = start_packer(alloc, &opening, block) else {
             return Err(NotOpened {
@@ -407,7 +407,7 @@ impl<S: SpoolStore + Drop> Session<S> {
 
     // Whether a despool step would send what there is.
     fn is_due(&self) -> bool
-        ensures { IsTrue result ↔ IsDue self.now }
+        ensures { IsTrue result ↔ IsDueToSend self.now }
     {
         self.spool.is_none()
             || self.despooling

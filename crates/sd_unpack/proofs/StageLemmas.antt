@@ -10,7 +10,7 @@ use Rattle.sd_label.specs.Label.{session_label_fragment}
 use Rattle.sd_label.specs.Cutting.{Between, IsSession}
 use Rattle.sd_label.proofs.CuttingLemmas.{AreRecords-more}
 use Rattle.sd_unpack.specs.declared.stage.Due.{Due}
-use Rattle.sd_unpack.specs.Stage.{IsDue, due_record, Opens, IsPartway}
+use Rattle.sd_unpack.specs.Stage.{CouldBeRecord, due_record, Opens, IsPartway}
 use Rattle.sd_unpack.specs.Damage.{Continues}
 
 -- a fragment behind the others, where nothing else is
@@ -119,7 +119,7 @@ partway_more fs records due so_far f s goes short = record {
   behind_is = more_opens s.behind due so_far f s.behind_is goes short;
 }
 
-pub due_record_is : (due : Due) (so_far part : List ℕ) → IsDue due so_far → length part ≡ due.left → IsRecord (due_record due (so_far ++ part))
+pub due_record_is : (due : Due) (so_far part : List ℕ) → CouldBeRecord due so_far → length part ≡ due.left → IsRecord (due_record due (so_far ++ part))
 due_record_is due so_far part is long = record {
   index_least = is.index_least;
   index_most = is.index_most;

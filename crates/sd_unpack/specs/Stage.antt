@@ -13,7 +13,7 @@ use Rattle.sd_unpack.specs.declared.stage.Stage.TheVariants.{Fresh, Whole, Partw
 
 -- a record that could begin so: its index and its stream are in range, and so is what has come of
 -- its data with what is due, which is a byte or more
-pub record IsDue (due : Due) (so_far : List ℕ) : Type 0 where
+pub record CouldBeRecord (due : Due) (so_far : List ℕ) : Type 0 where
   pub index_least : 1 ≤ due.index
   pub index_most : due.index ≤ most_number
   pub stream_least : 1 ≤ due.stream
@@ -29,7 +29,7 @@ due_record due bytes = record { index = due.index; stream = due.stream; bytes = 
 -- are still to come, and however they are cut: with them these are that record's fragments.
 pub record Opens (behind : List Fragment) (due : Due) (so_far : List ℕ) : Type 0 where
   pub some_there : behind ≢ []
-  pub due_is : IsDue due so_far
+  pub due_is : CouldBeRecord due so_far
   pub whatever_comes : (rest : List ℕ) (more : List Fragment) → length rest ≡ due.left
       → Continue (pos due.index) (pos due.stream) rest more
       → Fragments (due_record due (so_far ++ rest)) (behind ++ more)
@@ -71,7 +71,7 @@ IsAtRest Closed = Unit {0}
 abbrev pub IsStage : Stage → List ℕ → Type 0
 IsStage Fresh so_far = Unit {0}
 IsStage Whole so_far = Unit {0}
-IsStage (Partway due) so_far = IsDue due so_far
+IsStage (Partway due) so_far = CouldBeRecord due so_far
 IsStage Closed so_far = Unit {0}
 
 -- the totals of the records; none where they are more than an end label can hold

@@ -5,7 +5,7 @@ ghost use Rattle.sd_label.specs.Cutting.{Standing, Within, AtEnd, Holds};
 ghost use Rattle.sd_unpack.specs.declared.damage.Damage.{Damage as SpecDamage};
 ghost use Rattle.sd_unpack.specs.declared.damage.AddFault.TheVariants.{Damaged, Memory};
 ghost use Rattle.sd_unpack.specs.declared.stage.Stage.TheVariants.{Partway};
-ghost use Rattle.sd_unpack.specs.Stage.{standing_at, due_record, IsDue, IsStage, IsAtRest};
+ghost use Rattle.sd_unpack.specs.Stage.{standing_at, due_record, CouldBeRecord, IsStage, IsAtRest};
 ghost use Rattle.sd_unpack.specs.Unpacking.{Unpacks};
 ghost use Rattle.sd_unpack.specs.Damage.{IsDamaged, IfDamaged};
 

@@ -47,9 +47,9 @@ unfoldable pub only_number : ℕ → ℕ → Fields → Option ℕ
 only_number least most fs = number_at least most fs >>= λ n. all_read n.0 n.1
 
 -- what a step read, and the fields behind it; or an error, where there is nothing to read
-abbrev pub Reads : {X Y : Type 0} → (X → Y) → Result X BadField → Fields → Option (Y × Fields)
+abbrev pub ReadsFirst : {X Y : Type 0} → (X → Y) → Result X BadField → Fields → Option (Y × Fields)
     → Type 0
-Reads view result rest read =
+ReadsFirst view result rest read =
     MatchResult result (λ x. read ≡ Some (view x, rest)) (λ e. read ≡ None)
 
 -- the same of a step that reads all fields

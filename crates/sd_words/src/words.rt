@@ -1,7 +1,7 @@
 // The fields of a line, read one after another. After an Err no more is read.
 ghost use Rattle.std.specs.Prelude.{◌≡◌, ◌≢◌, ◌≤◌, ◌↔◌, [], ◌∷◌, Some, None, IfOk, IsTrue, MatchOption, MatchResult};
 ghost use Rattle.sd_words.specs.Fields.{Fields, fields_of, joined};
-ghost use Rattle.sd_words.specs.Reading.{Reads, ReadsAll, IsPlain, word_at, number_in, number_at, only_number};
+ghost use Rattle.sd_words.specs.Reading.{ReadsFirst, ReadsAll, IsPlain, word_at, number_in, number_at, only_number};
 
 use sd_base::Number;
 use std::marker::Model;
@@ -64,7 +64,7 @@ impl<'a> Words<'a> {
     /// The next field, which is not empty.
     #[tactic(auto, unfolding(crate::specs::Reading::word_at))]
     pub fn word(&mut self) -> Result<&'a str, BadField>
-        ensures { Reads (λ word. word.now) result self.new (word_at self.old) }
+        ensures { ReadsFirst (λ word. word.now) result self.new (word_at self.old) }
     {
         match self.next() {
             Some(word) if !word.is_empty() => Ok(word),
@@ -75,7 +75,7 @@ impl<'a> Words<'a> {
     /// The next field, a number from `least` to `most`.
     #[tactic(auto, unfolding(crate::specs::Reading::number_at))]
     pub fn number(&mut self, least: u64, most: u64) -> Result<u64, BadField>
-        ensures read { Reads (λ n. n) result self.new (number_at least most self.old) }
+        ensures read { ReadsFirst (λ n. n) result self.new (number_at least most self.old) }
         ensures within { IfOk result (λ n. (least ≤ n) × (n ≤ most)) }
     {
         let Some(word) = self.next() else {
@@ -86,7 +86,7 @@ impl<'a> Words<'a> {
 
     /// The next field, the number of a drive, a session or a job.
     pub fn numbered<K, const MOST: u32>(&mut self) -> Result<Number<K, MOST>, BadField>
-        ensures { Reads (λ n. n) result self.new (number_at 1 MOST self.old) }
+        ensures { ReadsFirst (λ n. n) result self.new (number_at 1 MOST self.old) }
     {
         let value = self.number(1, u64::from(MOST))?;
         let Some(number) = Number::new(value as u32) else {

@@ -1,7 +1,7 @@
 use Rattle.std.proofs.Common.{◌∷◌, [], subst}
 use Rattle.sd_base.specs.declared.refusal.Refusal.{Refusal}
 use Rattle.sd_bnet.specs.Stream.{stream_of}
-use Rattle.sd_append.specs.Out.{Puts, out_view}
+use Rattle.sd_append.specs.Out.{PutsOut, out_view}
 use Rattle.sd_append.specs.Talk.{end_of_data, refused}
 use Rattle.sd_append.proofs.TurnLemmas.{read_done, read_refused}
 use Rattle.sd_append.proofs.turn.read_back.Goals as goal
@@ -14,4 +14,4 @@ returns-in-Ok-clause-does g c =
 pub returns-clause-does : goal.returns-clause-does
 returns-clause-does g c =
     read_refused c.args.own c.args.text c.read.result c.in-Err.fault (g.P.SessionPort.asked c.args.port.now) (out_view g.W.Write.contents c.args.outbox) (out_view g.W.Write.contents c.say_read_end-in-Err.new.outbox) c.in-Err.is c.read.ensures.bad_span
-    (subst (λ (r : Refusal). Puts (out_view g.W.Write.contents c.args.outbox) (out_view g.W.Write.contents c.say_read_end-in-Err.new.outbox) (stream_of (end_of_data ∷ refused r ∷ []))) c.refusal.ensures c.say_read_end-in-Err.ensures)
+    (subst (λ (r : Refusal). PutsOut (out_view g.W.Write.contents c.args.outbox) (out_view g.W.Write.contents c.say_read_end-in-Err.new.outbox) (stream_of (end_of_data ∷ refused r ∷ []))) c.refusal.ensures c.say_read_end-in-Err.ensures)

@@ -2,7 +2,7 @@ use Rattle.std.proofs.Common.{rules, refl, inl, inr, sym, ap, subst}
 use Rattle.std.proofs.lemmas.Result.{err_from_is_err_and}
 use Rattle.sd_lane.specs.declared.piece.Piece.{Piece}
 use Rattle.sd_session.specs.Session.{SessionView, IsRunning}
-use Rattle.sd_session.specs.Sending.{stations, IsDue}
+use Rattle.sd_session.specs.Sending.{stations, IsDueToSend}
 use Rattle.sd_session.proofs.PackedLemmas.{number_fits, packed_sent, packed_ready}
 use Rattle.sd_session.proofs.PartLemmas.{sends_body, finds_lane_full, fails_by_despooling, found_body}
 use Rattle.sd_session.proofs.session.Session.despool_step.Goals as goal
@@ -15,7 +15,7 @@ pub returns-in-Err-Device-clause-err : goal.returns-in-Err-Device-clause-err
 returns-in-Err-Device-clause-err g c =
     let v = c.args.self.now in
     let is = c.self.view_is in
-    let due : IsDue v = search rules in
+    let due : IsDueToSend v = search rules in
     let fails = fails_by_despooling _ v c.in-Err-Device.field-0 (stations c.take_next.new.ready c.take_next.new.spool c.take_next.new.packer) c.drop_parts.new.ready _ c.drop_parts.new.spool c.drop_parts.new.packer
     is c.in_ok-running.ensures.ok due (search rules) c.in-Err-Device.ensures.err
     c.drop_parts.ensures.none_ready c.drop_parts.ensures.store c.drop_parts.ensures.none_spooled c.drop_parts.ensures.none c.drop_parts.ensures.room in
@@ -25,7 +25,7 @@ pub returns-in-Ok-clause-ok : goal.returns-in-Ok-clause-ok
 returns-in-Ok-clause-ok g c =
     let v = c.args.self.now in
     let is = c.self.view_is in
-    let due : IsDue v = search rules in
+    let due : IsDueToSend v = search rules in
     sends_body _ v _ _ c.in-Ok-Some.body (stations c.take_next.new.ready c.take_next.new.spool c.take_next.new.packer) _
     is c.in_ok-running.ensures.ok due (found_body c.in-Ok-Some.field-0 c.in-Ok-Some.body _ _ (search rules) c.in-Ok-Some.ensures.ok)
     (record { sends = c.in-Ok.ensures.sent; room = c.in-Ok.ensures.room; held = c.in-Ok.ensures.held })
@@ -35,7 +35,7 @@ pub returns-in-Err-clause-ok : goal.returns-in-Err-clause-ok
 returns-in-Err-clause-ok g c =
     let v = c.args.self.now in
     let is = c.self.view_is in
-    let due : IsDue v = search rules in
+    let due : IsDueToSend v = search rules in
     finds_lane_full _ v _ _ c.in-Ok-Some.body c.in-Err.piece.body (stations c.take_next.new.ready c.take_next.new.spool c.take_next.new.packer)
     is c.in_ok-running.ensures.ok due (found_body c.in-Ok-Some.field-0 c.in-Ok-Some.body _ _ (search rules) c.in-Ok-Some.ensures.ok)
     (record { none_sent = c.in-Err.ensures.not_sent; full = c.in-Err.ensures.full; held = c.in-Err.ensures.kept })
