@@ -3,6 +3,7 @@ ghost use Rattle.std.specs.Prelude.{◌≡◌, ◌≤◌, None, Some, length};
 ghost use Rattle.sd_base.specs.Limits.{least_body, most_body};
 ghost use Rattle.sd_volume.specs.declared.volume.VolumeStatus.TheVariants.{Append};
 
+use crate::calls::letter_of;
 use sd_base::{LEAST_BODY, MOST_BODY, MediaName, PoolName, SessionKey, VolName};
 use sd_driver::{Driver, DriverFault};
 use sd_label::VolumeLabel;
@@ -140,16 +141,6 @@ fn label_of(name: &str) -> Option<VolumeLabel> {
         media: MediaName::parse("File").ok()?,
         moment: 0,
     })
-}
-
-fn letter_of(fault: DriverFault) -> char {
-    match fault {
-        DriverFault::NotThere => 'N',
-        DriverFault::Exists => 'E',
-        DriverFault::NoRoom => 'R',
-        DriverFault::Device => 'D',
-        DriverFault::Memory => 'M',
-    }
 }
 
 fn add<D: Driver>(

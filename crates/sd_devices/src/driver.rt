@@ -5,8 +5,10 @@ ghost use Rattle.sd_base.specs.Count.{Rose};
 ghost use Rattle.sd_driver.specs.Meaning.{IsHonest};
 ghost use Rattle.sd_driver.specs.Shelf.{Lasts, low_mark};
 
+use crate::calls::{Bench, Step, play};
 use sd_base::VolName;
 use sd_driver::{Driver, DriverFault};
+use std::alloc::{AllocError, Global};
 use std::test::Fail;
 
 // A device that fails every call.
@@ -220,18 +222,28 @@ impl Driver for Either {
     }
 }
 
-// What a caller of any driver sees: the faults of the calls that it may make while nothing is loaded.
-fn faults<D: Driver>(driver: &mut D, name: &VolName) -> [Option<DriverFault>; 4]
-    requires { (D.meaning driver.old).loaded ≡ None }
+// The calls that may be made while nothing is loaded.
+static CALLS: [Step; 6] = [
+    Step::Create("Vol-0001"),
+    Step::Unload,
+    Step::Load("Vol-0001"),
+    Step::Unload,
+    Step::Len("Vol-0001"),
+    Step::Read("Vol-0001", 0),
+];
+
+// What a caller of any driver sees: what these calls tell, and then the count of failures.
+fn told_of<D: Driver + Drop>(alloc: Global, driver: D) -> Result<String, AllocError>
+    requires { (D.meaning driver).loaded ≡ None }
 {
-    let mut buffer = [0; 4];
-    let created = driver.create(name).err();
-    driver.unload();
-    let loaded = driver.load(name).err();
-    driver.unload();
-    let length = driver.len(name).err();
-    let read = driver.read_at(name, 0, &mut buffer).err();
-    [created, loaded, length, read]
+    let mut bench = Bench {
+        driver,
+        loaded: false,
+    };
+    let mut text = String::new(alloc);
+    play(&mut text, &mut bench, &CALLS)?;
+    write!(text, "{}", bench.driver.failures())?;
+    Ok(text)
 }
 
 // What a caller of any honest driver concludes: bytes that were synced last, over whatever else it does with
@@ -258,70 +270,56 @@ fn keep<D: Driver>(
     Ok(())
 }
 
+// Whether it has no memory for that.
+fn wants_memory<D: Driver>(driver: &mut D) -> bool
+    requires honest { IsHonest (D.meaning driver.old) }
+    requires loaded { (D.meaning driver.old).loaded ≡ None }
+{
+    let Ok(name) = VolName::parse("Vol-0001") else {
+        return false;
+    };
+    match keep(driver, &name, &name, &[1]) {
+        Ok(()) => false,
+        Err(fault) => fault == DriverFault::Memory,
+    }
+}
+
 #[test]
 fn kinds_go_together(rt: HostRuntime) -> Result<(), Fail> {
-    let name = VolName::parse("Vol-0001")?;
-    let mut broken = Either::Broken(Broken {
+    let broken = Either::Broken(Broken {
         loaded: None,
         failures: 0,
     });
-    let device = Some(DriverFault::Device);
-    assert_eq!(rt;
-        faults(&mut broken, &name),
-        [device, device, device, device]
-    );
-    assert_eq!(rt; broken.failures(), 4);
-
+    assert_eq!(rt; told_of(rt.alloc(), broken)?.as_str(), "D . D . D D 4");
+    let bare = Either::Bare(Bare { loaded: None });
+    assert_eq!(rt; told_of(rt.alloc(), bare)?.as_str(), "M . N . N N 0");
     let mut bare = Either::Bare(Bare { loaded: None });
-    let gone = Some(DriverFault::NotThere);
-    assert_eq!(rt;
-        faults(&mut bare, &name),
-        [Some(DriverFault::Memory), gone, gone, gone]
-    );
-    assert_eq!(rt; bare.failures(), 0);
-
-    let mut bare = Either::Bare(Bare { loaded: None });
-    assert_eq!(rt;
-        keep(&mut bare, &name, &name, &[1]).err(),
-        Some(DriverFault::Memory)
-    );
+    assert!(rt; wants_memory(&mut bare));
     Ok(())
 }
 
 #[test]
 fn a_box_is_a_device(rt: HostRuntime) -> Result<(), Fail> {
-    let alloc = rt.alloc();
-    let name = VolName::parse("Vol-0001")?;
-    let mut broken: Box<dyn Driver + Drop> = Box::new(
-        alloc,
-        Broken {
-            loaded: None,
-            failures: 0,
-        },
-    )?;
-    let device = Some(DriverFault::Device);
-    assert_eq!(rt;
-        faults(&mut broken, &name),
-        [device, device, device, device]
-    );
-    assert_eq!(rt; broken.failures(), 4);
-
-    let mut bare: Box<dyn Driver + Drop> = Box::new(alloc, Bare { loaded: None })?;
-    assert_eq!(rt;
-        keep(&mut bare, &name, &name, &[1]).err(),
-        Some(DriverFault::Memory)
-    );
+    let broken = Broken {
+        loaded: None,
+        failures: 0,
+    };
+    let broken: Box<dyn Driver + Drop> = Box::new(rt.alloc(), broken)?;
+    assert_eq!(rt; told_of(rt.alloc(), broken)?.as_str(), "D . D . D D 4");
+    let mut bare: Box<dyn Driver + Drop> = Box::new(rt.alloc(), Bare { loaded: None })?;
+    assert!(rt; wants_memory(&mut bare));
     Ok(())
 }
 
 #[test]
 fn failures_stay_at_the_greatest(rt: HostRuntime) -> Result<(), Fail> {
-    let name = VolName::parse("Vol-0001")?;
-    let mut broken = Broken {
+    let broken = Broken {
         loaded: None,
         failures: u64::MAX,
     };
-    assert_eq!(rt; broken.len(&name).err(), Some(DriverFault::Device));
-    assert_eq!(rt; broken.failures(), u64::MAX);
+    assert_eq!(rt;
+        told_of(rt.alloc(), broken)?.as_str(),
+        "D . D . D D 18446744073709551615"
+    );
     Ok(())
 }

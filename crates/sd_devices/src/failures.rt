@@ -1,12 +1,11 @@
 // A history as it is, and where each call of it in turn fails: told as text, a line for each.
 use sd_memdrive::{Call, Fail, When};
-use std::alloc::Global;
-use std::test::Fail as TestFail;
+use std::alloc::{AllocError, Global};
 
 /// A history over a device in memory.
 pub trait History {
-    /// What it comes to under a plan.
-    fn told(alloc: Global, plan: &[Fail]) -> Result<String, TestFail>;
+    /// Tells what it comes to under a plan.
+    fn tell(alloc: Global, plan: &[Fail], text: &mut String) -> Result<(), AllocError>;
 
     /// The kinds of call, how many of each it makes, and how they fail.
     fn kinds() -> &'static [(Call, u64, &'static [When])];
@@ -19,13 +18,14 @@ pub const EACH_WAY: &[When] = &[When::Before, When::Half, When::After];
 pub const TWO_WAYS: &[When] = &[When::Before, When::After];
 
 /// The history without a failure, and where each call of it in turn fails in each way.
-pub fn tell_all<H: History>(alloc: Global) -> Result<String, TestFail> {
+pub fn tell_all<H: History>(alloc: Global) -> Result<String, AllocError> {
     let mut text = String::new(alloc);
-    let told = H::told(alloc, &[])?;
-    writeln!(text, "no failure: {told}")?;
+    text.push_str("no failure: ")?;
+    H::tell(alloc, &[], &mut text)?;
+    text.push('\n')?;
     for (call, count, ways) in H::kinds().iter() {
         for when in ways.iter() {
-            tell_failing::<H>(alloc, &mut text, *call, *count, *when)?;
+            tell_failing::<H>(alloc, *call, *count, *when, &mut text)?;
         }
     }
     Ok(text)
@@ -34,14 +34,15 @@ pub fn tell_all<H: History>(alloc: Global) -> Result<String, TestFail> {
 // The history where each call of a kind in turn fails so.
 fn tell_failing<H: History>(
     alloc: Global,
-    text: &mut String,
     call: Call,
     count: u64,
     when: When,
-) -> Result<(), TestFail> {
+    text: &mut String,
+) -> Result<(), AllocError> {
     for nth in 1..=count {
-        let told = H::told(alloc, &[Fail { call, nth, when }])?;
-        writeln!(text, "{call:?} {nth} {when:?}: {told}")?;
+        write!(text, "{call:?} {nth} {when:?}: ")?;
+        H::tell(alloc, &[Fail { call, nth, when }], text)?;
+        text.push('\n')?;
     }
     Ok(())
 }

@@ -7,6 +7,7 @@ mod memory;
 mod table;
 
 use crate::bench::{Step, play};
+use crate::calls::store;
 use crate::failures::{EACH_WAY, History, TWO_WAYS, tell_all};
 use sd_base::VolName;
 use sd_driver::Driver;
@@ -44,20 +45,27 @@ static HISTORY: [Step; 12] = [
 ];
 
 // The length and a digest of a volume's bytes.
-fn tell_shelf<D: Driver>(driver: &mut D, text: &mut String) -> Result<(), TestFail> {
-    let name = VolName::parse("Vol-0001")?;
+fn tell_shelf<D: Driver>(driver: &mut D, text: &mut String) -> Result<(), AllocError> {
     let mut buffer = [0; 512];
-    match driver.read_at(&name, 0, &mut buffer) {
-        Ok(count) => {
-            let mut digest = 0u64;
-            for byte in &buffer[..count] {
-                digest = digest.wrapping_mul(31).wrapping_add(u64::from(*byte));
-            }
-            write!(text, "{count} {digest:016x}")?;
-        }
-        Err(_) => text.push_str("none")?,
+    match read_volume(driver, &mut buffer) {
+        Some(bytes) => tell_digest(bytes, text),
+        None => text.push_str("none"),
     }
-    Ok(())
+}
+
+// The bytes of the volume, if it is there.
+fn read_volume<'a, D: Driver>(driver: &mut D, buffer: &'a mut [u8; 512]) -> Option<&'a [u8]> {
+    let name = VolName::parse("Vol-0001").ok()?;
+    let count = driver.read_at(&name, 0, buffer).ok()?;
+    Some(&buffer[..count])
+}
+
+fn tell_digest(bytes: &[u8], text: &mut String) -> Result<(), AllocError> {
+    let mut digest = 0u64;
+    for byte in bytes {
+        digest = digest.wrapping_mul(31).wrapping_add(u64::from(*byte));
+    }
+    write!(text, "{} {digest:016x}", bytes.len())
 }
 
 // The calls that the history makes.
@@ -75,23 +83,30 @@ static KINDS: [(Call, u64, &[When]); 7] = [
 struct Volumes;
 
 impl History for Volumes {
-    fn told(alloc: Global, plan: &[Fail]) -> Result<String, TestFail> {
-        let mut text = String::new(alloc);
+    fn tell(alloc: Global, plan: &[Fail], text: &mut String) -> Result<(), AllocError> {
         let mut drive = MemDrive::new(alloc, 400, plan)?;
-        play(alloc, &mut drive, &HISTORY, &mut text)?;
-        text.push_str("| ")?;
-        let failures = drive.failures();
-        let mut left = drive.after_stop(alloc, drive.calls(), &[])?;
-        tell_shelf(&mut drive, &mut text)?;
-        text.push_str(" | ")?;
-        tell_shelf(&mut left, &mut text)?;
-        write!(text, " | {failures}")?;
-        Ok(text)
+        play(alloc, &mut drive, &HISTORY, text)?;
+        tell_end(alloc, &mut drive, text)
     }
 
     fn kinds() -> &'static [(Call, u64, &'static [When])] {
         &KINDS
     }
+}
+
+// The volume, what a stop leaves of it, and the failures.
+fn tell_end(alloc: Global, drive: &mut MemDrive, text: &mut String) -> Result<(), AllocError> {
+    let failures = drive.failures();
+    text.push_str("| ")?;
+    tell_shelf(drive, text)?;
+    text.push_str(" | ")?;
+    tell_left(alloc, drive, text)?;
+    write!(text, " | {failures}")
+}
+
+fn tell_left(alloc: Global, drive: &MemDrive, text: &mut String) -> Result<(), AllocError> {
+    let mut left = drive.after_stop(alloc, drive.calls(), &[])?;
+    tell_shelf(&mut left, text)
 }
 
 #[test]
@@ -120,40 +135,48 @@ const EXAMPLE_BODY: &[u8] =
 \0\0\0\0\0\0\0\x01\0\0\0\0\0\0\0\x05\0\0\0\x54";
 
 // The bytes of the volume that these steps leave.
-fn bytes_after(alloc: Global, steps: &[Step]) -> Result<Vec<u8>, TestFail> {
+fn bytes_after(alloc: Global, steps: &[Step]) -> Result<Vec<u8>, AllocError> {
     let mut text = String::new(alloc);
     let mut drive = MemDrive::new(alloc, 400, &[])?;
     play(alloc, &mut drive, steps, &mut text)?;
+    bytes_of(alloc, &mut drive)
+}
+
+// The bytes of the volume; none where it isn't there.
+fn bytes_of<D: Driver>(alloc: Global, driver: &mut D) -> Result<Vec<u8>, AllocError> {
     let mut buffer = [0; 512];
-    let count = drive.read_at(&VolName::parse("Vol-0001")?, 0, &mut buffer)?;
-    Ok(buffer[..count].to_vec(alloc)?)
+    match read_volume(driver, &mut buffer) {
+        Some(bytes) => bytes.to_vec(alloc),
+        None => Ok(Vec::new(alloc)),
+    }
+}
+
+static EXAMPLE_STEPS: [Step; 2] = [Step::Label("Vol-0001"), Step::Append(1000, EXAMPLE_BODY)];
+
+fn tell_example(alloc: Global, text: &mut String) -> Result<(), AllocError> {
+    for byte in &bytes_after(alloc, &EXAMPLE_STEPS)? {
+        write!(text, "{byte:02x}")?;
+    }
+    Ok(())
 }
 
 #[test]
 fn example_volume(rt: HostRuntime) -> Result<(), TestFail> {
-    let alloc = rt.alloc();
-    let steps = [Step::Label("Vol-0001"), Step::Append(1000, EXAMPLE_BODY)];
-    let mut text = String::new(alloc);
-    for byte in &bytes_after(alloc, &steps)? {
-        write!(text, "{byte:02x}")?;
-    }
+    let mut text = String::new(rt.alloc());
+    tell_example(rt.alloc(), &mut text)?;
     assert_eq!(rt; text.as_str(), EXAMPLE);
     Ok(())
 }
 
+static ADOPTION: [Step; 1] = [Step::Adopt("Vol-0001", "File", 2000)];
+
 // What the adoption of a volume of these bytes answers.
-fn tell_adopted(alloc: Global, bytes: &[u8], text: &mut String) -> Result<(), TestFail> {
+fn tell_adopted(alloc: Global, bytes: &[u8], text: &mut String) -> Result<(), AllocError> {
     let mut drive = MemDrive::new(alloc, 400, &[])?;
-    drive.create(&VolName::parse("Vol-0001")?)?;
-    drive.append(bytes)?;
-    drive.unload();
-    play(
-        alloc,
-        &mut drive,
-        &[Step::Adopt("Vol-0001", "File", 2000)],
-        text,
-    )?;
-    Ok(())
+    if !store(&mut drive, "Vol-0001", bytes) {
+        return text.push('?');
+    }
+    play(alloc, &mut drive, &ADOPTION, text)
 }
 
 static TWO_BLOCKS: [Step; 3] = [
@@ -163,7 +186,7 @@ static TWO_BLOCKS: [Step; 3] = [
 ];
 
 // Cut at each place of its last block.
-fn tell_cut(alloc: Global) -> Result<String, TestFail> {
+fn tell_cut(alloc: Global) -> Result<String, AllocError> {
     let bytes = bytes_after(alloc, &TWO_BLOCKS)?;
     let mut text = String::new(alloc);
     for length in 118..=bytes.len() {
@@ -173,7 +196,7 @@ fn tell_cut(alloc: Global) -> Result<String, TestFail> {
 }
 
 // With a wrong byte at each of these places.
-fn tell_damaged(alloc: Global, places: &[usize]) -> Result<String, TestFail> {
+fn tell_damaged(alloc: Global, places: &[usize]) -> Result<String, AllocError> {
     let mut bytes = bytes_after(alloc, &TWO_BLOCKS)?;
     let mut text = String::new(alloc);
     for place in places {
@@ -197,7 +220,7 @@ fn cut_at_every_byte(rt: HostRuntime) -> Result<(), TestFail> {
 }
 
 // The first and the last byte of each block, and some between.
-const PLACES: [usize; 12] = [0, 8, 40, 81, 82, 90, 117, 118, 130, 142, 143, 166];
+static PLACES: [usize; 12] = [0, 8, 40, 81, 82, 90, 117, 118, 130, 142, 143, 166];
 
 // A volume ends before a block with a wrong byte, and is none where that is the label block.
 #[test]
@@ -234,7 +257,7 @@ static NARROW: [(u64, &[Step], &str); 3] = [
     ),
 ];
 
-fn tell_narrow(alloc: Global, capacity: u64, steps: &[Step]) -> Result<String, TestFail> {
+fn tell_narrow(alloc: Global, capacity: u64, steps: &[Step]) -> Result<String, AllocError> {
     let mut text = String::new(alloc);
     let mut drive = MemDrive::new(alloc, capacity, &[])?;
     play(alloc, &mut drive, steps, &mut text)?;

@@ -17,6 +17,10 @@ meaning_of drive = record { honest = false; shelf = unknown_shelf; loaded = load
 abbrev pub unused : Meaning
 unused = record { honest = false; shelf = unknown_shelf; loaded = None; failures = 0; told = 0 }
 
+-- the same meaning, but for this count of failures
+abbrev pub counted_from : ℕ → Meaning → Meaning
+counted_from count meaning = record { honest = meaning.honest; shelf = meaning.shelf; loaded = meaning.loaded; failures = count; told = meaning.told }
+
 -- the path of the folder that a drive has its volumes in
 abbrev pub folder_of : {R F D : Type 0} → FileDrive R F D → List ℕ
 folder_of drive = folder_path drive.volumes

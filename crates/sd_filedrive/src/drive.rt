@@ -2,7 +2,7 @@
 ghost use Rattle.std.specs.Prelude.{◌≡◌, ◌≢◌, ◌⊎◌, ◌≤◌, None, Some, IfOk, IfErr, OnOk, OnErr, IsSome, length};
 ghost use Rattle.sd_driver.specs.Meaning.{CountsFailures, SameCounts};
 ghost use Rattle.sd_filedrive.specs.Count.{failures_after, IsSpent};
-ghost use Rattle.sd_filedrive.specs.Drive.{meaning_of, unused, folder_of};
+ghost use Rattle.sd_filedrive.specs.Drive.{meaning_of, unused, folder_of, counted_from};
 ghost use Rattle.sd_filedrive.specs.Place.{folder_named};
 
 use crate::tally::Tally;
@@ -49,6 +49,25 @@ where
             volumes: Volumes::new(system, alloc, path)?,
             tally: Tally::new(),
         })
+    }
+
+    /// The same drive, which goes on counting its failures from there: for whoever takes over the count of an
+    /// earlier drive.
+    pub fn counting_from(self, failures: u64) -> FileDrive<R>
+        ensures counted { meaning_of result ≡ counted_from failures (meaning_of self) }
+        ensures folder { folder_of result ≡ folder_of self }
+    {
+        FileDrive {
+            volumes: self.volumes,
+            tally: self.tally.counting_from(failures),
+        }
+    }
+
+    /// How often it answered that it is full.
+    pub fn told(&self) -> u64
+        ensures { result ≡ (meaning_of self.now).told }
+    {
+        self.tally.told
     }
 }
 

@@ -9,8 +9,6 @@ mod folder;
 mod loaded;
 mod reader;
 mod tally;
-#[cfg(test)]
-mod tests;
 mod volumes;
 
 pub use drive::FileDrive;

@@ -26,6 +26,13 @@ impl Tally {
         }
     }
 
+    /// The same, but for the failures.
+    pub(crate) fn counting_from(self, failures: u64) -> Tally
+        ensures { result ≡ record { failures = failures; told = self.told } }
+    {
+        Tally { failures, ..self }
+    }
+
     /// Whether no further failure can be counted. Then the device answers `Device` and does nothing.
     pub(crate) fn is_spent(&self) -> bool
         ensures { IsTrue result ↔ (self.now.failures ≡ 2 ^ 64 - 1) }

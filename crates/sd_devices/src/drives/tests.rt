@@ -5,7 +5,7 @@ use crate::drives::bench::{LIMIT, Step, drive_on, play};
 use crate::failures::{EACH_WAY, History, TWO_WAYS, tell_all};
 use sd_driver::Driver;
 use sd_memdrive::{Call, Fail, MemDrive, When};
-use std::alloc::Global;
+use std::alloc::{AllocError, Global};
 use std::test::Fail as TestFail;
 use table::{FAILED_APPEND, FAILED_SYNC, TOLD};
 
@@ -103,14 +103,22 @@ static SYNC: [Step; 17] = [
     Step::Sync,
 ];
 
-// The steps under a plan, told as the table tells them.
-fn history(alloc: Global, steps: &[Step], plan: &[Fail]) -> Result<String, TestFail> {
-    let mut text = String::new(alloc);
+// Tells the steps under a plan, as the table tells them.
+fn tell(alloc: Global, steps: &[Step], plan: &[Fail], text: &mut String) -> Result<(), AllocError> {
     let device = MemDrive::new(alloc, 400, plan)?;
-    let mut drive = drive_on(alloc, device).ok_or("memory")?;
-    play(alloc, &mut drive, steps, &mut text)?;
+    let Some(mut drive) = drive_on(alloc, device) else {
+        return text.push('?');
+    };
+    let played = play(alloc, &mut drive, steps, text);
     let failures = drive.into_driver().failures();
-    write!(text, "| {failures}")?;
+    played?;
+    write!(text, "| {failures}")
+}
+
+// What the steps tell under a plan.
+fn told(alloc: Global, steps: &[Step], plan: &[Fail]) -> Result<String, AllocError> {
+    let mut text = String::new(alloc);
+    tell(alloc, steps, plan, &mut text)?;
     Ok(text)
 }
 
@@ -118,8 +126,8 @@ fn history(alloc: Global, steps: &[Step], plan: &[Fail]) -> Result<String, TestF
 struct Drives;
 
 impl History for Drives {
-    fn told(alloc: Global, plan: &[Fail]) -> Result<String, TestFail> {
-        history(alloc, &HISTORY, plan)
+    fn tell(alloc: Global, plan: &[Fail], text: &mut String) -> Result<(), AllocError> {
+        tell(alloc, &HISTORY, plan, text)
     }
 
     fn kinds() -> &'static [(Call, u64, &'static [When])] {
@@ -140,10 +148,7 @@ fn failed_append(rt: HostRuntime) -> Result<(), TestFail> {
         nth: 3,
         when: When::After,
     }];
-    assert_eq!(rt;
-        history(rt.alloc(), &APPEND, &plan)?.as_str(),
-        FAILED_APPEND
-    );
+    assert_eq!(rt; told(rt.alloc(), &APPEND, &plan)?.as_str(), FAILED_APPEND);
     Ok(())
 }
 
@@ -154,7 +159,7 @@ fn failed_sync(rt: HostRuntime) -> Result<(), TestFail> {
         nth: 3,
         when: When::Before,
     }];
-    assert_eq!(rt; history(rt.alloc(), &SYNC, &plan)?.as_str(), FAILED_SYNC);
+    assert_eq!(rt; told(rt.alloc(), &SYNC, &plan)?.as_str(), FAILED_SYNC);
     Ok(())
 }
 
@@ -181,7 +186,7 @@ static READ: [Step; 8] = [
 #[test]
 fn reads_back(rt: HostRuntime) -> Result<(), TestFail> {
     assert_eq!(rt;
-        history(rt.alloc(), &READ, &[])?.as_str(),
+        told(rt.alloc(), &READ, &[])?.as_str(),
         ". . . 3950 . 82+167 1:5:ended . | 0"
     );
     Ok(())
@@ -206,7 +211,7 @@ static NEXT: [Step; 13] = [
 #[test]
 fn next_volume_of_a_pool(rt: HostRuntime) -> Result<(), TestFail> {
     assert_eq!(rt;
-        history(rt.alloc(), &NEXT, &[])?.as_str(),
+        told(rt.alloc(), &NEXT, &[])?.as_str(),
         ". . . Vol-0001 Vol-0003 none . . . 82+161 . full Vol-0002 | 0"
     );
     Ok(())

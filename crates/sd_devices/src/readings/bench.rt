@@ -1,9 +1,8 @@
 // What reading a session back tells: its count, bytes and end, or the number of the refusal, and then each record
 // that was handed over.
-ghost use Rattle.std.specs.Prelude.{◌≡◌, None};
-
+use crate::calls::store;
 use sd_base::{SessionKey, VolName};
-use sd_driver::{Driver, DriverFault};
+use sd_driver::Driver;
 use sd_memdrive::{Fail, MemDrive};
 use sd_readback::{ReadEnd, ReadFault, read_session};
 use sd_span::Span;
@@ -19,20 +18,11 @@ const CAPACITY: u64 = 1 << 24;
 pub fn drive_of(alloc: Global, plan: &[Fail], volumes: &[(&str, &[u8])]) -> Option<MemDrive> {
     let mut drive = MemDrive::new(alloc, CAPACITY, plan).ok()?;
     for (name, bytes) in volumes {
-        let name = VolName::parse(name).ok()?;
-        store(&mut drive, &name, bytes).ok()?;
+        if !store(&mut drive, name, bytes) {
+            return None;
+        }
     }
     Some(drive)
-}
-
-fn store<D: Driver>(driver: &mut D, name: &VolName, bytes: &[u8]) -> Result<(), DriverFault>
-    requires { (D.meaning driver.old).loaded ≡ None }
-    ensures { (D.meaning driver.new).loaded ≡ None }
-{
-    driver.create(name)?;
-    let answer = driver.append(bytes);
-    driver.unload();
-    answer
 }
 
 /// Reads the session of that number, of the run that began at 1000, from these spans.

@@ -10,7 +10,7 @@ use sd_pack::Body;
 use std::alloc::Global;
 use table::{DAMAGED, FAILING, ROWS};
 
-const SESSION_1: [SpanRow; 2] = [("Vol-0001", 1, 82, 3154), ("Vol-0002", 2, 756, 1171)];
+static SESSION_1: [SpanRow; 2] = [("Vol-0001", 1, 82, 3154), ("Vol-0002", 2, 756, 1171)];
 
 fn part(bodies: &[Body], at: usize) -> &[u8] {
     match bodies.get(at) {
@@ -64,7 +64,8 @@ fn spans(rt: HostRuntime) {
 
 #[test]
 fn calls_fail(rt: HostRuntime) {
-    for (call, nth, wanted) in FAILING {
+    for row in FAILING.iter() {
+        let (call, nth, wanted) = *row;
         for when in [When::Before, When::After] {
             let mut drive = shelf(rt.alloc(), &[Fail { call, nth, when }]).expect(&rt, "a drive");
             let answer = told(rt.alloc(), &mut drive, 1, &SESSION_1).expect(&rt, "an answer");
@@ -91,7 +92,8 @@ fn told_of(alloc: Global, bytes: &[u8], id: u32, start: u64, end: u64) -> Option
 
 #[test]
 fn damaged_volume(rt: HostRuntime) {
-    for (changed, length, start, end, wanted) in DAMAGED {
+    for row in DAMAGED.iter() {
+        let (changed, length, start, end, wanted) = *row;
         let bytes = damaged(rt.alloc(), changed, length).expect(&rt, "a volume");
         let answer = told_of(rt.alloc(), &bytes, 3, start, end).expect(&rt, "an answer");
         assert_eq!(rt; answer.as_str(), wanted, "{changed} {length} {start} {end}");

@@ -1,40 +1,40 @@
 // Volumes on a drive of files, in a folder of the test's own, beside the same on a memory drive.
-use super::{HISTORY, TWO_BLOCKS, bytes_after};
+use super::{ADOPTION, HISTORY, TWO_BLOCKS, bytes_after, bytes_of};
 use crate::bench::{Step, play};
+use crate::folder::make_folder;
 use sd_filedrive::FileDrive;
 use sd_memdrive::MemDrive;
-use std::fs::Files;
-use std::io::ErrorKind;
-use std::rt::Env;
+use std::alloc::{AllocError, Global};
+use std::fs;
 use std::test::Fail as TestFail;
-use std::{env, fs, io};
 
-// A new folder in the system's folder for such things.
-fn make_folder<R: Files + Env + AllocGlobal>(rt: &R) -> io::Result<String> {
-    let place = env::temp_dir(rt)?;
-    for number in 0..1000u32 {
-        let path = format!(in rt.alloc(); "{}/sd_devices_{number}", place.as_str())?;
-        match fs::create_dir(rt, path.as_str()) {
-            Ok(()) => return Ok(path),
-            Err(error) if error.kind() == ErrorKind::AlreadyExists => {}
-            Err(error) => return Err(error),
-        }
-    }
-    Err(ErrorKind::AlreadyExists.into())
+// Tells what the steps answer on files of that folder.
+fn tell_files(
+    rt: &HostRuntime,
+    folder: &str,
+    steps: &[Step],
+    text: &mut String,
+) -> Result<(), TestFail> {
+    let mut drive = FileDrive::new(rt.clone()?, rt.alloc(), folder)?;
+    play(rt.alloc(), &mut drive, steps, text)?;
+    Ok(())
 }
 
-// What the steps answer on files of that folder.
-fn on_files(rt: &HostRuntime, folder: &str, steps: &[Step]) -> Result<String, TestFail> {
+// What the history answers on files of that folder, and the bytes that it leaves.
+fn told_of_files(rt: &HostRuntime, folder: &str) -> Result<String, TestFail> {
     let mut text = String::new(rt.alloc());
-    let mut drive = FileDrive::new(rt.clone()?, rt.alloc(), folder)?;
-    play(rt.alloc(), &mut drive, steps, &mut text)?;
+    tell_files(rt, folder, &HISTORY, &mut text)?;
+    let path = format!(in rt.alloc(); "{folder}/Vol-0001")?;
+    write!(text, "{:?}", fs::read(rt, path.as_str())?)?;
     Ok(text)
 }
 
-fn in_memory(rt: &HostRuntime, steps: &[Step]) -> Result<String, TestFail> {
-    let mut text = String::new(rt.alloc());
-    let mut drive = MemDrive::new(rt.alloc(), 400, &[])?;
-    play(rt.alloc(), &mut drive, steps, &mut text)?;
+// The same in memory.
+fn told_of_memory(alloc: Global) -> Result<String, AllocError> {
+    let mut text = String::new(alloc);
+    let mut drive = MemDrive::new(alloc, 400, &[])?;
+    play(alloc, &mut drive, &HISTORY, &mut text)?;
+    write!(text, "{:?}", bytes_of(alloc, &mut drive)?)?;
     Ok(text)
 }
 
@@ -42,43 +42,51 @@ fn in_memory(rt: &HostRuntime, steps: &[Step]) -> Result<String, TestFail> {
 #[test]
 fn volumes_are_files(rt: HostRuntime) -> Result<(), TestFail> {
     let folder = make_folder(&rt)?;
-    let told = on_files(&rt, folder.as_str(), &HISTORY)?;
-    let path = format!(in rt.alloc(); "{}/Vol-0001", folder.as_str())?;
-    let bytes = fs::read(&rt, path.as_str())?;
+    let told = told_of_files(&rt, folder.as_str())?;
     fs::remove_dir_all(&rt, folder.as_str())?;
-    assert_eq!(rt; told.as_str(), in_memory(&rt, &HISTORY)?.as_str());
-    assert_eq!(rt;
-        bytes.as_slice(),
-        bytes_after(rt.alloc(), &HISTORY)?.as_slice()
-    );
+    assert_eq!(rt; told.as_str(), told_of_memory(rt.alloc())?.as_str());
     Ok(())
 }
 
 // What the adoption of a file of these bytes, cut at each place of its last block, answers; and then with its
 // last byte wrong.
-fn tell_cut_files(rt: &HostRuntime, folder: &str, bytes: &mut [u8]) -> Result<String, TestFail> {
-    let mut text = String::new(rt.alloc());
+fn tell_cut_files(
+    rt: &HostRuntime,
+    folder: &str,
+    bytes: &mut [u8],
+    text: &mut String,
+) -> Result<(), TestFail> {
     for length in 118..=bytes.len() {
-        text.push_str(adopted_file(rt, folder, &bytes[..length])?.as_str())?;
+        tell_adopted_file(rt, folder, &bytes[..length], text)?;
     }
     if let Some(last) = bytes.last_mut() {
         *last ^= 0x40;
     }
-    text.push_str(adopted_file(rt, folder, bytes)?.as_str())?;
-    Ok(text)
+    tell_adopted_file(rt, folder, bytes, text)
 }
 
-fn adopted_file(rt: &HostRuntime, folder: &str, bytes: &[u8]) -> Result<String, TestFail> {
+fn tell_adopted_file(
+    rt: &HostRuntime,
+    folder: &str,
+    bytes: &[u8],
+    text: &mut String,
+) -> Result<(), TestFail> {
     let path = format!(in rt.alloc(); "{folder}/Vol-0001")?;
     fs::write(rt, path.as_str(), bytes)?;
-    on_files(rt, folder, &[Step::Adopt("Vol-0001", "File", 2000)])
+    tell_files(rt, folder, &ADOPTION, text)
+}
+
+fn told_of_cuts(rt: &HostRuntime, folder: &str) -> Result<String, TestFail> {
+    let mut text = String::new(rt.alloc());
+    let mut bytes = bytes_after(rt.alloc(), &TWO_BLOCKS)?;
+    tell_cut_files(rt, folder, &mut bytes, &mut text)?;
+    Ok(text)
 }
 
 #[test]
 fn files_cut_at_every_byte(rt: HostRuntime) -> Result<(), TestFail> {
     let folder = make_folder(&rt)?;
-    let mut bytes = bytes_after(rt.alloc(), &TWO_BLOCKS)?;
-    let told = tell_cut_files(&rt, folder.as_str(), &mut bytes)?;
+    let told = told_of_cuts(&rt, folder.as_str())?;
     fs::remove_dir_all(&rt, folder.as_str())?;
     let mut expected = "118/2 ".repeat(rt.alloc(), 49)?;
     expected.push_str("167/3 118/2 ")?;

@@ -201,7 +201,7 @@ pub static ROWS: [Row; 39] = [
 ];
 
 /// Which call fails, the how manieth of its kind, and what is told of session 1.
-pub const FAILING: [(Call, u64, &str); 6] = [
+pub static FAILING: [(Call, u64, &str); 6] = [
     (Call::Len, 1, "3940"),
     (Call::Len, 2, "3940 1/2/5/6d36278 2/2/1500/731eb200"),
     (
@@ -219,7 +219,7 @@ pub const FAILING: [(Call, u64, &str); 6] = [
 ];
 
 /// Session 3 on damaged volumes: the byte that is changed, how many bytes are left, the span, and what is told.
-pub const DAMAGED: [(usize, usize, u64, u64, &str); 7] = [
+pub static DAMAGED: [(usize, usize, u64, u64, &str); 7] = [
     (1000, 249, 82, 249, "ok 1 5 ended 1/2/5/6f081fa"),
     (200, 249, 82, 249, "3951"),
     (1000, 200, 82, 249, "3952"),

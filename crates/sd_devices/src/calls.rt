@@ -1,34 +1,22 @@
-// A driver on a bench, and a folder of the test's own.
+// Histories of a device's calls, whatever device it is, told as text: a mark for what each call answers.
 ghost use Rattle.std.specs.Prelude.{◌≡◌, false, None, IsTrue, IsSome};
 
-use super::faulty::{Call, Plan};
 use sd_base::VolName;
 use sd_driver::{Driver, DriverFault};
-use std::alloc::{AllocError, Global};
-use std::fs::Files;
-use std::io::ErrorKind;
-use std::rt::Env;
-use std::sync::atomic::Ordering;
-use std::test::Fail;
-use std::{env, fs, io};
+use std::alloc::AllocError;
 
-// A step of a history.
+/// A step of a history.
 #[derive(Clone, Copy)]
-pub(super) enum Step {
+pub enum Step {
     Create(&'static str),
     Load(&'static str),
     Unload,
     Len(&'static str),
+    /// Four bytes from that place on.
     Read(&'static str, u64),
     Append(&'static [u8]),
     Sync,
     Cut(u64),
-    // The next such call of the system fails with this number.
-    Fails(Call, u32),
-    // How many calls of the system were made.
-    Calls,
-    // How many of them opened a file, and how many synced one or a folder.
-    Opens,
 }
 
 impl Step {
@@ -44,17 +32,17 @@ impl Step {
     }
 }
 
-// A driver of any kind, beside the plan of what fails below it. It keeps in mind whether a volume is loaded.
+/// A device on a bench, which keeps in mind whether a volume is loaded.
 #[derive(Drop)]
-pub(super) struct Bench<'a, D: Driver + Drop> {
-    pub plan: &'a Plan,
+pub struct Bench<D: Driver + Drop> {
     pub driver: D,
     pub loaded: bool,
     ghost some: { IsTrue loaded → IsSome (D.meaning driver).loaded },
     ghost none: { loaded ≡ false → (D.meaning driver).loaded ≡ None },
 }
 
-fn letter_of(fault: DriverFault) -> char {
+/// The letter of a fault.
+pub fn letter_of(fault: DriverFault) -> char {
     match fault {
         DriverFault::NotThere => 'N',
         DriverFault::Exists => 'E',
@@ -71,7 +59,7 @@ fn tell(text: &mut String, answer: Result<(), DriverFault>) -> Result<(), AllocE
     }
 }
 
-impl<'a, D: Driver + Drop> Bench<'a, D> {
+impl<D: Driver + Drop> Bench<D> {
     fn create(&mut self, text: &mut String, name: &VolName) -> Result<(), AllocError> {
         if self.loaded {
             return text.push('s');
@@ -103,11 +91,16 @@ impl<'a, D: Driver + Drop> Bench<'a, D> {
         }
     }
 
-    fn read(&mut self, text: &mut String, name: &VolName, at: u64) -> Result<(), AllocError> {
-        let mut buffer = [0; 4];
-        match self.driver.read_at(name, at, &mut buffer) {
+    fn read(
+        &mut self,
+        text: &mut String,
+        name: &VolName,
+        at: u64,
+        into: &mut [u8],
+    ) -> Result<(), AllocError> {
+        match self.driver.read_at(name, at, into) {
             Ok(count) => {
-                let bytes = &buffer[..count];
+                let bytes = &into[..count];
                 write!(text, "{bytes:?}")
             }
             Err(fault) => text.push(letter_of(fault)),
@@ -138,56 +131,61 @@ impl<'a, D: Driver + Drop> Bench<'a, D> {
         tell(text, answer)
     }
 
-    fn opens(&self, text: &mut String) -> Result<(), AllocError> {
-        let opens = self.plan.opens.load(Ordering::SeqCst);
-        let syncs = self.plan.syncs.load(Ordering::SeqCst);
-        write!(text, "{opens} {syncs}")
-    }
-
-    fn calls(&self, text: &mut String) -> Result<(), AllocError> {
-        let calls = self.plan.calls.load(Ordering::SeqCst);
-        write!(text, "{calls}")
-    }
-
-    fn step(&mut self, text: &mut String, name: &VolName, step: Step) -> Result<(), AllocError> {
+    fn call(&mut self, text: &mut String, name: &VolName, step: Step) -> Result<(), AllocError> {
         match step {
             Step::Create(_) => self.create(text, name),
             Step::Load(_) => self.load(text, name),
             Step::Unload => self.unload(text),
             Step::Len(_) => self.len(text, name),
-            Step::Read(_, at) => self.read(text, name, at),
+            Step::Read(_, at) => self.read(text, name, at, &mut [0; 4]),
             Step::Append(bytes) => self.append(text, bytes),
             Step::Sync => self.sync(text),
             Step::Cut(to) => self.cut(text, to),
-            Step::Fails(call, errno) => {
-                self.plan.set(call, errno);
-                text.push('.')
-            }
-            Step::Calls => self.calls(text),
-            Step::Opens => self.opens(text),
         }
     }
 
-    // What the driver answers: '.', a letter for a fault, a length or bytes; 's' for a step that is skipped. Of the
-    // plan: its counts.
-    pub(super) fn told(&mut self, alloc: Global, step: Step) -> Result<String, Fail> {
-        let name = VolName::parse(step.name())?;
-        let mut text = String::new(alloc);
-        self.step(&mut text, &name, step)?;
-        Ok(text)
+    /// Takes a step. Tells '.', a letter for a fault, a length or bytes; 's' for a step that is skipped.
+    pub fn step(&mut self, text: &mut String, step: Step) -> Result<(), AllocError> {
+        match VolName::parse(step.name()) {
+            Ok(name) => self.call(text, &name, step),
+            Err(_) => text.push('?'),
+        }
+    }
+
+    /// Tells the bytes of a volume, sixteen at the most.
+    pub fn bytes_of(&mut self, text: &mut String, name: &str) -> Result<(), AllocError> {
+        match VolName::parse(name) {
+            Ok(name) => self.read(text, &name, 0, &mut [0; 16]),
+            Err(_) => text.push('?'),
+        }
     }
 }
 
-// A new folder for the test, among the system's temporary files: the first of these names that nothing has.
-pub(super) fn make_folder<R: Files + Env + AllocGlobal>(rt: &R) -> io::Result<String> {
-    let place = env::temp_dir(rt)?;
-    for number in 0..1000u32 {
-        let path = format!(in rt.alloc(); "{}/sd_filedrive_{number}", place.as_str())?;
-        match fs::create_dir(rt, path.as_str()) {
-            Ok(()) => return Ok(path),
-            Err(error) if error.kind() == ErrorKind::AlreadyExists => {}
-            Err(error) => return Err(error),
-        }
+/// Takes the steps in order. Tells each with a blank behind it.
+pub fn play<D: Driver + Drop>(
+    text: &mut String,
+    bench: &mut Bench<D>,
+    steps: &[Step],
+) -> Result<(), AllocError> {
+    for step in steps {
+        bench.step(text, *step)?;
+        text.push(' ')?;
     }
-    Err(ErrorKind::AlreadyExists.into())
+    Ok(())
+}
+
+/// Makes a volume of these bytes, and unloads it. Tells whether that went well.
+pub fn store<D: Driver>(driver: &mut D, name: &str, bytes: &[u8]) -> bool
+    requires { (D.meaning driver.old).loaded ≡ None }
+    ensures { (D.meaning driver.new).loaded ≡ None }
+{
+    let Ok(name) = VolName::parse(name) else {
+        return false;
+    };
+    let Ok(()) = driver.create(&name) else {
+        return false;
+    };
+    let stored = driver.append(bytes).is_ok();
+    driver.unload();
+    stored
 }

@@ -31,9 +31,9 @@ pub(super) enum Call {
 pub(super) struct Plan {
     call: AtomicU64,
     errno: AtomicU64,
-    pub calls: AtomicU64,
-    pub opens: AtomicU64,
-    pub syncs: AtomicU64,
+    calls: AtomicU64,
+    opens: AtomicU64,
+    syncs: AtomicU64,
 }
 
 impl Plan {
@@ -51,6 +51,18 @@ impl Plan {
     pub(super) fn set(&self, call: Call, errno: u32) {
         self.call.store(call as u64, Ordering::SeqCst);
         self.errno.store(u64::from(errno), Ordering::SeqCst);
+    }
+
+    pub(super) fn calls(&self) -> u64 {
+        self.calls.load(Ordering::SeqCst)
+    }
+
+    pub(super) fn opens(&self) -> u64 {
+        self.opens.load(Ordering::SeqCst)
+    }
+
+    pub(super) fn syncs(&self) -> u64 {
+        self.syncs.load(Ordering::SeqCst)
     }
 
     fn is_due(&self, call: Call) -> bool {
