@@ -37,7 +37,7 @@ const MIXED: [(usize, u32, u32); 5] = [
 
 // A session: its block limit, the data sizes of its records, and the length, the first and the last index
 // of each block that it makes, with its labels.
-const SESSIONS: [(&str, usize, &[usize], &[(usize, u32, u32)]); 12] = [
+static SESSIONS: [(&str, usize, &[usize], &[(usize, u32, u32)]); 12] = [
     ("small_sessions, none", 1024, &[], &[(150, 0, 0)]),
     ("small_sessions, no data", 1024, &[0], &[(162, 1, 1)]),
     (
@@ -108,24 +108,34 @@ fn data(alloc: Global, size: usize) -> Option<Vec<u8>> {
     }
 }
 
-fn put(rt: &impl Abort, alloc: Global, packer: &mut Packer, index: u32, size: usize) -> Option<()> {
-    let rec = Rec::new(index, 2, Bytes::from_vec(data(alloc, size)?))?;
-    let waiting = packer.waiting();
-    if packer.put(&rec).is_ok() {
-        return Some(());
-    }
-    assert_eq!(rt; packer.waiting(), waiting);
-    packer.put(&rec).ok()
+fn record(alloc: Global, index: u32, size: usize) -> Option<Rec> {
+    Rec::new(index, 2, Bytes::from_vec(data(alloc, size)?))
 }
 
-fn put_label(rt: &impl Abort, packer: &mut Packer, totals: Option<Totals>) -> Option<()> {
-    let label = label(totals)?;
+// A put that is refused leaves as many closed bodies as before.
+fn put_record(packer: &mut Packer, rec: &Rec) -> bool {
     let waiting = packer.waiting();
-    if packer.put_label(&label).is_ok() {
-        return Some(());
+    packer.put(rec).is_ok() || packer.waiting() == waiting && packer.put(rec).is_ok()
+}
+
+fn put_label(packer: &mut Packer, label: &SessionLabel) -> bool {
+    let waiting = packer.waiting();
+    packer.put_label(label).is_ok()
+        || packer.waiting() == waiting && packer.put_label(label).is_ok()
+}
+
+fn put(alloc: Global, packer: &mut Packer, index: u32, size: usize) -> bool {
+    match record(alloc, index, size) {
+        Some(rec) => put_record(packer, &rec),
+        None => false,
     }
-    assert_eq!(rt; packer.waiting(), waiting);
-    packer.put_label(&label).ok()
+}
+
+fn mark(packer: &mut Packer, totals: Option<Totals>) -> bool {
+    match label(totals) {
+        Some(label) => put_label(packer, &label),
+        None => false,
+    }
 }
 
 fn new_packer(alloc: Global, max: usize) -> Option<Packer> {
@@ -139,26 +149,29 @@ fn new_packer(alloc: Global, max: usize) -> Option<Packer> {
 }
 
 // The records of these sizes, and their totals.
-fn put_all(rt: &impl Abort, alloc: Global, packer: &mut Packer, sizes: &[usize]) -> Option<Totals> {
+fn put_all(alloc: Global, packer: &mut Packer, sizes: &[usize]) -> Option<Totals> {
     let mut index = 0u32;
     let mut bytes = 0u64;
     for size in sizes {
         index = index.wrapping_add(1);
         bytes = bytes.wrapping_add(*size as u64);
-        put(rt, alloc, packer, index, *size)?;
+        if !put(alloc, packer, index, *size) {
+            return None;
+        }
     }
     let records = u64::from(index);
     Some(Totals { records, bytes })
 }
 
-// The bodies of a session with its labels.
-fn packed(rt: &impl Abort, alloc: Global, max: usize, sizes: &[usize]) -> Option<Packer> {
-    let mut packer = new_packer(alloc, max)?;
-    put_label(rt, &mut packer, None)?;
-    let totals = put_all(rt, alloc, &mut packer, sizes)?;
-    put_label(rt, &mut packer, Some(totals))?;
+// A session with its labels.
+fn put_session(alloc: Global, packer: &mut Packer, sizes: &[usize]) -> bool {
+    if !mark(packer, None) {
+        return false;
+    }
+    let totals = put_all(alloc, packer, sizes);
+    let marked = totals.is_some() && mark(packer, totals);
     packer.finish();
-    Some(packer)
+    marked
 }
 
 // The length, the first and the last index of the next body's block, by a look at it and by the body.
@@ -168,26 +181,37 @@ fn next_block(packer: &mut Packer) -> Option<(usize, usize, u32, u32)> {
     Some((seen, body.bytes.len(), body.first, body.last))
 }
 
+fn gives_blocks(packer: &mut Packer, blocks: &[(usize, u32, u32)]) -> bool {
+    for (length, first, last) in blocks {
+        let body = length.saturating_sub(BLOCK_HEADER);
+        if next_block(packer) != Some((body, body, *first, *last)) {
+            return false;
+        }
+    }
+    true
+}
+
+// Whether these blocks come, and no other.
+fn gives_all(packer: &mut Packer, blocks: &[(usize, u32, u32)]) -> bool {
+    packer.waiting() == blocks.len()
+        && gives_blocks(packer, blocks)
+        && packer.waiting() == 0
+        && next_block(packer).is_none()
+}
+
 #[test]
 fn sessions(rt: HostRuntime) {
-    for (name, max, sizes, blocks) in SESSIONS {
-        let mut packer = packed(&rt, rt.alloc(), max, sizes).expect(&rt, "a session");
-        assert_eq!(rt; packer.waiting(), blocks.len(), "{name}");
-        for (length, first, last) in blocks {
-            let body = length.saturating_sub(BLOCK_HEADER);
-            let found = next_block(&mut packer);
-            assert_eq!(rt; found, Some((body, body, *first, *last)), "{name}");
-        }
-        assert_eq!(rt; packer.waiting(), 0, "{name}");
-        assert_eq!(rt; next_block(&mut packer), None, "{name}");
+    for row in SESSIONS.iter() {
+        let (name, max, sizes, blocks) = *row;
+        let mut packer = new_packer(rt.alloc(), max).expect(&rt, "a packer");
+        assert!(rt; put_session(rt.alloc(), &mut packer, sizes), "{name}");
+        assert!(rt; gives_all(&mut packer, blocks), "{name}");
     }
     packed_bodies_hold();
 }
 
-// The first fragment of the next body, and whether it ends with the body.
-fn next_first(packer: &mut Packer) -> Option<(i32, i32, u32, usize, bool)> {
-    let body = packer.take_body()?;
-    let bytes = body.bytes.as_slice();
+// The first fragment of a body, and whether it ends with the body.
+fn first_of(bytes: &[u8]) -> Option<(i32, i32, u32, usize, bool)> {
     let (found, end) = next_fragment(bytes, 0).ok()??;
     let ends = end == bytes.len();
     Some((
@@ -199,22 +223,37 @@ fn next_first(packer: &mut Packer) -> Option<(i32, i32, u32, usize, bool)> {
     ))
 }
 
-// A record of this size alone at the least block limit, and how many closed bodies wait behind it.
-fn alone(rt: &impl Abort, alloc: Global, size: usize, waiting: usize) -> Option<Packer> {
-    let mut packer = new_packer(alloc, LEAST_BLOCK_LIMIT)?;
-    put(rt, alloc, &mut packer, 1, size)?;
+fn next_first(packer: &mut Packer) -> Option<(i32, i32, u32, usize, bool)> {
+    first_of(packer.take_body()?.bytes.as_slice())
+}
+
+// A record of this size alone, and how many closed bodies wait behind it.
+fn put_alone(rt: &impl Abort, alloc: Global, packer: &mut Packer, size: usize, waiting: usize) {
+    assert!(rt; put(alloc, packer, 1, size));
     assert_eq!(rt; packer.waiting(), waiting);
     packer.finish();
-    Some(packer)
+}
+
+static PARTS: [(i32, u32, usize); 3] = [(2, 2000, 988), (-2, 1012, 988), (-2, 24, 24)];
+
+fn assert_parts(rt: &impl Abort, packer: &mut Packer) {
+    for row in PARTS.iter() {
+        let (stream, size, part) = *row;
+        assert_eq!(rt; next_first(packer), Some((1, stream, size, part, true)));
+    }
+    assert_eq!(rt; next_first(packer), None);
+}
+
+// Each at the least block limit.
+#[test]
+fn continued_fragments(rt: HostRuntime) {
+    let mut packer = new_packer(rt.alloc(), LEAST_BLOCK_LIMIT).expect(&rt, "a packer");
+    put_alone(&rt, rt.alloc(), &mut packer, 2000, 2);
+    assert_parts(&rt, &mut packer);
 }
 
 #[test]
-fn continued_fragments(rt: HostRuntime) {
-    let mut packer = alone(&rt, rt.alloc(), 2000, 2).expect(&rt, "a record");
-    for (stream, size, part) in [(2, 2000, 988), (-2, 1012, 988), (-2, 24, 24)] {
-        let found = next_first(&mut packer);
-        assert_eq!(rt; found, Some((1, stream, size, part, true)));
-    }
-    assert_eq!(rt; next_first(&mut packer), None);
-    assert!(rt; alone(&rt, rt.alloc(), 1_000_000, 1012).is_some());
+fn continued_at_length(rt: HostRuntime) {
+    let mut packer = new_packer(rt.alloc(), LEAST_BLOCK_LIMIT).expect(&rt, "a packer");
+    put_alone(&rt, rt.alloc(), &mut packer, 1_000_000, 1012);
 }

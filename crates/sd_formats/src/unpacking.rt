@@ -2,7 +2,6 @@
 use sd_record::{Fragment, put_fragment};
 use sd_unpack::{AddFault, Damage, Unpacker, cutting_is_unpacked, unpacked_are_whole};
 use std::alloc::{AllocError, Global};
-use std::process::Abort;
 
 const START: &[u8] =
     b"\xff\xff\xff\xfc\x00\x00\x00\x07\x00\x00\x00\x29sd-profile\n\x00\x00\x00\x00\x01\x00\x00\x00\x07\x00\x00\x00\x00\x00\x00\x00\x00Default\x00File\x00";
@@ -51,7 +50,14 @@ type Records = &'static [(u32, &'static [u8])];
 
 // What was taken before, the body that is refused, why, and the records that wait then: those of the body that is
 // refused never come. The first of two reasons is the answer.
-static DAMAGES: [(&[&[u8]], &[&[u8]], Damage, Records); 29] = [
+type Damaged = (
+    &'static [&'static [u8]],
+    &'static [&'static [u8]],
+    Damage,
+    Records,
+);
+
+static DAMAGES: [Damaged; 29] = [
     (&[], &[], Damage::BadFragment, &[]),
     (&[], &[b"\xff\xff\xff"], Damage::BadFragment, &[]),
     (&[], &[ZERO_STREAM], Damage::BadFragment, &[]),
@@ -144,7 +150,7 @@ static SESSIONS: [&[Step]; 3] = [
 
 // A record of so many bytes, cut into parts of these lengths, each in a body of its own, and the total of data
 // bytes in the end label behind them, if they are the whole record.
-const CUT_RECORDS: [(&str, usize, &[usize], &[u8]); 3] = [
+static CUT_RECORDS: [(&str, usize, &[usize], &[u8]); 3] = [
     ("three_blocks, two of them", 2000, &[935, 988], &[]),
     (
         "three_blocks",
@@ -155,12 +161,12 @@ const CUT_RECORDS: [(&str, usize, &[usize], &[u8]); 3] = [
     (
         "large_record",
         1_000_000,
-        &LARGE_PARTS,
+        LARGE_PARTS,
         b"\x00\x00\x00\x00\x00\x0f\x42\x40",
     ),
 ];
 
-static LARGE_PARTS: [usize; 16] = [
+const LARGE_PARTS: &[usize] = &[
     64_423, 64_476, 64_476, 64_476, 64_476, 64_476, 64_476, 64_476, 64_476, 64_476, 64_476, 64_476,
     64_476, 64_476, 64_476, 32_913,
 ];
@@ -196,56 +202,58 @@ fn add_joined(alloc: Global, unpacker: &mut Unpacker, parts: &[&[u8]]) -> Option
     }
 }
 
-fn assert_answer(rt: &impl Abort, answer: Option<AddFault>, wanted: Option<AddFault>) {
-    assert_eq!(rt; answer, wanted);
+fn stands(unpacker: &Unpacker, wanted: (bool, bool)) -> bool {
+    unpacker.pending() == wanted.0 && unpacker.ended() == wanted.1
 }
 
-fn assert_stands(rt: &impl Abort, unpacker: &Unpacker, wanted: (bool, bool)) {
-    assert_eq!(rt; (unpacker.pending(), unpacker.ended()), wanted);
+// Whether the next record is this one.
+fn gives(unpacker: &mut Unpacker, index: u32, bytes: &[u8]) -> bool {
+    match unpacker.take_record() {
+        Some(rec) => rec.index == index && rec.stream == 2 && rec.bytes.as_slice() == bytes,
+        None => false,
+    }
 }
 
-// The next record is this one.
-fn assert_next(rt: &impl Abort, unpacker: &mut Unpacker, index: u32, bytes: &[u8]) {
-    let found = match unpacker.take_record() {
-        Some(rec) => (rec.index, rec.stream, rec.bytes.as_slice() == bytes),
-        None => (0, 0, false),
-    };
-    assert_eq!(rt; found, (index, 2, true));
-}
-
-fn assert_records(rt: &impl Abort, unpacker: &mut Unpacker, records: Records) {
+fn gives_all(unpacker: &mut Unpacker, records: Records) -> bool {
     for (index, bytes) in records {
-        assert_next(rt, unpacker, *index, bytes);
+        if !gives(unpacker, *index, bytes) {
+            return false;
+        }
     }
+    true
 }
 
-fn assert_none(rt: &impl Abort, unpacker: &mut Unpacker) {
-    assert!(rt; unpacker.take_record().is_none());
+fn is_empty(unpacker: &mut Unpacker) -> bool {
+    unpacker.take_record().is_none()
 }
 
-fn assert_step(rt: &impl Abort, alloc: Global, unpacker: &mut Unpacker, step: Step) {
+fn goes(alloc: Global, unpacker: &mut Unpacker, step: Step) -> bool {
     let (body, wanted, records, all) = step;
-    assert_answer(rt, add_joined(alloc, unpacker, body), None);
-    assert_stands(rt, unpacker, wanted);
-    assert_records(rt, unpacker, records);
-    if all {
-        assert_none(rt, unpacker);
-    }
+    add_joined(alloc, unpacker, body).is_none()
+        && stands(unpacker, wanted)
+        && gives_all(unpacker, records)
+        && (!all || is_empty(unpacker))
 }
 
-fn assert_session(rt: &impl Abort, alloc: Global, steps: &[Step]) {
-    let mut unpacker = Unpacker::new(alloc);
-    assert_stands(rt, &unpacker, BETWEEN);
+fn goes_on(alloc: Global, unpacker: &mut Unpacker, steps: &[Step]) -> bool {
     for step in steps {
-        assert_step(rt, alloc, &mut unpacker, *step);
+        if !goes(alloc, unpacker, *step) {
+            return false;
+        }
     }
+    true
+}
+
+// Whether a new session goes all these steps.
+fn is_session(alloc: Global, steps: &[Step]) -> bool {
+    let mut unpacker = Unpacker::new(alloc);
+    stands(&unpacker, BETWEEN) && goes_on(alloc, &mut unpacker, steps)
 }
 
 #[test]
 fn sessions(rt: HostRuntime) {
-    for row in SESSIONS.iter() {
-        let steps = *row;
-        assert_session(&rt, rt.alloc(), steps);
+    for (row, steps) in SESSIONS.iter().enumerate() {
+        assert!(rt; is_session(rt.alloc(), steps), "row {row}");
     }
     unpacked_are_whole();
     cutting_is_unpacked();
@@ -266,82 +274,107 @@ fn filled(alloc: Global, size: usize) -> Option<Vec<u8>> {
     }
 }
 
-// The body of one fragment of record 1.
-fn fragment_body(alloc: Global, stream: i32, size: usize, part: &[u8]) -> Option<Vec<u8>> {
-    let size = u32::try_from(size).ok()?;
+fn put(body: &mut Vec<u8>, fragment: &Fragment) -> bool {
+    put_fragment(body, fragment).is_ok() || put_fragment(body, fragment).is_ok()
+}
+
+// Adds a body of one fragment of record 1.
+fn adds_part(
+    alloc: Global,
+    unpacker: &mut Unpacker,
+    stream: i32,
+    size: usize,
+    part: &[u8],
+) -> bool {
     let fragment = Fragment {
         index: 1,
         stream,
-        size,
+        size: u32::try_from(size).unwrap_or(0),
         part,
     };
     let mut body = Vec::new(alloc);
-    if put_fragment(&mut body, &fragment).is_err() {
-        put_fragment(&mut body, &fragment).ok()?;
-    }
-    Some(body)
+    put(&mut body, &fragment) && add(unpacker, &body).is_none()
 }
 
 // Adds the parts of a record with these data.
-fn add_parts(
-    rt: &impl Abort,
-    alloc: Global,
-    unpacker: &mut Unpacker,
-    data: &[u8],
-    lengths: &[usize],
-) {
+fn adds_parts(alloc: Global, unpacker: &mut Unpacker, data: &[u8], lengths: &[usize]) -> bool {
     let mut rest = data;
     let mut stream = 2;
     for length in lengths {
         let (part, after) = rest.split_at(rest.len().min(*length));
-        let body = fragment_body(alloc, stream, rest.len(), part).expect(rt, "a body");
-        assert_answer(rt, add(unpacker, &body), None);
+        if !adds_part(alloc, unpacker, stream, rest.len(), part) {
+            return false;
+        }
         rest = after;
         stream = -2;
     }
+    true
 }
 
 // The record is whole, and the end label with this total of data bytes follows it.
-fn assert_ends(rt: &impl Abort, alloc: Global, unpacker: &mut Unpacker, data: &[u8], total: &[u8]) {
+fn ends(alloc: Global, unpacker: &mut Unpacker, data: &[u8], total: &[u8]) -> bool {
     let (end, _) = END.split_at(61);
-    assert_stands(rt, unpacker, BETWEEN);
-    assert_next(rt, unpacker, 1, data);
-    let label: [&[u8]; 3] = [end, total, b"\x00\x00\x00\x54"];
-    assert_answer(rt, add_joined(alloc, unpacker, &label), None);
-    assert_stands(rt, unpacker, AT_END);
+    stands(unpacker, BETWEEN)
+        && gives(unpacker, 1, data)
+        && add_joined(alloc, unpacker, &[end, total, b"\x00\x00\x00\x54"]).is_none()
+        && stands(unpacker, AT_END)
+}
+
+// The record is as far as its parts go: within it where no total follows.
+fn stops(alloc: Global, unpacker: &mut Unpacker, data: &[u8], total: &[u8]) -> bool {
+    if total.is_empty() {
+        stands(unpacker, WITHIN)
+    } else {
+        ends(alloc, unpacker, data, total)
+    }
+}
+
+fn is_cut(alloc: Global, data: &[u8], lengths: &[usize], total: &[u8]) -> bool {
+    let mut unpacker = Unpacker::new(alloc);
+    add(&mut unpacker, START).is_none()
+        && adds_parts(alloc, &mut unpacker, data, lengths)
+        && stops(alloc, &mut unpacker, data, total)
+        && is_empty(&mut unpacker)
 }
 
 #[test]
 fn cut_records(rt: HostRuntime) {
-    for (name, size, lengths, total) in CUT_RECORDS {
+    for row in CUT_RECORDS.iter() {
+        let (name, size, lengths, total) = *row;
         let data = filled(rt.alloc(), size).expect(&rt, name);
-        let mut unpacker = Unpacker::new(rt.alloc());
-        assert_answer(&rt, add(&mut unpacker, START), None);
-        add_parts(&rt, rt.alloc(), &mut unpacker, &data, lengths);
-        if total.is_empty() {
-            assert_stands(&rt, &unpacker, WITHIN);
-        } else {
-            assert_ends(&rt, rt.alloc(), &mut unpacker, &data, total);
-        }
-        assert_none(&rt, &mut unpacker);
+        assert!(rt; is_cut(rt.alloc(), &data, lengths, total), "{name}");
     }
+}
+
+fn refuses(alloc: Global, unpacker: &mut Unpacker, parts: &[&[u8]], damage: Damage) -> bool {
+    add_joined(alloc, unpacker, parts) == Some(AddFault::Damaged(damage))
+}
+
+fn takes(alloc: Global, unpacker: &mut Unpacker, before: &[&[u8]]) -> bool {
+    before.is_empty() || add_joined(alloc, unpacker, before).is_none()
+}
+
+// The body is refused for this damage, and any body behind it. All else stands as before.
+fn stays(alloc: Global, unpacker: &mut Unpacker, last: &[&[u8]], damage: Damage) -> bool {
+    let stood = (unpacker.pending(), unpacker.ended());
+    refuses(alloc, unpacker, last, damage)
+        && refuses(alloc, unpacker, &[START], damage)
+        && refuses(alloc, unpacker, &[LO], damage)
+        && stands(unpacker, stood)
+}
+
+fn is_damaged(alloc: Global, row: &Damaged) -> bool {
+    let (before, last, damage, records) = *row;
+    let mut unpacker = Unpacker::new(alloc);
+    takes(alloc, &mut unpacker, before)
+        && stays(alloc, &mut unpacker, last, damage)
+        && gives_all(&mut unpacker, records)
+        && is_empty(&mut unpacker)
 }
 
 #[test]
 fn damages(rt: HostRuntime) {
-    for row in DAMAGES.iter() {
-        let (before, last, damage, records) = *row;
-        let mut unpacker = Unpacker::new(rt.alloc());
-        if !before.is_empty() {
-            assert_answer(&rt, add_joined(rt.alloc(), &mut unpacker, before), None);
-        }
-        let stood = (unpacker.pending(), unpacker.ended());
-        for body in [last, &[START], &[LO]] {
-            let answer = add_joined(rt.alloc(), &mut unpacker, body);
-            assert_answer(&rt, answer, Some(AddFault::Damaged(damage)));
-        }
-        assert_stands(&rt, &unpacker, stood);
-        assert_records(&rt, &mut unpacker, records);
-        assert_none(&rt, &mut unpacker);
+    for (number, row) in DAMAGES.iter().enumerate() {
+        assert!(rt; is_damaged(rt.alloc(), row), "row {number}");
     }
 }

@@ -1,47 +1,87 @@
 // Each call of a desk once, with memory.
-use sd_base::{BadName, DriveNo, MediaName, PoolName, VolName};
+use sd_base::{DriveNo, MediaName, PoolName, VolName};
 use sd_desk::{ClaimFault, Desk, Request};
-use std::test::Fail;
 
-fn request(drive: DriveNo, pool: &str) -> Result<Request, BadName> {
-    Ok(Request {
+const FIRST: &str = "Vol-0001";
+
+const SECOND: &str = "Vol-0002";
+
+fn drives() -> Option<(DriveNo, DriveNo)> {
+    Some((DriveNo::new(1)?, DriveNo::new(2)?))
+}
+
+fn request(drive: DriveNo, pool: &str) -> Option<Request> {
+    Some(Request {
         drive,
-        pool: PoolName::parse(pool)?,
-        media: MediaName::parse("File")?,
+        pool: PoolName::parse(pool).ok()?,
+        media: MediaName::parse("File").ok()?,
     })
 }
 
-#[test]
-fn a_name_is_claimed_once(rt: HostRuntime) -> Result<(), Fail> {
-    let (first, second) = (VolName::parse("Vol-0001")?, VolName::parse("Vol-0002")?);
-    let (one, two) = (DriveNo::new(1).ok_or("1")?, DriveNo::new(2).ok_or("2")?);
-    let mut desk = Desk::new(rt.alloc());
-    assert_eq!(rt; desk.claim(&first, one), Ok(()));
-    assert_eq!(rt; desk.claim(&first, two), Err(ClaimFault::AlreadyLabelled));
-    assert_eq!(rt; desk.claim(&second, two), Ok(()));
-    assert_eq!(rt;
-        (desk.drive_of(&first), desk.drive_of(&second)),
-        (Some(one), Some(two))
-    );
-    desk.release(&first);
-    assert_eq!(rt;
-        (desk.drive_of(&first), desk.drive_of(&second)),
-        (None, Some(two))
-    );
-    Ok(())
+// Whether a claim is answered so.
+fn claims(desk: &mut Desk, name: &str, drive: DriveNo, wanted: Result<(), ClaimFault>) -> bool {
+    match VolName::parse(name) {
+        Ok(name) => desk.claim(&name, drive) == wanted,
+        Err(_) => false,
+    }
+}
+
+fn is_of(desk: &Desk, name: &str, drive: Option<DriveNo>) -> bool {
+    match VolName::parse(name) {
+        Ok(name) => desk.drive_of(&name) == drive,
+        Err(_) => false,
+    }
+}
+
+fn release(desk: &mut Desk, name: &str) {
+    if let Ok(name) = VolName::parse(name) {
+        desk.release(&name);
+    }
 }
 
 #[test]
-fn a_drive_asks_once(rt: HostRuntime) -> Result<(), Fail> {
-    let (one, two) = (DriveNo::new(1).ok_or("1")?, DriveNo::new(2).ok_or("2")?);
+fn a_name_is_claimed_once(rt: HostRuntime) {
+    let (one, two) = drives().expect(&rt, "drives");
     let mut desk = Desk::new(rt.alloc());
-    desk.ask(request(two, "Default")?)?;
-    desk.ask(request(one, "Default")?)?;
-    desk.ask(request(two, "Other")?)?;
-    assert_eq!(rt; desk.requests().len(), 2);
-    assert_eq!(rt; desk.requests()[0].pool.as_str(), "Default");
+    assert!(rt; claims(&mut desk, FIRST, one, Ok(())));
+    assert!(rt; claims(&mut desk, FIRST, two, Err(ClaimFault::AlreadyLabelled)));
+    assert!(rt; claims(&mut desk, SECOND, two, Ok(())));
+    assert!(rt; is_of(&desk, FIRST, Some(one)) && is_of(&desk, SECOND, Some(two)));
+    release(&mut desk, FIRST);
+    assert!(rt; is_of(&desk, FIRST, None) && is_of(&desk, SECOND, Some(two)));
+}
+
+fn asks(desk: &mut Desk, drive: DriveNo, pool: &str) -> bool {
+    match request(drive, pool) {
+        Some(request) => desk.ask(request).is_ok(),
+        None => false,
+    }
+}
+
+// Whether so many ask, the first of them for this pool.
+fn ask_first_for(desk: &Desk, count: usize, pool: &str) -> bool {
+    match desk.requests().first() {
+        Some(first) => desk.requests().len() == count && first.pool.as_str() == pool,
+        None => false,
+    }
+}
+
+// Whether one asks, that drive.
+fn asks_alone(desk: &Desk, drive: DriveNo) -> bool {
+    match desk.requests().first() {
+        Some(first) => desk.requests().len() == 1 && first.drive == drive,
+        None => false,
+    }
+}
+
+#[test]
+fn a_drive_asks_once(rt: HostRuntime) {
+    let (one, two) = drives().expect(&rt, "drives");
+    let mut desk = Desk::new(rt.alloc());
+    assert!(rt; asks(&mut desk, two, "Default"));
+    assert!(rt; asks(&mut desk, one, "Default"));
+    assert!(rt; asks(&mut desk, two, "Other"));
+    assert!(rt; ask_first_for(&desk, 2, "Default"));
     desk.answered(two);
-    assert_eq!(rt; desk.requests().len(), 1);
-    assert_eq!(rt; desk.requests()[0].drive, one);
-    Ok(())
+    assert!(rt; asks_alone(&desk, one));
 }

@@ -3,7 +3,9 @@ mod player;
 
 use crate::journals::player::{Step, play, tell};
 use sd_base::VolName;
-use std::test::Fail;
+use sd_journal::Journal;
+use std::alloc::Global;
+use std::process::Abort;
 
 static STEPS: [Step; 10] = [
     Step::Note(1, "A", 82, 100, 0, 0),
@@ -46,30 +48,36 @@ span B 2 2 3 60 90
     (3, "placed 0 synced 0\nsession 7 3\n"),
 ];
 
+fn assert_told(rt: &impl Abort, alloc: Global, journal: &Journal, id: u32, told: &str) {
+    let text = tell(alloc, journal, id).expect(rt, "told");
+    assert_eq!(rt; text.as_str(), told);
+}
+
 // Also with any one allocation refused: a refused call is made again.
 #[test]
-fn tells_each_session(rt: HostRuntime) -> Result<(), Fail> {
-    let journal = play(rt.alloc(), &STEPS).ok_or("played")?;
+fn tells_each_session(rt: HostRuntime) {
+    let journal = play(rt.alloc(), &STEPS).expect(&rt, "played");
     for row in TOLD.iter() {
         let (id, told) = *row;
-        let text = tell(rt.alloc(), &journal, id).ok_or("told")?;
-        assert_eq!(rt; text.as_str(), told);
+        assert_told(&rt, rt.alloc(), &journal, id, told);
     }
-    Ok(())
+}
+
+// Whether a block on this volume awaits a sync.
+fn awaits(journal: &Journal, volume: &str) -> Option<bool> {
+    Some(journal.has_unsynced(&VolName::parse(volume).ok()?))
 }
 
 #[test]
-fn knows_what_awaits_a_sync(rt: HostRuntime) -> Result<(), Fail> {
-    let (a, b) = (VolName::parse("A")?, VolName::parse("B")?);
-    let journal = play(rt.alloc(), &STEPS).ok_or("played")?;
-    assert_eq!(rt;
-        (journal.has_unsynced(&a), journal.has_unsynced(&b)),
-        (false, true)
-    );
-    let before = play(rt.alloc(), &STEPS[..5]).ok_or("played")?;
-    assert_eq!(rt;
-        (before.has_unsynced(&a), before.has_unsynced(&b)),
-        (true, true)
-    );
-    Ok(())
+fn knows_what_awaits_a_sync(rt: HostRuntime) {
+    let journal = play(rt.alloc(), &STEPS).expect(&rt, "played");
+    assert!(rt; awaits(&journal, "A") == Some(false));
+    assert!(rt; awaits(&journal, "B") == Some(true));
+}
+
+#[test]
+fn both_await_a_sync(rt: HostRuntime) {
+    let before = play(rt.alloc(), &STEPS[..5]).expect(&rt, "played");
+    assert!(rt; awaits(&before, "A") == Some(true));
+    assert!(rt; awaits(&before, "B") == Some(true));
 }

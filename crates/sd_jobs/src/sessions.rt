@@ -7,9 +7,10 @@ mod whole;
 use crate::sessions::line::Line;
 use crate::sessions::player::{Step, open, play};
 use crate::sessions::whole::{Ran, Shape, run_through};
-use sd_session::Status;
+use sd_session::{Session, Status};
 use sd_spool::{MemSpool, SpoolCall, SpoolFail, SpoolWhen};
-use std::test::Fail;
+use std::alloc::Global;
+use std::process::Abort;
 
 // A session that doesn't spool, before a queue with room for one piece. The second record goes on over three
 // bodies, two of which are closed then.
@@ -121,56 +122,63 @@ static LOST: [(Step, &str); 8] = [
     (Step::Close(0), "3905"),
 ];
 
-#[test]
-fn without_a_spool(rt: HostRuntime) -> Result<(), Fail> {
-    let alloc = rt.alloc();
-    let mut session = open(alloc, MemSpool::new(alloc), 0)
-        .ok()
-        .expect(&rt, "open");
-    let mut line = Line::new(alloc, 1)?;
-    play(&rt, alloc, &mut session, &mut line, &UNSPOOLED)?;
-    assert_eq!(rt; session.status(), Status::Closed);
-    assert_eq!(rt;
-        (session.records(), session.bytes(), session.last()),
-        (3, 2006, 2)
-    );
-    assert_eq!(rt;
-        (session.sent(), session.key().id, session.has_due()),
-        (3, 1, false)
-    );
-    Ok(())
+fn opened(alloc: Global, spool: u64) -> Option<Session<MemSpool>> {
+    open(alloc, MemSpool::new(alloc), spool).ok()
+}
+
+// Plays a history with a queue of this capacity.
+fn play_with(
+    rt: &impl Abort,
+    alloc: Global,
+    session: &mut Session<MemSpool>,
+    capacity: usize,
+    rows: &[(Step, &str)],
+) {
+    let mut line = Line::new(alloc, capacity).ok().expect(rt, "a line");
+    play(rt, alloc, session, &mut line, rows);
+}
+
+// What stands of the session that didn't spool.
+fn assert_closed(rt: &impl Abort, session: &Session<MemSpool>) {
+    assert!(rt; session.status() == Status::Closed);
+    assert!(rt; session.records() == 3 && session.bytes() == 2006 && session.last() == 2);
+    assert!(rt; session.sent() == 3 && session.key().id == 1 && !session.has_due());
 }
 
 #[test]
-fn through_a_spool(rt: HostRuntime) -> Result<(), Fail> {
-    let alloc = rt.alloc();
-    let mut session = open(alloc, MemSpool::new(alloc), 2000)
-        .ok()
-        .expect(&rt, "open");
-    let mut line = Line::new(alloc, 2)?;
-    play(&rt, alloc, &mut session, &mut line, &SPOOLED)
+fn without_a_spool(rt: HostRuntime) {
+    let mut session = opened(rt.alloc(), 0).expect(&rt, "open");
+    play_with(&rt, rt.alloc(), &mut session, 1, &UNSPOOLED);
+    assert_closed(&rt, &session);
 }
 
 #[test]
-fn given_up(rt: HostRuntime) -> Result<(), Fail> {
-    let alloc = rt.alloc();
-    for rows in [CANCELLED.as_slice(), LOST.as_slice()] {
-        let mut session = open(alloc, MemSpool::new(alloc), 2000)
-            .ok()
-            .expect(&rt, "open");
-        let mut line = Line::new(alloc, 0)?;
-        play(&rt, alloc, &mut session, &mut line, rows)?;
-        assert!(rt; !session.has_due());
-        assert_eq!(rt; session.records(), 1);
-        play(
-            &rt,
-            alloc,
-            &mut session,
-            &mut line,
-            &[(Step::GiveBack, "failed 0")],
-        )?;
-    }
-    Ok(())
+fn through_a_spool(rt: HostRuntime) {
+    let mut session = opened(rt.alloc(), 2000).expect(&rt, "open");
+    play_with(&rt, rt.alloc(), &mut session, 2, &SPOOLED);
+}
+
+static GIVEN_BACK: [(Step, &str); 1] = [(Step::GiveBack, "failed 0")];
+
+// Plays a history to the end of a session whose store is given back then.
+fn give_up(rt: &impl Abort, alloc: Global, session: &mut Session<MemSpool>, rows: &[(Step, &str)]) {
+    let mut line = Line::new(alloc, 0).ok().expect(rt, "a line");
+    play(rt, alloc, session, &mut line, rows);
+    assert!(rt; !session.has_due());
+    assert!(rt; session.records() == 1);
+    play(rt, alloc, session, &mut line, &GIVEN_BACK);
+}
+
+#[test]
+fn given_up(rt: HostRuntime) {
+    let mut session = opened(rt.alloc(), 2000).expect(&rt, "open");
+    give_up(&rt, rt.alloc(), &mut session, &CANCELLED);
+}
+
+#[test]
+fn given_up_by_a_loss(rt: HostRuntime) {
+    let mut session = opened(rt.alloc(), 2000).expect(&rt, "open");
+    give_up(&rt, rt.alloc(), &mut session, &LOST);
 }
 
 // One record that goes on over five bodies.
@@ -185,56 +193,63 @@ const TEN_THOUSAND_BODIES: Shape = Shape {
     size: 998_000,
 };
 
+// A kind of call, and how many there are.
+static KINDS: [(SpoolCall, u64); 3] = [
+    (SpoolCall::Append, 5),
+    (SpoolCall::Read, 5),
+    (SpoolCall::Clear, 3),
+];
+
+static WHENS: [SpoolWhen; 3] = [SpoolWhen::Before, SpoolWhen::Half, SpoolWhen::After];
+
 // How the whole way of a session ended: one that opened sent all its bodies, or failed with its store.
-#[test]
-fn calls_of_the_store_fail(rt: HostRuntime) -> Result<(), Fail> {
-    let alloc = rt.alloc();
-    let kinds = [
-        (SpoolCall::Append, 5, Ran::Failed),
-        (SpoolCall::Read, 5, Ran::Failed),
-        (SpoolCall::Clear, 3, Ran::Failed),
-    ];
-    for (call, calls, expected) in kinds {
-        for when in [SpoolWhen::Before, SpoolWhen::Half, SpoolWhen::After] {
-            for nth in 1..=calls + 1 {
-                let store = MemSpool::with_plan(
-                    alloc,
-                    vec![in alloc; SpoolFail { call, nth, when }]?,
-                );
-                let ran = run_through(alloc, store, 2000, FIVE_BODIES)?;
-                let first = call == SpoolCall::Clear && nth == 1;
-                let wanted = if nth > calls {
-                    Ran::Sent(5)
-                } else if first {
-                    Ran::Refused
-                } else {
-                    expected
-                };
-                assert_eq!(rt; ran, wanted);
-            }
+fn ended(call: SpoolCall, calls: u64, nth: u64) -> Ran {
+    if nth > calls {
+        Ran::Sent(5)
+    } else if call == SpoolCall::Clear && nth == 1 {
+        Ran::Refused
+    } else {
+        Ran::Failed
+    }
+}
+
+fn run_failing(alloc: Global, fail: SpoolFail) -> Option<Ran> {
+    let store = MemSpool::with_plan(alloc, vec![in alloc; fail].ok()?);
+    run_through(alloc, store, 2000, FIVE_BODIES).ok()
+}
+
+// Whether a session ends as it is to, each call of the kind failing in this way, and one behind the last.
+fn ends_so(alloc: Global, call: SpoolCall, calls: u64, when: SpoolWhen) -> bool {
+    for nth in 1..=calls.saturating_add(1) {
+        if run_failing(alloc, SpoolFail { call, nth, when }) != Some(ended(call, calls, nth)) {
+            return false;
         }
     }
-    Ok(())
+    true
 }
 
 #[test]
-fn memory_comes_back(rt: HostRuntime) -> Result<(), Fail> {
-    let alloc = rt.alloc();
-    assert_eq!(rt;
-        run_through(alloc, MemSpool::new(alloc), 2000, FIVE_BODIES)?,
-        Ran::Sent(5)
-    );
-    assert_eq!(rt;
-        run_through(alloc, MemSpool::new(alloc), 0, FIVE_BODIES)?,
-        Ran::Sent(5)
-    );
-    Ok(())
+fn calls_of_the_store_fail(rt: HostRuntime) {
+    for kind in KINDS.iter() {
+        let (call, calls) = *kind;
+        for when in WHENS.iter() {
+            assert!(rt; ends_so(rt.alloc(), call, calls, *when));
+        }
+    }
+}
+
+fn run_whole(alloc: Global, spool: u64, shape: Shape) -> Option<Ran> {
+    run_through(alloc, MemSpool::new(alloc), spool, shape).ok()
 }
 
 #[test]
-fn many_bodies(rt: HostRuntime) -> Result<(), Fail> {
-    let alloc = rt.alloc();
-    let ran = run_through(alloc, MemSpool::new(alloc), 4_000_000, TEN_THOUSAND_BODIES)?;
-    assert_eq!(rt; ran, Ran::Sent(10_102));
-    Ok(())
+fn memory_comes_back(rt: HostRuntime) {
+    assert!(rt; run_whole(rt.alloc(), 2000, FIVE_BODIES) == Some(Ran::Sent(5)));
+    assert!(rt; run_whole(rt.alloc(), 0, FIVE_BODIES) == Some(Ran::Sent(5)));
+}
+
+#[test]
+fn many_bodies(rt: HostRuntime) {
+    let ran = run_whole(rt.alloc(), 4_000_000, TEN_THOUSAND_BODIES);
+    assert!(rt; ran == Some(Ran::Sent(10_102)));
 }

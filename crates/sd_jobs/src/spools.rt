@@ -9,8 +9,6 @@ use sd_spool::{
     JobSpool, MemSpool, PutFault, SpoolCall, SpoolFail, SpoolStore, SpoolStoreFault, SpoolWhen,
 };
 use std::alloc::{AllocError, Global};
-use std::process::Abort;
-use std::test::Fail;
 
 // The limit of the spools here.
 pub(crate) const LIMIT: u64 = 60;
@@ -39,16 +37,16 @@ pub(crate) static HISTORY: [(Step, &str); 20] = [
     (Step::Next, "48 of 9 9-10"),
 ];
 
+fn empty_spool(alloc: Global, limit: u64) -> Option<JobSpool<MemSpool>> {
+    JobSpool::new(alloc, MemSpool::new(alloc), limit).ok()
+}
+
 #[test]
-fn fills_and_empties(rt: HostRuntime) -> Result<(), Fail> {
-    let alloc = rt.alloc();
-    let mut spool = JobSpool::new(alloc, MemSpool::new(alloc), LIMIT)
-        .ok()
-        .expect(&rt, "cleared");
-    play(&rt, alloc, &mut spool, &HISTORY)?;
+fn fills_and_empties(rt: HostRuntime) {
+    let mut spool = empty_spool(rt.alloc(), LIMIT).expect(&rt, "cleared");
+    play(&rt, rt.alloc(), &mut spool, &HISTORY);
     assert!(rt; spool.is_empty());
     assert_eq!(rt; spool.into_store().failures(), 0);
-    Ok(())
 }
 
 // What goes through such a spool, by length.
@@ -78,52 +76,66 @@ fn cleared(alloc: Global, store: MemSpool) -> Option<JobSpool<MemSpool>> {
     }
 }
 
-// How often the store failed on the way of the bodies through it, the `nth` call of a kind failing so.
-fn send_failing(rt: &impl Abort, alloc: Global, fail: SpoolFail) -> Result<u64, Fail> {
-    let store = MemSpool::with_plan(alloc, vec![in alloc; fail]?);
-    let mut spool = cleared(alloc, store).expect(rt, "cleared");
+// Whether they come out as they went in.
+fn went_through(alloc: Global, spool: &mut JobSpool<MemSpool>) -> bool {
     let mut text = String::new(alloc);
-    send(alloc, &mut text, &mut spool)?;
-    assert_eq!(rt; text.as_str(), WENT_THROUGH);
-    Ok(spool.into_store().failures())
+    send(alloc, &mut text, spool).is_ok() && text.as_str() == WENT_THROUGH
 }
 
-#[test]
-fn calls_of_the_store_fail(rt: HostRuntime) -> Result<(), Fail> {
-    let kinds = [
-        (SpoolCall::Append, 6),
-        (SpoolCall::Read, 6),
-        (SpoolCall::Clear, 3),
-    ];
-    for (call, calls) in kinds {
-        for when in [SpoolWhen::Before, SpoolWhen::Half, SpoolWhen::After] {
-            for nth in 1..=calls {
-                let fail = SpoolFail { call, nth, when };
-                assert_eq!(rt; send_failing(&rt, rt.alloc(), fail)?, 1);
-            }
+fn failing(alloc: Global, fail: SpoolFail) -> Option<MemSpool> {
+    Some(MemSpool::with_plan(alloc, vec![in alloc; fail].ok()?))
+}
+
+// How often the store failed on the way of the bodies through it, the `nth` call of a kind failing so.
+fn send_failing(alloc: Global, fail: SpoolFail) -> Option<u64> {
+    let mut spool = cleared(alloc, failing(alloc, fail)?)?;
+    if !went_through(alloc, &mut spool) {
+        return None;
+    }
+    Some(spool.into_store().failures())
+}
+
+// A kind of call, and how many there are.
+static KINDS: [(SpoolCall, u64); 3] = [
+    (SpoolCall::Append, 6),
+    (SpoolCall::Read, 6),
+    (SpoolCall::Clear, 3),
+];
+
+static WHENS: [SpoolWhen; 3] = [SpoolWhen::Before, SpoolWhen::Half, SpoolWhen::After];
+
+// Whether each call of the kind may fail in this way, once.
+fn may_fail(alloc: Global, call: SpoolCall, calls: u64, when: SpoolWhen) -> bool {
+    for nth in 1..=calls {
+        if send_failing(alloc, SpoolFail { call, nth, when }) != Some(1) {
+            return false;
         }
     }
-    Ok(())
+    true
 }
 
 #[test]
-fn many_bodies(rt: HostRuntime) -> Result<(), Fail> {
-    let alloc = rt.alloc();
-    let mut spool = JobSpool::new(alloc, MemSpool::new(alloc), 1_000_000)
-        .ok()
-        .expect(&rt, "cleared");
-    for number in 1..=10_000 {
-        let body = body_of(alloc, 12 + number as usize % 9, number)?;
-        assert!(rt; spool.put_body(&body).is_ok());
+fn calls_of_the_store_fail(rt: HostRuntime) {
+    for kind in KINDS.iter() {
+        let (call, calls) = *kind;
+        for when in WHENS.iter() {
+            assert!(rt; may_fail(rt.alloc(), call, calls, *when));
+        }
     }
-    for number in 1..=10_000 {
-        let body = spool.next_body()?.expect(&rt, "a body");
-        let expected = body_of(alloc, 12 + number as usize % 9, number)?;
-        assert_eq!(rt; body.bytes.as_slice(), expected.bytes.as_slice());
-        assert_eq!(rt; (body.first, body.last), (expected.first, expected.last));
+}
+
+// The body of this number, at the second attempt where the first was refused.
+fn body_again(alloc: Global, length: usize, number: u32) -> Option<Body> {
+    match body_of(alloc, length, number) {
+        Ok(body) => Some(body),
+        Err(AllocError) => body_of(alloc, length, number).ok(),
     }
-    assert!(rt; spool.is_empty());
-    Ok(())
+}
+
+fn is_same(body: &Body, other: &Body) -> bool {
+    body.bytes.as_slice() == other.bytes.as_slice()
+        && body.first == other.first
+        && body.last == other.last
 }
 
 // A put or a take, once more where memory was wanted.
@@ -142,27 +154,83 @@ fn next_again<S: SpoolStore>(spool: &mut JobSpool<S>) -> Result<Option<Body>, Sp
     }
 }
 
-#[test]
-fn memory_comes_back(rt: HostRuntime) -> Result<(), Fail> {
-    let alloc = rt.alloc();
-    let bodies = [
-        body_of(alloc, 12, 1)?,
-        body_of(alloc, 20, 2)?,
-        body_of(alloc, 28, 3)?,
-    ];
-    let mut spool = JobSpool::new(alloc, MemSpool::new(alloc), LIMIT)
-        .ok()
-        .expect(&rt, "cleared");
-    for _ in 0..2 {
-        for body in &bodies {
-            assert_eq!(rt; put_again(&mut spool, body), Ok(()));
-        }
-        assert_eq!(rt; put_again(&mut spool, &bodies[0]), Err(PutFault::Full));
-        for body in &bodies {
-            let out = next_again(&mut spool)?.expect(&rt, "a body");
-            assert_eq!(rt; out.bytes.as_slice(), body.bytes.as_slice());
-        }
-        assert!(rt; spool.is_empty());
+// Whether the put of a body of this length and number is answered so.
+fn puts(
+    alloc: Global,
+    spool: &mut JobSpool<MemSpool>,
+    length: usize,
+    number: u32,
+    wanted: Result<(), PutFault>,
+) -> bool {
+    match body_again(alloc, length, number) {
+        Some(body) => put_again(spool, &body) == wanted,
+        None => false,
     }
-    Ok(())
+}
+
+fn is_body(alloc: Global, body: &Body, length: usize, number: u32) -> bool {
+    match body_again(alloc, length, number) {
+        Some(expected) => is_same(body, &expected),
+        None => false,
+    }
+}
+
+// Whether the body that comes out next has this length and number.
+fn gives(alloc: Global, spool: &mut JobSpool<MemSpool>, length: usize, number: u32) -> bool {
+    match next_again(spool) {
+        Ok(Some(body)) => is_body(alloc, &body, length, number),
+        _ => false,
+    }
+}
+
+fn length_of(number: u32) -> usize {
+    12 + number as usize % 9
+}
+
+#[test]
+fn many_bodies(rt: HostRuntime) {
+    let mut spool = empty_spool(rt.alloc(), 1_000_000).expect(&rt, "cleared");
+    for number in 1..=10_000 {
+        assert!(rt; puts(rt.alloc(), &mut spool, length_of(number), number, Ok(())));
+    }
+    for number in 1..=10_000 {
+        assert!(rt; gives(rt.alloc(), &mut spool, length_of(number), number));
+    }
+    assert!(rt; spool.is_empty());
+}
+
+// The bodies that fill a spool, by length and number.
+static BODIES: [(usize, u32); 3] = [(12, 1), (20, 2), (28, 3)];
+
+fn puts_all(alloc: Global, spool: &mut JobSpool<MemSpool>) -> bool {
+    for (length, number) in &BODIES {
+        if !puts(alloc, spool, *length, *number, Ok(())) {
+            return false;
+        }
+    }
+    true
+}
+
+fn gives_all(alloc: Global, spool: &mut JobSpool<MemSpool>) -> bool {
+    for (length, number) in &BODIES {
+        if !gives(alloc, spool, *length, *number) {
+            return false;
+        }
+    }
+    true
+}
+
+// Whether a spool fills, takes no more, and empties.
+fn goes_round(alloc: Global, spool: &mut JobSpool<MemSpool>) -> bool {
+    puts_all(alloc, spool)
+        && puts(alloc, spool, 12, 1, Err(PutFault::Full))
+        && gives_all(alloc, spool)
+        && spool.is_empty()
+}
+
+#[test]
+fn memory_comes_back(rt: HostRuntime) {
+    let mut spool = empty_spool(rt.alloc(), LIMIT).expect(&rt, "cleared");
+    assert!(rt; goes_round(rt.alloc(), &mut spool));
+    assert!(rt; goes_round(rt.alloc(), &mut spool));
 }

@@ -23,17 +23,25 @@ pub fn play<L: Lanes + Drop>(alloc: Global, mut queue: L) -> Option<Played>
         given_back: None,
         empty_at_last: false,
     };
-    push(alloc, &mut queue, &mut played, LaneNo::new(1)?, 1)?;
-    push(alloc, &mut queue, &mut played, LaneNo::new(2)?, 2)?;
-    push(alloc, &mut queue, &mut played, LaneNo::new(1)?, 3)?;
-    push(alloc, &mut queue, &mut played, LaneNo::new(2)?, 4)?;
-    take(&mut queue, &mut played)?;
-    take(&mut queue, &mut played)?;
-    push(alloc, &mut queue, &mut played, LaneNo::new(1)?, 5)?;
-    take(&mut queue, &mut played)?;
-    take(&mut queue, &mut played)?;
-    played.empty_at_last = queue.try_take().is_none();
+    play_on(alloc, &mut queue, &mut played)?;
     Some(played)
+}
+
+fn play_on<L: Lanes>(alloc: Global, queue: &mut L, played: &mut Played) -> Option<()>
+    requires { 2 ≤ L.lanes queue.old }
+{
+    let (one, two) = (LaneNo::new(1)?, LaneNo::new(2)?);
+    push(alloc, queue, played, one, 1)?;
+    push(alloc, queue, played, two, 2)?;
+    push(alloc, queue, played, one, 3)?;
+    push(alloc, queue, played, two, 4)?;
+    take(queue, played)?;
+    take(queue, played)?;
+    push(alloc, queue, played, one, 5)?;
+    take(queue, played)?;
+    take(queue, played)?;
+    played.empty_at_last = queue.try_take().is_none();
+    Some(())
 }
 
 fn push<L: Lanes>(

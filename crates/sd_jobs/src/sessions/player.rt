@@ -6,7 +6,6 @@ use sd_span::Progress;
 use sd_spool::{MemSpool, SpoolStore};
 use std::alloc::{AllocError, Global};
 use std::process::Abort;
-use std::test::Fail;
 
 // The least block limit, so that a body has room for 1,000 bytes.
 pub(crate) const BLOCK: usize = 1024;
@@ -173,6 +172,20 @@ pub(crate) fn tell(
     }
 }
 
+fn play_step(
+    rt: &impl Abort,
+    alloc: Global,
+    session: &mut Session<MemSpool>,
+    line: &mut Line,
+    step: Step,
+    expected: &str,
+    row: usize,
+) {
+    let mut text = String::new(alloc);
+    assert!(rt; tell(alloc, &mut text, session, line, step).is_ok());
+    assert_eq!(rt; text.as_str(), expected, "row {row}");
+}
+
 // A history of one session, with a queue of this capacity.
 pub(crate) fn play(
     rt: &impl Abort,
@@ -180,11 +193,8 @@ pub(crate) fn play(
     session: &mut Session<MemSpool>,
     line: &mut Line,
     rows: &[(Step, &str)],
-) -> Result<(), Fail> {
+) {
     for (row, (step, expected)) in rows.iter().enumerate() {
-        let mut text = String::new(alloc);
-        tell(alloc, &mut text, session, line, *step)?;
-        assert_eq!(rt; text.as_str(), *expected, "row {row}");
+        play_step(rt, alloc, session, line, *step, expected, row);
     }
-    Ok(())
 }

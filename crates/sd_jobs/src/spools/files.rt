@@ -3,10 +3,11 @@ use crate::spools::player::{Call, play, play_calls};
 use crate::spools::{HISTORY, LIMIT};
 use sd_base::{DriveNo, LaneNo};
 use sd_spool::{FileSpool, JobSpool, SpoolStore};
+use std::alloc::{AllocError, Global};
 use std::fs::{self, Files};
 use std::os::unix::fs::{MetadataExt, symlink};
+use std::process::Abort;
 use std::rt::Env;
-use std::test::Fail;
 use std::{env, io};
 
 // A spool beside a file of an earlier run that has its name.
@@ -37,14 +38,13 @@ fn make_folder<R: Files + Env + AllocGlobal>(rt: &R, test: &str) -> io::Result<S
 }
 
 // The spool of lane 2 of drive 1.
-fn spool_in(rt: &HostRuntime, folder: &str) -> Result<FileSpool<HostRuntime>, Fail> {
-    let drive = DriveNo::new(1).ok_or("a drive")?;
-    let lane = LaneNo::new(2).ok_or("a lane")?;
-    Ok(FileSpool::new(rt.clone()?, rt.alloc(), folder, drive, lane)?)
+fn spool_in(rt: &HostRuntime, folder: &str) -> Option<FileSpool<HostRuntime>> {
+    let (drive, lane) = (DriveNo::new(1)?, LaneNo::new(2)?);
+    FileSpool::new(rt.clone().ok()?, rt.alloc(), folder, drive, lane).ok()
 }
 
 // The length and the permissions of the file of that spool, if it is there.
-fn look<R: Files + AllocGlobal>(rt: &R, folder: &str) -> Result<Option<(u64, u32)>, Fail> {
+fn look(rt: &HostRuntime, folder: &str) -> Result<Option<(u64, u32)>, AllocError> {
     let path = format!(in rt.alloc(); "{folder}/spool~1~2")?;
     match fs::symlink_metadata(rt, path.as_str()) {
         Ok(found) => Ok(Some((found.len(), found.mode() & 0o777))),
@@ -52,26 +52,38 @@ fn look<R: Files + AllocGlobal>(rt: &R, folder: &str) -> Result<Option<(u64, u32
     }
 }
 
+fn has_length(rt: &HostRuntime, folder: &str, length: u64) -> bool {
+    match look(rt, folder) {
+        Ok(Some((found, _))) => found == length,
+        _ => false,
+    }
+}
+
+fn play_history(
+    rt: &impl Abort,
+    alloc: Global,
+    mut spool: JobSpool<FileSpool<HostRuntime>>,
+) -> FileSpool<HostRuntime> {
+    play(rt, alloc, &mut spool, &HISTORY);
+    spool.into_store()
+}
+
 #[test]
-fn bodies_in_a_file(rt: HostRuntime) -> Result<(), Fail> {
-    let folder = make_folder(&rt, "bodies")?;
+fn bodies_in_a_file(rt: HostRuntime) {
+    let folder = make_folder(&rt, "bodies").ok().expect(&rt, "a folder");
     let path = folder.as_str();
-    let store = spool_in(&rt, path)?;
-    assert_eq!(rt; look(&rt, path)?, None);
-    let mut spool = JobSpool::new(rt.alloc(), store, LIMIT)
+    let store = spool_in(&rt, path).expect(&rt, "a spool");
+    assert_eq!(rt; look(&rt, path), Ok(None));
+    let spool = JobSpool::new(rt.alloc(), store, LIMIT)
         .ok()
         .expect(&rt, "cleared");
-    assert_eq!(rt; look(&rt, path)?, Some((0, 0o600)));
-    play(&rt, rt.alloc(), &mut spool, &HISTORY)?;
-    let store = spool.into_store();
-    assert_eq!(rt;
-        (store.failures(), look(&rt, path)?),
-        (0, Some((60, 0o600)))
-    );
+    assert_eq!(rt; look(&rt, path), Ok(Some((0, 0o600))));
+    let store = play_history(&rt, rt.alloc(), spool);
+    assert_eq!(rt; store.failures(), 0);
+    assert_eq!(rt; look(&rt, path), Ok(Some((60, 0o600))));
     drop(store);
-    assert_eq!(rt; look(&rt, path)?, None);
-    fs::remove_dir_all(&rt, path)?;
-    Ok(())
+    assert_eq!(rt; look(&rt, path), Ok(None));
+    assert!(rt; fs::remove_dir_all(&rt, path).is_ok());
 }
 
 // A file in the place of a spool's.
@@ -82,29 +94,27 @@ fn put_file<R: Files + AllocGlobal>(rt: &R, folder: &str) -> io::Result<()> {
 }
 
 #[test]
-fn a_file_left(rt: HostRuntime) -> Result<(), Fail> {
-    let folder = make_folder(&rt, "left")?;
+fn a_file_left(rt: HostRuntime) {
+    let folder = make_folder(&rt, "left").ok().expect(&rt, "a folder");
     let path = folder.as_str();
-    put_file(&rt, path)?;
-    let mut store = spool_in(&rt, path)?;
-    play_calls(&rt, rt.alloc(), &mut store, &LEFT, 2)?;
+    assert!(rt; put_file(&rt, path).is_ok());
+    let mut store = spool_in(&rt, path).expect(&rt, "a spool");
+    play_calls(&rt, rt.alloc(), &mut store, &LEFT, 2);
     drop(store);
-    assert_eq!(rt; look(&rt, path)?.map(|(length, _)| length), Some(2));
-    fs::remove_dir_all(&rt, path)?;
-    Ok(())
+    assert!(rt; has_length(&rt, path, 2));
+    assert!(rt; fs::remove_dir_all(&rt, path).is_ok());
 }
 
 #[test]
-fn another_file_in_its_place(rt: HostRuntime) -> Result<(), Fail> {
-    let folder = make_folder(&rt, "another")?;
+fn another_file_in_its_place(rt: HostRuntime) {
+    let folder = make_folder(&rt, "another").ok().expect(&rt, "a folder");
     let path = folder.as_str();
-    let mut store = spool_in(&rt, path)?;
-    play_calls(&rt, rt.alloc(), &mut store, &LEFT, 2)?;
-    put_file(&rt, path)?;
+    let mut store = spool_in(&rt, path).expect(&rt, "a spool");
+    play_calls(&rt, rt.alloc(), &mut store, &LEFT, 2);
+    assert!(rt; put_file(&rt, path).is_ok());
     drop(store);
-    assert_eq!(rt; look(&rt, path)?.map(|(length, _)| length), Some(14));
-    fs::remove_dir_all(&rt, path)?;
-    Ok(())
+    assert!(rt; has_length(&rt, path, 14));
+    assert!(rt; fs::remove_dir_all(&rt, path).is_ok());
 }
 
 // A link under a spool's name, to a file that is told.
@@ -115,15 +125,21 @@ fn put_link<R: Files + AllocGlobal>(rt: &R, folder: &str) -> io::Result<String> 
     Ok(target)
 }
 
-#[test]
-fn what_is_no_file(rt: HostRuntime) -> Result<(), Fail> {
-    let folder = make_folder(&rt, "no_file")?;
-    let target = put_link(&rt, folder.as_str())?;
-    for path in [folder.as_str(), target.as_str(), "/none"] {
-        let mut store = spool_in(&rt, path)?;
-        play_calls(&rt, rt.alloc(), &mut store, &NO_FILE, 3)?;
+fn is_kept(rt: &HostRuntime, target: &str) -> bool {
+    match fs::read(rt, target) {
+        Ok(bytes) => bytes.as_slice() == b"kept".as_slice(),
+        Err(_) => false,
     }
-    assert_eq!(rt; fs::read(&rt, target)?.as_slice(), b"kept".as_slice());
-    fs::remove_dir_all(&rt, folder)?;
-    Ok(())
+}
+
+#[test]
+fn what_is_no_file(rt: HostRuntime) {
+    let folder = make_folder(&rt, "no_file").ok().expect(&rt, "a folder");
+    let target = put_link(&rt, folder.as_str()).ok().expect(&rt, "a link");
+    for path in [folder.as_str(), target.as_str(), "/none"] {
+        let mut store = spool_in(&rt, path).expect(&rt, "a spool");
+        play_calls(&rt, rt.alloc(), &mut store, &NO_FILE, 3);
+    }
+    assert!(rt; is_kept(&rt, target.as_str()));
+    assert!(rt; fs::remove_dir_all(&rt, folder.as_str()).is_ok());
 }

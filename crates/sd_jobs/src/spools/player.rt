@@ -4,7 +4,6 @@ use sd_pack::Body;
 use sd_spool::{JobSpool, PutFault, SpoolStore, SpoolStoreFault};
 use std::alloc::{AllocError, Global};
 use std::process::Abort;
-use std::test::Fail;
 
 // A call of a store.
 #[derive(Clone, Copy)]
@@ -67,22 +66,41 @@ fn next<S: SpoolStore>(text: &mut String, spool: &mut JobSpool<S>) -> Result<(),
     }
 }
 
+fn tell_step<S: SpoolStore>(
+    alloc: Global,
+    text: &mut String,
+    spool: &mut JobSpool<S>,
+    step: Step,
+) -> Result<(), AllocError> {
+    match step {
+        Step::Put(length, number) => text.push(put(alloc, spool, length, number)?),
+        Step::Next => next(text, spool),
+    }
+}
+
+fn play_step<S: SpoolStore>(
+    rt: &impl Abort,
+    alloc: Global,
+    spool: &mut JobSpool<S>,
+    step: Step,
+    expected: &str,
+    row: usize,
+) {
+    let mut text = String::new(alloc);
+    assert!(rt; tell_step(alloc, &mut text, spool, step).is_ok());
+    assert_eq!(rt; text.as_str(), expected, "row {row}");
+}
+
 // A history: '.' for a body that went in, '-' for none that came out, a letter for a refusal.
 pub(crate) fn play<S: SpoolStore>(
     rt: &impl Abort,
     alloc: Global,
     spool: &mut JobSpool<S>,
     rows: &[(Step, &str)],
-) -> Result<(), Fail> {
+) {
     for (row, (step, expected)) in rows.iter().enumerate() {
-        let mut text = String::new(alloc);
-        match *step {
-            Step::Put(length, number) => text.push(put(alloc, spool, length, number)?)?,
-            Step::Next => next(&mut text, spool)?,
-        }
-        assert_eq!(rt; text.as_str(), *expected, "row {row}");
+        play_step(rt, alloc, spool, *step, expected, row);
     }
-    Ok(())
 }
 
 // Takes all bodies out, each once more where that failed.
@@ -137,6 +155,19 @@ fn tell_call<S: SpoolStore>(
     }
 }
 
+fn play_call<S: SpoolStore>(
+    rt: &impl Abort,
+    alloc: Global,
+    store: &mut S,
+    call: Call,
+    expected: &str,
+    row: usize,
+) {
+    let mut text = String::new(alloc);
+    assert!(rt; tell_call(&mut text, store, call).is_ok());
+    assert_eq!(rt; text.as_str(), expected, "row {row}");
+}
+
 // Calls of a store, and how many of them it has failed by their end: the bytes that were read, zeros for none, a
 // letter for a fault.
 pub(crate) fn play_calls<S: SpoolStore>(
@@ -145,12 +176,9 @@ pub(crate) fn play_calls<S: SpoolStore>(
     store: &mut S,
     rows: &[(Call, &str)],
     failures: u64,
-) -> Result<(), Fail> {
+) {
     for (row, (call, expected)) in rows.iter().enumerate() {
-        let mut text = String::new(alloc);
-        tell_call(&mut text, store, *call)?;
-        assert_eq!(rt; text.as_str(), *expected, "row {row}");
+        play_call(rt, alloc, store, *call, expected, row);
     }
     assert_eq!(rt; store.failures(), failures);
-    Ok(())
 }
