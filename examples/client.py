@@ -138,9 +138,7 @@ def read_session(talk, lines):
     (_, seconds, number), *_ = (line.split() for line in lines)
     talk.send(text_packet(f"read session Time={seconds} Id={number}"))
     talk.send(*(text_packet(span) for span in lines[1:]), signal(END_OF_DATA))
-    while not isinstance(header := talk.receive(), int):
-        if header.startswith(b"39"):
-            raise Refused(header.decode().rstrip("\n"))
+    while not isinstance(talk.receive(), int):
         yield talk.receive()
         talk.receive()
     print(talk.line(), file=sys.stderr)

@@ -1,21 +1,23 @@
 /* Preloaded before a program: refuses its allocation of the number FAIL_ALLOC, from 1 on, and no other.
-   Where COUNT_ALLOC names a file, three numbers are written there as it ends: all its allocations; how often it
-   began a line on its output, and ended it by a later write; and the allocations in between. */
+   Where COUNT_ALLOC names a file, numbers are written there as the program ends: how often it allocated before its
+   first write to standard output, from there to the second one, and so on, and behind the last one. */
 #include <errno.h>
 #include <stdio.h>
 #include <stdlib.h>
 #include <sys/syscall.h>
 #include <unistd.h>
 
+/* The writes that are told apart; what is allocated behind the last of them is told together. */
+#define WRITES 4096
+
 extern void *__libc_malloc(size_t size);
 extern void *__libc_calloc(size_t count, size_t size);
 extern void *__libc_realloc(void *old, size_t size);
 
 static unsigned long made;
-static unsigned long lines;
-static unsigned long made_in_lines;
-static unsigned long made_before;
-static int in_line;
+static unsigned long before[WRITES];
+static unsigned writes;
+static unsigned long since;
 
 static int refuses(void)
 {
@@ -25,6 +27,7 @@ static int refuses(void)
         number = word ? atol(word) : 0;
     }
     made++;
+    since++;
     if (made != (unsigned long)number)
         return 0;
     errno = ENOMEM;
@@ -48,24 +51,22 @@ void *realloc(void *old, size_t size)
 
 ssize_t write(int file, const void *bytes, size_t size)
 {
-    if (file == STDOUT_FILENO && size > 0) {
-        if (in_line) {
-            lines++;
-            made_in_lines += made - made_before;
-        }
-        in_line = ((const char *)bytes)[size - 1] != '\n';
-        made_before = made;
+    if (file == STDOUT_FILENO && writes < WRITES) {
+        before[writes++] = since;
+        since = 0;
     }
     return syscall(SYS_write, file, bytes, size);
 }
 
 __attribute__((destructor)) static void tell(void)
 {
-    unsigned long all = made;
+    unsigned long last = since;
     const char *path = getenv("COUNT_ALLOC");
     FILE *file = path ? fopen(path, "w") : NULL;
     if (file) {
-        fprintf(file, "%lu %lu %lu\n", all, lines, made_in_lines);
+        for (unsigned at = 0; at < writes; at++)
+            fprintf(file, "%lu\n", before[at]);
+        fprintf(file, "%lu\n", last);
         fclose(file);
     }
 }

@@ -1,18 +1,32 @@
-// A drive, and the session that it notes. The worlds note theirs by the two parts of that call.
+// A drive, the session that it notes, and its receipt. Worlds note theirs by the two parts of that call, and ask for none.
 use crate::names::{KEY, Names};
 use sd_drive::{Drive, Limits, NotMade};
 use sd_memdrive::MemDrive;
 use std::alloc::{AllocError, Global};
 use std::io;
 
-/// Makes a drive on a device in memory, and notes a session at it.
-pub fn run(rt: HostRuntime, names: &Names) -> io::Result<()> {
-    let served = make_and_serve(rt.alloc(), names)?;
-    println!(rt; "session noted at its drive: {served}")
+/// What a drive tells of a session.
+#[derive(Clone, Copy)]
+struct Told {
+    /// Whether its pool is the drive's.
+    served: bool,
+    /// Whether there is a receipt for no block of it, and for one.
+    no_block: bool,
+    one_block: bool,
 }
 
-// Whether the session's pool is the drive's then.
-fn make_and_serve(alloc: Global, names: &Names) -> Result<bool, AllocError> {
+/// Makes a drive on a device in memory, notes a session at it, and asks for its receipts.
+pub fn run(rt: HostRuntime, names: &Names) -> io::Result<()> {
+    let Told {
+        served,
+        no_block,
+        one_block,
+    } = make_and_serve(rt.alloc(), names)?;
+    println!(rt; "session noted at its drive: {served}")?;
+    println!(rt; "a receipt for no block: {no_block}, for one: {one_block}")
+}
+
+fn make_and_serve(alloc: Global, names: &Names) -> Result<Told, AllocError> {
     let device = match MemDrive::new(alloc, 1000, &[]) {
         Ok(device) => device,
         Err(_) => MemDrive::new(alloc, 1000, &[])?,
@@ -22,7 +36,11 @@ fn make_and_serve(alloc: Global, names: &Names) -> Result<bool, AllocError> {
         Err(kept) => make(alloc, kept.driver, names),
     };
     match drive {
-        Ok(mut drive) => serve(&mut drive, names),
+        Ok(mut drive) => Ok(Told {
+            served: serve(&mut drive, names)?,
+            no_block: has_receipt(&drive, 0)?,
+            one_block: has_receipt(&drive, 1)?,
+        }),
         Err(_) => Err(AllocError),
     }
 }
@@ -49,4 +67,16 @@ fn serve(drive: &mut Drive<MemDrive>, names: &Names) -> Result<bool, AllocError>
         Some(pool) => Ok(pool.is_same(&names.pool)),
         None => Ok(false),
     }
+}
+
+// Whether there is a receipt for so many blocks of the session, which names no others.
+fn has_receipt(drive: &Drive<MemDrive>, blocks: u64) -> Result<bool, AllocError> {
+    let receipt = match drive.receipt(KEY, blocks) {
+        Err(_) => drive.receipt(KEY, blocks)?,
+        Ok(receipt) => receipt,
+    };
+    Ok(match receipt {
+        Some(given) => given.key() == KEY && given.blocks() == blocks && given.spans().is_empty(),
+        None => false,
+    })
 }

@@ -5,21 +5,18 @@
 //! all as it was. `memory/run`, at the top of the repository, makes each allocation fail in turn and
 //! compares the outputs.
 //!
-//! The packets, the codecs of records and blocks, a device and a volume are called by themselves, and of a
-//! drive the one call that no world makes. What else stands behind them, from the desk to the drive, is
-//! called by the worlds.
+//! The packets, the codecs of records and blocks, a device and a volume are called by themselves, and of
+//! drives, journals and spans the calls that no world makes. What else stands behind them, from the desk to the drive, is
+//! called by the scripts that `memory/run` gives `sdtool`.
 #![tactic(auto)]
 
-mod answers;
-mod data;
 mod devices;
 mod drives;
 mod names;
 mod packets;
-mod scarce;
 mod session;
+mod spans;
 mod volumes;
-mod worlds;
 
 use anyhow::Result;
 use names::Names;
@@ -37,14 +34,10 @@ fn main(rt: HostRuntime) -> Result<()> {
 
 fn run(rt: HostRuntime) -> io::Result<()> {
     let names = Names::new()?;
-    parts(rt, &names)?;
-    worlds::run(rt)
-}
-
-fn parts(rt: HostRuntime, names: &Names) -> io::Result<()> {
     packets::run(rt)?;
-    session::run(rt, names)?;
+    session::run(rt, &names)?;
     devices::run(rt, &names.volume)?;
     volumes::run(rt, &names.volume_label())?;
-    drives::run(rt, names)
+    drives::run(rt, &names)?;
+    spans::run(rt)
 }

@@ -1,24 +1,17 @@
-//! Tests of libraries by their public calls: what no clause of theirs says. They stand in a crate above
-//! the libraries, since a crate with tests is proved twice, with them and without.
+//! Tests of libraries by their public calls, of what no run of a program shows: vectors of fields and checksums, packets
+//! fed in pieces, what a driver of any kind promises, the device and the spool in memory with each call failing, and a
+//! drive of files at its greatest count of failures.
 #![tactic(auto)]
 
 #[cfg(test)]
-mod command_lines;
+mod devices;
 #[cfg(test)]
-mod configurations;
+mod fields;
 #[cfg(test)]
-mod console;
-#[cfg(test)]
-mod extractions;
-#[cfg(test)]
-mod failing;
-#[cfg(test)]
-mod lines;
-#[cfg(test)]
-mod listings;
+mod files;
 #[cfg(test)]
 mod packets;
 #[cfg(test)]
-mod runs;
+mod spools;
 #[cfg(test)]
-mod serving;
+mod sums;

@@ -1,0 +1,51 @@
+// A list of events, given to the world of a configuration at once.
+use sd_base::DriveNo;
+use sd_conf::read_conf;
+use sd_core::{Event, Reply};
+use sd_setup::open_world;
+use std::alloc::Global;
+use std::test::Fail;
+
+const CONF: &str = "[[drive]]\nmedia = \"File\"\nfolder = \"volumes\"\n";
+
+// A drive's turn, and then another drive's, which isn't there.
+fn turns(alloc: Global) -> Option<Vec<Event>> {
+    let drive = DriveNo::new(1)?;
+    let mut events = Vec::new(alloc);
+    events.push(Event::Take { drive }).ok()?;
+    events.push(Event::Place { drive }).ok()?;
+    events.push(Event::Sync { drive }).ok()?;
+    events
+        .push(Event::Take {
+            drive: DriveNo::new(2)?,
+        })
+        .ok()?;
+    Some(events)
+}
+
+fn number_of(reply: &Reply) -> u16 {
+    match reply {
+        Reply::Idle => 1,
+        Reply::Synced => 2,
+        Reply::Refused(refusal) => refusal.number(),
+        _ => 0,
+    }
+}
+
+// What a new world answers to them: 1 where a drive has nothing to do, 2 where it has synced, or the refusal's number.
+fn answers(rt: &HostRuntime) -> Option<[u16; 4]> {
+    let conf = read_conf(rt.alloc(), CONF).ok()?;
+    let mut world = open_world(rt, &conf, 1000).ok()?;
+    let replies = world.run(turns(rt.alloc())?).ok()?;
+    let mut numbers = [0; 4];
+    for (number, reply) in numbers.iter_mut().zip(replies.as_slice()) {
+        *number = number_of(reply);
+    }
+    (replies.len() == 4).then_some(numbers)
+}
+
+#[test]
+fn a_list_of_events(rt: HostRuntime) -> Result<(), Fail> {
+    assert_eq!(rt; answers(&rt), Some([1, 1, 2, 3938]));
+    Ok(())
+}
