@@ -1,7 +1,7 @@
 use Rattle.std.proofs.Common.{◌≡◌, ℕ, length, List, ap, ◌∙◌, subst, arith}
 use Rattle.sd_driver.specs.Shelf.{Held, Lasts}
 use Rattle.sd_driver.proofs.Lasting.{Passes-later, synced_last, still_lasts, still_lasts_below, StillLasts-trans, short_lasts, low_mark-lasts}
-use Rattle.sd_tests.proofs.devices.driver.keep.Goals as goal
+use Rattle.sd_devices.proofs.driver.keep.Goals as goal
 
 pub returns : goal.returns
 returns g c =

@@ -5,7 +5,7 @@ ghost use Rattle.sd_base.specs.Count.{Rose};
 ghost use Rattle.sd_driver.specs.Meaning.{IsHonest};
 ghost use Rattle.sd_driver.specs.Shelf.{Lasts, low_mark};
 
-use crate::devices::calls::{Bench, Step, play};
+use crate::calls::{Bench, Step, play};
 use sd_base::VolName;
 use sd_driver::{Driver, DriverFault};
 use sd_memdrive::MemDrive;
@@ -92,7 +92,7 @@ enum Either {
 }
 
 impl Driver for Either {
-    ghost use Rattle.sd_tests.specs.declared.devices.driver.Either.TheVariants.{Broken, Memory};
+    ghost use Rattle.sd_devices.specs.declared.driver.Either.TheVariants.{Broken, Memory};
 
     ghost meaning = { λ d. elim d [
       | Broken b ↦ ⟦<Broken as Driver>⟧.meaning b

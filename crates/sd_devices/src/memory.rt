@@ -1,7 +1,7 @@
 // The drive in memory against a plain model, through the trait's bound: every call failing in every way, and a
 // stop after every call.
-use crate::devices::calls::{Bench, Step, play};
-use crate::devices::table::{STOPS, TOLD};
+use crate::calls::{Bench, Step, play};
+use crate::table::{STOPS, TOLD};
 use sd_driver::Driver;
 use sd_memdrive::{Call, Fail, MemDrive, When};
 use std::alloc::{AllocError, Global};
