@@ -1,7 +1,7 @@
 // The daemon with a client.
 mod client;
 
-use client::{DIALOGUE, make_folder, plays};
+use client::{make_folder, plays};
 use sd_conf::read_conf;
 use sd_daemon::serve;
 use sd_serve::Log;
@@ -20,13 +20,9 @@ fn serve_dialogue(rt: HostRuntime) -> Result<(), Fail> {
         return Ok(());
     };
     let log: Log<io::Sink> = Log::new(None);
-    let (served, played) = thread::join(
-        &rt,
-        || serve(&rt, &conf, 1, log),
-        || plays(&rt, &DIALOGUE),
-    );
+    let (served, played) = thread::join(&rt, || serve(&rt, &conf, 1, log), || plays(&rt));
     fs::remove_dir_all(&rt, folder.as_str())?;
     assert!(rt; served.is_ok());
-    assert_eq!(rt; played?, None);
+    assert!(rt; played?);
     Ok(())
 }
