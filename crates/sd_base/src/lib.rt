@@ -9,6 +9,7 @@ mod name;
 mod number;
 mod record;
 mod refusal;
+mod seen;
 
 pub use fields::{Short, get_i32, get_i64, get_u32, get_u64, put_i32, put_i64, put_u32, put_u64};
 pub use items::{Bytes, Items};
@@ -20,3 +21,4 @@ pub use name::{BadName, MediaName, NAME_LENGTH, Name, PoolName, VolName};
 pub use number::{DriveNo, JobId, LaneNo, MOST_NUMBER, Number, SessionKey, Ticket, number_limits};
 pub use record::{MOST_DATA, Rec};
 pub use refusal::Refusal;
+pub use seen::Seen;

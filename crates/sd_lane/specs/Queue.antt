@@ -1,5 +1,6 @@
--- What stands in the queue before a drive, and what its lanes sent.
-use Rattle.std.specs.Prelude.{◌≡◌, ℕ, List, [], ◌∷◌, ◌++◌, ◌==◌, if◌then◌else◌}
+-- What stands in the queue before a drive, what its lanes sent and what its drive took.
+use Rattle.std.specs.Prelude.{◌≡◌, ℕ, ◌≤◌, List, [], ◌∷◌, ◌++◌, ◌==◌, if◌then◌else◌, length}
+use Rattle.std.specs.List.{AllByRecursion}
 use Rattle.sd_lane.specs.declared.piece.Piece.{Piece}
 use Rattle.sd_lane.specs.declared.piece.Queued.{Queued}
 
@@ -12,6 +13,10 @@ abbrev pub pieces_of : ℕ → List Queued → List Piece
 pieces_of lane [] = []
 pieces_of lane (q ∷ qs) = if q.lane == lane then q.piece ∷ pieces_of lane qs else pieces_of lane qs
 
+-- the rule of a queue: of each lane, what was taken and then what is held is what it sent
+abbrev pub LanesFollow : (ℕ → List Piece) → List Queued → List Queued → Type 0
+LanesFollow sent taken held = (lane : ℕ) → sent lane ≡ pieces_of lane (taken ++ held)
+
 -- the lane of this piece sent it, behind what it sent before; the other lanes sent nothing
 abbrev pub Sends : (ℕ → List Piece) → (ℕ → List Piece) → Queued → Type 0
 Sends old new q = (lane : ℕ) → new lane ≡ old lane ++ pieces_of lane (q ∷ [])
@@ -20,9 +25,29 @@ Sends old new q = (lane : ℕ) → new lane ≡ old lane ++ pieces_of lane (q �
 abbrev pub SendsNone : (ℕ → List Piece) → (ℕ → List Piece) → Type 0
 SendsNone old new = (lane : ℕ) → new lane ≡ old lane
 
--- what contracts see of a queue with one owner: its lanes, how many pieces it has room for, and what it
+-- each of these came by one of the lanes 1 to `lanes`
+abbrev pub AreOfLanes : ℕ → List Queued → Type 0
+AreOfLanes lanes qs = AllByRecursion (λ q. (1 ≤ q.lane) × (q.lane ≤ lanes)) qs
+
+-- At some moment the queue held as many pieces as it has room for, each by one of its lanes; those of this lane
+-- were the last that it had sent.
+pub record WasFull (lanes capacity lane : ℕ) (sent : List Piece) : Type 0 where
+  pub held : List Queued
+  pub many : length held ≡ capacity
+  pub of_lanes : AreOfLanes lanes held
+  pub before : List Piece
+  pub sent_is : sent ≡ before ++ pieces_of lane held
+
+-- what a world sees of a queue with one owner: its lanes, how many pieces it has room for, and what it
 -- holds, the piece that came first in front
 pub record LanesView : Type 0 where
   pub lanes : ℕ
   pub capacity : ℕ
+  pub held : List Queued
+
+-- what contracts see of a queue for one thread: the same, and what was taken from it, in order
+pub record PlainView : Type 0 where
+  pub lanes : ℕ
+  pub capacity : ℕ
+  pub taken : List Queued
   pub held : List Queued

@@ -1,6 +1,6 @@
 // What sessions and a drive use of the queue between them, whoever owns it.
 ghost use Rattle.std.specs.Prelude.{◌≡◌, ℕ, ◌<◌, ◌≤◌, ◌++◌, ◌∷◌, [], true, length, ◌↔◌, IsTrue, OnOk, OnErr, IfErr, IfSome, IfNone};
-ghost use Rattle.sd_lane.specs.Queue.{queued, pieces_of, Sends, SendsNone};
+ghost use Rattle.sd_lane.specs.Queue.{queued, Sends, SendsNone, LanesFollow, WasFull};
 
 use crate::piece::{Piece, Queued};
 use sd_base::LaneNo;
@@ -8,7 +8,7 @@ use sd_base::LaneNo;
 /// Something by which lanes push their pieces to a drive.
 ///
 /// Its owner may be alone with the queue; then it is known what the queue holds, and a push is refused
-/// exactly where the queue is full. Where others push and take at the same time, a push may be refused
+/// exactly where the queue is full. Where others push and take at the same time, a push is refused
 /// because the queue was full at some moment of the call.
 pub trait Lane {
     ghost use Rattle.std.specs.Prelude.{ℕ, Bool, List};
@@ -21,8 +21,12 @@ pub trait Lane {
     // The lanes that may push by it.
     ghost opens: { Self → ℕ → Type 0 };
 
-    // What each lane sent, so far as this end knows.
+    // All that each lane sent from the start, in order; of a lane that may not push by it, so far as its
+    // owner knows.
     ghost sent: { Self → ℕ → List Piece };
+
+    // All that the drive took from the start, in order, where its owner is alone.
+    ghost taken: { Self → List Queued };
 
     // Whether its owner is alone with the queue.
     ghost alone: { Self → Bool };
@@ -40,12 +44,15 @@ pub trait Lane {
         ensures alone { alone self.new ≡ alone self.old }
         ensures lanes { lanes self.new ≡ lanes self.old }
         ensures capacity { capacity self.new ≡ capacity self.old }
+        ensures taken { taken self.new ≡ taken self.old }
         ensures sent { OnOk result
             (Sends (λ other. sent self.old other) (λ other. sent self.new other)
             (queued lane piece)) }
         ensures given_back { IfErr result (λ back. back ≡ piece) }
         ensures not_sent { OnErr result
             (SendsNone (λ other. sent self.old other) (λ other. sent self.new other)) }
+        ensures was_full { OnErr result
+            (WasFull (lanes self.old) (capacity self.old) lane (sent self.old lane)) }
 
         ensures room { alone self.old ≡ true
             → OnOk result (length (held self.old) < capacity self.old) }
@@ -54,6 +61,10 @@ pub trait Lane {
         ensures full { alone self.old ≡ true
             → OnErr result (capacity self.old ≤ length (held self.old)) }
         ensures kept { alone self.old ≡ true → OnErr result (held self.new ≡ held self.old) };
+
+    // A law: where its owner is alone, what was taken of a lane and then what is held of it is what it sent.
+    ghost follows: { (x : Self) → alone x ≡ true
+        → LanesFollow (λ lane. sent x lane) (taken x) (held x) };
 }
 
 /// A queue with one owner, who pushes for its lanes and takes for its drive.
@@ -63,9 +74,13 @@ pub trait Lanes: Lane {
         ensures opens { (other : ℕ) → Self.opens self.old other → Self.opens self.new other }
         ensures capacity { Self.capacity self.new ≡ Self.capacity self.old }
         ensures lanes { Self.lanes self.new ≡ Self.lanes self.old }
+        ensures not_sent {
+            SendsNone (λ other. Self.sent self.old other) (λ other. Self.sent self.new other) }
         ensures first { IfSome result (λ piece. (lane : ℕ)
-            × (Self.held self.old ≡ queued lane piece ∷ Self.held self.new)) }
-        ensures empty { IfNone result ((Self.held self.old ≡ []) × (Self.held self.new ≡ [])) };
+            × (Self.held self.old ≡ queued lane piece ∷ Self.held self.new)
+            × (Self.taken self.new ≡ Self.taken self.old ++ queued lane piece ∷ [])) }
+        ensures empty { IfNone result ((Self.held self.old ≡ []) × (Self.held self.new ≡ [])) }
+        ensures none_taken { IfNone result (Self.taken self.new ≡ Self.taken self.old) };
 
     /// Whether no piece is held.
     fn is_empty(&self) -> bool

@@ -3,11 +3,9 @@
 #![tactic(auto)]
 
 mod lane;
-mod laws;
 mod piece;
 mod plain;
 
 pub use lane::{Lane, Lanes};
-pub use laws::{push_keeps_rule, take_keeps_rule};
 pub use piece::{Piece, Queued};
 pub use plain::PlainLanes;

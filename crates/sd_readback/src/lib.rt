@@ -6,7 +6,6 @@ mod front;
 mod laws;
 mod read;
 mod reader;
-mod seen;
 mod sink;
 mod spans;
 
@@ -15,5 +14,5 @@ pub use laws::{
     fault_is_no_reading, handed_over_are_first, kept_spans_read, one_first_fault, reads_to_one_list,
 };
 pub use read::{ReadEnd, read_session};
-pub use seen::Seen;
+pub use sd_base::Seen;
 pub use sink::Sink;

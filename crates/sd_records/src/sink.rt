@@ -4,9 +4,9 @@ ghost use Rattle.std.specs.List.{flat_map};
 ghost use Rattle.sd_base.specs.Record.{Record};
 ghost use Rattle.sd_printer.specs.Says.{SaidView, Says, said_view};
 
-use sd_base::Rec;
+use sd_base::{Rec, Seen};
 use sd_printer::Printer;
-use sd_readback::{Seen, Sink};
+use sd_readback::Sink;
 use std::alloc::AllocError;
 use std::io::Write;
 use std::marker::{Brand, Model, PhantomData};
