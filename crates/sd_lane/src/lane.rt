@@ -74,8 +74,7 @@ pub trait Lanes: Lane {
         ensures opens { (other : ℕ) → Self.opens self.old other → Self.opens self.new other }
         ensures capacity { Self.capacity self.new ≡ Self.capacity self.old }
         ensures lanes { Self.lanes self.new ≡ Self.lanes self.old }
-        ensures not_sent {
-            SendsNone (λ other. Self.sent self.old other) (λ other. Self.sent self.new other) }
+        ensures not_sent { SendsNone (λ other. Self.sent self.old other) (λ other. Self.sent self.new other) }
         ensures first { IfSome result (λ piece. (lane : ℕ)
             × (Self.held self.old ≡ queued lane piece ∷ Self.held self.new)
             × (Self.taken self.new ≡ Self.taken self.old ++ queued lane piece ∷ [])) }

@@ -34,7 +34,8 @@ pub record PutsIn (old : QueueView) (q : Queued) (new : QueueView) : Type 0 wher
   pub room : old.alone ≡ true → length old.held < old.capacity
   pub held : old.alone ≡ true → new.held ≡ old.held ++ q ∷ []
 
--- the queue was full, and no lane sent anything
+-- The queue was full, and no lane sent anything. Where its owner isn't alone it was so at some moment of the step
+-- (`WasFull`), which the step says itself.
 pub record IsFull (old new : QueueView) : Type 0 where
   pub none_sent : SendsNone old.sent new.sent
   pub full : old.alone ≡ true → old.capacity ≤ length old.held

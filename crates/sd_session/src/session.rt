@@ -4,6 +4,7 @@ ghost use Rattle.sd_base.specs.Limits.{block_header, least_block_limit, most_blo
 ghost use Rattle.std.specs.Option.{option_map};
 ghost use Rattle.sd_label.specs.Cutting.{Between};
 ghost use Rattle.sd_label.specs.Label.{IsSessionLabel, session_label_bytes};
+ghost use Rattle.sd_lane.specs.Queue.{WasFull};
 ghost use Rattle.sd_pack.specs.Packing.{HasOpen, Packs, bodies_of, all_bytes};
 ghost use Rattle.sd_spool.specs.Job.{state_of};
 ghost use Rattle.sd_session.specs.Session.{IsRunning, NotRunning, MayTake, status_refusal, start_label, due_of, spooled_in, store_refusal, spooled_count, IsWhole, IsSessionView, StartsSession, StartRefused, TakesRecord, AppendRefused, EndsSession, EndRefused, CancelsSession, FailsSession, HasOutstanding, ClosesSession, CloseRefused, GivesBack, KeepsStore};
@@ -369,6 +370,9 @@ impl<S: SpoolStore + Drop> Session<S> {
         ensures alone { L.alone lane.new ≡ L.alone lane.old }
         ensures lanes { L.lanes lane.new ≡ L.lanes lane.old }
         ensures capacity { L.capacity lane.new ≡ L.capacity lane.old }
+        ensures taken { L.taken lane.new ≡ L.taken lane.old }
+        ensures was_full { result ≡ Ok Despooled.LaneFull → WasFull (L.lanes lane.old)
+            (L.capacity lane.old) self.old.lane (L.sent lane.old self.old.lane) }
     {
         self.running()?;
         if !self.is_due() {
