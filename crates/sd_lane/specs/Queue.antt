@@ -51,3 +51,7 @@ pub record PlainView : Type 0 where
   pub capacity : ℕ
   pub taken : List Queued
   pub held : List Queued
+
+-- what a world sees of one
+abbrev pub lanes_view : PlainView → LanesView
+lanes_view q = record { lanes = q.lanes; capacity = q.capacity; held = q.held }
