@@ -1,15 +1,15 @@
 -- What several calls of a device leave of it, one after another.
-use Rattle.std.proofs.Common.{◌≡◌, ℕ, ◌-◌, ◌^◌, ◌≤◌, inl, inr, ◌≢◌, refl, sym, ap, ◌∙◌, subst, arith, List, length, take, Option, Some, Result, Ok, Err}
+use Rattle.std.proofs.Common.{◌≡◌, ℕ, suc, ◌-◌, ◌^◌, ◌≤◌, ◌⊎◌, inl, inr, ◌≢◌, refl, sym, ap, ◌∙◌, subst, arith, List, length, take, Option, Some, Result, Ok, Err}
 use Rattle.std.specs.Prelude.{IsErrOf, IsTrue}
 use Rattle.std.proofs.lemmas.List.{take_at}
 use Rattle.std.proofs.lemmas.Bool.{cases_lt}
 use Rattle.sd_driver.specs.declared.driver.DriverFault.{DriverFault}
 use Rattle.sd_driver.specs.declared.driver.DriverFault.TheVariants.{NotThere, Exists, NoRoom, Device, Memory}
-use Rattle.sd_driver.specs.Shelf.{Shelf, Held, stable_bytes, SameShelf, Passes, KeepsStable, Creates, Appends, Syncs, MaySync, Truncates, MayTruncate}
+use Rattle.sd_driver.specs.Shelf.{Shelf, Held, stable_bytes, SameShelf, OtherShelf, Passes, KeepsStable, Creates, Appends, Syncs, MaySync, Truncates, MayTruncate}
 use Rattle.sd_base.specs.Count.{Rose}
 use Rattle.sd_driver.specs.Meaning.{Meaning, IsHonest, CountsFailures, SameCounts, told_after}
 use Rattle.sd_driver.proofs.Lasting.{still_lasts, StillLasts-trans, Lasts-begin, BeginsWith-same, Passes-later}
-use Rattle.sd_volume.specs.Device.{Counted, OnlyReads, Writes, CutsLoaded, KeepsLoaded}
+use Rattle.sd_volume.specs.Device.{Counted, CallsAtMost, OnlyReads, Writes, CutsLoaded, KeepsLoaded}
 use Rattle.sd_volume.specs.Fault.{adopt_fault_of}
 use Rattle.sd_volume.specs.declared.fault.AdoptFault.TheVariants as adopt
 use Rattle.sd_volume.specs.Label.{Stores}
@@ -79,6 +79,14 @@ Counted-behind fault no_room a b c first moment then = record {
   told = λ n. subst (λ t. Rose t c.told) first.told (then.told n);
   not_told = λ none. then.not_told none ∙ first.told;
 }
+
+-- one call changes volumes once at most
+pub one_call : (old new : Meaning) → Passes old.shelf new.shelf → CallsAtMost 1 old new
+one_call old new passes = of passes.moments
+  where
+    of : (SameShelf old.shelf new.shelf × (new.shelf.moment ≡ old.shelf.moment)) ⊎ (OtherShelf old.shelf new.shelf × (new.shelf.moment ≡ suc old.shelf.moment)) → CallsAtMost 1 old new
+    of (inl same) = omega (arith, same.1)
+    of (inr more) = omega (arith, more.1)
 
 -- Reading.
 

@@ -1,5 +1,5 @@
 -- What a call that makes several calls of a device leaves of it, whatever device it is.
-use Rattle.std.specs.Prelude.{◌≡◌, ◌≢◌, ℕ, ◌≤◌, List, ◌++◌, length, take, Option, Some}
+use Rattle.std.specs.Prelude.{◌≡◌, ◌≢◌, ℕ, ◌+◌, ◌≤◌, List, ◌++◌, length, take, Option, Some}
 use Rattle.sd_driver.specs.Shelf.{Shelf, SameShelf, StillLasts, Changes, BeginsWith}
 use Rattle.sd_base.specs.Count.{Rose}
 use Rattle.sd_driver.specs.Meaning.{Meaning, IsHonest}
@@ -15,6 +15,11 @@ pub record Counted (fault no_room : Type 0) (old new : Meaning) : Type 0 where
   pub no_failure : ¬ fault → new.failures ≡ old.failures
   pub told : no_room → Rose old.told new.told
   pub not_told : ¬ no_room → new.told ≡ old.told
+
+-- No more than so many calls of the device changed a volume. Any call of some device may: so what meets this whatever
+-- device it is makes no more calls than so many.
+abbrev pub CallsAtMost : ℕ → Meaning → Meaning → Type 0
+CallsAtMost count old new = new.shelf.moment ≤ old.shelf.moment + count
 
 -- a call that only reads: it loads nothing and unloads nothing, what lasted lasts, and an honest device holds
 -- what it held

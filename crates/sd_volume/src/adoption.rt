@@ -19,7 +19,7 @@ use std::alloc::Global;
 /// Takes over the volume of that name, which is to be of that media type: reads its label and its blocks one
 /// after another up to the first place where no whole block with the next number stands, cuts it there, and
 /// makes it last. All its blocks are to be of runs before the one that began at `start_time`. It is full where it
-/// ends at `limit` or past it.
+/// ends at `limit` or past it. Where a refusal is due the device is only read, also if it fails in between.
 ///
 /// Calls len once, then reads, each byte once; then load, cut, sync and unload, in this order. Holds one buffer
 /// of a block's greatest length, whatever the volume's, which it takes before it calls the device.
@@ -62,6 +62,10 @@ pub fn adopt<D: Driver>(
         → (D.meaning driver.new).shelf.volume other ≡ (D.meaning driver.old).shelf.volume other }
     ensures keeps { IsHonest (D.meaning driver.old) → KeepsWholeBlocks name.now
         (D.meaning driver.old).shelf (D.meaning driver.new).shelf }
+    ensures only_reads { IsHonest (D.meaning driver.old) → (fault : SpecFault)
+        → IsDue fault name.now media.now start_time (D.meaning driver.old).shelf
+        → OnlyReads (IsErrOf result AdoptFault.Device)
+        (D.meaning driver.old) (D.meaning driver.new) }
 {
     let mut reader = VolumeReader::new(alloc, name)?;
     let volume = survey(driver, &mut reader, name, media, start_time, limit)?;

@@ -6,7 +6,7 @@ ghost use Rattle.sd_driver.specs.Meaning.{IsHonest, Unchanged};
 ghost use Rattle.sd_driver.specs.Shelf.{StillLasts};
 ghost use Rattle.sd_volume.specs.declared.volume.VolumeStatus.TheVariants.{Append, Full, Error};
 ghost use Rattle.sd_volume.specs.Append.{IfPlaced, IfNotPlaced, end_with, AddsBlock, KeepsBlocks};
-ghost use Rattle.sd_volume.specs.Device.{Counted};
+ghost use Rattle.sd_volume.specs.Device.{Counted, CallsAtMost};
 
 use crate::volume::{Volume, VolumeStatus};
 use sd_base::{BLOCK_HEADER, SessionKey};
@@ -59,6 +59,7 @@ pub fn append_block<D: Driver>(
     ensures counted { Counted (result ≡ Appended.Fault)
         ((result ≡ Appended.NoRoom) × (end_with volume.old body.now ≤ limit))
         (D.meaning driver.old) (D.meaning driver.new) }
+    ensures calls { CallsAtMost 1 (D.meaning driver.old) (D.meaning driver.new) }
     ensures loaded { (D.meaning driver.new).loaded ≡ (D.meaning driver.old).loaded }
     ensures lasts { StillLasts (D.meaning driver.old).shelf (D.meaning driver.new).shelf }
 

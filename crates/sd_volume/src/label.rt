@@ -5,7 +5,7 @@ ghost use Rattle.sd_block.specs.Image.{IsBlockImage};
 ghost use Rattle.sd_driver.specs.Meaning.{IsHonest, Unchanged};
 ghost use Rattle.sd_driver.specs.Shelf.{MayCreate, StillLasts};
 ghost use Rattle.sd_label.specs.Label.{IsVolumeLabel, volume_label_bytes};
-ghost use Rattle.sd_volume.specs.Device.{Counted, Writes, OthersStay};
+ghost use Rattle.sd_volume.specs.Device.{Counted, CallsAtMost, Writes, OthersStay};
 ghost use Rattle.sd_volume.specs.Image.{no_session, label_block};
 ghost use Rattle.sd_volume.specs.Label.{new_volume, Stores, Labels, MayCreateEmpty};
 
@@ -32,6 +32,7 @@ pub fn label_new<D: Driver>(
     ensures unloaded { (D.meaning driver.new).loaded ≡ None }
     ensures counted { Counted (IsErrOf result LabelFault.Device) (IsErrOf result LabelFault.NoRoom)
         (D.meaning driver.old) (D.meaning driver.new) }
+    ensures calls { CallsAtMost 4 (D.meaning driver.old) (D.meaning driver.new) }
     ensures lasts { StillLasts (D.meaning driver.old).shelf (D.meaning driver.new).shelf }
 
     ensures ok { IsHonest (D.meaning driver.old) → OnOk result
@@ -77,6 +78,7 @@ fn store<D: Driver>(driver: &mut D, name: &VolName, bytes: &[u8]) -> Result<(), 
     ensures unloaded { (D.meaning driver.new).loaded ≡ None }
     ensures counted { Counted (IsErrOf result LabelFault.Device) (IsErrOf result LabelFault.NoRoom)
         (D.meaning driver.old) (D.meaning driver.new) }
+    ensures calls { CallsAtMost 4 (D.meaning driver.old) (D.meaning driver.new) }
     ensures lasts { StillLasts (D.meaning driver.old).shelf (D.meaning driver.new).shelf }
 
     ensures ok { IsHonest (D.meaning driver.old) → OnOk result
@@ -103,6 +105,7 @@ fn write<D: Driver>(driver: &mut D, bytes: &[u8]) -> Result<(), LabelFault>
     ensures loaded { (D.meaning driver.new).loaded ≡ (D.meaning driver.old).loaded }
     ensures counted { Counted (IsErrOf result LabelFault.Device) (IsErrOf result LabelFault.NoRoom)
         (D.meaning driver.old) (D.meaning driver.new) }
+    ensures calls { CallsAtMost 2 (D.meaning driver.old) (D.meaning driver.new) }
     ensures lasts { StillLasts (D.meaning driver.old).shelf (D.meaning driver.new).shelf }
     ensures faults { IfErr result (λ fault. fault ≢ LabelFault.AlreadyLabelled) }
     ensures memory { IsErrOf result LabelFault.Memory

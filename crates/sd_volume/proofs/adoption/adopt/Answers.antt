@@ -104,3 +104,20 @@ returns-clause-keeps g c = λ honest.
     let honest_1 = subst IsTrue (sym c.in_ok-volume.ensures.device.counted.honest) honest in
     KeepsWholeBlocks-cut c.args.name.now c.args.media.now c.args.start_time c.in_ok-volume.volume c.volume.inside.end shelf_0 shelf_1 shelf_2 found.0 found.1 found.2 (ap (λ (v : VolumeView). v.end) c.volume.view_is)
     (c.in_ok-volume.ensures.device.same honest) c.in_ok-volume.ensures.device.lasts (c.in_ok-cut_back.ensures.keeps honest_1) c.in_ok-cut_back.ensures.lasts_below
+
+pub returns-in_err-volume-clause-only_reads : goal.returns-in_err-volume-clause-only_reads
+returns-in_err-volume-clause-only_reads g c =
+    let p = err_from_is_err_and c.from_residual-in_err-volume.result c.from_residual-in_err-volume.ensures.1 in
+    rw (p.1, p.2) (λ honest fault due. c.in_err-volume.ensures.device)
+
+pub returns-in_err-cut_back-clause-only_reads : goal.returns-in_err-cut_back-clause-only_reads
+returns-in_err-cut_back-clause-only_reads g c = λ honest fault due.
+    let shelf_0 = (g.D.Driver.meaning c.args.driver.now).shelf in
+    let found = c.in_ok-volume.ensures.found honest (shows_nothing c.in_ok-reader.reader shelf_0 c.in_ok-reader.ensures.bytes) in
+    absurd (not_due fault c.args.name.now c.args.media.now c.args.start_time shelf_0 found.0 c.in_ok-volume.volume found.1 found.2 due)
+
+pub returns-clause-only_reads : goal.returns-clause-only_reads
+returns-clause-only_reads g c = λ honest fault due.
+    let shelf_0 = (g.D.Driver.meaning c.args.driver.now).shelf in
+    let found = c.in_ok-volume.ensures.found honest (shows_nothing c.in_ok-reader.reader shelf_0 c.in_ok-reader.ensures.bytes) in
+    absurd (not_due fault c.args.name.now c.args.media.now c.args.start_time shelf_0 found.0 c.in_ok-volume.volume found.1 found.2 due)
