@@ -1,3 +1,4 @@
+pub mod CallLemmas
 pub mod FindLemmas
 pub mod Kept
 pub mod LaidLemmas

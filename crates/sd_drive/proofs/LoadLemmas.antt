@@ -1,13 +1,16 @@
--- What a load finds.
-use Rattle.std.proofs.Common.{◌≡◌, ◌≢◌, ℕ, List, Option, Some, None, refl, ap, sym, ◌∙◌, subst, slice_get}
+-- What a load finds, and which answer of a device a refusal tells.
+use Rattle.std.proofs.Common.{◌≡◌, ◌≢◌, ℕ, List, Option, Some, None, Result, Err, refl, ap, sym, ◌∙◌, subst, slice_get}
 use Rattle.std.specs.List.{AllByRecursion}
-use Rattle.sd_base.specs.declared.refusal.Refusal.TheVariants.{VolumeNotOnShelf}
+use Rattle.sd_base.specs.declared.refusal.Refusal.TheVariants.{VolumeNotOnShelf, DeviceFault}
 use Rattle.sd_driver.specs.declared.driver.DriverFault.{DriverFault}
 use Rattle.sd_driver.specs.declared.driver.DriverFault.TheVariants.{NotThere, Exists, NoRoom, Device, Memory}
 use Rattle.sd_driver.specs.Meaning.{Meaning}
 use Rattle.sd_driver.specs.Shelf.{Shelf}
 use Rattle.sd_journal.specs.Journal.{Entry}
 use Rattle.sd_journal.specs.declared.mark.Mark.TheVariants.{Unsynced}
+use Rattle.sd_volume.specs.declared.fault.AdoptFault.{AdoptFault}
+use Rattle.sd_volume.specs.declared.fault.AdoptFault.TheVariants as adopt
+use Rattle.sd_volume.specs.Fault.{adopt_refusal}
 use Rattle.sd_volume.specs.Volume.{VolumeView}
 use Rattle.sd_drive.specs.View.{name_loaded}
 use Rattle.sd_drive.specs.Shelf.{Fits, Kept}
@@ -40,3 +43,15 @@ on_shelf shelf vs js at name fits there none =
     let is = s.stands.there in
     let same = ap shelf.volume there.2 in
     absurd (cc (sym is ∙ same ∙ none))
+
+pub err_is : {T E : Type 0} {a b : E} → ◌≡◌ {A = Result T E} (Err a) (Err b) → a ≡ b
+err_is e = cc
+
+-- of an adoption's faults the device's alone is that refusal
+pub is_device : (fault : AdoptFault) → adopt_refusal fault ≡ DeviceFault → fault ≡ adopt.Device
+is_device adopt.NotOnShelf e = cc
+is_device adopt.NotOurVolume e = cc
+is_device adopt.OtherMedia e = cc
+is_device adopt.BlocksOfThisRun e = cc
+is_device adopt.Device e = refl
+is_device adopt.Memory e = cc

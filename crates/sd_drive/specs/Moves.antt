@@ -133,6 +133,10 @@ awaits_sync d = awaits_on (name_loaded d.volumes d.loaded) d.journal
 abbrev pub synced_journal : {D : Type 0} → DriveIs D → List Entry
 synced_journal d = settled_on mark.Synced (name_loaded d.volumes d.loaded) d.journal
 
+-- how many syncs the drive's device is asked for to have no block await one: one where some does
+abbrev pub sync_calls : {D : Type 0} → DriveIs D → ℕ
+sync_calls d = if awaits_sync d then 1 else 0
+
 -- the loaded volume is synced: none of its blocks awaits a sync any more
 abbrev pub Syncs : {D : Type 0} → DriveIs D → DriveIs D → Type 0
 Syncs old new = new ≡ record old { device = new.device; journal = synced_journal old }

@@ -5,7 +5,7 @@ ghost use Rattle.sd_driver.specs.Meaning.{IsHonest};
 ghost use Rattle.sd_driver.specs.Shelf.{SameShelf, StillLasts, StillLastsBelow};
 ghost use Rattle.sd_volume.specs.declared.fault.AdoptFault.{AdoptFault as SpecFault};
 ghost use Rattle.sd_volume.specs.Adopt.{IsDue, KeepsWholeBlocks};
-ghost use Rattle.sd_volume.specs.Device.{Counted};
+ghost use Rattle.sd_volume.specs.Device.{Counted, OnlyReads};
 ghost use Rattle.sd_volume.specs.Fault.{adopt_refusal};
 ghost use Rattle.sd_drive.specs.Shelf.{KeepsPieces};
 ghost use Rattle.sd_drive.specs.View.{names};
@@ -60,6 +60,15 @@ impl<D: Driver> Drive<D> {
             (D.meaning self.old.device).shelf (D.meaning self.new.device).shelf }
         ensures refused_last { IfErr result (λ fault. fault ≢ Refusal.DeviceFault
             → StillLasts (D.meaning self.old.device).shelf (D.meaning self.new.device).shelf) }
+        ensures others { IsHonest (D.meaning self.old.device)
+            → (other : List ℕ) → other ≢ name.now
+            → (D.meaning self.new.device).shelf.volume other
+            ≡ (D.meaning self.old.device).shelf.volume other }
+        ensures only_reads { IsHonest (D.meaning self.old.device)
+            → (cause : SpecFault) → IsDue cause name.now
+            self.old.media self.old.limits.time (D.meaning self.old.device).shelf
+            → OnlyReads (IsErrOf result Refusal.DeviceFault)
+            (D.meaning self.old.device) (D.meaning self.new.device) }
     {
         self.may_adopt(name)?;
         self.add_adopted(name)
@@ -114,6 +123,15 @@ impl<D: Driver> Drive<D> {
             (D.meaning self.old.device).shelf (D.meaning self.new.device).shelf }
         ensures refused_last { IfErr result (λ fault. fault ≢ Refusal.DeviceFault
             → StillLasts (D.meaning self.old.device).shelf (D.meaning self.new.device).shelf) }
+        ensures others { IsHonest (D.meaning self.old.device)
+            → (other : List ℕ) → other ≢ name.now
+            → (D.meaning self.new.device).shelf.volume other
+            ≡ (D.meaning self.old.device).shelf.volume other }
+        ensures only_reads { IsHonest (D.meaning self.old.device)
+            → (cause : SpecFault) → IsDue cause name.now
+            self.old.media self.old.limits.time (D.meaning self.old.device).shelf
+            → OnlyReads (IsErrOf result Refusal.DeviceFault)
+            (D.meaning self.old.device) (D.meaning self.new.device) }
     {
         let Ok(()) = self.volumes.reserve(1) else {
             return Err(Refusal::Memory);

@@ -191,7 +191,8 @@ impl<D: Driver> Drive<D> {
         self.hand.as_ref()
     }
 
-    /// Makes room for a session's first placement; nothing else changes.
+    /// Takes the memory for a session's first placement early, so that it is wanted where the session is opened. No
+    /// clause shows the room: it is no part of a drive's value, and `place` asks for it again.
     pub fn ready(&mut self, key: SessionKey) -> Result<(), AllocError>
         ensures { self.new ≡ self.old }
     {
@@ -205,8 +206,8 @@ impl<D: Driver> Drive<D> {
         self.pool = Some(pool.copy());
     }
 
-    /// Notes a session that was reserved at the drive: its pool is the drive's from then on, and there is room for
-    /// its first placement.
+    /// Notes a session that was reserved at the drive: its pool is the drive's from then on. Takes the memory for its
+    /// first placement early, as `ready` does.
     pub fn serve(&mut self, key: SessionKey, pool: &PoolName) -> Result<(), AllocError>
         ensures ok { OnOk result (self.new ≡ record self.old { pool = Some pool.now }) }
         ensures err { OnErr result (self.new ≡ self.old) }

@@ -1,9 +1,9 @@
-// A volume comes to the drive: a new one, or one that an earlier run left.
+// A new volume comes to the drive.
 ghost use Rattle.std.specs.Prelude.{◌≡◌, ◌≢◌, ℕ, None, Some, OnOk, OnErr, IfOk, IfErr, IsErrOf, IsSome, slice_get};
 ghost use Rattle.sd_base.specs.declared.refusal.Refusal.{Refusal as SpecRefusal};
 ghost use Rattle.sd_driver.specs.Meaning.{IsHonest};
 ghost use Rattle.sd_driver.specs.Shelf.{StillLasts, MayCreate};
-ghost use Rattle.sd_volume.specs.Device.{Counted};
+ghost use Rattle.sd_volume.specs.Device.{Counted, CallsAtMost};
 ghost use Rattle.sd_volume.specs.Fault.{label_refusal};
 ghost use Rattle.sd_volume.specs.declared.fault.LabelFault.{LabelFault as SpecFault};
 ghost use Rattle.sd_volume.specs.Label.{Labels, MayCreateEmpty, new_volume};
@@ -59,6 +59,7 @@ impl<D: Driver> Drive<D> {
             (D.meaning self.old.device) (D.meaning self.new.device) }
         ensures keeps { KeepsPieces (D.meaning self.old.device) (D.meaning self.new.device)
             self.old.journal self.new.journal self.old.hand self.new.hand }
+        ensures calls { CallsAtMost 4 (D.meaning self.old.device) (D.meaning self.new.device) }
         ensures later { StillLasts (D.meaning self.old.device).shelf
             (D.meaning self.new.device).shelf }
     {
@@ -120,6 +121,7 @@ impl<D: Driver> Drive<D> {
             (D.meaning self.old.device) (D.meaning self.new.device) }
         ensures keeps { KeepsPieces (D.meaning self.old.device) (D.meaning self.new.device)
             self.old.journal self.new.journal self.old.hand self.new.hand }
+        ensures calls { CallsAtMost 4 (D.meaning self.old.device) (D.meaning self.new.device) }
         ensures later { StillLasts (D.meaning self.old.device).shelf
             (D.meaning self.new.device).shelf }
     {

@@ -1,12 +1,12 @@
 // A volume of the drive is loaded.
-ghost use Rattle.std.specs.Prelude.{◌≡◌, ◌≢◌, ℕ, None, Some, OnOk, OnErr, IfOk, IfErr, IsErr, IsErrOf, slice_get};
+ghost use Rattle.std.specs.Prelude.{◌≡◌, ◌≢◌, ℕ, ◌+◌, None, Some, OnOk, OnErr, IfOk, IfErr, IsErr, IsErrOf, slice_get};
 ghost use Rattle.sd_base.specs.declared.refusal.Refusal.{Refusal as SpecRefusal};
 ghost use Rattle.sd_driver.specs.Meaning.{IsHonest};
-ghost use Rattle.sd_driver.specs.Shelf.{StillLasts};
-ghost use Rattle.sd_volume.specs.Device.{Counted};
+ghost use Rattle.sd_driver.specs.Shelf.{SameShelf, StillLasts};
+ghost use Rattle.sd_volume.specs.Device.{Counted, OthersStay, CallsAtMost};
 ghost use Rattle.sd_volume.specs.Volume.{VolumeView};
 ghost use Rattle.sd_drive.specs.Shelf.{KeepsPieces};
-ghost use Rattle.sd_drive.specs.Moves.{Mounts, RefusesLoad, mount_due, mount_due_at, is_append, is_at, is_other_pool, place_of, load_refusal};
+ghost use Rattle.sd_drive.specs.Moves.{Mounts, RefusesLoad, mount_due, mount_due_at, is_append, is_at, is_other_pool, place_of, load_refusal, sync_calls};
 
 use crate::drive::Drive;
 use sd_base::{PoolName, Refusal, VolName};
@@ -33,6 +33,11 @@ impl<D: Driver> Drive<D> {
             self.old.journal self.new.journal self.old.hand self.new.hand }
         ensures later { StillLasts (D.meaning self.old.device).shelf
             (D.meaning self.new.device).shelf }
+        ensures others { IsHonest (D.meaning self.old.device)
+            → OthersStay (D.meaning self.old.device).loaded
+            (D.meaning self.old.device).shelf (D.meaning self.new.device).shelf }
+        ensures calls { CallsAtMost (sync_calls self.old + 2)
+            (D.meaning self.old.device) (D.meaning self.new.device) }
     {
         let at = self.mountable(name)?;
         self.unmount()?;
@@ -73,6 +78,9 @@ impl<D: Driver> Drive<D> {
             self.old.journal self.new.journal self.old.hand self.new.hand }
         ensures later { StillLasts (D.meaning self.old.device).shelf
             (D.meaning self.new.device).shelf }
+        ensures same { IsHonest (D.meaning self.old.device)
+            → SameShelf (D.meaning self.old.device).shelf (D.meaning self.new.device).shelf }
+        ensures calls { CallsAtMost 1 (D.meaning self.old.device) (D.meaning self.new.device) }
     {
         match self.driver.load(name) {
             Ok(()) => {

@@ -4,7 +4,7 @@ ghost use Rattle.sd_base.specs.Limits.{most_volume};
 ghost use Rattle.sd_driver.specs.Meaning.{IsHonest, Unchanged};
 ghost use Rattle.sd_driver.specs.Shelf.{StillLasts};
 ghost use Rattle.sd_volume.specs.declared.volume.VolumeStatus.TheVariants.{Append};
-ghost use Rattle.sd_volume.specs.Device.{Counted, OthersStay};
+ghost use Rattle.sd_volume.specs.Device.{Counted, CallsAtMost, OthersStay};
 ghost use Rattle.sd_drive.specs.Shelf.{KeepsPieces};
 ghost use Rattle.sd_drive.specs.Moves.{Places, PlacesOn, TakesOn, IsWithin, LimitAllows, hand_after};
 ghost use Rattle.sd_drive.specs.Placing.{PlacesAt};
@@ -44,6 +44,7 @@ impl<D: Driver> Drive<D> {
             (D.meaning self.old.device) (D.meaning self.new.device) }
         ensures keeps { KeepsPieces (D.meaning self.old.device) (D.meaning self.new.device)
             self.old.journal self.new.journal self.old.hand self.new.hand }
+        ensures calls { CallsAtMost 1 (D.meaning self.old.device) (D.meaning self.new.device) }
         ensures later { StillLasts (D.meaning self.old.device).shelf
             (D.meaning self.new.device).shelf }
         ensures unchanged { OnErr result
@@ -120,6 +121,7 @@ fn place_on<D: Driver>(
         ((result ≡ Ok Placed.VolumeFull) × IsWithin limit piece.now volume.old)
         (D.meaning driver.old) (D.meaning driver.new) }
     ensures loaded { (D.meaning driver.new).loaded ≡ (D.meaning driver.old).loaded }
+    ensures calls { CallsAtMost 1 (D.meaning driver.old) (D.meaning driver.new) }
     ensures later { StillLasts (D.meaning driver.old).shelf (D.meaning driver.new).shelf }
     ensures unchanged { OnErr result (Unchanged (D.meaning driver.old) (D.meaning driver.new)) }
     ensures not_asked { ¬ IsWithin limit piece.now volume.old

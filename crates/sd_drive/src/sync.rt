@@ -1,9 +1,10 @@
 // The blocks of the loaded volume are made to last.
-ghost use Rattle.std.specs.Prelude.{◌≡◌, false, OnOk, OnErr, IfErr, IsErr, IsErrOf};
+ghost use Rattle.std.specs.Prelude.{◌≡◌, ◌+◌, false, OnOk, OnErr, IfErr, IsErr, IsErrOf};
+ghost use Rattle.sd_driver.specs.Meaning.{IsHonest};
 ghost use Rattle.sd_driver.specs.Shelf.{StillLasts};
-ghost use Rattle.sd_volume.specs.Device.{Counted};
+ghost use Rattle.sd_volume.specs.Device.{Counted, OthersStay, CallsAtMost};
 ghost use Rattle.sd_drive.specs.Shelf.{KeepsPieces};
-ghost use Rattle.sd_drive.specs.Moves.{Syncs, FailsToSync, Unmounts, awaits_sync};
+ghost use Rattle.sd_drive.specs.Moves.{Syncs, FailsToSync, Unmounts, awaits_sync, sync_calls};
 
 use crate::drive::Drive;
 use sd_base::Refusal;
@@ -24,6 +25,13 @@ impl<D: Driver> Drive<D> {
             self.old.journal self.new.journal self.old.hand self.new.hand }
         ensures later { StillLasts (D.meaning self.old.device).shelf
             (D.meaning self.new.device).shelf }
+        ensures others { IsHonest (D.meaning self.old.device)
+            → OthersStay (D.meaning self.old.device).loaded
+            (D.meaning self.old.device).shelf (D.meaning self.new.device).shelf }
+        ensures calls { OnOk result (CallsAtMost (sync_calls self.old)
+            (D.meaning self.old.device) (D.meaning self.new.device)) }
+        ensures calls_failing { OnErr result (CallsAtMost (sync_calls self.old + 1)
+            (D.meaning self.old.device) (D.meaning self.new.device)) }
     {
         let Some(at) = self.loaded else {
             return Ok(());
@@ -58,6 +66,11 @@ impl<D: Driver> Drive<D> {
             self.old.journal self.new.journal self.old.hand self.new.hand }
         ensures later { StillLasts (D.meaning self.old.device).shelf
             (D.meaning self.new.device).shelf }
+        ensures others { IsHonest (D.meaning self.old.device)
+            → OthersStay (D.meaning self.old.device).loaded
+            (D.meaning self.old.device).shelf (D.meaning self.new.device).shelf }
+        ensures calls { CallsAtMost (sync_calls self.old + 1)
+            (D.meaning self.old.device) (D.meaning self.new.device) }
     {
         self.sync()?;
         self.driver.unload();

@@ -1,6 +1,8 @@
-use Rattle.std.proofs.Common.{refl, ap, sym, ◌∙◌, rules, [], subst}
+use Rattle.std.proofs.Common.{refl, ap, sym, ◌∙◌, rules, [], subst, Err}
 use Rattle.sd_volume.specs.Fault.{adopt_refusal}
+use Rattle.sd_volume.proofs.DeviceLemmas.{OnlyReads-as}
 use Rattle.sd_volume.proofs.DueLemmas.{KeepsWholeBlocks-same}
+use Rattle.sd_drive.proofs.LoadLemmas.{is_device, err_is}
 use Rattle.sd_drive.proofs.VolumeLists.{kept_more, kept_called, pieces_called, same_but, on_others, IsFresh}
 use Rattle.sd_drive.proofs.drive.Drive.add_adopted.Goals as goal
 
@@ -69,3 +71,18 @@ returns-in-Err-clause-whole_blocks g c = rw (← c.self.view_is) c.in-Err.ensure
 pub returns-in-Err-clause-refused_last : goal.returns-in-Err-clause-refused_last
 returns-in-Err-clause-refused_last g c =
     rw (← c.self.view_is) (λ other. c.in-Err.ensures.refused_last (λ device. other (c.refusal.ensures ∙ ap adopt_refusal device)))
+
+pub returns-in-Ok-adopt-clause-others : goal.returns-in-Ok-adopt-clause-others
+returns-in-Ok-adopt-clause-others g c = rw (← c.self.view_is) c.in-Ok-adopt.ensures.others
+
+pub returns-in-Err-clause-others : goal.returns-in-Err-clause-others
+returns-in-Err-clause-others g c = rw (← c.self.view_is) c.in-Err.ensures.others
+
+pub returns-in-Ok-adopt-clause-only_reads : goal.returns-in-Ok-adopt-clause-only_reads
+returns-in-Ok-adopt-clause-only_reads g c =
+    rw (← c.self.view_is) (λ honest cause due. OnlyReads-as _ _ (g.D.Driver.meaning c.self.inside.driver) (g.D.Driver.meaning c.adopt.new.driver) (λ f. cc) (λ f. cc) (c.in-Ok-adopt.ensures.only_reads honest cause due))
+
+pub returns-in-Err-clause-only_reads : goal.returns-in-Err-clause-only_reads
+returns-in-Err-clause-only_reads g c =
+    rw (← c.self.view_is) (λ honest cause due. OnlyReads-as _ _ (g.D.Driver.meaning c.self.inside.driver) (g.D.Driver.meaning c.adopt.new.driver)
+    (λ f. ap Err (c.refusal.ensures ∙ ap adopt_refusal (err_is f))) (λ f. ap Err (is_device c.in-Err.fault (sym c.refusal.ensures ∙ err_is f))) (c.in-Err.ensures.only_reads honest cause due))

@@ -1,5 +1,6 @@
 use Rattle.std.proofs.Common.{ap, sym, ◌∙◌, Some, Err}
 use Rattle.sd_driver.proofs.Lasting.{Passes-later, still_lasts}
+use Rattle.sd_volume.proofs.DeviceLemmas.{one_call}
 use Rattle.sd_drive.proofs.Places.{within_get}
 use Rattle.sd_drive.proofs.SyncLemmas.{kept_loading}
 use Rattle.sd_drive.specs.View.{name_loaded}
@@ -38,3 +39,9 @@ returns-in-Err-clause-on_shelf g c =
     rw (← c.self.view_is) (λ honest is.
     on_shelf (g.D.Driver.meaning c.self.inside.driver).shelf c.self.inside.volumes.items c.self.inside.journal.entries c.args.at c.args.name.now (c.self.invariant.kept.fits honest) there
     (e.not_there honest (ap (λ f. Err f) (is_not_there c.in-Err.fault (sym c.load_refusal.ensures ∙ is)))))
+
+pub returns-in-Ok-clause-calls : goal.returns-in-Ok-clause-calls
+returns-in-Ok-clause-calls g c = rw (← c.self.view_is) (one_call (g.D.Driver.meaning c.self.inside.driver) (g.D.Driver.meaning c.load.new.self) c.in-Ok.ensures.passes)
+
+pub returns-in-Err-clause-calls : goal.returns-in-Err-clause-calls
+returns-in-Err-clause-calls g c = rw (← c.self.view_is) (one_call (g.D.Driver.meaning c.self.inside.driver) (g.D.Driver.meaning c.load.new.self) c.in-Err.ensures.passes)

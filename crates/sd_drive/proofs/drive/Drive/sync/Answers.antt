@@ -6,6 +6,7 @@ use Rattle.sd_journal.proofs.EntryLemmas.{settling}
 use Rattle.sd_driver.proofs.Lasting.{Passes-later, still_lasts}
 use Rattle.sd_drive.proofs.SyncLemmas.{kept_synced, kept_failed_sync, pieces_marked, loaded_read, loaded_name_is, settled_is, awaits_is, settled_none, with_journal, sync_bytes, may_sync_bytes, then_same, journal_is, failed_is, marked_by, true_false}
 use Rattle.sd_drive.specs.View.{DriveIs}
+use Rattle.sd_drive.proofs.CallLemmas.{sync_call, failed_sync_calls}
 use Rattle.sd_drive.proofs.Places.{some_is}
 use Rattle.sd_drive.proofs.drive.Drive.sync.Goals as goal
 
@@ -146,3 +147,29 @@ returns-in-Err-clause-keeps g c =
     let journal : c.sync_failed.new.self.entries ≡ settled Lost v.name js = ap (λ (j : _). j.entries) c.sync_failed.ensures ∙ ap (λ (n : List ℕ). settled Lost n js) c.name-in-Err.ensures in
     rw (← c.self.view_is) (pieces_marked (g.D.Driver.meaning c.self.inside.driver) (g.D.Driver.meaning c.unload.new.self) vs c.self.inside.loaded js c.sync_failed.new.self.entries c.self.inside.hand
     c.self.invariant.kept (marked_by Lost v.name js _ journal) (u.counts.honest ∙ e.counts.honest) (λ o n. then_same (g.D.Driver.meaning c.self.inside.driver).shelf (g.D.Driver.meaning c.sync.new.self).shelf (g.D.Driver.meaning c.unload.new.self).shelf n (may_sync_bytes _ (g.D.Driver.meaning c.self.inside.driver).shelf (g.D.Driver.meaning c.sync.new.self).shelf (e.err o) n) (u.same (subst IsTrue (sym e.counts.honest) o))))
+
+pub returns-in-Ok-clause-others : goal.returns-in-Ok-clause-others
+returns-in-Ok-clause-others g c = rw (← c.self.view_is) (λ honest. (c.in-Ok.ensures.ok honest).others)
+
+pub returns-in-Ok-clause-calls : goal.returns-in-Ok-clause-calls
+returns-in-Ok-clause-calls g c =
+    let vs = c.self.inside.volumes.items in
+    let js = c.self.inside.journal.entries in
+    let v = c.index.result.now in
+    let there = loaded_read vs c.self.inside.loaded _ v c.self.invariant.kept.one_of c.in-Some.is c.index.ensures in
+    let awaits : any_awaits_sync v.name js ≡ true = ap (λ (n : List ℕ). any_awaits_sync n js) (sym c.name.ensures) ∙ sym c.has_unsynced.ensures ∙ c.if-not-has_unsynced.false in
+    rw (← c.self.view_is) (sync_call _ (g.D.Driver.meaning c.self.inside.driver) (g.D.Driver.meaning c.sync.new.self) (awaits_is vs c.self.inside.loaded js _ v c.in-Some.is there ∙ awaits) c.in-Ok.ensures.passes)
+
+pub returns-in-Err-clause-others : goal.returns-in-Err-clause-others
+returns-in-Err-clause-others g c =
+    let e = c.in-Err.ensures in
+    rw (← c.self.view_is) (λ honest name apart. c.unload.ensures.same (subst IsTrue (sym e.counts.honest) honest) name ∙ (e.err honest).others name apart)
+
+pub returns-in-Err-clause-calls_failing : goal.returns-in-Err-clause-calls_failing
+returns-in-Err-clause-calls_failing g c =
+    let vs = c.self.inside.volumes.items in
+    let js = c.self.inside.journal.entries in
+    let v = c.index.result.now in
+    let there = loaded_read vs c.self.inside.loaded _ v c.self.invariant.kept.one_of c.in-Some.is c.index.ensures in
+    let awaits : any_awaits_sync v.name js ≡ true = ap (λ (n : List ℕ). any_awaits_sync n js) (sym c.name.ensures) ∙ sym c.has_unsynced.ensures ∙ c.if-not-has_unsynced.false in
+    rw (← c.self.view_is) (failed_sync_calls _ (g.D.Driver.meaning c.self.inside.driver) (g.D.Driver.meaning c.sync.new.self) (g.D.Driver.meaning c.unload.new.self) (awaits_is vs c.self.inside.loaded js _ v c.in-Some.is there ∙ awaits) c.in-Err.ensures.passes c.unload.ensures.passes)

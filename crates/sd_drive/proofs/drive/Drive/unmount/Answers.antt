@@ -1,5 +1,7 @@
-use Rattle.std.proofs.Common.{None}
+use Rattle.std.proofs.Common.{None, sym, subst, ◌∙◌, arith}
+use Rattle.std.specs.Prelude.{IsTrue}
 use Rattle.sd_driver.proofs.Lasting.{Passes-later, still_lasts, StillLasts-trans}
+use Rattle.sd_volume.proofs.DeviceLemmas.{one_call}
 use Rattle.sd_drive.proofs.SyncLemmas.{kept_loading, none_unsynced, pieces_same, pieces_trans}
 use Rattle.sd_drive.proofs.drive.Drive.unmount.Goals as goal
 
@@ -26,3 +28,14 @@ returns-clause-later g c =
     let u = c.unload.ensures in
     let first = rw (← c.self.view_is) at c.sync.ensures.later in
     StillLasts-trans (g.D.Driver.meaning c.args.self.now.device).shelf (g.D.Driver.meaning c.self.inside.driver).shelf (g.D.Driver.meaning c.unload.new.self).shelf first (still_lasts _ _ u.passes u.stable)
+
+pub returns-clause-others : goal.returns-clause-others
+returns-clause-others g c = λ honest name apart.
+    let first = rw (← c.self.view_is) at c.sync.ensures.others in
+    let counted = rw (← c.self.view_is) at c.sync.ensures.counted in
+    c.unload.ensures.same (subst IsTrue (sym counted.honest) honest) name ∙ first honest name apart
+
+pub returns-clause-calls : goal.returns-clause-calls
+returns-clause-calls g c =
+    let first = rw (← c.self.view_is) at c.in_ok-sync.ensures.calls in
+    omega (arith, first, one_call (g.D.Driver.meaning c.self.inside.driver) (g.D.Driver.meaning c.unload.new.self) c.unload.ensures.passes)
