@@ -44,7 +44,7 @@ fault_text (Text fault) = refusal_text (jobmedia_refusal fault)
 -- read to, or the first of them and the first fault that the spans meet.
 pub record ReadsSession (old new : Meaning) (key : SessionKey) (spans : List Span) (records : List Record) (result : Result ReadEnd ReadFault) : Type 0 where
   pub device : OnlyReads (IsErrOf result Device) old new
-  pub bad_spans : ¬ AreSpans spans → (result ≡ Err BadSpan) × (records ≡ [])
+  pub bad_spans : ¬ AreSpans spans → (result ≡ Err BadSpan) × (records ≡ []) × (new ≡ old)
   pub counts : IfOk result (λ end. (end.records ≡ length records) × (end.bytes ≡ total_bytes records))
   pub reads : IsHonest old → IfOk result (λ end. Reads (volumes_on old.shelf) key spans records end.ended)
   pub found : IsHonest old → (all : List Record) (ended : Bool) → length all < 2 ^ 64 → total_bytes all < 2 ^ 64

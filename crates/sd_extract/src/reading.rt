@@ -19,7 +19,7 @@ use std::marker::Brand;
 const DONE: u8 = 0;
 
 /// The status of a reading that was refused, or could not be printed.
-pub(crate) const FAILED: u8 = 1;
+const FAILED: u8 = 1;
 
 /// What a reading came to: the printer, and the status.
 #[derive(Drop)]
@@ -52,15 +52,21 @@ pub fn extract<D: Driver, R: Read, W: Write>(
             let status = status_of(&read.result, out.failed());
             Extracted { out, status }
         }
-        Err(fault) => {
-            let mut out = out;
-            print_fault(fault, &mut out);
-            out.flush();
-            Extracted {
-                out,
-                status: FAILED,
-            }
-        }
+        Err(fault) => given_up(fault, out),
+    }
+}
+
+/// A reading that is given up before anything was asked of a device: why, is printed.
+pub(crate) fn given_up<W: Write>(fault: SpansFault, mut out: Printer<W>) -> Extracted<W>
+    ensures says { Says (said_view W.contents out) (said_view W.contents result.out)
+        (line (fault_text fault)) }
+    ensures status { result.status ≡ 1 }
+{
+    print_fault(fault, &mut out);
+    out.flush();
+    Extracted {
+        out,
+        status: FAILED,
     }
 }
 

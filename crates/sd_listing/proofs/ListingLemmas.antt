@@ -1,6 +1,6 @@
 -- The lines of a volume's blocks, one after another.
-use Rattle.std.proofs.Common.{◌≡◌, ◌≢◌, inl, inr, Option, Some, None, Result, Err, ℕ, ◌+◌, List, [], ◌∷◌, ◌++◌, length, take, drop, ap, ap₂, sym, ◌∙◌, subst, arith, refl}
-use Rattle.std.proofs.lemmas.List.{append_assoc, append-nil, drop-drop, length-append, length-drop, take-append-drop}
+use Rattle.std.proofs.Common.{◌≡◌, ◌≢◌, inl, inr, Option, Some, None, Result, Err, ℕ, ◌+◌, ◌-◌, ◌≤◌, List, [], ◌∷◌, ◌++◌, length, replicate, take, drop, ap, ap₂, sym, ◌∙◌, subst, arith, refl}
+use Rattle.std.proofs.lemmas.List.{append_assoc, append-nil, drop-drop, length-append, length-drop, length-replicate, take-append-drop}
 use Rattle.sd_block.specs.Image.{block_image}
 use Rattle.std.specs.Prelude.{IsErrOf}
 use Rattle.sd_driver.specs.Shelf.{Held, BeginsWith}
@@ -16,9 +16,9 @@ use Rattle.sd_block.specs.declared.head.Head.{Head}
 use Rattle.sd_label.specs.declared.label.VolumeLabel.{VolumeLabel}
 use Rattle.sd_label.specs.Label.{IsVolumeLabel}
 use Rattle.sd_volume.specs.Image.{Block, BeginsWithBlock, NoBlockNext, images, label_block, VolumeImage}
-use Rattle.sd_volume.proofs.ImageLemmas.{one_block_more, volume_end-more}
+use Rattle.sd_volume.proofs.ImageLemmas.{images-append, one_block_more, volume_end-more}
 use Rattle.sd_words.specs.Lines.{line}
-use Rattle.sd_listing.specs.Listing.{Lists, list_fault_of, ListsFront, ListsUpTo, ListsWhole, block_lines, head_of, head_text, label_text, tail_text}
+use Rattle.sd_listing.specs.Listing.{HasBlocks, HasForm, HasFront, Lists, list_fault_of, ListsFront, ListsUpTo, ListsWhole, block_lines, head_of, head_text, label_text, tail_text}
 
 -- What is listed.
 
@@ -138,3 +138,57 @@ there_and_gone none there = never (sym none ∙ there)
   where
     never : {a : Held} → None ≡ Some a → ⊥
     never e = cc
+
+-- The form of what is listed, whatever the device tells.
+
+-- the lines of blocks that are numbered 1, 2 and on, and stand one behind another between two places
+pub record LinesUpTo (first end next : ℕ) (due : List ℕ) : Type 0 where
+  pub blocks : List Block
+  pub end_is : end ≡ first + length (images 1 blocks)
+  pub next_is : next ≡ 1 + length blocks
+  pub due_is : due ≡ block_lines 1 first blocks
+
+-- none
+pub lines_none : (first : ℕ) → LinesUpTo first first 1 []
+lines_none first = record { blocks = []; end_is = omega arith; next_is = refl; due_is = refl }
+
+-- one more
+pub lines_up_to_more : (first end next : ℕ) (due : List ℕ) (head : Head) → LinesUpTo first end next due → 36 ≤ head.size → head.number ≡ next
+    → LinesUpTo first (end + head.size) (next + 1) (due ++ line (head_text end head))
+lines_up_to_more first end next due head lines least number_is =
+    let body : List ℕ = replicate (head.size - 24) 0 in
+    let block : Block = record { key = head.key; body = body } in
+    let long : length body ≡ head.size - 24 = length-replicate (head.size - 24) 0 in
+    let size_is : head.size ≡ 24 + length body = omega (arith, least, long) in
+    let more = lines_more 1 first end next lines.blocks block lines.end_is lines.next_is in
+    let number = 1 + length lines.blocks in
+    let grown = ap length (images-append 1 lines.blocks (block ∷ [])) ∙ length-append (images 1 lines.blocks) (block_image head.key number body ++ []) in
+    let own = length-append (block_image head.key number body) [] ∙ ap (λ n. n + 0) (length-block_image head.key number body) in
+    record {
+      blocks = lines.blocks ++ block ∷ [];
+      end_is = omega (arith, lines.end_is, size_is, grown, own);
+      next_is = omega (arith, lines.next_is, length-append lines.blocks (block ∷ []));
+      due_is = ap₂ (λ (x y : List ℕ). x ++ y) lines.due_is (ap (λ h. line (head_text end h)) (sym (head_is next head body number_is size_is))) ∙ sym more;
+    }
+
+-- the first lines, behind a label
+pub form_front : (name : List ℕ) (label : VolumeLabel) (due : List ℕ) (first : ℕ) → IsVolumeLabel label → label.name ≡ name → first ≡ length (label_block label) → HasBlocks first due
+    → HasFront name (line (label_text label) ++ due)
+form_front name label due first is named first_is (blocks, due_is) =
+    (label, is, named, (blocks, ap (λ (x : List ℕ). line (label_text label) ++ x) (due_is ∙ ap (λ n. block_lines 1 n blocks) first_is)))
+
+-- a fault was met before anything was printed
+pub form_none : (name : List ℕ) (e : DriverFault) → HasForm name (Err (list_fault_of e)) []
+form_none name driver.NotThere = inl refl
+form_none name driver.Exists = inl refl
+form_none name driver.NoRoom = inl refl
+form_none name driver.Device = inl refl
+form_none name driver.Memory = inl refl
+
+-- a fault was met among the blocks
+pub form_given_up : (name : List ℕ) (e : DriverFault) (due : List ℕ) → HasFront name due → HasForm name (Err (list_fault_of e)) due
+form_given_up name driver.NotThere due front = inr front
+form_given_up name driver.Exists due front = inr front
+form_given_up name driver.NoRoom due front = inr front
+form_given_up name driver.Device due front = inr front
+form_given_up name driver.Memory due front = inr front

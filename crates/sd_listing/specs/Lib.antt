@@ -1,3 +1,4 @@
 pub mod Listing
 pub mod Status
 pub mod Path
+pub mod File

@@ -9,6 +9,7 @@ use Rattle.sd_block.specs.declared.head.Head.{Head}
 use Rattle.sd_driver.specs.declared.driver.DriverFault.{DriverFault}
 use Rattle.sd_driver.specs.declared.driver.DriverFault.TheVariants as driver
 use Rattle.sd_driver.specs.Shelf.{Held}
+use Rattle.sd_label.specs.Label.{IsVolumeLabel}
 use Rattle.sd_label.specs.declared.label.VolumeLabel.{VolumeLabel}
 use Rattle.sd_volume.specs.Adopt.{IsLabelled}
 use Rattle.sd_volume.specs.Image.{Block as StoredBlock, NoBlockNext, label_block, volume_end, VolumeImage, WholeImage}
@@ -77,6 +78,24 @@ pub record ListsFront (name bytes due : List ℕ) : Type 0 where
   pub labelled : IsLabelled name bytes label
   pub image : VolumeImage bytes label blocks tail
   pub due_is : due ≡ front_lines label blocks
+
+-- these lines are those of some blocks behind a label that ends there
+abbrev pub HasBlocks : ℕ → List ℕ → Type 0
+HasBlocks first due = (blocks : List StoredBlock) × (due ≡ block_lines 1 first blocks)
+
+-- these are the first lines of a listing: of a label of that name and of some blocks behind it
+abbrev pub HasFront : List ℕ → List ℕ → Type 0
+HasFront name due =
+    (label : VolumeLabel) × IsVolumeLabel label × (label.name ≡ name)
+    × ((blocks : List StoredBlock) × (due ≡ front_lines label blocks))
+
+-- The form of what is listed, whatever the device tells: a label of that name, blocks that are numbered 1, 2 and on and
+-- stand one behind another, and a tail. Where the listing is given up, these are the first of such lines, or none; and
+-- none where it is no volume of that name.
+abbrev pub HasForm : List ℕ → Result (Unit {0}) ListFault → List ℕ → Type 0
+HasForm name (Ok done) due = (front : List ℕ) × (count : ℕ) × HasFront name front × (due ≡ front ++ line (tail_text count))
+HasForm name (Err NotOurVolume) due = due ≡ []
+HasForm name (Err other) due = (due ≡ []) ⊎ HasFront name due
 
 -- what is printed for a fault
 abbrev pub list_refusal : ListFault → Refusal

@@ -1,7 +1,6 @@
 -- The folder and the name in a path.
 use Rattle.std.specs.Prelude.{◌≡◌, ◌==◌, ◌⊎◌, ℕ, List, [], ◌∷◌, ◌++◌}
 use Rattle.std.specs.Str.{NoCharPasses}
-use Rattle.sd_base.specs.Name.{IsName}
 
 -- no character of it is a slash
 abbrev pub HasNoSlash : List ℕ → Type 0
@@ -18,8 +17,3 @@ IsPlaceOf path folder name =
     HasNoSlash name
     × (((path ≡ name) × (folder ≡ 46 ∷ []))
     ⊎ ((front : List ℕ) × (path ≡ front ++ 47 ∷ name) × (folder ≡ folder_before front)))
-
--- Where what stands behind the last slash of a path is no name, the status is 1.
-abbrev pub RefusesNoName : List ℕ → ℕ → Type 0
-RefusesNoName path status =
-    (folder name : List ℕ) × IsPlaceOf path folder name × (¬ IsName name → status ≡ 1)

@@ -5,7 +5,7 @@ use Rattle.sd_driver.specs.Meaning.{Meaning, IsHonest}
 use Rattle.sd_printer.specs.Says.{SaidView, Says}
 use Rattle.sd_volume.specs.Device.{OnlyReads}
 use Rattle.sd_words.specs.Lines.{line}
-use Rattle.sd_listing.specs.Listing.{Lists, list_refusal}
+use Rattle.sd_listing.specs.Listing.{HasForm, Lists, list_refusal}
 use Rattle.sd_listing.specs.declared.listing.ListFault.{ListFault}
 use Rattle.sd_listing.specs.declared.listing.ListFault.TheVariants.{Device}
 
@@ -20,13 +20,14 @@ status_of (Ok done) false = 0
 status_of (Ok done) true = 1
 status_of (Err fault) failed = 1
 
--- A volume was listed with this end: no volume was changed, a fault of the device is answered only where the device
--- counted one, and on an honest device what is listed is what stands there. All that is due was printed, or, where the
--- writer failed, a front of it.
+-- A volume was listed with this end: no volume was changed, and a fault of the device is answered only where the device
+-- counted one. What is listed has the form of a listing, and on an honest device it is what stands there. All that is
+-- due was printed, or, where the writer failed, a front of it.
 pub record PrintsListing (name : List ℕ) (old new : Meaning) (said says : SaidView) (status : ℕ) : Type 0 where
   pub result : Result (Unit {0}) ListFault
   pub due : List ℕ
   pub device : OnlyReads (IsErrOf result Device) old new
+  pub form : HasForm name result due
   pub lists : IsHonest old → Lists name (old.shelf.volume name) result due
   pub prints : Says said says (due ++ fault_lines result)
   pub status_is : status ≡ status_of result says.failed

@@ -8,7 +8,7 @@ ghost use Rattle.sd_label.specs.declared.label.VolumeLabel.{VolumeLabel as SpecL
 ghost use Rattle.sd_volume.specs.Device.{OnlyReads};
 ghost use Rattle.sd_volume.specs.Image.{label_block};
 ghost use Rattle.sd_volume.specs.Reader.{Shows};
-ghost use Rattle.sd_listing.specs.Listing.{Lists, ListsBlocks, list_refusal};
+ghost use Rattle.sd_listing.specs.Listing.{HasBlocks, HasForm, Lists, ListsBlocks, list_refusal};
 ghost use Rattle.sd_printer.specs.Says.{Says, said_view};
 ghost use Rattle.sd_listing.specs.declared.listing.ListFault.TheVariants.{Memory as OutOfMemory};
 
@@ -85,6 +85,7 @@ pub fn list<D: Driver, W: Write>(
         (D.meaning driver.old) (D.meaning driver.new) }
     ensures lists { (due : List ℕ)
         × Says (said_view W.contents out.old) (said_view W.contents out.new) due
+        × HasForm name.now result due
         × (IsHonest (D.meaning driver.old)
         → Lists name.now ((D.meaning driver.old).shelf.volume name.now) result due) }
 {
@@ -119,6 +120,7 @@ fn list_blocks<D: Driver, W: Write>(
         → (D.meaning driver.old).shelf.volume reader.old.name ≡ None }
     ensures lists { (due : List ℕ)
         × Says (said_view W.contents out.old) (said_view W.contents out.new) due
+        × HasBlocks first due
         × (IsHonest (D.meaning driver.old) → Shows reader.old (D.meaning driver.old).shelf
         → (held : Held) → (D.meaning driver.old).shelf.volume reader.old.name ≡ Some held
         → size ≡ length held.bytes

@@ -4,8 +4,9 @@
 
 use sd_arguments::{ToolTask, status_of, tool_task};
 use sd_base::Refusal;
-use sd_extract::read_back;
+use sd_extract::{Extracted, read_back};
 use sd_listing::list_volume;
+use sd_printer::Printer;
 use sd_progress::Progress;
 use sd_settings::{memory_drives, read_settings};
 use sd_tool::run_lines;
@@ -59,22 +60,23 @@ fn run_script<R: Input + Print + AllocGlobal>(rt: &R) -> ExitCode {
 
 /// Lists the volume in the file at this path.
 fn list(rt: &HostRuntime, volume: &str, progress: Progress) -> ExitCode {
-    let Ok(mut writer) = BufWriter::new(rt.alloc(), io::writer(rt)) else {
+    let Ok(writer) = BufWriter::new(rt.alloc(), io::writer(rt)) else {
         return without_memory(rt);
     };
-    let status = list_volume(rt, volume, progress, &mut writer);
+    let mut out = Printer::new(writer);
+    let status = list_volume(rt, volume, progress, &mut out);
     // What could not be written is given up, and not tried again as the writer goes.
-    let _ = writer.into_parts();
+    let _ = out.into_writer().into_parts();
     ExitCode::from(status)
 }
 
 /// Reads a session back by the text in the file `spans`, from the volumes in `folder`.
 fn read(rt: &HostRuntime, spans: &str, folder: &str, progress: Progress) -> ExitCode {
-    let Ok(mut writer) = BufWriter::new(rt.alloc(), io::writer(rt)) else {
+    let Ok(writer) = BufWriter::new(rt.alloc(), io::writer(rt)) else {
         return without_memory(rt);
     };
-    let status = read_back(rt, spans, folder, progress, &mut writer);
-    let _ = writer.into_parts();
+    let Extracted { out, status } = read_back(rt, spans, folder, progress, Printer::new(writer));
+    let _ = out.into_writer().into_parts();
     ExitCode::from(status)
 }
 

@@ -27,6 +27,6 @@ returns-in-Err g c = inl (record {
   fault = c.in-Err.fault;
   input_is = c.in-Err.ensures;
   device = refl;
-  prints = says_then_nothing _ (said_view g.W.Write.contents c.print_fault.new.out) _ _ c.print_fault.ensures c.flush-in-Err.ensures;
-  status_is = refl;
+  prints = c.given_up.ensures.says;
+  status_is = c.given_up.ensures.status;
 })

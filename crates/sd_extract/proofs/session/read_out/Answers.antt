@@ -1,4 +1,4 @@
-use Rattle.std.proofs.Common.{◌∙◌}
+use Rattle.std.proofs.Common.{ap, ◌∙◌}
 use Rattle.sd_readback.specs.Reading.{volumes_on}
 use Rattle.sd_extract.proofs.ExtractLemmas.{counts_all, reads_all}
 use Rattle.sd_extract.proofs.session.read_out.Goals as goal
@@ -12,7 +12,7 @@ returns g c =
       all,
       record {
         device = ensures.device;
-        bad_spans = λ none. (ensures.bad_spans none, (ensures.no_call none).1 ∙ none_yet);
+        bad_spans = λ none. (ensures.bad_spans none, (ensures.no_call none).1 ∙ none_yet, ap g.D.Driver.meaning (ensures.no_call none).0);
         counts = counts_all result all (rw none_yet at ensures.counts);
         reads = λ honest. reads_all (volumes_on (g.D.Driver.meaning c.args.driver.now).shelf) c.args.key c.args.spans.now result all (rw none_yet at (ensures.reads honest));
         found = ensures.found;

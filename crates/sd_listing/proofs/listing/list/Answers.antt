@@ -1,5 +1,6 @@
 use Rattle.std.proofs.Common.{◌≡◌, ◌-◌, [], ◌++◌, ℕ, ap, sym, ◌∙◌, subst, arith, inl, refl, Option, Some, Ok, Err}
 use Rattle.std.specs.Prelude.{IsTrue}
+use Rattle.std.proofs.lemmas.List.{append_assoc}
 use Rattle.std.proofs.lemmas.Result.{err_from_is_err_and}
 use Rattle.sd_words.specs.Lines.{line}
 use Rattle.sd_volume.proofs.DeviceLemmas.{OnlyReads-trans, OnlyReads-as, only_reads_call}
@@ -9,7 +10,7 @@ use Rattle.sd_volume.specs.declared.survey.Labelled.{Labelled}
 use Rattle.sd_listing.specs.Listing.{label_text, tail_text}
 use Rattle.sd_printer.specs.Says.{said_view}
 use Rattle.sd_printer.proofs.SaysLemmas.{says_none, says_then}
-use Rattle.sd_listing.proofs.ListingLemmas.{fault_is, OnlyReads-listing, lists_none, lists_given_up, lists_front, lists_whole, there_and_gone}
+use Rattle.sd_listing.proofs.ListingLemmas.{fault_is, form_front, form_given_up, form_none, OnlyReads-listing, lists_none, lists_given_up, lists_front, lists_whole, there_and_gone}
 use Rattle.sd_listing.proofs.listing.list.Goals as goal
 
 pub list_blocks-requires-clause-least : goal.list_blocks-requires-clause-least
@@ -26,7 +27,7 @@ returns-in_err-size-clause-lists g c =
     let p = err_from_is_err_and c.from_residual.result c.from_residual.ensures.1 in
     let len = c.in_err-size.ensures in
     let shelf = (g.D.Driver.meaning c.args.driver.now).shelf in
-    rw (p.1, p.2) ([], says_none _, λ honest. lists_none c.args.name.now (shelf.volume c.args.name.now) c.in_err-size.field-0.0 len.faults (λ e. len.not_there honest (ap Err e)))
+    rw (p.1, p.2) ([], says_none _, form_none c.args.name.now c.in_err-size.field-0.0, λ honest. lists_none c.args.name.now (shelf.volume c.args.name.now) c.in_err-size.field-0.0 len.faults (λ e. len.not_there honest (ap Err e)))
 
 pub returns-in_err-reader-clause-device : goal.returns-in_err-reader-clause-device
 returns-in_err-reader-clause-device g c =
@@ -37,7 +38,7 @@ returns-in_err-reader-clause-device g c =
 pub returns-in_err-reader-clause-lists : goal.returns-in_err-reader-clause-lists
 returns-in_err-reader-clause-lists g c =
     let p = err_from_is_err_and c.from_residual-in_err-reader.result c.from_residual-in_err-reader.ensures.1 in
-    rw (p.1, p.2) ([], says_none _, λ honest. inl refl)
+    rw (p.1, p.2) ([], says_none _, inl refl, λ honest. inl refl)
 
 pub returns-in_err-found-clause-device : goal.returns-in_err-found-clause-device
 returns-in_err-found-clause-device g c =
@@ -56,6 +57,7 @@ returns-in_err-found-clause-lists g c =
     rw (p.1, p.2) (
       [],
       says_none _,
+      form_none c.args.name.now c.in_err-found.field-0.0,
       λ honest. (
           let tells = len.ok honest in
           let honest_1 = subst IsTrue (sym len.counts.honest) honest in
@@ -77,6 +79,7 @@ returns-in_default-clause-lists g c =
     let mid = (g.D.Driver.meaning c.len.new.self).shelf in (
       [],
       says_none _,
+      refl,
       λ honest. (
           let tells = len.ok honest in
           let honest_1 = subst IsTrue (sym len.counts.honest) honest in
@@ -107,6 +110,8 @@ returns-in_err-end-clause-lists g c =
     rw (p.1, p.2) (
       line (label_text found.label) ++ lists.0,
       says_then _ (said_view g.W.Write.contents c.line.new.self) _ (line (label_text found.label)) lists.0 c.line.ensures.says lists.1,
+      form_given_up name c.in_err-end.field-0.0 (line (label_text found.label) ++ lists.0)
+          (form_front name found.label lists.0 found.first (rw c.in-Some.is at read.label) (rw c.in-Some.is at read.named) (rw c.in-Some.is at read.first) lists.2),
       λ honest. (
           let tells = len.ok honest in
           let honest_1 = subst IsTrue (sym len.counts.honest) honest in
@@ -117,7 +122,7 @@ returns-in_err-end-clause-lists g c =
           let begins = rw c.in-Some.is at (read.begins honest_1 shows_1 tells.held there_1) in
           let label_is = rw c.in-Some.is at read.label in
           let labelled : IsLabelled name tells.held.bytes found.label = record { label_is = label_is; name_is = rw c.in-Some.is at read.named; begins = begins } in
-          let blocks = lists.2 honest_2 (read.shows honest_1 shows_1) tells.held there_2 tells.length_is found.label label_is (rw c.in-Some.is at read.first) begins in
+          let blocks = lists.3 honest_2 (read.shows honest_1 shows_1) tells.held there_2 tells.length_is found.label label_is (rw c.in-Some.is at read.first) begins in
           lists_given_up name (start.volume name) tells.held c.in_err-end.field-0.0 (line (label_text found.label) ++ lists.0) tells.there c.in_err-end.ensures.faults
           (λ e. there_and_gone (c.in_err-end.ensures.not_there honest_2 (ap Err e)) there_2)
           (lists_front name tells.held.bytes found.label blocks.0 blocks.1 lists.0 labelled blocks.2)
@@ -144,6 +149,12 @@ returns-clause-lists g c =
       line (label_text found.label) ++ (lists.0 ++ line (tail_text count)),
       says_then _ (said_view g.W.Write.contents c.line.new.self) _ (line (label_text found.label)) (lists.0 ++ line (tail_text count)) c.line.ensures.says
           (says_then _ (said_view g.W.Write.contents c.list_blocks.new.out) _ lists.0 (line (tail_text count)) lists.1 c.line-2.ensures.says),
+      (
+        line (label_text found.label) ++ lists.0,
+        count,
+        form_front name found.label lists.0 found.first (rw c.in-Some.is at read.label) (rw c.in-Some.is at read.named) (rw c.in-Some.is at read.first) lists.2,
+        sym (append_assoc (line (label_text found.label)) lists.0 (line (tail_text count))),
+      ),
       λ honest. (
           let tells = len.ok honest in
           let honest_1 = subst IsTrue (sym len.counts.honest) honest in
@@ -154,7 +165,7 @@ returns-clause-lists g c =
           let begins = rw c.in-Some.is at (read.begins honest_1 shows_1 tells.held there_1) in
           let label_is = rw c.in-Some.is at read.label in
           let labelled : IsLabelled name tells.held.bytes found.label = record { label_is = label_is; name_is = rw c.in-Some.is at read.named; begins = begins } in
-          let blocks = lists.2 honest_2 (read.shows honest_1 shows_1) tells.held there_2 tells.length_is found.label label_is (rw c.in-Some.is at read.first) begins in
+          let blocks = lists.3 honest_2 (read.shows honest_1 shows_1) tells.held there_2 tells.length_is found.label label_is (rw c.in-Some.is at read.first) begins in
           (tells.held, tells.there, lists_whole name tells.held.bytes found.label c.in_ok-end.end blocks.0 lists.0 count labelled blocks.1 blocks.2 (omega (arith, c.in_ok-end.ensures.end, tells.length_is)))
           ),
     )

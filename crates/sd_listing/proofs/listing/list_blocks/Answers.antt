@@ -6,7 +6,7 @@ use Rattle.sd_volume.proofs.DeviceLemmas.{OnlyReads-trans, OnlyReads-as}
 use Rattle.sd_listing.specs.Listing.{head_text}
 use Rattle.sd_printer.specs.Says.{said_view}
 use Rattle.sd_printer.proofs.SaysLemmas.{says_none, says_then}
-use Rattle.sd_listing.proofs.ListingLemmas.{fault_is, lists_label, lists_more}
+use Rattle.sd_listing.proofs.ListingLemmas.{fault_is, lines_none, lines_up_to_more, lists_label, lists_more}
 use Rattle.sd_listing.proofs.listing.list_blocks.Goals as goal
 
 pub loop-head-init : goal.loop-head-init
@@ -18,7 +18,7 @@ loop-head-init g c = record {
   least = omega arith;
   next = omega (arith, c.requires.least);
   shows = λ honest shows. shows;
-  lists = ([], says_none _, λ honest shows held there label is first begins. lists_label held.bytes label c.args.first is first begins);
+  lists = ([], says_none _, lines_none c.args.first, λ honest shows held there label is first begins. lists_label held.bytes label c.args.first is first begins);
 }
 
 pub loop-head-preserved : goal.loop-head-preserved
@@ -38,11 +38,12 @@ loop-head-preserved g c =
       lists = (
         so_far.lists.0 ++ line (head_text c.loop-head.end c.in-Some.head),
         says_then _ (said_view g.W.Write.contents c.loop-head.out) _ so_far.lists.0 (line (head_text c.loop-head.end c.in-Some.head)) so_far.lists.1 c.line.ensures.says,
+        lines_up_to_more c.args.first c.loop-head.end c.loop-head.number so_far.lists.0 c.in-Some.head so_far.lists.2 within.0 (rw c.in-Some.is at ensures.number),
         λ honest shows held there label is first begins. (
             let there_still : volume c.loop-head.reader.name ≡ Some held = ap volume so_far.name ∙ (so_far.device.same honest _ ∙ there) in
             let stands = rw c.in-Some.is at (ensures.there (subst IsTrue (sym so_far.device.counted.honest) honest) (so_far.shows honest shows) held there_still) in
             let number_is = rw c.in-Some.is at ensures.number in
-            lists_more held.bytes label c.loop-head.end c.loop-head.number so_far.lists.0 c.in-Some.head (so_far.lists.2 honest shows held there label is first begins)
+            lists_more held.bytes label c.loop-head.end c.loop-head.number so_far.lists.0 c.in-Some.head (so_far.lists.3 honest shows held there label is first begins)
             stands number_is
             ),
       );
@@ -57,7 +58,7 @@ pub returns-in_err-head-clause-lists : goal.returns-in_err-head-clause-lists
 returns-in_err-head-clause-lists g c =
     let p = err_from_is_err_and c.from_residual.result c.from_residual.ensures.1 in
     let lists = c.loop-head.invariant.lists in
-    rw p.1 (lists.0, lists.1, λ honest shows held there size label is first begins. (c.loop-head.end, c.loop-head.number, lists.2 honest shows held there label is first begins))
+    rw p.1 (lists.0, lists.1, (lists.2.blocks, lists.2.due_is), λ honest shows held there size label is first begins. (c.loop-head.end, c.loop-head.number, lists.3 honest shows held there label is first begins))
 
 pub returns-in_err-head-clause-not_there : goal.returns-in_err-head-clause-not_there
 returns-in_err-head-clause-not_there g c =
@@ -82,9 +83,10 @@ returns-clause-lists g c =
     let volume = (g.D.Driver.meaning c.loop-head.driver).shelf.volume in (
       so_far.lists.0,
       so_far.lists.1,
+      (so_far.lists.2.blocks, so_far.lists.2.due_is),
       λ honest shows held there size label is first begins. (
           let there_still : volume c.loop-head.reader.name ≡ Some held = ap volume so_far.name ∙ (so_far.device.same honest _ ∙ there) in
           let none = rw c.in_default.is at (ensures.none (subst IsTrue (sym so_far.device.counted.honest) honest) (so_far.shows honest shows) held there_still size) in
-          (c.loop-head.number, so_far.lists.2 honest shows held there label is first begins, none)
+          (c.loop-head.number, so_far.lists.3 honest shows held there label is first begins, none)
           ),
     )

@@ -8,6 +8,7 @@ use Rattle.sd_volume.specs.Image.{label_block}
 use Rattle.sd_volume.specs.Reader.{Shows}
 use Rattle.sd_listing.specs.Listing.{ListsUpTo}
 use Rattle.sd_printer.specs.Says.{Says, said_view}
+use Rattle.sd_listing.proofs.ListingLemmas.{LinesUpTo}
 use Rattle.sd_listing.proofs.listing.list_blocks.Given as goal
 
 abbrev pub invariant-loop-head : goal.invariant-loop-head
@@ -23,6 +24,7 @@ invariant-loop-head g l =
       next : l.number * 36 ≤ l.end;
       shows : IsHonest old → Shows l.initial.reader old.shelf → Shows l.reader now.shelf;
       lists : (due : List ℕ) × Says (said_view g.W.Write.contents l.initial.out) (said_view g.W.Write.contents l.out) due
+          × LinesUpTo l.first l.end l.number due
           × (IsHonest old → Shows l.initial.reader old.shelf → (held : Held) → old.shelf.volume l.initial.reader.name ≡ Some held
           → (label : VolumeLabel) → IsVolumeLabel label → l.first ≡ length (label_block label) → BeginsWith held.bytes (label_block label)
           → ListsUpTo held.bytes label l.end l.number due);

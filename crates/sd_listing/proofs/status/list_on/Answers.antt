@@ -11,7 +11,8 @@ returns g c =
       result = c.list-listed.result;
       due = lists.0;
       device = c.list-listed.ensures.device;
-      lists = lists.2;
+      form = lists.2;
+      lists = lists.3;
       prints = says_then_nothing _ (said_view g.W.Write.contents c.print_fault.new.out) _ _ (says_then _ (said_view g.W.Write.contents c.list-listed.new.out) _ lists.0 _ lists.1 c.print_fault.ensures) c.flush.ensures;
       status_is = c.status_of.ensures ∙ ap (status_of c.list-listed.result) c.failed.ensures;
     }

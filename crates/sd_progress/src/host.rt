@@ -1,0 +1,62 @@
+// Where a program has its texts and its volumes: in files, and in folders.
+ghost use Rattle.std.specs.Prelude.{◌≡◌, ℕ, List, Option, IfOk};
+ghost use Rattle.sd_driver.specs.Meaning.{Meaning};
+
+use crate::watched::{Progress, Watched};
+use sd_driver::Driver;
+use sd_filedrive::FileDrive;
+use std::alloc::AllocError;
+use std::fs::File;
+use std::io::{self, Read};
+
+/// What a program has its texts and its volumes of. What it is stands in two ghost members: what the file at a path
+/// holds, where that is known, and what the device of a folder is as it is made.
+pub trait Host {
+    type Text: Read + Drop;
+
+    type Shelf: Driver + Drop;
+
+    ghost text_at: { Self → List ℕ → Option (List ℕ) };
+
+    ghost device_of: { Self → List ℕ → Meaning };
+
+    /// The file at this path, to be read from its front on.
+    fn open_text(&self, path: &str) -> io::Result<Self::Text>
+        ensures { IfOk result (λ text. Self.Text.remaining text ≡ text_at self.now path.now) };
+
+    /// The device whose volumes are the files of this folder, of which no call was made yet.
+    fn open_folder(&self, path: &str, progress: Progress) -> Result<Self::Shelf, AllocError>
+        ensures { IfOk result (λ shelf. Self.Shelf.meaning shelf ≡ device_of self.now path.now) };
+}
+
+/// The system. Its files and folders are only read, and none is made.
+impl Host for HostRuntime {
+    ghost use Rattle.sd_filedrive.specs.Place.{folder_named};
+    ghost use Rattle.sd_progress.specs.Host.{folder_inside, unknown_text, unused_device};
+
+    type Text = File;
+
+    type Shelf = Watched<FileDrive<HostRuntime>, HostRuntime>;
+
+    ghost text_at = { λ _. unknown_text };
+
+    ghost device_of = { λ _. unused_device };
+
+    fn open_text(&self, path: &str) -> io::Result<File> {
+        File::open(self, path)
+    }
+
+    fn open_folder(
+        &self,
+        path: &str,
+        progress: Progress,
+    ) -> Result<Watched<FileDrive<HostRuntime>, HostRuntime>, AllocError>
+        ensures device { IfOk result (λ shelf.
+            ⟦<Watched<FileDrive<HostRuntime>, HostRuntime> as Driver>⟧.meaning shelf
+            ≡ unused_device path.now) }
+        ensures folder { IfOk result (λ shelf. folder_inside shelf ≡ folder_named path.now) }
+    {
+        let drive = FileDrive::new(self.clone()?, self.alloc(), path)?;
+        Ok(Watched::new(drive, self.clone()?, progress))
+    }
+}
