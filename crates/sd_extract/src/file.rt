@@ -18,7 +18,8 @@ pub fn read_back<H: Host + AllocGlobal, W: Write>(
     progress: Progress,
     out: Printer<W>,
 ) -> Extracted<W>
-    ensures { ReadsFiles (H.text_at host.now spans.now) (H.device_of host.now folder.now)
+    ensures { ReadsFiles (H.text_at host.now spans.now)
+        (H.device_of host.now folder.now progress)
         (said_view W.contents out) (said_view W.contents result.out) result.status }
 {
     let Ok(mut reader) = host.open_text(spans) else {

@@ -21,7 +21,7 @@ pub fn list_volume<H: Host + AllocGlobal, W: Write>(
     progress: Progress,
     out: &mut Printer<W>,
 ) -> u8
-    ensures { ListsFile (H.device_of host.now) path.now
+    ensures { ListsFile (λ folder. H.device_of host.now folder progress) path.now
         (said_view W.contents out.old) (said_view W.contents out.new) result }
 {
     let place = place_of(path);

@@ -1,6 +1,7 @@
 // Where a program has its texts and its volumes: in files, and in folders.
 ghost use Rattle.std.specs.Prelude.{◌≡◌, ℕ, List, Option, IfOk};
 ghost use Rattle.sd_driver.specs.Meaning.{Meaning};
+ghost use Rattle.sd_progress.specs.declared.watched.Progress.{Progress as SpecProgress};
 
 use crate::watched::{Progress, Watched};
 use sd_driver::Driver;
@@ -10,7 +11,7 @@ use std::fs::File;
 use std::io::{self, Read};
 
 /// What a program has its texts and its volumes of. What it is stands in two ghost members: what the file at a path
-/// holds, where that is known, and what the device of a folder is as it is made.
+/// holds, where that is known, and what the device of a folder, whose reading is told of or not, is as it is made.
 pub trait Host {
     type Text: Read + Drop;
 
@@ -18,7 +19,7 @@ pub trait Host {
 
     ghost text_at: { Self → List ℕ → Option (List ℕ) };
 
-    ghost device_of: { Self → List ℕ → Meaning };
+    ghost device_of: { Self → List ℕ → SpecProgress → Meaning };
 
     /// The file at this path, to be read from its front on.
     fn open_text(&self, path: &str) -> io::Result<Self::Text>
@@ -26,13 +27,14 @@ pub trait Host {
 
     /// The device whose volumes are the files of this folder, of which no call was made yet.
     fn open_folder(&self, path: &str, progress: Progress) -> Result<Self::Shelf, AllocError>
-        ensures { IfOk result (λ shelf. Self.Shelf.meaning shelf ≡ device_of self.now path.now) };
+        ensures { IfOk result (λ shelf.
+            Self.Shelf.meaning shelf ≡ device_of self.now path.now progress) };
 }
 
 /// The system. Its files and folders are only read, and none is made.
 impl Host for HostRuntime {
     ghost use Rattle.sd_filedrive.specs.Place.{folder_named};
-    ghost use Rattle.sd_progress.specs.Host.{folder_inside, unknown_text, unused_device};
+    ghost use Rattle.sd_progress.specs.Host.{folder_inside, told_of, unknown_text, unused_device};
 
     type Text = File;
 
@@ -53,8 +55,9 @@ impl Host for HostRuntime {
     ) -> Result<Watched<FileDrive<HostRuntime>, HostRuntime>, AllocError>
         ensures device { IfOk result (λ shelf.
             ⟦<Watched<FileDrive<HostRuntime>, HostRuntime> as Driver>⟧.meaning shelf
-            ≡ unused_device path.now) }
+            ≡ unused_device path.now progress) }
         ensures folder { IfOk result (λ shelf. folder_inside shelf ≡ folder_named path.now) }
+        ensures told { IfOk result (λ shelf. told_of shelf ≡ progress) }
     {
         let drive = FileDrive::new(self.clone()?, self.alloc(), path)?;
         Ok(Watched::new(drive, self.clone()?, progress))

@@ -28,6 +28,7 @@ pub struct Watched<D, R: Eprint + Drop> {
 impl<D, R: Eprint + Drop> Watched<D, R> {
     pub fn new(device: D, system: R, progress: Progress) -> Self
         ensures device { result.device ≡ device }
+        ensures progress { result.progress ≡ progress }
     {
         Watched {
             device,

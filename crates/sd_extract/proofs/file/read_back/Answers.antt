@@ -11,7 +11,7 @@ any_text (Some x) = tt
 
 pub returns-in_default : goal.returns-in_default
 returns-in_default g c = (
-  g.H.Host.device_of c.args.host.now c.args.folder.now,
+  g.H.Host.device_of c.args.host.now c.args.folder.now c.args.progress,
   inl (record {
     fault = File;
     input_is = any_text _;
@@ -23,7 +23,7 @@ returns-in_default g c = (
 
 pub returns-in_default-open_folder : goal.returns-in_default-open_folder
 returns-in_default-open_folder g c = (
-  g.H.Host.device_of c.args.host.now c.args.folder.now,
+  g.H.Host.device_of c.args.host.now c.args.folder.now c.args.progress,
   inl (record {
     fault = Text media.Memory;
     input_is = any_text _;

@@ -8,7 +8,7 @@ pub returns-in_default-open_folder : goal.returns-in_default-open_folder
 returns-in_default-open_folder g c =
     let folder = c.place_of-place.result.folder.now in
     let name = c.place_of-place.result.name.now in
-    let device = g.H.Host.device_of c.args.host.now folder in
+    let device = g.H.Host.device_of c.args.host.now folder c.args.progress in
     let same : OnlyReads ⊥ device device = search rules in (
       folder,
       name,
