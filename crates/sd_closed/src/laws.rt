@@ -1,8 +1,10 @@
 // What holds of the spans of closed and cancelled sessions, whatever a world was made to do before.
+ghost use Rattle.sd_closed.specs.Deeds.{StepsLead, LeadsJoin, LeadsKeep, LeadsRun};
 ghost use Rattle.sd_closed.specs.Devices.{GoingOnJoins, MovesGoOn};
 ghost use Rattle.sd_closed.specs.Grows.{GrowthsJoin, JournalsGrow};
 ghost use Rattle.sd_closed.specs.Reads.{ClosedReads, ClosedIsCountable, CancelledReads, ToldSpansRead};
 ghost use Rattle.sd_closed.specs.Seats.{MovesKeepSeats};
+ghost use Rattle.sd_closed.specs.Stands.{StepsKeepSpans};
 ghost use Rattle.sd_closed.specs.Stays.{ClosedSpansLast, PlacedIsFound, ClosedIsFound};
 
 /// The spans of a closed session read to exactly the records of the machine's session.
@@ -65,4 +67,29 @@ pub fn moves_go_on<D>()
 /// What goes on by one event and by the next goes on by both.
 pub fn going_on_joins<D>()
     ensures { GoingOnJoins D }
+{}
+
+/// A step leaves closed sessions their spans, and what it tells of spans is found at the session's drive.
+pub fn steps_keep_spans<D>()
+    ensures { StepsKeepSpans D }
+{}
+
+/// Steps one after another are deeds, with the same events and replies.
+pub fn steps_lead<D>()
+    ensures { StepsLead D }
+{}
+
+/// What leads to a world, and on from there, leads all the way.
+pub fn leads_join<D>()
+    ensures { LeadsJoin D }
+{}
+
+/// Whatever a world did, it keeps its rules, and what a world keeps of an earlier one.
+pub fn leads_keep<D>()
+    ensures { LeadsKeep D }
+{}
+
+/// Whatever a world did is a run of each list machine that it matched.
+pub fn leads_run<D>()
+    ensures { LeadsRun D }
 {}

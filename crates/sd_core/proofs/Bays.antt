@@ -11,7 +11,7 @@ use Rattle.sd_readback.specs.declared.read.ReadEnd.{ReadEnd}
 use Rattle.sd_span.specs.declared.span.Span.{Span}
 use Rattle.sd_moves.specs.World.{WorldView, BayView, with_bay}
 use Rattle.sd_moves.proofs.Bays.{IsBayAt, bay_stays, drive_stays, online_in}
-use Rattle.sd_core.specs.Reading.{ReadsDrive, ReadsWorld, are_at_drive, due_at, due_in, due_with, read_due}
+use Rattle.sd_closed.specs.Reading.{ReadsDrive, ReadsWorld, are_at_drive, due_at, due_in, due_with, read_due}
 
 -- which refusal is due at that drive
 due_at_bay : {D : Type 0} (w : WorldView D) (spans : List Span) (number at : ℕ) (bay : BayView D)

@@ -1,15 +1,9 @@
 pub mod Bays
-pub mod ClosedRead
 pub mod Devices
 pub mod DrivesKept
 pub mod FreshWorld
-pub mod Kept
 pub mod NewBays
 pub mod NewDrives
-pub mod ReadKeeps
-pub mod Runs
 pub mod Shown
-pub mod Standing
-pub mod Steps
 pub mod Tickets
 pub mod Told

@@ -1,10 +1,6 @@
-pub mod Closed
 pub mod Conf
 pub mod Drives
 pub mod Fresh
-pub mod Kept
 pub mod Listing
-pub mod Reading
-pub mod Runs
-pub mod Steps
+pub mod Numbers
 pub mod View

@@ -2,13 +2,13 @@
 ghost use Rattle.std.specs.Prelude.{◌<◌, ◌^◌, ℕ, IfSome};
 ghost use Rattle.sd_drive.specs.Shelf.{Kept};
 ghost use Rattle.sd_moves.specs.Rules.{NumbersRise};
-ghost use Rattle.sd_core.specs.Closed.{CountsFit, NumbersAreTickets};
-ghost use Rattle.sd_core.specs.Drives.{DrivesKeep, WhereTells};
+ghost use Rattle.sd_closed.specs.Deeds.{CountsFit};
+ghost use Rattle.sd_closed.specs.Steps.{DrivesKeep};
+ghost use Rattle.sd_core.specs.Numbers.{NumbersAreTickets};
 
 use sd_base::{SessionKey, Ticket};
 use sd_driver::Driver;
 use sd_lane::Lanes;
-use sd_machine::Reply;
 use sd_parts::{Bay, Entry, find};
 use sd_session::Session;
 use sd_spool::SpoolStore;
@@ -28,16 +28,6 @@ fn know_drive<D: Driver, Q: Lanes, S: SpoolStore>(bay: &Bay<D, Q, S>)
 {
     if let Some(drive) = &bay.drive {
         drive.know();
-    }
-}
-
-/// The same, where a reply tells spans. Does nothing.
-pub(crate) fn know_telling<D: Driver, Q: Lanes, S: SpoolStore>(bays: &[Bay<D, Q, S>], reply: &Reply)
-    ensures { WhereTells reply.now (DrivesKeep (λ d. D.meaning d) bays.now) }
-{
-    match reply {
-        Reply::Closed { .. } | Reply::Media { .. } => know_drives(bays),
-        _ => {}
     }
 }
 

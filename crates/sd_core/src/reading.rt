@@ -2,9 +2,9 @@
 ghost use Rattle.std.specs.Prelude.{◌≡◌, ◌≢◌, ◌↔◌, ℕ, Some, None, IfOk, IfErr, OnOk, OnErr, IsTrue};
 ghost use Rattle.sd_parts.specs.View.{world_of};
 ghost use Rattle.sd_moves.specs.Rules.{IsWorld};
-ghost use Rattle.sd_core.specs.Closed.{CountsFit};
-ghost use Rattle.sd_core.specs.Drives.{DrivesKeep};
-ghost use Rattle.sd_core.specs.Reading.{ReadsDrive, ReadsWorld, are_at_drive, is_at_drive};
+ghost use Rattle.sd_closed.specs.Deeds.{CountsFit};
+ghost use Rattle.sd_closed.specs.Reading.{ReadsDrive, ReadsWorld, are_at_drive, is_at_drive};
+ghost use Rattle.sd_closed.specs.Steps.{DrivesKeep};
 ghost use Rattle.sd_desk.specs.Desk.{claimed_by};
 
 use crate::knowing::{know_counts, know_drives};
@@ -28,12 +28,13 @@ pub(crate) fn read_knowing<D: Driver, Q: Lanes, S: SpoolStore + Drop, K: Sink>(
     requires world { IsWorld (world_of parts.old) }
     ensures reads { ReadsWorld (λ d. D.meaning d) key spans.now (K.got sink.old) (K.got sink.new)
         result (world_of parts.old) (world_of parts.new) }
-    ensures keep { DrivesKeep (λ d. D.meaning d) (world_of parts.old).bays }
+    ensures drives { DrivesKeep (λ d. D.meaning d) (world_of parts.new).bays }
     ensures fit { CountsFit (world_of parts.old).sessions key }
 {
-    know_drives(&parts.bays);
     know_counts(&parts.sessions, key);
-    read_parts(parts, key, spans, sink)
+    let result = read_parts(parts, key, spans, sink);
+    know_drives(&parts.bays);
+    result
 }
 
 // Reads a session back from its spans.

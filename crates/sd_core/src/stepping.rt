@@ -2,9 +2,11 @@
 ghost use Rattle.sd_moves.specs.Moves.{Moves};
 ghost use Rattle.sd_moves.specs.Rules.{IsWorld};
 ghost use Rattle.sd_parts.specs.View.{world_of};
-ghost use Rattle.sd_core.specs.Drives.{DrivesKeep, WhereTells};
+ghost use Rattle.sd_machine.specs.declared.event.Event.TheVariants.{Append};
+ghost use Rattle.sd_closed.specs.Steps.{DrivesKeep};
 
-use crate::knowing::know_telling;
+use crate::knowing::know_drives;
+use sd_base::{Rec, Ticket};
 use sd_driver::Driver;
 use sd_lane::Lanes;
 use sd_machine::{Event, Reply};
@@ -13,7 +15,7 @@ use sd_parts::Parts;
 use sd_sessions::{append, cancel, close, despool, end, media, open, spool};
 use sd_spool::SpoolStore;
 
-/// Answers one event.
+/// Answers one event; and what is known then of the drives.
 pub(crate) fn answer<D: Driver + Drop, Q: Lanes, S: SpoolStore + Drop>(
     parts: &mut Parts<D, Q, S>,
     event: Event,
@@ -21,10 +23,26 @@ pub(crate) fn answer<D: Driver + Drop, Q: Lanes, S: SpoolStore + Drop>(
     requires world { IsWorld (world_of parts.old) }
     ensures moves { Moves (λ d. D.meaning d) (world_of parts.old) event result
         (world_of parts.new) }
-    ensures keep { WhereTells result (DrivesKeep (λ d. D.meaning d) (world_of parts.new).bays) }
+    ensures drives { DrivesKeep (λ d. D.meaning d) (world_of parts.new).bays }
 {
     let reply = apply(parts, event);
-    know_telling(&parts.bays, &reply);
+    know_drives(&parts.bays);
+    reply
+}
+
+/// The same of the event `Append`, of a record that stays with the caller.
+pub(crate) fn answer_append<D: Driver + Drop, Q: Lanes, S: SpoolStore + Drop>(
+    parts: &mut Parts<D, Q, S>,
+    ticket: Ticket,
+    rec: &Rec,
+) -> Reply
+    requires world { IsWorld (world_of parts.old) }
+    ensures moves { Moves (λ d. D.meaning d) (world_of parts.old) (Append ticket rec.now) result
+        (world_of parts.new) }
+    ensures drives { DrivesKeep (λ d. D.meaning d) (world_of parts.new).bays }
+{
+    let reply = append(parts, ticket, rec);
+    know_drives(&parts.bays);
     reply
 }
 

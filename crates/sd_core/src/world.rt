@@ -1,33 +1,24 @@
 // A world.
-ghost use Rattle.std.specs.Prelude.{◌≡◌, ◌≢◌, ◌≤◌, [], length, IfOk, IfErr, OnErr};
+ghost use Rattle.std.specs.Prelude.{◌≡◌, ◌≤◌, length, IfOk, IfErr, OnErr};
 ghost use Rattle.std.specs.List.{AllZip};
 ghost use Rattle.sd_base.specs.Limits.{most_number};
-ghost use Rattle.sd_machine.specs.Machine.{Machine, empty_machine};
+ghost use Rattle.sd_machine.specs.Machine.{empty_machine};
 ghost use Rattle.sd_machine.specs.declared.event.Event.TheVariants.{Append};
-ghost use Rattle.sd_moves.specs.Kept.{StatusesStay};
-ghost use Rattle.sd_moves.specs.Rules.{IsWorld};
 ghost use Rattle.sd_matches.specs.Matches.{Matches};
-ghost use Rattle.sd_closed.specs.Along.{MovesAlong};
-ghost use Rattle.sd_closed.specs.Grows.{AllGrow};
-ghost use Rattle.sd_closed.specs.Reads.{HasCancelled};
-ghost use Rattle.sd_closed.specs.Seats.{SeatsStay};
-ghost use Rattle.sd_moves.specs.World.{WorldView};
-ghost use Rattle.sd_core.specs.Closed.{IsHonestFor, IsThere, ReadsClosed, ReadsCancelled, WereTold};
+ghost use Rattle.sd_closed.specs.Deeds.{IsRead};
+ghost use Rattle.sd_closed.specs.Steps.{IsSound, IsStep, StepsAlong};
 ghost use Rattle.sd_core.specs.Conf.{IsConf, AreQueues, AreStores, limits_of};
 ghost use Rattle.sd_core.specs.Fresh.{IsFresh, StaysDevice};
-ghost use Rattle.sd_core.specs.Kept.{ClaimsLast, IsFoundClosed, IsRetired, RepliesStand, ClosedLast};
-ghost use Rattle.sd_core.specs.Reading.{ReadsWorld};
-ghost use Rattle.sd_core.specs.Runs.{FailsAlong, RunsTo};
-ghost use Rattle.sd_core.specs.Steps.{IsStep};
 ghost use Rattle.sd_core.specs.View.{status_at, devices_of, running_tickets, view_of};
 
 use crate::conf::{NotMade, WorldConf};
 use crate::filling::fill_bays;
+use crate::knowing::know_drives;
 use crate::leaving::take_devices;
 use crate::listing::list_running;
 use crate::reading::read_knowing;
 use crate::showing::{show_drives, show_sessions, show_volumes};
-use crate::stepping::answer;
+use crate::stepping::{answer, answer_append};
 use sd_base::{Rec, Refusal, SessionKey, Ticket};
 use sd_desk::{Desk, Request};
 use sd_drive::Limits;
@@ -37,7 +28,6 @@ use sd_machine::{Event, Reply};
 use sd_parts::{Parts, find};
 use sd_readback::{ReadEnd, Sink};
 use sd_session::Status;
-use sd_sessions::append;
 use sd_span::Span;
 use sd_spool::SpoolStore;
 use sd_view::View;
@@ -89,6 +79,7 @@ impl<D: Driver + Drop, Q: Lanes + Drop, S: SpoolStore + Drop> World<D, Q, S> {
             drivers.items lanes.items spools.items) }
         ensures matches { IfOk result (λ world. Matches (λ d. D.meaning d) world
             (empty_machine time)) }
+        ensures sound { IfOk result (λ world. IsSound (λ d. D.meaning d) world) }
         ensures drivers { IfErr result (λ kept. AllZip (StaysDevice (λ d. D.meaning d))
             drivers.items kept.drivers.items) }
         ensures lanes { IfErr result (λ kept. kept.lanes ≡ lanes) }
@@ -111,17 +102,20 @@ impl<D: Driver + Drop, Q: Lanes + Drop, S: SpoolStore + Drop> World<D, Q, S> {
             &mut lanes,
             &mut spools,
         ) {
-            Ok(bays) => Ok(World {
-                parts: Parts {
-                    alloc,
-                    limits,
-                    queue: conf.queue,
-                    next: 1,
-                    sessions: Vec::new(alloc),
-                    bays,
-                    desk: Desk::new(alloc),
-                },
-            }),
+            Ok(bays) => {
+                know_drives(&bays);
+                Ok(World {
+                    parts: Parts {
+                        alloc,
+                        limits,
+                        queue: conf.queue,
+                        next: 1,
+                        sessions: Vec::new(alloc),
+                        bays,
+                        desk: Desk::new(alloc),
+                    },
+                })
+            }
             Err(_) => Err(NotMade {
                 drivers,
                 lanes,
@@ -159,25 +153,13 @@ impl<D: Driver + Drop, Q: Lanes, S: SpoolStore + Drop> World<D, Q, S> {
     pub fn append(&mut self, ticket: Ticket, rec: &Rec) -> Reply
         ensures { IsStep (λ d. D.meaning d) self.old (Append ticket rec.now) result self.new }
     {
-        append(&mut self.parts, ticket, rec)
+        answer_append(&mut self.parts, ticket, rec)
     }
 
     /// All the events, in order, with the reply to each; it costs what its steps do. An `Err` comes before the first.
     pub fn run(&mut self, events: Vec<Event>) -> Result<Vec<Reply>, AllocError>
-        ensures moves { IfOk result (λ replies. MovesAlong (λ d. D.meaning d)
+        ensures steps { IfOk result (λ replies. StepsAlong (λ d. D.meaning d)
             self.old events.items replies.items self.new) }
-        ensures follows { IfOk result (λ replies. (m : Machine)
-            → Matches (λ d. D.meaning d) self.old m
-            → RunsTo (λ d. D.meaning d) m events.items replies.items self.new) }
-        ensures fails { IfOk result (λ replies. FailsAlong (λ d. D.meaning d)
-            self.old events.items replies.items self.new) }
-        ensures stand { IfOk result (λ replies. RepliesStand self.new replies.items) }
-        ensures closed_last { ClosedLast self.old self.new }
-        ensures claims_last { ClaimsLast self.old self.new }
-        ensures status_stays { StatusesStay self.old self.new }
-        ensures seats_stay { SeatsStay self.old self.new }
-        ensures journals_grow { AllGrow self.old self.new }
-        ensures length { IfOk result (λ replies. length replies.items ≡ length events.items) }
         ensures err { OnErr result (self.new ≡ self.old) }
     {
         let parts = &self.parts;
@@ -193,9 +175,10 @@ impl<D: Driver + Drop, Q: Lanes, S: SpoolStore + Drop> World<D, Q, S> {
 impl<D: Driver, Q: Lanes, S: SpoolStore + Drop> World<D, Q, S> {
     /// What every world keeps. Does nothing.
     pub fn know(&self)
-        ensures { IsWorld self.now }
+        ensures { IsSound (λ d. D.meaning d) self.now }
     {
-        let _ = &self.parts;
+        let parts = &self.parts;
+        know_drives(&parts.bays);
     }
 
     /// The time of the run, in seconds.
@@ -257,27 +240,8 @@ impl<D: Driver, Q: Lanes, S: SpoolStore + Drop> World<D, Q, S> {
         spans: &[Span],
         sink: &mut K,
     ) -> Result<ReadEnd, Refusal>
-        ensures reads { ReadsWorld (λ d. D.meaning d) key spans.now (K.got sink.old)
-            (K.got sink.new)
+        ensures { IsRead (λ d. D.meaning d) key spans.now (K.got sink.old) (K.got sink.new)
             result self.old self.new }
-        ensures matches { (m : Machine) → Matches (λ d. D.meaning d) self.old m
-            → Matches (λ d. D.meaning d) self.new m }
-        ensures closed { (m : Machine) → Matches (λ d. D.meaning d) self.old m
-            → IsFoundClosed self.old key spans.now → IsHonestFor (λ d. D.meaning d) self.old key
-            → ReadsClosed m key (K.got sink.old) (K.got sink.new) result }
-        ensures retired { IsRetired self.old key spans.now → spans.now ≢ []
-            → result ≡ Err Refusal.DriveOffline }
-        ensures cancelled { (m : Machine) (before : WorldView D)
-            → Matches (λ d. D.meaning d) self.old m
-            → WereTold before self.old key spans.now → HasCancelled self.old key
-            → IsThere self.old key
-            → IsHonestFor (λ d. D.meaning d) self.old key
-            → ReadsCancelled m key (K.got sink.old) (K.got sink.new) result }
-        ensures closed_last { ClosedLast self.old self.new }
-        ensures claims_last { ClaimsLast self.old self.new }
-        ensures status_stays { StatusesStay self.old self.new }
-        ensures seats_stay { SeatsStay self.old self.new }
-        ensures journals_grow { AllGrow self.old self.new }
     {
         read_knowing(&mut self.parts, key, spans, sink)
     }

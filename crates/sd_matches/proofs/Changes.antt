@@ -19,7 +19,8 @@ use Rattle.sd_spool.specs.Job.{JobView, StoreState}
 use Rattle.sd_moves.specs.Rules.{IsWorld}
 use Rattle.sd_moves.specs.World.{WorldView, WorldSession, HasTicket, with_session}
 use Rattle.sd_moves.proofs.Lookups.{session_id}
-use Rattle.sd_matches.specs.Matches.{sent_to, bodies_with, StoreIsTrue, HasBodies, BeginsPacked, SessionMatches, Matches, IsOutstanding}
+use Rattle.sd_moves.specs.Honest.{StoreIsTrue}
+use Rattle.sd_matches.specs.Matches.{sent_to, bodies_with, HasBodies, BeginsPacked, SessionMatches, Matches, IsOutstanding}
 use Rattle.sd_matches.specs.Steps.{StepsTo, is_failed, newly_failed}
 use Rattle.sd_matches.proofs.Failing.{steps, none_unless}
 use Rattle.sd_matches.proofs.Frames.{HonestBack, online_back, frame_unmoved}

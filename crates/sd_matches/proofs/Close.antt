@@ -29,7 +29,8 @@ use Rattle.sd_moves.specs.Sessions.{TicketRefused, ClosesAt, CloseCauses}
 use Rattle.sd_moves.specs.World.{WorldView, BayView, items_before, items_with}
 use Rattle.sd_moves.proofs.Items.{length_before}
 use Rattle.sd_moves.proofs.Lookups.{one_or_two}
-use Rattle.sd_matches.specs.Matches.{StoreIsTrue, HasBodies, Matches, IsOutstanding, IsOnTheWay, body_of_piece, bodies_with, queued_bodies}
+use Rattle.sd_moves.specs.Honest.{StoreIsTrue}
+use Rattle.sd_matches.specs.Matches.{HasBodies, Matches, IsOutstanding, IsOnTheWay, body_of_piece, bodies_with, queued_bodies}
 use Rattle.sd_matches.specs.Steps.{StepsTo, is_failed}
 use Rattle.sd_matches.proofs.Bodies.{bodies_with-append, bodies_queued}
 use Rattle.sd_matches.proofs.Changes.{entry_with, session_world, session_step, status_changes}

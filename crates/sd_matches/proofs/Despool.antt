@@ -22,7 +22,8 @@ use Rattle.sd_moves.specs.Rules.{IsWorld}
 use Rattle.sd_moves.specs.Sessions.{DespoolsSession}
 use Rattle.sd_moves.specs.World.{WorldView, WorldSession, BayView, IsOnline, with_session}
 use Rattle.sd_moves.proofs.Lookups.{set_same}
-use Rattle.sd_matches.specs.Matches.{StoreIsTrue, HasBodies, SessionMatches, Matches, IsHonestAt, IsOnTheWay, body_of_piece, bodies_with, bodies_in, sent_to, queued_bodies}
+use Rattle.sd_moves.specs.Honest.{StoreIsTrue}
+use Rattle.sd_matches.specs.Matches.{HasBodies, SessionMatches, Matches, IsHonestAt, IsOnTheWay, body_of_piece, bodies_with, bodies_in, sent_to, queued_bodies}
 use Rattle.sd_matches.specs.Steps.{StepsTo, newly_failed}
 use Rattle.sd_matches.proofs.Bodies.{bodies_with_own, bodies_with_other, sent_behind, bodies_queued}
 use Rattle.sd_matches.proofs.Changes.{entry_with, session_world, MovesBodies, running_bodies, running_unfailed, spool_is_honest}

@@ -8,7 +8,8 @@ use Rattle.sd_session.specs.Session.{SessionView, FailsSession, store_of}
 use Rattle.sd_moves.specs.World.{WorldView, WorldSession, BayView, session_at, with_session}
 use Rattle.sd_moves.specs.Drives.{FailsWhere, FailExactly}
 use Rattle.sd_moves.proofs.Lookups.{one_or_two, session_at-same, session_at-other}
-use Rattle.sd_matches.specs.Matches.{StoreIsTrue, IsHonestAt}
+use Rattle.sd_moves.specs.Honest.{StoreIsTrue}
+use Rattle.sd_matches.specs.Matches.{IsHonestAt}
 use Rattle.sd_matches.proofs.Frames.{HonestBack}
 
 -- the stores of the sessions at a drive are honest

@@ -28,7 +28,8 @@ use Rattle.sd_moves.specs.Sessions.{OpensSession, OpensNot, OpenRefused, NoneRes
 use Rattle.sd_moves.specs.World.{WorldView, WorldSession, BayView, LaneView, IsOnline, session_at, items_before}
 use Rattle.sd_moves.proofs.Items.{is_key_other, of_opened-front}
 use Rattle.sd_moves.proofs.Lookups.{session_at-front, session_at-behind, get_set-same, get_set-other}
-use Rattle.sd_matches.specs.Matches.{StoreIsTrue, Matches, SessionMatches, IsHonestAt, sent_bodies, sent_to, queued_bodies, bodies_with}
+use Rattle.sd_moves.specs.Honest.{StoreIsTrue}
+use Rattle.sd_matches.specs.Matches.{Matches, SessionMatches, IsHonestAt, sent_bodies, sent_to, queued_bodies, bodies_with}
 use Rattle.sd_matches.specs.Steps.{StepsTo, newly_failed}
 use Rattle.sd_matches.proofs.Bodies.{bodies_with-append, bodies_queued}
 use Rattle.sd_matches.proofs.Failing.{steps, stays}

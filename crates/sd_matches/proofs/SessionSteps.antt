@@ -24,7 +24,8 @@ use Rattle.sd_moves.specs.Moves.{Moves}
 use Rattle.sd_moves.specs.Rules.{IsWorld, NumbersRise}
 use Rattle.sd_moves.specs.Sessions.{TicketRefused, ChangesSession, RefusedWith, MediaCauses}
 use Rattle.sd_moves.specs.World.{WorldView, WorldSession, HasTicket, session_at, with_session}
-use Rattle.sd_matches.specs.Matches.{StoreIsTrue, SessionMatches, Matches}
+use Rattle.sd_moves.specs.Honest.{StoreIsTrue}
+use Rattle.sd_matches.specs.Matches.{SessionMatches, Matches}
 use Rattle.sd_matches.specs.Steps.{StepsTo, is_failed, newly_failed}
 use Rattle.sd_matches.proofs.Changes.{entry_with, session_world, session_step, machine_may_take, world_may_take, takes_record, ends_session, cancels_session, MovesBodies, parts_moved, spool_is_honest, running_unfailed}
 use Rattle.sd_matches.proofs.Failing.{drops_falls, stays, fails_step, Falls, FallOrStay, falls_is, fall_with, all_stay}

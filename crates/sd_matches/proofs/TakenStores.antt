@@ -19,7 +19,8 @@ use Rattle.sd_moves.specs.Sessions.{TakesStore}
 use Rattle.sd_moves.specs.World.{WorldView, WorldSession, BayView, LaneView, session_at, with_session}
 use Rattle.sd_moves.proofs.Lookups.{one_or_two, session_id, session_at-other}
 use Rattle.sd_moves.proofs.Pairs.{is_numbered}
-use Rattle.sd_matches.specs.Matches.{StoreIsTrue, HasBodies, SessionMatches, SessionsMatch, Matches, IsHonestAt}
+use Rattle.sd_moves.specs.Honest.{StoreIsTrue}
+use Rattle.sd_matches.specs.Matches.{HasBodies, SessionMatches, SessionsMatch, Matches, IsHonestAt}
 use Rattle.sd_matches.specs.Steps.{is_failed, newly_failed}
 use Rattle.sd_matches.proofs.Changes.{entry_with}
 use Rattle.sd_matches.proofs.Failing.{never_both, none_fall_same, fall_with}

@@ -1,5 +1,5 @@
 -- When a world matches a list machine: its sessions' bodies, wherever they stand, are cuttings of the machine's lists.
-use Rattle.std.specs.Prelude.{◌≡◌, ◌≢◌, ◌⊎◌, ℕ, ◌+◌, Bool, true, false, not, ◌&&◌, if◌then◌else◌, IsTrue, Option, Some, IfSome, List, [], ◌∷◌, ◌++◌, length, map, slice_get}
+use Rattle.std.specs.Prelude.{◌≡◌, ◌≢◌, ◌⊎◌, ℕ, ◌+◌, Bool, true, false, not, ◌&&◌, if◌then◌else◌, IsTrue, Some, List, [], ◌∷◌, ◌++◌, length, map, slice_get}
 use Rattle.std.specs.List.{list_any}
 use Rattle.std.specs.Option.{option_to_list}
 use Rattle.sd_base.specs.Key.{is_key}
@@ -20,8 +20,8 @@ use Rattle.sd_pack.specs.Packing.{Packs}
 use Rattle.sd_session.specs.Session.{SessionView, parts_of, store_of}
 use Rattle.sd_session.specs.declared.status.Status.{Status}
 use Rattle.sd_session.specs.declared.status.Status.TheVariants.{Active, Ended, Closed, Cancelled, Failed}
-use Rattle.sd_spool.specs.Job.{StoreState}
 use Rattle.sd_volume.specs.Image.{Block}
+use Rattle.sd_moves.specs.Honest.{StoreIsTrue}
 use Rattle.sd_moves.specs.World.{WorldView, WorldSession, BayView, LaneView, IsOnline, session_at}
 
 -- Where the bodies of sessions stand.
@@ -86,10 +86,6 @@ IsOutstanding {D} w e =
     × (IsOnTheWay d bay.queue e.session.key ⊎ IsUnsynced d.journal e.session.key))
 
 -- Honesty.
-
--- the store, if it is here, gives back what it was given
-abbrev pub StoreIsTrue : Option StoreState → Type 0
-StoreIsTrue store = IfSome store (λ s. IsTrue s.honest)
 
 -- the device of the drive is honest, and so is the spool of each of its lanes, in the lane or at a session
 pub record IsHonestAt {D : Type 0} (meaning : D → Meaning) (w : WorldView D) (at : ℕ) (bay : BayView D) (d : DriveIs D) : Type 0 where

@@ -2,6 +2,7 @@ pub mod Bays
 pub mod DriveMoves
 pub mod DriveSteps
 pub mod FailSteps
+pub mod HonestSteps
 pub mod Items
 pub mod Kept
 pub mod KeptMoves

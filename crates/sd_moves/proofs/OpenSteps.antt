@@ -12,12 +12,13 @@ use Rattle.sd_spool.specs.Meaning.{Meaning as StoreMeaning}
 use Rattle.sd_moves.specs.World.{WorldView, WorldSession, BayView, LaneView, session_at, with_session, items_before, items_with, lane_is_free}
 use Rattle.sd_moves.specs.Rules.{NumbersRise, IsSeated, IsLane, IsWorld}
 use Rattle.sd_moves.specs.Sessions.{TakesStore, Reserves, OpensSession, OpensNot}
+use Rattle.sd_moves.specs.Honest.{StoreIsTrue}
 use Rattle.sd_moves.proofs.Lookups.{one_or_two, session_id, session_at-front, session_at-behind, session_at-push, get_set-same, get_set-other, get_set-tells}
 use Rattle.sd_moves.proofs.Items.{in_hand, in_queue, items_with-next, fails-next, of_opened-front}
 use Rattle.sd_moves.proofs.LaneSteps.{not_free}
 use Rattle.sd_moves.proofs.Pairs.{PairAt, WithOne, pair_after, pair_before, same_pair, with_pairs, is_numbered, numbers_with, numbers_push, none_next}
 use Rattle.sd_moves.proofs.Seats.{sits_session, seated_with, lane_stays, WorldStays, IsInBay, inside_same, bay_with}
-use Rattle.sd_moves.proofs.Views.{SessionStays, StoreStays, same_stays, gives_back}
+use Rattle.sd_moves.proofs.Views.{SessionStays, StoreStays, StaysTrue, same_stays, gives_back}
 use Rattle.sd_moves.proofs.Worlds.{pair_map, world_with}
 
 -- The lane's store is taken.
@@ -28,9 +29,10 @@ pub record LosesStore (drive lane : ℕ) (x y : WorldSession) : Type 0 where
   pub status_is : y.session.status ≡ x.session.status
   pub stays : SessionStays x.session y.session
   pub store : (x.drive ≡ drive → x.session.lane ≡ lane → ⊥) → StoreStays x.session y.session
+  pub honest : StaysTrue x.session y.session
 
 loses_none : (drive lane : ℕ) (x : WorldSession) → LosesStore drive lane x x
-loses_none drive lane x = record { drive_is = refl; status_is = refl; stays = same_stays x.session; store = λ other h. h }
+loses_none drive lane x = record { drive_is = refl; status_is = refl; stays = same_stays x.session; store = λ other h. h; honest = λ h. h }
 
 -- the session that used a lane last
 pub holder_of : (sessions : List WorldSession) (drive place : ℕ) (lane : LaneView) (ticket : ℕ) → IsLane sessions drive place lane → lane.holder ≡ Some ticket
@@ -63,7 +65,7 @@ taken_from w at place bay lane store es' h there stands (inr p) =
     let in_lane : e.session.lane ≡ place + 1 = ap (λ (x : WorldSession). x.session.lane) (sym one) ∙ held.3 in
     let id : f.session.key.id ≡ ticket = ap (λ (k : SessionKey). k.id) back.key_is ∙ session_id ticket w.sessions e found in
     let numbered = is_numbered w.limits.time 1 w.next ticket w.sessions e h.numbers found in
-    let own : LosesStore (at + 1) (place + 1) e f = record { drive_is = refl; status_is = ap (λ (s : SessionView). s.status) p.6.is; stays = back; store = λ other. absurd (other on in_lane) } in
+    let own : LosesStore (at + 1) (place + 1) e f = record { drive_is = refl; status_is = ap (λ (s : SessionView). s.status) p.6.is; stays = back; store = λ other. absurd (other on in_lane); honest = λ h. subst (λ (s : SessionView). StoreIsTrue (store_of s)) (sym p.6.is) tt } in
     subst (TakenFrom w.sessions w.limits.time w.next (at + 1) (place + 1)) (sym p.7) (record {
       pairs = λ other. pair_map (WithOne ticket e f) (LosesStore (at + 1) (place + 1)) (session_at other w.sessions) (session_at other (with_session f w.sessions))
           (λ x y seen q. elim q [

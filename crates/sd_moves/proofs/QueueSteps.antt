@@ -17,12 +17,15 @@ use Rattle.sd_moves.specs.Rules.{IsOfOpened, AreOfOpened, IsSeated, IsWorld}
 use Rattle.sd_moves.specs.Sessions.{SendsStep, ClosesAt}
 use Rattle.sd_moves.specs.Drives.{TakesPiece}
 use Rattle.sd_moves.specs.Operators.{RetiresDrive}
+use Rattle.sd_moves.specs.Honest.{StoreIsTrue}
+use Rattle.sd_spool.specs.Job.{StoreState}
+use Rattle.std.specs.Prelude.{IsTrue}
 use Rattle.sd_moves.proofs.Lookups.{one_or_two, session_id, set_same}
 use Rattle.sd_moves.proofs.Items.{is_key_same, is_key_other, items_with-own, items_with-other, items_before-take, items_before-send, of_opened-push, placed_most}
 use Rattle.sd_moves.proofs.LaneSteps.{Lodges, lodge_of, lanes_lodge, running_busy}
 use Rattle.sd_moves.proofs.Pairs.{PairAt, WithOne, pair_before, with_pairs, is_numbered, numbers_with}
 use Rattle.sd_moves.proofs.Seats.{Sits, sits_of, seated_on, seated_with, IsInBay, inside_same, WorldStays, bay_with, bay_same}
-use Rattle.sd_moves.proofs.Views.{closed_not_running, StoreStays}
+use Rattle.sd_moves.proofs.Views.{closed_not_running, StoreStays, StaysTrue}
 use Rattle.sd_moves.proofs.Worlds.{world_with}
 
 -- Taking.
@@ -75,6 +78,15 @@ next_store body s between (inl h) some = subst (λ (b : Stations). IsSome (home_
 next_store body s between (inr (inl h)) some = subst (λ (b : Stations). IsSome (home_of s.store b.spool)) (sym h.1.is) refl
 next_store body s between (inr (inr h)) some = subst (λ (b : Stations). IsSome (home_of s.store b.spool)) (sym h.2.is) some
 
+-- and is as true as it was
+pub next_honest : (body : _) (s : SessionView) (between : Stations) → TakesNext body (stations_of s) between
+    → StoreIsTrue (home_of s.store s.spool) → StoreIsTrue (home_of s.store between.spool)
+next_honest body s between (inl h) honest = subst (λ (b : Stations). StoreIsTrue (home_of s.store b.spool)) (sym h.1) honest
+next_honest body s between (inr (inl h)) honest =
+    subst (λ (b : Stations). StoreIsTrue (home_of s.store b.spool)) (sym h.1.is)
+    (subst (λ (state : StoreState). IsTrue state.honest) (sym h.1.store_is) (subst StoreIsTrue (ap (home_of s.store) h.1.spool_is) honest))
+next_honest body s between (inr (inr h)) honest = subst (λ (b : Stations). StoreIsTrue (home_of s.store b.spool)) (sym h.2.is) honest
+
 -- what a sent body leaves of its session
 pub record SendsOne (s t : SessionView) (queue queue' : LanesView) (piece : Piece) (lane : ℕ) : Type 0 where
   pub key_is : t.key ≡ s.key
@@ -83,6 +95,7 @@ pub record SendsOne (s t : SessionView) (queue queue' : LanesView) (piece : Piec
   pub running : IsRunning s.status
   pub sent_is : t.sent ≡ s.sent + 1
   pub store : StoreStays s t
+  pub honest : StaysTrue s t
   pub own : piece.key ≡ s.key
   pub held : queue'.held ≡ queue.held ++ queued lane piece ∷ []
 
@@ -98,6 +111,7 @@ sends_one s t queue queue' step =
         running = sends.running;
         sent_is = ap (λ (x : SessionView). x.sent) sends.is;
         store = λ some. subst (λ (x : SessionView). IsSome (store_of x)) (sym sends.is) (next_store sends.body s sends.between sends.takes some);
+        honest = λ true_store. subst (λ (x : SessionView). StoreIsTrue (store_of x)) (sym sends.is) (next_honest sends.body s sends.between sends.takes true_store);
         own = refl;
         held = sends.puts_in.held refl;
       },

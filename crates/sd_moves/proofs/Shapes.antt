@@ -34,7 +34,7 @@ use Rattle.sd_moves.specs.Moves.{Moves, MissingOr}
 use Rattle.sd_moves.specs.Fails.{IsOfSpool, IsOfSync}
 use Rattle.sd_moves.proofs.DriveMoves.{ClaimsStay, same_claims}
 use Rattle.sd_moves.proofs.DriveSteps.{DriveGoesOn, DriveAdds, places, syncs, unmounts, mounts, adds, adds_none}
-use Rattle.sd_moves.proofs.QueueSteps.{next_store, unsent}
+use Rattle.sd_moves.proofs.QueueSteps.{next_store, next_honest, unsent}
 use Rattle.sd_moves.proofs.Views.{StaysWhole, same_whole, takes_record, ends, cancels, spools, spool_refused, despool_refused}
 
 -- Devices.
@@ -161,6 +161,7 @@ nothing_sent despooled.LaneFull s t queue queue' other step =
       subst (StaysWhole s) (sym full.is) (record {
         stays = record { key_is = refl; lane_is = refl; sent_is = refl; running = λ r. r; was_closed = λ c. c; stays_closed = λ c. c };
         store = λ some. next_store full.body s full.between full.takes some;
+        honest = λ true_store. next_honest full.body s full.between full.takes true_store;
       }),
       ap (λ (x : SessionView). x.status) full.is,
     )

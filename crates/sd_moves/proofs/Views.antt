@@ -1,5 +1,6 @@
 -- What a change of one session leaves of it: whose it is and where it sits; and the statuses that go on.
 use Rattle.std.proofs.Common.{◌≡◌, true, false, refl, sym, ap, subst, inl, inr, Some, IsSome}
+use Rattle.std.specs.Prelude.{IsTrue}
 use Rattle.sd_base.specs.Record.{Record}
 use Rattle.sd_base.specs.declared.refusal.Refusal.{Refusal}
 use Rattle.sd_machine.proofs.Lookups.{not_closed}
@@ -7,11 +8,12 @@ use Rattle.sd_session.specs.declared.answer.Spooling.{Spooling}
 use Rattle.sd_session.specs.declared.answer.Spooling.TheVariants.{Spooled, SpoolFull, Nothing, NoSpool}
 use Rattle.sd_session.specs.declared.status.Status.{Status}
 use Rattle.sd_session.specs.declared.status.Status.TheVariants.{Active, Ended, Closed, Cancelled, Failed}
-use Rattle.sd_session.specs.Session.{SessionView, IsRunning, TakesRecord, EndsSession, DropsParts, CancelsSession, FailsSession, GivesBack, store_of}
+use Rattle.sd_session.specs.Session.{SessionView, IsRunning, TakesRecord, EndsSession, DropsParts, CancelsSession, FailsSession, GivesBack, home_of, store_of}
 use Rattle.sd_session.specs.Spooling.{Spools, SpoolRefused, FailsBySpool}
 use Rattle.sd_session.specs.Sending.{DespoolRefused}
 use Rattle.sd_spool.specs.Job.{StoreState, JobView}
 use Rattle.sd_moves.specs.Drives.{is_running}
+use Rattle.sd_moves.specs.Honest.{StoreIsTrue}
 
 -- a session that failed, is cancelled or closed doesn't go on
 pub failed_not_running : IsRunning Failed → ⊥
@@ -60,21 +62,27 @@ pub record SessionStays (s t : SessionView) : Type 0 where
 abbrev pub StoreStays : SessionView → SessionView → Type 0
 StoreStays s t = IsSome (store_of s) → IsSome (store_of t)
 
--- both
+-- where the store was true that it has, so is the one that it has now
+abbrev pub StaysTrue : SessionView → SessionView → Type 0
+StaysTrue s t = StoreIsTrue (store_of s) → StoreIsTrue (store_of t)
+
+-- all of it
 pub record StaysWhole (s t : SessionView) : Type 0 where
   pub stays : SessionStays s t
   pub store : StoreStays s t
+  pub honest : StaysTrue s t
 
 pub same_stays : (s : SessionView) → SessionStays s s
 same_stays s = record { key_is = refl; lane_is = refl; sent_is = refl; running = λ r. r; was_closed = λ c. c; stays_closed = λ c. c }
 
 pub same_whole : (s t : SessionView) → t ≡ s → StaysWhole s t
-same_whole s t is = subst (StaysWhole s) (sym is) (record { stays = same_stays s; store = λ h. h })
+same_whole s t is = subst (StaysWhole s) (sym is) (record { stays = same_stays s; store = λ h. h; honest = λ h. h })
 
 pub takes_record : (s t : SessionView) (r : Record) (n : _) → TakesRecord s r n t → StaysWhole s t
 takes_record s t r n h = subst (StaysWhole s) (sym h.is) (record {
   stays = record { key_is = refl; lane_is = refl; sent_is = refl; running = λ r. r; was_closed = λ c. c; stays_closed = λ c. c };
   store = λ h. h;
+  honest = λ h. h;
 })
 
 pub ends : (s t : SessionView) (moment : _) → EndsSession s moment t → StaysWhole s t
@@ -88,6 +96,7 @@ ends s t moment h = subst (StaysWhole s) (sym h.is) (record {
     stays_closed = λ c. absurd (not_closed s.status (inl h.active) c);
   };
   store = λ h. h;
+  honest = λ h. h;
 })
 
 -- parts are dropped with a status that doesn't go on and isn't closed
@@ -102,6 +111,7 @@ drops s t status over open_yet h = subst (StaysWhole s) (sym h.is) (record {
     stays_closed = λ c. absurd (not_closed s.status h.running c);
   };
   store = λ h. h;
+  honest = λ h. h;
 })
 
 pub cancels : (s t : SessionView) → CancelsSession s t → StaysWhole s t
@@ -112,8 +122,8 @@ fails s t (inl h) = drops s t Failed failed_not_running (λ e. cc e) h.1
 fails s t (inr h) = same_whole s t h.1
 
 -- the session fails by its spool, whose store it keeps
-pub fails_by_spool : (s t : SessionView) (job : JobView) → FailsBySpool s job t → StaysWhole s t
-fails_by_spool s t job h = subst (StaysWhole s) (sym h.drops.is) (record {
+pub fails_by_spool : (s t : SessionView) (job : JobView) → s.spool ≡ Some job → FailsBySpool s job t → StaysWhole s t
+fails_by_spool s t job spool_is h = subst (StaysWhole s) (sym h.drops.is) (record {
   stays = record {
     key_is = refl;
     lane_is = refl;
@@ -122,33 +132,36 @@ fails_by_spool s t job h = subst (StaysWhole s) (sym h.drops.is) (record {
     was_closed = λ c. absurd (cc c);
     stays_closed = λ c. absurd (not_closed s.status h.drops.running c);
   };
-  store = λ h. refl;
+  store = λ some. refl;
+  honest = λ true_store. subst IsTrue (sym h.has_failed.honest) (subst StoreIsTrue (ap (home_of s.store) spool_is) true_store);
 })
 
 -- a spool is there before and after
-spool_changes : (s t : SessionView) (job' : JobView) → t ≡ record s { spool = Some job'; packer = t.packer } → StaysWhole s t
-spool_changes s t job' is = subst (StaysWhole s) (sym is) (record {
+spool_changes : (s t : SessionView) (job job' : JobView) → s.spool ≡ Some job → job'.store ≡ job.store → t ≡ record s { spool = Some job'; packer = t.packer } → StaysWhole s t
+spool_changes s t job job' spool_is store_is is = subst (StaysWhole s) (sym is) (record {
   stays = record { key_is = refl; lane_is = refl; sent_is = refl; running = λ r. r; was_closed = λ c. c; stays_closed = λ c. c };
   store = λ h. refl;
+  honest = λ true_store. subst (λ (state : StoreState). IsTrue state.honest) (sym store_is) (subst StoreIsTrue (ap (home_of s.store) spool_is) true_store);
 })
 
 pub spools : (answer : Spooling) (s t : SessionView) → Spools answer s t → StaysWhole s t
-spools Spooled s t h = spool_changes s t h.job' h.is
+spools Spooled s t h = spool_changes s t h.job h.job' h.spool_is h.moves.store_is h.is
 spools SpoolFull s t h = subst (StaysWhole s) (sym h.is) (record {
   stays = record { key_is = refl; lane_is = refl; sent_is = refl; running = λ r. r; was_closed = λ c. c; stays_closed = λ c. c };
   store = λ h. h;
+  honest = λ h. h;
 })
 spools Nothing s t h = same_whole s t h.is
 spools NoSpool s t h = same_whole s t h.is
 
 pub spool_refused : (s t : SessionView) (why : Refusal) → SpoolRefused s why t → StaysWhole s t
 spool_refused s t why (inl h) = same_whole s t h.1
-spool_refused s t why (inr (inl h)) = fails_by_spool s t h.0.job h.2
+spool_refused s t why (inr (inl h)) = fails_by_spool s t h.0.job h.0.spool_is h.2
 spool_refused s t why (inr (inr h)) = same_whole s t h.2
 
 pub despool_refused : (s t : SessionView) (why : Refusal) → DespoolRefused s why t → StaysWhole s t
 despool_refused s t why (inl h) = same_whole s t h.1
-despool_refused s t why (inr (inl h)) = fails_by_spool s t h.0.job h.2
+despool_refused s t why (inr (inl h)) = fails_by_spool s t h.0.job h.0.spool_is h.2
 despool_refused s t why (inr (inr h)) = same_whole s t h.2
 
 -- the session that gives the lane's store back is else as it was

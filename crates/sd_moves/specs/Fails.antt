@@ -1,6 +1,7 @@
 -- Who fails by an event.
 use Rattle.std.specs.Prelude.{◌≡◌, ◌≢◌, ◌⊎◌, ◌↔◌, ℕ, true, Some}
 use Rattle.sd_base.specs.declared.refusal.Refusal.TheVariants.{SpoolFault, DeviceFault}
+use Rattle.sd_driver.specs.Meaning.{Meaning}
 use Rattle.sd_drive.specs.Moves.{FailsToSync}
 use Rattle.sd_drive.specs.View.{DriveIs}
 use Rattle.sd_journal.specs.Journal.{fails_with}
@@ -11,6 +12,8 @@ use Rattle.sd_machine.specs.declared.reply.Reply.TheVariants.{Refused}
 use Rattle.sd_session.specs.Session.{IsRunning}
 use Rattle.sd_session.specs.declared.status.Status.TheVariants.{Failed}
 use Rattle.sd_moves.specs.World.{WorldView, WorldSession, BayView, IsOnline, session_at}
+use Rattle.sd_moves.specs.Moves.{Moves}
+use Rattle.sd_moves.specs.Rules.{IsWorld}
 
 -- the event is a step of this session's own spool: into it, or out of it
 abbrev pub IsOfSpool : Event → ℕ → Type 0
@@ -52,3 +55,10 @@ FailByCause old event reply new = (ticket : ℕ) (e e' : WorldSession)
     → session_at ticket old.sessions ≡ Some e → session_at ticket new.sessions ≡ Some e'
     → ((e.session.status ≢ Failed) × (e'.session.status ≡ Failed))
     ↔ (IsRunning e.session.status × (SpoolFailed event reply e ⊎ SyncFailed old event reply new e))
+
+-- Laws.
+
+-- in every move exactly the sessions fail that have a cause
+abbrev pub MovesFailByCause : Type 0 → Type 0
+MovesFailByCause D = (meaning : D → Meaning) (old new : WorldView D) (event : Event) (reply : Reply)
+    → IsWorld old → Moves meaning old event reply new → FailByCause old event reply new

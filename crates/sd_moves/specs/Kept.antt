@@ -1,6 +1,7 @@
 -- What a world keeps of closed sessions, whatever happens to it: their status; and their spans, until their drive is retired.
 use Rattle.std.specs.Prelude.{◌≡◌, ◌⊎◌, ℕ, ◌+◌, Some, None, List, slice_get}
 use Rattle.sd_base.specs.declared.number.SessionKey.{SessionKey}
+use Rattle.sd_desk.specs.Desk.{claimed_by}
 use Rattle.sd_driver.specs.Meaning.{Meaning}
 use Rattle.sd_machine.specs.declared.event.Event.{Event}
 use Rattle.sd_machine.specs.declared.reply.Reply.{Reply}
@@ -46,6 +47,10 @@ StatusesStay old new = (key : SessionKey) → HasClosed old key → HasClosed ne
 abbrev pub SpansStay : {D : Type 0} → WorldView D → WorldView D → Type 0
 SpansStay old new = (key : SessionKey) (spans : List Span) → IsClosedAt old key spans → IsClosedAt new key spans ⊎ IsOffline new key
 
+-- what is claimed stays claimed for its drive
+abbrev pub ClaimsLast : {D : Type 0} → WorldView D → WorldView D → Type 0
+ClaimsLast old new = (name : List ℕ) (drive : ℕ) → claimed_by old.desk name ≡ Some drive → claimed_by new.desk name ≡ Some drive
+
 -- the session that a reply closed is closed, and has the spans of the reply; no other reply closes one
 abbrev pub ClosedStands : {D : Type 0} → WorldView D → Reply → Type 0
 ClosedStands w (Closed key spans) = IsClosedAt w key spans
@@ -68,3 +73,8 @@ pub record KeepsClosed {D : Type 0} (old : WorldView D) (reply : Reply) (new : W
 abbrev pub MovesKeepClosed : Type 0 → Type 0
 MovesKeepClosed D = (meaning : D → Meaning) (old new : WorldView D) (event : Event) (reply : Reply)
     → IsWorld old → Moves meaning old event reply new → KeepsClosed old reply new
+
+-- every move keeps what is claimed
+abbrev pub MovesKeepClaims : Type 0 → Type 0
+MovesKeepClaims D = (meaning : D → Meaning) (old new : WorldView D) (event : Event) (reply : Reply)
+    → Moves meaning old event reply new → ClaimsLast old new

@@ -1,5 +1,6 @@
 pub mod Drives
 pub mod Fails
+pub mod Honest
 pub mod Kept
 pub mod Memory
 pub mod Moves

@@ -1,12 +1,14 @@
 -- What want of memory leaves of a world's sessions.
 use Rattle.std.specs.Prelude.{◌≡◌, ◌≢◌, ℕ, Option, Some, None, List}
 use Rattle.sd_base.specs.declared.refusal.Refusal.TheVariants.{Memory}
+use Rattle.sd_driver.specs.Meaning.{Meaning}
 use Rattle.sd_machine.specs.declared.event.Event.{Event}
 use Rattle.sd_machine.specs.declared.event.Event.TheVariants.{Cancel, Take, Sync, Unmount, Retire}
 use Rattle.sd_machine.specs.declared.reply.Reply.{Reply}
 use Rattle.sd_machine.specs.declared.reply.Reply.TheVariants.{Refused}
 use Rattle.sd_session.specs.Session.{IsRunning}
 use Rattle.sd_moves.specs.World.{WorldView, WorldSession, session_at}
+use Rattle.sd_moves.specs.Moves.{Moves}
 
 -- the event takes no memory
 abbrev pub TakesNoMemory : Event → Type 0
@@ -41,3 +43,10 @@ WantChangesNone old reply new = reply ≡ Refused Memory → SessionsStay old.se
 -- an event that takes no memory isn't answered so
 abbrev pub WantsNone : Event → Reply → Type 0
 WantsNone event reply = TakesNoMemory event → reply ≢ Refused Memory
+
+-- Laws.
+
+-- a move that is answered with want of memory changes no session, and is of an event that takes memory
+abbrev pub MovesWantMemory : Type 0 → Type 0
+MovesWantMemory D = (meaning : D → Meaning) (old new : WorldView D) (event : Event) (reply : Reply)
+    → Moves meaning old event reply new → WantChangesNone old reply new × WantsNone event reply

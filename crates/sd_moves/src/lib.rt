@@ -3,4 +3,7 @@
 
 mod laws;
 
-pub use laws::{moves_keep_closed, moves_keep_rules};
+pub use laws::{
+    moves_fail_by_cause, moves_keep_claims, moves_keep_closed, moves_keep_honesty,
+    moves_keep_rules, moves_want_memory,
+};

@@ -40,7 +40,7 @@ tries_none meaning syncing ticket a b (t ∷ tries) gives = absurd (cc gives.3)
 pub given_up : {D : Type 0} (meaning : D → Meaning) (syncing : Syncing) (rounds : ℕ) (a b : WorldView D) (ticket : ℕ) (reply : Reply) (events : List Event) (replies : List Reply)
     → Answers meaning syncing rounds a (Cancel ticket) reply events replies b → (e : WorldSession) → HasTicket b ticket e → IsRunning e.session.status → ⊥
 given_up meaning syncing rounds a b ticket reply events replies answers = elim answers.ends [
-  | inl last ↦ cancelled_ends meaning answers.middle b ticket reply last.moves
+  | inl last ↦ cancelled_ends meaning answers.middle b ticket reply last.step.moves
   | inr (inl last) ↦ absurd (cc last.may)
   | inr (inr last) ↦ absurd (cc last.may)
 ]

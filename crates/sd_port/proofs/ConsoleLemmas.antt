@@ -8,7 +8,7 @@ use Rattle.sd_base.specs.declared.number.SessionKey.{SessionKey}
 use Rattle.sd_base.specs.declared.refusal.Refusal.{Refusal}
 use Rattle.sd_base.specs.declared.refusal.Refusal.TheVariants.{BadCommand, BadName}
 use Rattle.sd_words.specs.Lines.{line, lines_of}
-use Rattle.sd_closed.specs.Along.{MovesAlong}
+use Rattle.sd_closed.specs.Steps.{StepsAlong}
 use Rattle.sd_console.specs.Replies.{reply_line, reply_lines}
 use Rattle.sd_console.specs.Requests.{requests_lines}
 use Rattle.sd_console.specs.Status.{status_lines}
@@ -27,20 +27,20 @@ use Rattle.sd_port.specs.Lines.{Shows}
 
 -- The world moves along what it is given.
 
-none_along : {D : Type 0} (meaning : D → Meaning) (es : List Event) (rs : List Reply) (a b : WorldView D) → GivesNone es rs a b → MovesAlong meaning a es rs b
+none_along : {D : Type 0} (meaning : D → Meaning) (es : List Event) (rs : List Reply) (a b : WorldView D) → GivesNone es rs a b → StepsAlong meaning a es rs b
 none_along meaning es rs a b p = rw (p.0, p.1) p.2
 
 one_along : {D : Type 0} (meaning : D → Meaning) (e : Event) (reply : Reply) (es : List Event) (rs : List Reply) (a b : WorldView D) → GivesOne meaning e reply es rs a b
-    → MovesAlong meaning a es rs b
+    → StepsAlong meaning a es rs b
 one_along meaning e reply es rs a b p = rw (p.0, p.1) (b, p.2, refl)
 
 operates_along : {D : Type 0} (meaning : D → Meaning) (e : Event) (told : Reply → Answer) (answer : Answer) (es : List Event) (rs : List Reply) (a b : WorldView D)
-    → Operates meaning e told answer es rs a b → MovesAlong meaning a es rs b
+    → Operates meaning e told answer es rs a b → StepsAlong meaning a es rs b
 operates_along meaning e told answer es rs a b (inl p) = none_along meaning es rs a b p.1
 operates_along meaning e told answer es rs a b (inr p) = one_along meaning e p.0 es rs a b p.1
 
 command_along : {D : Type 0} (meaning : D → Meaning) (moment : ℤ) (command : ConsoleCmd) (answer : Answer) (es : List Event) (rs : List Reply) (a b : WorldView D)
-    → CommandDoes meaning moment command answer es rs a b → MovesAlong meaning a es rs b
+    → CommandDoes meaning moment command answer es rs a b → StepsAlong meaning a es rs b
 command_along meaning moment (Label drive volume pool media) answer es rs a b p = operates_along meaning _ _ answer es rs a b p
 command_along meaning moment (Adopt drive volume) answer es rs a b p = operates_along meaning _ _ answer es rs a b p
 command_along meaning moment (Mount drive volume) answer es rs a b p = operates_along meaning _ _ answer es rs a b p
@@ -52,7 +52,7 @@ command_along meaning moment Status answer es rs a b p = none_along meaning es r
 command_along meaning moment Requests answer es rs a b p = none_along meaning es rs a b p.0
 
 pub line_along : {D : Type 0} (meaning : D → Meaning) (moment : ℤ) (text : List ℕ) (answer : Answer) (es : List Event) (rs : List Reply) (a b : WorldView D)
-    → LineDoes meaning moment text answer es rs a b → MovesAlong meaning a es rs b
+    → LineDoes meaning moment text answer es rs a b → StepsAlong meaning a es rs b
 line_along meaning moment text answer es rs a b (inl p) = command_along meaning moment p.0 answer es rs a b p.2
 line_along meaning moment text answer es rs a b (inr (inl p)) = none_along meaning es rs a b p.4
 line_along meaning moment text answer es rs a b (inr (inr p)) = none_along meaning es rs a b p.2

@@ -1,6 +1,5 @@
-pub mod AlongLemmas
 pub mod CancelLemmas
 pub mod ConsoleLemmas
 pub mod DeedLemmas
-pub mod RunLemmas
+pub mod PortLemmas
 pub mod TryLemmas

@@ -8,9 +8,8 @@ use Rattle.sd_machine.specs.declared.event.Event.TheVariants.{Append, Close}
 use Rattle.sd_base.specs.Record.{Record}
 use Rattle.sd_machine.specs.declared.reply.Reply.{Reply}
 use Rattle.sd_machine.specs.declared.reply.Reply.TheVariants.{Refused}
-use Rattle.sd_moves.specs.Moves.{Moves}
 use Rattle.sd_moves.specs.World.{WorldView}
-use Rattle.sd_closed.specs.Along.{MovesAlong}
+use Rattle.sd_closed.specs.Steps.{IsStep, StepsAlong}
 use Rattle.sd_rounds.specs.declared.headway.Round.{Round}
 use Rattle.sd_rounds.specs.Rounds.{PlaysOn, PlaysRound}
 use Rattle.sd_rounds.proofs.Played.{along_append}
@@ -44,22 +43,22 @@ gives_append meaning syncing event a b c (t ∷ ts) us p q = (p.0, p.1, p.2, p.3
 
 -- one more, behind which something moved
 pub tried_more : {D : Type 0} (meaning : D → Meaning) (syncing : Syncing) (event : Event) (reply : Reply) (old world asked new : WorldView D) (count : ℕ) (round : Round)
-    → Tried meaning syncing event old count world → Moves meaning world event reply asked → may_change event reply ≡ true
+    → Tried meaning syncing event old count world → IsStep meaning world event reply asked → may_change event reply ≡ true
     → PlaysOn meaning (IsWait syncing asked) asked round new → round.moved ≡ true → Tried meaning syncing event old (count + 1) new
-tried_more meaning syncing event reply old world asked new count round p moves may plays moved =
+tried_more meaning syncing event reply old world asked new count round p step may plays moved =
     let t : Try = record { answer = reply; events = plays.events; replies = plays.replies } in
     record {
       tries = p.tries ++ t ∷ [];
       count_is = length-append p.tries (t ∷ []) ∙ ap (λ n. n + 1) p.count_is;
       gives = gives_append meaning syncing event old world new p.tries (t ∷ []) p.gives
-          (asked, new, moves, may, (plays.is_kind, plays.along), sym plays.tells.moved ∙ moved, refl);
+          (asked, new, step, may, (plays.is_kind, plays.along), sym plays.tells.moved ∙ moved, refl);
     }
 
 -- the world's answer is the answer
 pub answered : {D : Type 0} (meaning : D → Meaning) (syncing : Syncing) (event : Event) (reply : Reply) (old world new : WorldView D) (count rounds : ℕ)
-    → Tried meaning syncing event old count world → count ≤ rounds → Moves meaning world event reply new → (may_change event reply ≡ false) ⊎ (count ≡ rounds)
+    → Tried meaning syncing event old count world → count ≤ rounds → IsStep meaning world event reply new → (may_change event reply ≡ false) ⊎ (count ≡ rounds)
     → AnswersSome meaning syncing rounds old event reply new
-answered meaning syncing event reply old world new count rounds p few moves due = (
+answered meaning syncing event reply old world new count rounds p few step due = (
   events_tried event p.tries ++ event ∷ [],
   replies_tried p.tries ++ reply ∷ [],
   record {
@@ -69,7 +68,7 @@ answered meaning syncing event reply old world new count rounds p few moves due 
     gives = p.gives;
     last_events = event ∷ [];
     last_replies = reply ∷ [];
-    ends = subst (λ n. Ends meaning syncing event n rounds reply world (event ∷ []) (reply ∷ []) new) (sym p.count_is) (inl (record { moves = moves; due = due; events_are = refl; replies_are = refl }));
+    ends = subst (λ n. Ends meaning syncing event n rounds reply world (event ∷ []) (reply ∷ []) new) (sym p.count_is) (inl (record { step = step; due = due; events_are = refl; replies_are = refl }));
     events_are = refl;
     replies_are = refl;
   },
@@ -77,10 +76,10 @@ answered meaning syncing event reply old world new count rounds p few moves due 
 
 -- nothing moved behind it
 pub stood_still : {D : Type 0} (meaning : D → Meaning) (syncing : Syncing) (event : Event) (answer reply : Reply) (old world asked still new : WorldView D) (count rounds : ℕ) (round : Round)
-    → Tried meaning syncing event old count world → count < rounds → Moves meaning world event answer asked → may_change event answer ≡ true
+    → Tried meaning syncing event old count world → count < rounds → IsStep meaning world event answer asked → may_change event answer ≡ true
     → PlaysOn meaning (IsWait syncing asked) asked round still → round.moved ≡ false
     → RestsSome meaning syncing event answer still reply new → AnswersSome meaning syncing rounds old event reply new
-stood_still meaning syncing event answer reply old world asked still new count rounds round p left moves may plays nothing rest =
+stood_still meaning syncing event answer reply old world asked still new count rounds round p left step may plays nothing rest =
     let es = event ∷ (plays.events ++ rest.0) in
     let rs = answer ∷ (plays.replies ++ rest.1) in (
       events_tried event p.tries ++ es,
@@ -95,7 +94,7 @@ stood_still meaning syncing event answer reply old world asked still new count r
         ends = subst (λ n. Ends meaning syncing event n rounds reply world es rs new) (sym p.count_is) (inr (inl (record {
           answer = answer;
           asked = asked;
-          moves = moves;
+          step = step;
           may = may;
           left = left;
           round_events = plays.events;
@@ -128,9 +127,9 @@ rests_without meaning AtRest event answer old new is same = ([], [], inr (record
 
 -- the drives synced, and the event was given once more
 pub rests_synced : {D : Type 0} (meaning : D → Meaning) (syncing : Syncing) (event : Event) (answer reply : Reply) (old synced new : WorldView D) (round : Round) → syncing ≡ AtRest
-    → PlaysRound meaning old round synced → Moves meaning synced event reply new → RestsSome meaning syncing event answer old reply new
-rests_synced meaning EachRound event answer reply old synced new round is plays moves = absurd (cc is)
-rests_synced meaning AtRest event answer reply old synced new round is plays moves = (
+    → PlaysRound meaning old round synced → IsStep meaning synced event reply new → RestsSome meaning syncing event answer old reply new
+rests_synced meaning EachRound event answer reply old synced new round is plays step = absurd (cc is)
+rests_synced meaning AtRest event answer reply old synced new round is plays step = (
   plays.events ++ event ∷ [],
   plays.replies ++ reply ∷ [],
   inl (record {
@@ -138,7 +137,7 @@ rests_synced meaning AtRest event answer reply old synced new round is plays mov
     round_events = plays.events;
     round_replies = plays.replies;
     plays = (plays.is_kind, plays.along);
-    moves = moves;
+    step = step;
     events_are = refl;
     replies_are = refl;
   }),
@@ -146,9 +145,9 @@ rests_synced meaning AtRest event answer reply old synced new round is plays mov
 
 -- there was no memory for a round
 pub lacked_memory : {D : Type 0} (meaning : D → Meaning) (syncing : Syncing) (event : Event) (reply : Reply) (old world asked new : WorldView D) (count rounds : ℕ)
-    → Tried meaning syncing event old count world → count < rounds → Moves meaning world event reply asked → may_change event reply ≡ true
+    → Tried meaning syncing event old count world → count < rounds → IsStep meaning world event reply asked → may_change event reply ≡ true
     → new ≡ asked → AnswersSome meaning syncing rounds old event (Refused Memory) new
-lacked_memory meaning syncing event reply old world asked new count rounds p left moves may same =
+lacked_memory meaning syncing event reply old world asked new count rounds p left step may same =
     let es : List Event = event ∷ [] in
     let rs : List Reply = reply ∷ [] in (
       events_tried event p.tries ++ es,
@@ -162,7 +161,7 @@ lacked_memory meaning syncing event reply old world asked new count rounds p lef
         last_replies = rs;
         ends = subst (λ n. Ends meaning syncing event n rounds (Refused Memory) world es rs new) (sym p.count_is) (inr (inr (record {
           answer = reply;
-          moves = subst (λ w. Moves meaning world event reply w) (sym same) moves;
+          step = subst (λ w. IsStep meaning world event reply w) (sym same) step;
           may = may;
           left = left;
           reply_is = refl;
@@ -176,38 +175,38 @@ lacked_memory meaning syncing event reply old world asked new count rounds p lef
 
 -- What the tries do to the world.
 
-one_along : {D : Type 0} (meaning : D → Meaning) (a b : WorldView D) (event : Event) (reply : Reply) → Moves meaning a event reply b → MovesAlong meaning a (event ∷ []) (reply ∷ []) b
-one_along meaning a b event reply moves = (b, moves, refl)
+one_along : {D : Type 0} (meaning : D → Meaning) (a b : WorldView D) (event : Event) (reply : Reply) → IsStep meaning a event reply b → StepsAlong meaning a (event ∷ []) (reply ∷ []) b
+one_along meaning a b event reply step = (b, step, refl)
 
 pub gives_along : {D : Type 0} (meaning : D → Meaning) (syncing : Syncing) (event : Event) (a b : WorldView D) (ts : List Try) → GivesAgain meaning syncing event a ts b
-    → MovesAlong meaning a (events_tried event ts) (replies_tried ts) b
+    → StepsAlong meaning a (events_tried event ts) (replies_tried ts) b
 gives_along meaning syncing event a b [] p = p
 gives_along meaning syncing event a b (t ∷ ts) p =
     (p.0, p.2, along_append meaning p.0 p.1 b t.events (events_tried event ts) t.replies (replies_tried ts) p.4.1 (gives_along meaning syncing event p.1 b ts p.6))
 
 rests_along : {D : Type 0} (meaning : D → Meaning) (syncing : Syncing) (event : Event) (answer reply : Reply) (a b : WorldView D) (es : List Event) (rs : List Reply)
-    → Rests meaning syncing event answer a reply es rs b → MovesAlong meaning a es rs b
+    → Rests meaning syncing event answer a reply es rs b → StepsAlong meaning a es rs b
 rests_along meaning EachRound event answer reply a b es rs p = rw (p.events_are, p.replies_are) p.new_is
 rests_along meaning AtRest event answer reply a b es rs (inl p) =
     rw (p.events_are, p.replies_are)
-    (along_append meaning a p.synced b p.round_events (event ∷ []) p.round_replies (reply ∷ []) p.plays.1 (one_along meaning p.synced b event reply p.moves))
+    (along_append meaning a p.synced b p.round_events (event ∷ []) p.round_replies (reply ∷ []) p.plays.1 (one_along meaning p.synced b event reply p.step))
 rests_along meaning AtRest event answer reply a b es rs (inr p) = rw (p.events_are, p.replies_are) p.new_is
 
 ends_along : {D : Type 0} (meaning : D → Meaning) (syncing : Syncing) (event : Event) (tried rounds : ℕ) (reply : Reply) (a b : WorldView D) (es : List Event) (rs : List Reply)
-    → Ends meaning syncing event tried rounds reply a es rs b → MovesAlong meaning a es rs b
-ends_along meaning syncing event tried rounds reply a b es rs (inl p) = rw (p.events_are, p.replies_are) (one_along meaning a b event reply p.moves)
+    → Ends meaning syncing event tried rounds reply a es rs b → StepsAlong meaning a es rs b
+ends_along meaning syncing event tried rounds reply a b es rs (inl p) = rw (p.events_are, p.replies_are) (one_along meaning a b event reply p.step)
 ends_along meaning syncing event tried rounds reply a b es rs (inr (inl p)) =
     rw (p.events_are, p.replies_are) (
       p.asked,
-      p.moves,
+      p.step,
       along_append meaning p.asked p.still b p.round_events p.rest_events p.round_replies p.rest_replies p.waits.1
           (rests_along meaning syncing event p.answer reply p.still b p.rest_events p.rest_replies p.rests),
     )
-ends_along meaning syncing event tried rounds reply a b es rs (inr (inr p)) = rw (p.events_are, p.replies_are) (one_along meaning a b event p.answer p.moves)
+ends_along meaning syncing event tried rounds reply a b es rs (inr (inr p)) = rw (p.events_are, p.replies_are) (one_along meaning a b event p.answer p.step)
 
 -- an answer is a run of the world along its events
 pub answers_along : {D : Type 0} (meaning : D → Meaning) (syncing : Syncing) (rounds : ℕ) (event : Event) (reply : Reply) (a b : WorldView D) (es : List Event) (rs : List Reply)
-    → Answers meaning syncing rounds a event reply es rs b → MovesAlong meaning a es rs b
+    → Answers meaning syncing rounds a event reply es rs b → StepsAlong meaning a es rs b
 answers_along meaning syncing rounds event reply a b es rs p =
     rw (p.events_are, p.replies_are)
     (along_append meaning a p.middle b (events_tried event p.tries) p.last_events (replies_tried p.tries) p.last_replies

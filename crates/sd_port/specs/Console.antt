@@ -10,8 +10,8 @@ use Rattle.sd_machine.specs.declared.event.Event.{Event}
 use Rattle.sd_machine.specs.declared.event.Event.TheVariants as event
 use Rattle.sd_machine.specs.declared.reply.Reply.{Reply}
 use Rattle.sd_machine.specs.declared.reply.Reply.TheVariants.{Refused, Adopted}
-use Rattle.sd_moves.specs.Moves.{Moves}
 use Rattle.sd_moves.specs.World.{WorldView}
+use Rattle.sd_closed.specs.Steps.{IsStep}
 use Rattle.sd_core.specs.View.{view_of}
 use Rattle.sd_script.specs.Grammar.{AreNames, HasForm, HasShape}
 use Rattle.sd_script.specs.declared.console.ConsoleCmd.{ConsoleCmd}
@@ -32,7 +32,7 @@ GivesNone events replies old new = (events ≡ []) × (replies ≡ []) × (new �
 
 -- the event is given to the world, and answered so
 abbrev pub GivesOne : {D : Type 0} → (D → Meaning) → Event → Reply → List Event → List Reply → WorldView D → WorldView D → Type 0
-GivesOne meaning e reply events replies old new = (events ≡ e ∷ []) × (replies ≡ reply ∷ []) × Moves meaning old e reply new
+GivesOne meaning e reply events replies old new = (events ≡ e ∷ []) × (replies ≡ reply ∷ []) × IsStep meaning old e reply new
 
 -- The answer to an operator's event: its refusal; or else the line that tells that it is done.
 abbrev pub told_done : List ℕ → Reply → Answer

@@ -3,9 +3,9 @@ use Rattle.std.specs.Prelude.{◌≡◌, ℕ, ℤ, List, [], ◌∷◌, ◌++◌
 use Rattle.sd_driver.specs.Meaning.{Meaning}
 use Rattle.sd_machine.specs.declared.event.Event.{Event}
 use Rattle.sd_machine.specs.declared.reply.Reply.{Reply}
-use Rattle.sd_moves.specs.Rules.{IsWorld}
 use Rattle.sd_moves.specs.World.{WorldView}
-use Rattle.sd_core.specs.Reading.{ReadsWorld}
+use Rattle.sd_closed.specs.Deeds.{Deed, ReadBack, IsRead, answered}
+use Rattle.sd_closed.specs.Steps.{IsSound}
 use Rattle.sd_append.specs.Port.{Exchange, Stepped, WasRead, Said}
 use Rattle.sd_port.specs.Console.{LineDoes}
 use Rattle.sd_port.specs.Tries.{Answers, PlaysAs}
@@ -31,57 +31,49 @@ behind exchange w p = record p { world = w; asked = p.asked ++ exchange ∷ [] }
 
 -- What a port did at once: an exchange, or a round that it was told to play; with the events that its world was given for
 -- it, and the replies to them.
-pub data Deed : Type 0 where
-  Exchanged : Exchange → List Event → List Reply → Deed
-  Played : List Event → List Reply → Deed
+pub data PortDeed : Type 0 where
+  Exchanged : Exchange → List Event → List Reply → PortDeed
+  Played : List Event → List Reply → PortDeed
 
 -- what the port was asked in these deeds
-abbrev pub asked_in : List Deed → List Exchange
+abbrev pub asked_in : List PortDeed → List Exchange
 asked_in [] = []
 asked_in (Exchanged exchange events replies ∷ deeds) = exchange ∷ asked_in deeds
 asked_in (Played events replies ∷ deeds) = asked_in deeds
 
--- the world's events in a deed
-abbrev pub events_of : Deed → List Event
-events_of (Exchanged exchange events replies) = events
-events_of (Played events replies) = events
+-- the world's deeds in one of the port's
+abbrev pub world_deeds : PortDeed → List Deed
+world_deeds (Exchanged (Stepped event reply) events replies) = answered events replies
+world_deeds (Exchanged (WasRead key spans records answer) events replies) = ReadBack key spans [] records answer ∷ []
+world_deeds (Exchanged (Said text answer) events replies) = answered events replies
+world_deeds (Played events replies) = answered events replies
 
--- and the replies to them
-abbrev pub replies_of : Deed → List Reply
-replies_of (Exchanged exchange events replies) = replies
-replies_of (Played events replies) = replies
-
--- the world's events in these deeds, one after another
-abbrev pub events_in : List Deed → List Event
-events_in [] = []
-events_in (d ∷ deeds) = events_of d ++ events_in deeds
-
--- and the replies to them
-abbrev pub replies_in : List Deed → List Reply
-replies_in [] = []
-replies_in (d ∷ deeds) = replies_of d ++ replies_in deeds
+-- the world's deeds in these, one after another
+abbrev pub world_deeds_in : List PortDeed → List Deed
+world_deeds_in [] = []
+world_deeds_in (d ∷ deeds) = world_deeds d ++ world_deeds_in deeds
 
 -- From the one world a deed leads to the other: an event is answered, in at most so many rounds; a session is read back,
 -- for which the world is given no event; a console's line is obeyed, at some moment; or a round is played.
-abbrev pub IsDone : {D : Type 0} → (D → Meaning) → Syncing → ℕ → Deed → WorldView D → WorldView D → Type 0
-IsDone meaning syncing rounds (Exchanged (Stepped event reply) events replies) old new =
+abbrev pub IsPortDeed : {D : Type 0} → (D → Meaning) → Syncing → ℕ → PortDeed → WorldView D → WorldView D → Type 0
+IsPortDeed meaning syncing rounds (Exchanged (Stepped event reply) events replies) old new =
     Answers meaning syncing rounds old event reply events replies new
-IsDone meaning syncing rounds (Exchanged (WasRead key spans records answer) events replies) old new =
-    (events ≡ []) × (replies ≡ []) × ReadsWorld meaning key spans [] records answer old new
-IsDone meaning syncing rounds (Exchanged (Said text answer) events replies) old new =
+IsPortDeed meaning syncing rounds (Exchanged (WasRead key spans records answer) events replies) old new =
+    (events ≡ []) × (replies ≡ []) × IsRead meaning key spans [] records answer old new
+IsPortDeed meaning syncing rounds (Exchanged (Said text answer) events replies) old new =
     (moment : ℤ) × LineDoes meaning moment text answer events replies old new
-IsDone meaning syncing rounds (Played events replies) old new = PlaysAs meaning old events replies new
+IsPortDeed meaning syncing rounds (Played events replies) old new = PlaysAs meaning old events replies new
 
 -- from the one world these deeds lead to the other, one after another, and nothing else
-abbrev pub LeadsTo : {D : Type 0} → (D → Meaning) → Syncing → ℕ → WorldView D → List Deed → WorldView D → Type 0
-LeadsTo meaning syncing rounds old [] new = new ≡ old
-LeadsTo {D} meaning syncing rounds old (d ∷ deeds) new =
-    (between : WorldView D) × IsDone meaning syncing rounds d old between × LeadsTo meaning syncing rounds between deeds new
+abbrev pub PortLeadsTo : {D : Type 0} → (D → Meaning) → Syncing → ℕ → WorldView D → List PortDeed → WorldView D → Type 0
+PortLeadsTo meaning syncing rounds old [] new = new ≡ old
+PortLeadsTo {D} meaning syncing rounds old (d ∷ deeds) new =
+    (between : WorldView D) × IsPortDeed meaning syncing rounds d old between × PortLeadsTo meaning syncing rounds between deeds new
 
--- What a port keeps: deeds lead from the world that it was made with, which keeps its rules, to its world now; and what it
+-- What a port keeps: deeds lead from the world that it was made with, which is sound, to its world now; and what it
 -- was asked is what it was asked in them.
 pub record IsOver {D : Type 0} (meaning : D → Meaning) (p : PortView D) : Type 0 where
-  pub opens : IsWorld p.opening
-  pub deeds : List Deed
-  pub leads : LeadsTo meaning p.syncing p.rounds p.opening deeds p.world
+  pub opens : IsSound meaning p.opening
+  pub deeds : List PortDeed
+  pub leads : PortLeadsTo meaning p.syncing p.rounds p.opening deeds p.world
   pub asked_are : p.asked ≡ asked_in deeds

@@ -7,8 +7,7 @@ use Rattle.sd_machine.specs.declared.event.Event.TheVariants.{Append, Close}
 use Rattle.sd_machine.specs.declared.reply.Reply.{Reply}
 use Rattle.sd_machine.specs.declared.reply.Reply.TheVariants.{Refused}
 use Rattle.sd_moves.specs.World.{WorldView}
-use Rattle.sd_moves.specs.Moves.{Moves}
-use Rattle.sd_closed.specs.Along.{MovesAlong}
+use Rattle.sd_closed.specs.Steps.{IsStep, StepsAlong}
 use Rattle.sd_rounds.specs.Rounds.{IsCarry, IsRound, moved_in}
 use Rattle.sd_port.specs.declared.syncing.Syncing.{Syncing}
 use Rattle.sd_port.specs.declared.syncing.Syncing.TheVariants.{EachRound, AtRest}
@@ -22,7 +21,7 @@ may_change event reply = false
 
 -- a round is played, of these events and replies
 abbrev pub PlaysAs : {D : Type 0} → (D → Meaning) → WorldView D → List Event → List Reply → WorldView D → Type 0
-PlaysAs meaning old events replies new = IsRound old events replies × MovesAlong meaning old events replies new
+PlaysAs meaning old events replies new = IsRound old events replies × StepsAlong meaning old events replies new
 
 -- the round that an event waits for: one in which the drives sync, or, where they sync at rest, one in which none does
 abbrev pub IsWait : {D : Type 0} → Syncing → WorldView D → List Event → List Reply → Type 0
@@ -31,7 +30,7 @@ IsWait AtRest w events replies = IsCarry w events replies
 
 -- such a round is played, of these events and replies
 abbrev pub WaitsAs : {D : Type 0} → (D → Meaning) → Syncing → WorldView D → List Event → List Reply → WorldView D → Type 0
-WaitsAs meaning syncing old events replies new = IsWait syncing old events replies × MovesAlong meaning old events replies new
+WaitsAs meaning syncing old events replies new = IsWait syncing old events replies × StepsAlong meaning old events replies new
 
 -- an answer that may change, and the events and replies of the round that was played then
 pub record Try : Type 0 where
@@ -44,7 +43,7 @@ abbrev pub GivesAgain : {D : Type 0} → (D → Meaning) → Syncing → Event �
 GivesAgain meaning syncing event old [] new = new ≡ old
 GivesAgain {D} meaning syncing event old (t ∷ tries) new =
     (asked : WorldView D) × (after : WorldView D)
-    × Moves meaning old event t.answer asked × (may_change event t.answer ≡ true)
+    × IsStep meaning old event t.answer asked × (may_change event t.answer ≡ true)
     × WaitsAs meaning syncing asked t.events t.replies after × (moved_in t.replies ≡ true)
     × GivesAgain meaning syncing event after tries new
 
@@ -62,7 +61,7 @@ replies_tried (t ∷ tries) = t.answer ∷ (t.replies ++ replies_tried tries)
 -- rounds.
 pub record IsAnswered {D : Type 0} (meaning : D → Meaning) (event : Event) (tried rounds : ℕ) (reply : Reply)
     (old : WorldView D) (events : List Event) (replies : List Reply) (new : WorldView D) : Type 0 where
-  pub moves : Moves meaning old event reply new
+  pub step : IsStep meaning old event reply new
   pub due : (may_change event reply ≡ false) ⊎ (tried ≡ rounds)
   pub events_are : events ≡ event ∷ []
   pub replies_are : replies ≡ reply ∷ []
@@ -74,7 +73,7 @@ pub record SyncsAndGives {D : Type 0} (meaning : D → Meaning) (event : Event) 
   pub round_events : List Event
   pub round_replies : List Reply
   pub plays : PlaysAs meaning old round_events round_replies synced
-  pub moves : Moves meaning synced event reply new
+  pub step : IsStep meaning synced event reply new
   pub events_are : events ≡ round_events ++ event ∷ []
   pub replies_are : replies ≡ round_replies ++ reply ∷ []
 
@@ -98,7 +97,7 @@ pub record StandsStill {D : Type 0} (meaning : D → Meaning) (syncing : Syncing
     (old : WorldView D) (events : List Event) (replies : List Reply) (new : WorldView D) : Type 0 where
   pub answer : Reply
   pub asked : WorldView D
-  pub moves : Moves meaning old event answer asked
+  pub step : IsStep meaning old event answer asked
   pub may : may_change event answer ≡ true
   pub left : tried < rounds
   pub round_events : List Event
@@ -116,7 +115,7 @@ pub record StandsStill {D : Type 0} (meaning : D → Meaning) (syncing : Syncing
 pub record LacksMemory {D : Type 0} (meaning : D → Meaning) (event : Event) (tried rounds : ℕ) (reply : Reply)
     (old : WorldView D) (events : List Event) (replies : List Reply) (new : WorldView D) : Type 0 where
   pub answer : Reply
-  pub moves : Moves meaning old event answer new
+  pub step : IsStep meaning old event answer new
   pub may : may_change event answer ≡ true
   pub left : tried < rounds
   pub reply_is : reply ≡ Refused Memory

@@ -1,16 +1,15 @@
 // What holds of events that are given again, and of all that a port did.
-ghost use Rattle.sd_port.specs.Laws.{AnswersAreARun, DeedsAreARun, GivenUp};
+ghost use Rattle.sd_port.specs.Laws.{AnswersLead, PortLeads, GivenUp};
 
-/// All that a world is given for an event, with what it replies, is a run of the list machine; the rounds' events are
-/// among it.
-pub fn answers_are_a_run<D>()
-    ensures { AnswersAreARun D }
+/// All that a world is given for an event, with what it replies, are deeds of the world; the rounds' events are among
+/// them.
+pub fn answers_lead<D>()
+    ensures { AnswersLead D }
 {}
 
-/// All that a port's world is given, with what it replies, is a run of the list machine; the events of rounds and of a
-/// console's lines are among it.
-pub fn deeds_are_a_run<D>()
-    ensures { DeedsAreARun D }
+/// All that a port did are deeds of its world; the events of rounds and of a console's lines are among them.
+pub fn port_leads<D>()
+    ensures { PortLeads D }
 {}
 
 /// A session whose cancel was given, whatever the answer, is neither active nor ended. So what `talk` gives at its end

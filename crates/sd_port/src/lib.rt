@@ -12,7 +12,7 @@ mod syncing;
 mod tries;
 mod watched;
 
-pub use laws::{answers_are_a_run, cancels_give_up, deeds_are_a_run};
+pub use laws::{answers_lead, cancels_give_up, port_leads};
 pub use lines::{one_line, packet_of, show};
 pub use port::WorldPort;
 pub use syncing::Syncing;

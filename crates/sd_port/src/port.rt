@@ -4,7 +4,7 @@ ghost use Rattle.sd_base.specs.Record.{Record};
 ghost use Rattle.sd_base.specs.declared.refusal.Refusal.TheVariants.{Memory};
 ghost use Rattle.sd_machine.specs.declared.event.Event.{Event as SpecEvent};
 ghost use Rattle.sd_machine.specs.declared.reply.Reply.{Reply as SpecReply};
-ghost use Rattle.sd_core.specs.Reading.{ReadsWorld};
+ghost use Rattle.sd_closed.specs.Deeds.{IsRead};
 ghost use Rattle.sd_rounds.specs.Rounds.{PlaysRound};
 ghost use Rattle.sd_append.specs.Port.{IsLine, Said, Stepped, WasRead};
 ghost use Rattle.sd_port.specs.Console.{LineDoes};
@@ -114,7 +114,7 @@ impl<D: Driver + Drop, Q: Lanes, S: SpoolStore + Drop> WorldPort<D, Q, S> {
     pub fn read<K: Sink>(&mut self, key: SessionKey, spans: &[Span], sink: K) -> ReadBack<K>
         ensures reads { (records : List Record)
             × (K.got result.sink ≡ K.got sink ++ records)
-            × ReadsWorld (λ d. D.meaning d) key spans.now [] records result.answer
+            × IsRead (λ d. D.meaning d) key spans.now [] records result.answer
             self.old.world self.new.world
             × (self.new ≡ behind (WasRead key spans.now records result.answer) self.new.world
             self.old) }

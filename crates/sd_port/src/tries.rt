@@ -3,7 +3,7 @@ ghost use Rattle.std.specs.Prelude.{◌≡◌, List};
 ghost use Rattle.sd_machine.specs.declared.event.Event.{Event as SpecEvent};
 ghost use Rattle.sd_machine.specs.declared.event.Event.TheVariants.{Append, Close};
 ghost use Rattle.sd_machine.specs.declared.reply.Reply.{Reply as SpecReply};
-ghost use Rattle.sd_moves.specs.Moves.{Moves};
+ghost use Rattle.sd_closed.specs.Steps.{IsStep};
 ghost use Rattle.sd_port.specs.Again.{event_again};
 ghost use Rattle.sd_port.specs.Tries.{Answers, Rests, may_change};
 
@@ -28,7 +28,7 @@ impl Again {
         &self,
         world: &mut World<D, Q, S>,
     ) -> Reply
-        ensures { Moves (λ d. D.meaning d) world.old (event_again self.now) result world.new }
+        ensures { IsStep (λ d. D.meaning d) world.old (event_again self.now) result world.new }
     {
         match self {
             Again::Append { ticket, rec } => world.append(*ticket, rec),

@@ -1,7 +1,7 @@
 // Which records a sink got while a session was read back.
 ghost use Rattle.std.specs.Prelude.{◌≡◌, ◌++◌, List, []};
 ghost use Rattle.sd_base.specs.Record.{Record};
-ghost use Rattle.sd_core.specs.Reading.{ReadsWorld};
+ghost use Rattle.sd_closed.specs.Deeds.{IsRead};
 
 use sd_append::Shown;
 use sd_base::{Rec, Refusal, SessionKey};
@@ -73,7 +73,7 @@ pub(crate) fn read_watched<B: Before, D: Driver, Q: Lanes, S: SpoolStore + Drop,
 ) -> Reading<K>
     requires { K.got sink ≡ B.before }
     ensures got { K.got result.sink ≡ B.before ++ result.handed }
-    ensures reads { ReadsWorld (λ d. D.meaning d) key spans.now [] result.handed result.answer
+    ensures reads { IsRead (λ d. D.meaning d) key spans.now [] result.handed result.answer
         world.old world.new }
 {
     let mut watched: Watched<B, K> = Watched {

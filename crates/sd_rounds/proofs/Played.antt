@@ -7,15 +7,14 @@ use Rattle.sd_machine.specs.declared.event.Event.{Event}
 use Rattle.sd_machine.specs.declared.event.Event.TheVariants.{Place, Seek}
 use Rattle.sd_machine.specs.declared.reply.Reply.{Reply}
 use Rattle.sd_machine.specs.declared.reply.Reply.TheVariants.{NeedVolume, Mounted}
-use Rattle.sd_closed.specs.Along.{MovesAlong}
-use Rattle.sd_moves.specs.Moves.{Moves}
+use Rattle.sd_closed.specs.Steps.{IsStep, StepsAlong}
 use Rattle.sd_moves.specs.World.{WorldView}
 use Rattle.sd_rounds.specs.declared.headway.Round.{Round}
 use Rattle.sd_rounds.specs.Rounds.{PlaysOn, Tells, counted, has_moved, placed_in, placing}
 
 pub along_append : {D : Type 0} (meaning : D → Meaning) (a b c : WorldView D) (es fs : List Event) (rs ss : List Reply)
-    → MovesAlong meaning a es rs b → MovesAlong meaning b fs ss c → MovesAlong meaning a (es ++ fs) (rs ++ ss) c
-along_append meaning a b c [] fs [] ss p q = subst (λ w. MovesAlong meaning w fs ss c) p q
+    → StepsAlong meaning a es rs b → StepsAlong meaning b fs ss c → StepsAlong meaning a (es ++ fs) (rs ++ ss) c
+along_append meaning a b c [] fs [] ss p q = subst (λ w. StepsAlong meaning w fs ss c) p q
 along_append meaning a b c [] fs (r ∷ rs) ss p q = absurd p
 along_append meaning a b c (e ∷ es) fs [] ss p q = absurd p
 along_append meaning a b c (e ∷ es) fs (r ∷ rs) ss p q = (p.0, p.1, along_append meaning p.0 b c es fs rs ss p.2 q)
@@ -50,13 +49,13 @@ on_and meaning J K L a b c x y r p q moved placed kinds = record {
 abbrev pub Are : List Event → List Reply → List Event → List Reply → Type 0
 Are es rs events replies = (events ≡ es) × (replies ≡ rs)
 
-pub on_step : {D : Type 0} (meaning : D → Meaning) (a b : WorldView D) (event : Event) (reply : Reply) (x : Round) → Moves meaning a event reply b → Tells x (reply ∷ [])
+pub on_step : {D : Type 0} (meaning : D → Meaning) (a b : WorldView D) (event : Event) (reply : Reply) (x : Round) → IsStep meaning a event reply b → Tells x (reply ∷ [])
     → PlaysOn meaning (Are (event ∷ []) (reply ∷ [])) a x b
-on_step meaning a b event reply x moves tells = record {
+on_step meaning a b event reply x step tells = record {
   events = event ∷ [];
   replies = reply ∷ [];
   is_kind = (refl, refl);
-  along = (b, moves, refl);
+  along = (b, step, refl);
   tells = tells;
 }
 

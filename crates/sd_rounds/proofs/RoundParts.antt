@@ -11,7 +11,7 @@ use Rattle.sd_machine.specs.declared.event.Event.{Event}
 use Rattle.sd_machine.specs.declared.event.Event.TheVariants.{Spool, Despool, Take, Sync, Retire}
 use Rattle.sd_machine.specs.declared.reply.Reply.{Reply}
 use Rattle.sd_machine.specs.declared.reply.Reply.TheVariants.{Refused, InHand, HandFull, Idle, Retired, NeedVolume, Mounted}
-use Rattle.sd_closed.specs.Along.{MovesAlong}
+use Rattle.sd_closed.specs.Steps.{StepsAlong}
 use Rattle.sd_moves.specs.Drives.{DriveMissing}
 use Rattle.sd_moves.specs.Moves.{Moves}
 use Rattle.sd_moves.specs.World.{WorldView, BayView, IsOnline}
@@ -38,12 +38,12 @@ only_retiring meaning w w' (Retire drive) reply h m = absurd h
 only_retiring meaning w w' event Retired h m = absurd m
 only_retiring meaning w w' event reply h m = tt
 
-pub along_stay : {D : Type 0} (meaning : D → Meaning) (w w' : WorldView D) (es : List Event) (rs : List Reply) → RetireNone es → MovesAlong meaning w es rs w' → DrivesStay w w'
+pub along_stay : {D : Type 0} (meaning : D → Meaning) (w w' : WorldView D) (es : List Event) (rs : List Reply) → RetireNone es → StepsAlong meaning w es rs w' → DrivesStay w w'
 along_stay meaning w w' [] [] h p = drives_same w w' p
 along_stay meaning w w' [] (r ∷ rs) h p = absurd p
 along_stay meaning w w' (e ∷ es) [] h p = absurd p
 along_stay meaning w w' (e ∷ es) (r ∷ rs) h p =
-    drives_then w p.0 w' (moves_stay meaning w p.0 e r (only_retiring meaning w p.0 e r h.0 p.1) p.1) (along_stay meaning p.0 w' es rs h.1 p.2)
+    drives_then w p.0 w' (moves_stay meaning w p.0 e r (only_retiring meaning w p.0 e r h.0 p.1.moves) p.1.moves) (along_stay meaning p.0 w' es rs h.1 p.2)
 
 pub sends_retire_none : (tickets : List ℕ) → RetireNone (sends tickets)
 sends_retire_none [] = tt

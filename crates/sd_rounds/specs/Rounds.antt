@@ -6,7 +6,7 @@ use Rattle.sd_machine.specs.declared.event.Event.{Event}
 use Rattle.sd_machine.specs.declared.event.Event.TheVariants.{Spool, Despool, Take, Place, Sync, Seek}
 use Rattle.sd_machine.specs.declared.reply.Reply.{Reply}
 use Rattle.sd_machine.specs.declared.reply.Reply.TheVariants.{Spooled, Sent, InHand, Placed, NeedVolume, VolumeFull, VolumeError, Mounted}
-use Rattle.sd_closed.specs.Along.{MovesAlong}
+use Rattle.sd_closed.specs.Steps.{StepsAlong}
 use Rattle.sd_moves.specs.World.{WorldView, BayView}
 use Rattle.sd_core.specs.View.{running_tickets}
 use Rattle.sd_rounds.specs.declared.headway.Round.{Round}
@@ -52,7 +52,7 @@ pub record PlaysOn {D : Type 0} (meaning : D → Meaning) (kind : List Event →
   pub events : List Event
   pub replies : List Reply
   pub is_kind : kind events replies
-  pub along : MovesAlong meaning old events replies new
+  pub along : StepsAlong meaning old events replies new
   pub tells : Tells round replies
 
 -- The sessions' part of a round.
@@ -159,7 +159,7 @@ PlaysCarry meaning old round new = PlaysOn meaning (IsCarry old) old round new
 pub record PlaysOne {D : Type 0} (meaning : D → Meaning) (old : WorldView D) (replies : List Reply) (new : WorldView D) : Type 0 where
   pub events : List Event
   pub is_round : IsRound old events replies
-  pub along : MovesAlong meaning old events replies new
+  pub along : StepsAlong meaning old events replies new
 
 -- rounds with these replies are played, one after another
 abbrev pub PlaysRounds : {D : Type 0} → (D → Meaning) → WorldView D → List (List Reply) → WorldView D → Type 0

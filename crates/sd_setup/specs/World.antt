@@ -4,13 +4,14 @@ use Rattle.std.specs.Global.{Global}
 use Rattle.std.specs.List.{AllZip}
 use Rattle.sd_conf.specs.declared.conf.Conf.{Conf}
 use Rattle.sd_conf.specs.declared.conf.DriveConf.{DriveConf}
+use Rattle.sd_closed.specs.Steps.{IsSound}
 use Rattle.sd_core.specs.Conf.{AreQueues, AreStores, limits_of}
 use Rattle.sd_core.specs.Fresh.{IsFresh}
 use Rattle.sd_core.specs.declared.conf.WorldConf.{WorldConf}
 use Rattle.sd_filedrive.specs.Drive.{meaning_of, folder_of}
 use Rattle.sd_filedrive.specs.Place.{folder_named}
 use Rattle.sd_filedrive.specs.declared.drive.FileDrive.{FileDrive}
-use Rattle.sd_lane.specs.Queue.{LanesView}
+use Rattle.sd_lane.specs.Queue.{PlainView, lanes_view}
 use Rattle.sd_machine.specs.Machine.{empty_machine}
 use Rattle.sd_matches.specs.Matches.{Matches}
 use Rattle.sd_moves.specs.World.{WorldView}
@@ -58,17 +59,18 @@ AreLaneFiles folder spools = AreFilesFrom folder 1 spools
 
 -- The world that is made of a configuration for the run of this time: new, without sessions and volumes, its drives in
 -- the configuration's order, each with its media, its lanes, an empty queue, and a device over its folder; the spool of
--- each lane is a file of its own in the folder of the spools.
+-- each lane is a file of its own in the folder of the spools. It keeps its rules, and matches the empty machine.
 pub record OpensAs {R F D : Type 0} (conf : Conf) (time : ℕ) (w : WorldView (FileDrive R F D)) : Type 0 where
   pub settings : WorldConf
   pub same : AreSettingsOf conf settings
   pub devices : List (FileDrive R F D)
-  pub queues : List LanesView
+  pub queues : List PlainView
   pub spools : List (Vec (FileSpool R F D) Global)
   pub folders : AllZip HasFolder conf.drives devices
-  pub queues_fit : AreQueues (λ q. q) settings.queue settings.drives.items queues
+  pub queues_fit : AreQueues (λ q. lanes_view q) settings.queue settings.drives.items queues
   pub spools_fit : AreStores settings.drives.items spools
   pub files : AreLaneFiles (spool_folder_of conf) spools
-  pub fresh : IsFresh (λ d. meaning_of d) (λ q. record { lanes = q.lanes; capacity = q.capacity; held = q.held }) (λ s. store_of s)
+  pub fresh : IsFresh (λ d. meaning_of d) (λ q. lanes_view q) (λ s. store_of s)
       (limits_of settings time) settings.queue settings.drives.items devices queues spools w
+  pub sound : IsSound (λ d. meaning_of d) w
   pub matches : Matches (λ d. meaning_of d) w (empty_machine time)

@@ -1,5 +1,6 @@
 // The world of a configuration.
 ghost use Rattle.std.specs.Prelude.{◌≡◌, ◌≤◌, map, length, All, IfOk};
+ghost use Rattle.sd_lane.specs.Queue.{lanes_view};
 ghost use Rattle.std.specs.List.{AllZip};
 ghost use Rattle.sd_base.specs.Limits.{most_number};
 ghost use Rattle.sd_conf.specs.Conf.{IsWithinLimits};
@@ -105,7 +106,7 @@ fn queues_of(
     drives: &[(MediaName, u32)],
     room: usize,
 ) -> Result<Vec<PlainLanes>, AllocError>
-    ensures { IfOk result (λ queues. AreQueues (λ q. q) room drives.now queues.items) }
+    ensures { IfOk result (λ queues. AreQueues (λ q. lanes_view q) room drives.now queues.items) }
 {
     let Some((last, front)) = drives.split_last() else {
         return Ok(Vec::new(alloc));

@@ -20,7 +20,8 @@ use Rattle.sd_rounds.specs.Rounds.{Drains, PlaysMoving, online_flags}
 use Rattle.sd_script.specs.declared.line.Tail.{Tail}
 use Rattle.sd_spool.specs.Meaning.{Meaning as StoreMeaning}
 use Rattle.sd_core.specs.Fresh.{AreNewDrives, new_bays}
-use Rattle.sd_core.specs.Reading.{ReadsWorld}
+use Rattle.sd_closed.specs.Deeds.{IsRead}
+use Rattle.sd_closed.specs.Reading.{ReadsWorld}
 use Rattle.sd_core.specs.View.{device_of, devices_of}
 use Rattle.sd_tool.specs.Restart.{HandsOn, RestartsAs, RestartsBy, StartsAnew, TellsTail, unfit}
 use Rattle.sd_settings.specs.Settings.{drive_count}
@@ -46,10 +47,14 @@ retired_other Retired before other = absurd (other refl)
 retired_other reply before other = refl
 
 -- a reading leaves them
-pub reads_stay : {D : Type 0} (meaning : D → Meaning) (key : _) (spans : List _) (got got' : List _) (result : _) (w w' : WorldView D)
+reading_stays : {D : Type 0} (meaning : D → Meaning) (key : _) (spans : List _) (got got' : List _) (result : _) (w w' : WorldView D)
     → ReadsWorld meaning key spans got got' result w w' → DrivesStay w w'
-reads_stay meaning key spans got got' result w w' (inl m) = drives_same w w' m.4
-reads_stay meaning key spans got got' result w w' (inr m) = online_still w w' m.1 m.2 m.3 _ m.4 m.6 refl (ap (λ v. v.limits) m.8) (ap (λ v. v.bays) m.8)
+reading_stays meaning key spans got got' result w w' (inl m) = drives_same w w' m.4
+reading_stays meaning key spans got got' result w w' (inr m) = online_still w w' m.1 m.2 m.3 _ m.4 m.6 refl (ap (λ v. v.limits) m.8) (ap (λ v. v.bays) m.8)
+
+pub reads_stay : {D : Type 0} (meaning : D → Meaning) (key : _) (spans : List _) (got got' : List _) (result : _) (w w' : WorldView D)
+    → IsRead meaning key spans got got' result w w' → DrivesStay w w'
+reads_stay meaning key spans got got' result w w' read = reading_stays meaning key spans got got' result w w' read.reads
 
 -- rounds leave them, whether memory lasted or not
 pub drain_stays : {D E : Type 0} (meaning : D → Meaning) (result : Result ℕ E) (w w' : WorldView D) → IfOk result (λ placed. Drains meaning w placed w')

@@ -5,7 +5,7 @@ use Rattle.sd_base.specs.declared.number.SessionKey.{SessionKey}
 use Rattle.sd_base.specs.declared.refusal.Refusal.{Refusal}
 use Rattle.sd_base.specs.declared.refusal.Refusal.TheVariants as refusal
 use Rattle.sd_console.specs.Replies.{reply_line}
-use Rattle.sd_core.specs.Reading.{ReadsWorld}
+use Rattle.sd_closed.specs.Deeds.{IsRead}
 use Rattle.sd_core.specs.View.{status_at, view_of}
 use Rattle.sd_driver.specs.Meaning.{Meaning}
 use Rattle.sd_machine.specs.declared.event.Event.{Event}
@@ -104,7 +104,7 @@ key_at s ticket = record { time = s.world.limits.time; id = ticket }
 -- The world reads the session back by these spans to this: the lines of its records were printed.
 abbrev pub ReadsOut : {D : Type 0} → (D → Meaning) → SessionKey → List Span → StageView D → StageView D → Result ReadEnd Refusal → SaidView → SaidView → Type 0
 ReadsOut meaning key spans old new result before after =
-    (records : List Record) × ReadsWorld meaning key spans [] records result old.world new.world × KeepsStage old new
+    (records : List Record) × IsRead meaning key spans [] records result old.world new.world × KeepsStage old new
     × Says before after (records_lines records)
 
 -- it does, and how that ended is printed behind them

@@ -1,5 +1,6 @@
 -- What the worlds of a script are made with.
 use Rattle.std.specs.Prelude.{◌≡◌, ℕ, Some, List, [], map, replicate, true}
+use Rattle.sd_lane.specs.Queue.{lanes_view}
 use Rattle.sd_driver.specs.Meaning.{Meaning}
 use Rattle.sd_drive.specs.View.{DriveIs}
 use Rattle.sd_moves.specs.World.{BayView, WorldView}
@@ -17,7 +18,7 @@ pub record IsRoomOf (v : ValuesView) (room : Room) : Type 0 where
   pub spool_is : room.conf.spool ≡ v.spool
   pub queue_is : room.conf.queue ≡ v.queue
   pub drives_are : room.conf.drives.items ≡ drives_of v
-  pub queues : AreQueues (λ q. q) room.conf.queue room.conf.drives.items room.queues.items
+  pub queues : AreQueues (λ q. lanes_view q) room.conf.queue room.conf.drives.items room.queues.items
   pub stores : AreStores room.conf.drives.items room.stores.items
 
 -- A world that was just made of these settings over these devices, for the run of this time: no session was opened, and

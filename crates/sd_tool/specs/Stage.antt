@@ -4,8 +4,8 @@ use Rattle.sd_driver.specs.Meaning.{Meaning}
 use Rattle.sd_machine.specs.declared.event.Event.{Event}
 use Rattle.sd_machine.specs.declared.reply.Reply.{Reply}
 use Rattle.sd_machine.specs.declared.reply.Reply.TheVariants.{Retired}
-use Rattle.sd_moves.specs.Moves.{Moves}
 use Rattle.sd_moves.specs.World.{WorldView}
+use Rattle.sd_closed.specs.Steps.{IsStep}
 use Rattle.sd_rounds.specs.Rounds.{online_flags}
 use Rattle.sd_settings.specs.Settings.{ValuesView, drive_count, misfit_of}
 
@@ -28,7 +28,7 @@ retired_after reply before = before
 -- the world answers the event with this reply; the settings stay, and that a drive is retired is kept
 abbrev pub StageMoves : {D : Type 0} → (D → Meaning) → Event → Reply → StageView D → StageView D → Type 0
 StageMoves meaning event reply old new =
-    Moves meaning old.world event reply new.world
+    IsStep meaning old.world event reply new.world
     × (new.values ≡ old.values) × (new.retired ≡ retired_after reply old.retired)
 
 -- beside the world all stays

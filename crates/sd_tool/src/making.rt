@@ -1,5 +1,6 @@
 // The worlds of a run.
 ghost use Rattle.std.specs.Prelude.{◌≡◌, ◌≤◌, None, IfOk, length};
+ghost use Rattle.sd_lane.specs.Queue.{lanes_view};
 ghost use Rattle.sd_base.specs.Limits.{most_number};
 ghost use Rattle.sd_core.specs.Conf.{AreQueues, AreStores};
 ghost use Rattle.sd_tool.specs.Making.{IsRoomOf, StartsAs};
@@ -112,7 +113,7 @@ fn queues_of(
     drives: &[(MediaName, u32)],
     room: usize,
 ) -> Result<Vec<PlainLanes>, AllocError>
-    ensures { IfOk result (λ queues. AreQueues (λ q. q) room drives.now queues.items) }
+    ensures { IfOk result (λ queues. AreQueues (λ q. lanes_view q) room drives.now queues.items) }
 {
     let mut queues = Vec::new(alloc);
     for drive in drives {

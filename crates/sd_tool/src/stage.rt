@@ -1,7 +1,7 @@
 // The world of a script.
 ghost use Rattle.std.specs.Prelude.{◌≡◌, None, IfOk, OnErr, length};
 ghost use Rattle.sd_rounds.specs.Rounds.{Drains, PlaysMoving};
-ghost use Rattle.sd_core.specs.Reading.{ReadsWorld};
+ghost use Rattle.sd_closed.specs.Deeds.{IsRead};
 ghost use Rattle.sd_core.specs.View.{status_at, view_of};
 ghost use Rattle.sd_tool.specs.Restart.{BeginsAs};
 ghost use Rattle.sd_settings.specs.Settings.{drive_count, misfit_of};
@@ -90,7 +90,7 @@ impl<D: Driver + Drop> Stage<D> {
         spans: &[Span],
         sink: &mut K,
     ) -> Result<ReadEnd, Refusal>
-        ensures reads { ReadsWorld (λ d. D.meaning d) key spans.now (K.got sink.old)
+        ensures reads { IsRead (λ d. D.meaning d) key spans.now (K.got sink.old)
             (K.got sink.new)
             result self.old.world self.new.world }
         ensures keeps { KeepsStage self.old self.new }

@@ -6,13 +6,13 @@ use Rattle.sd_port.proofs.console.adopt.Goals as goal
 
 pub returns-in-Refused : goal.returns-in-Refused
 returns-in-Refused g c =
-    (Adopt c.args.drive c.args.name ∷ [], Refused c.in-Refused.why ∷ [], inr (Refused c.in-Refused.why, (refl, refl, c.in-Refused.ensures.moves), refl))
+    (Adopt c.args.drive c.args.name ∷ [], Refused c.in-Refused.why ∷ [], inr (Refused c.in-Refused.why, (refl, refl, c.in-Refused.ensures), refl))
 
 pub returns-in-Adopted : goal.returns-in-Adopted
 returns-in-Adopted g c = (
   Adopt c.args.drive c.args.name ∷ [],
   Adopted c.in-Adopted.end c.in-Adopted.next ∷ [],
-  inr (Adopted c.in-Adopted.end c.in-Adopted.next, (refl, refl, c.in-Adopted.ensures.moves), ap Ok c.tell.ensures),
+  inr (Adopted c.in-Adopted.end c.in-Adopted.next, (refl, refl, c.in-Adopted.ensures), ap Ok c.tell.ensures),
 )
 
 pub returns-in_default : goal.returns-in_default

@@ -9,11 +9,11 @@ returns-in-Err g c = ([], [], inl (ap Err c.in-Err.ensures.err, (refl, refl, ref
 
 pub returns-in-Refused : goal.returns-in-Refused
 returns-in-Refused g c =
-    (c.args.event ∷ [], Refused c.in-Refused.why ∷ [], inr (Refused c.in-Refused.why, (refl, refl, c.in-Refused.ensures.moves), refl))
+    (c.args.event ∷ [], Refused c.in-Refused.why ∷ [], inr (Refused c.in-Refused.why, (refl, refl, c.in-Refused.ensures), refl))
 
 pub returns-in_default : goal.returns-in_default
 returns-in_default g c = (
   c.args.event ∷ [],
   c.step.result ∷ [],
-  inr (c.step.result, (refl, refl, c.step.ensures.moves), ap Ok c.in-Ok.ensures.ok ∙ sym (done_otherwise c.args.words.now c.step.result c.in_default.not-Refused)),
+  inr (c.step.result, (refl, refl, c.step.ensures), ap Ok c.in-Ok.ensures.ok ∙ sym (done_otherwise c.args.words.now c.step.result c.in_default.not-Refused)),
 )

@@ -6,5 +6,5 @@ pub returns : goal.returns
 returns g c = (
   Media c.args.ticket ∷ [],
   c.step-reply.result ∷ [],
-  (c.step-reply.result, (refl, refl, c.step-reply.ensures.moves), rw (← c.time.ensures, ← c.get.ensures.value) c.tell.ensures),
+  (c.step-reply.result, (refl, refl, c.step-reply.ensures), rw (← c.time.ensures, ← c.get.ensures.value) c.tell.ensures),
 )

@@ -15,4 +15,4 @@ pub returns-in_default : goal.returns-in_default
 returns-in_default g c =
     let few : 0 ≤ c.args.rounds = omega arith in
     answered g.D.Driver.meaning c.args.syncing c.args.event c.step.result c.args.world.now c.args.world.now c.step.new.self 0 c.args.rounds
-    (tried_none g.D.Driver.meaning c.args.syncing c.args.event c.args.world.now) few c.step.ensures.moves (inl (never_changes c.args.event c.step.result c.in_default.not-Append c.in_default.not-Close))
+    (tried_none g.D.Driver.meaning c.args.syncing c.args.event c.args.world.now) few c.step.ensures (inl (never_changes c.args.event c.step.result c.in_default.not-Append c.in_default.not-Close))

@@ -24,7 +24,7 @@ returns-then-not-syncs g c =
     let d = c.args.drive in
     let on = take_answered M old c.step-took.new.self d c.step-took.result c.in_default.not-Refused c.step-took.ensures.moves in
     let Took = Are (Take d ∷ []) (c.step-took.result ∷ []) in
-    let took = on_step M _ _ (Take d) _ c.of.result c.step-took.ensures.moves c.of.ensures in
+    let took = on_step M _ _ (Take d) _ c.of.result c.step-took.ensures c.of.ensures in
     let passed = on_and M Took (IsPlacing d) (IsPass d) _ _ _ _ _ _ took c.place-placed.ensures c.and-passed.ensures.moved c.and-passed.ensures.placed
     (λ es fs rs ss p q. record { took = c.step-took.result; placed = ss; events_are = rw (p.0, q); replies_are = rw p.1 }) in
     rw c.if-not-syncs.true
@@ -39,8 +39,8 @@ returns g c =
     let on = take_answered M old c.step-took.new.self d c.step-took.result c.in_default.not-Refused c.step-took.ensures.moves in
     let Took = Are (Take d ∷ []) (c.step-took.result ∷ []) in
     let Synced = Are (Sync d ∷ []) (c.step-synced.result ∷ []) in
-    let took = on_step M _ _ (Take d) _ c.of.result c.step-took.ensures.moves c.of.ensures in
-    let synced = on_step M _ _ (Sync d) _ c.of-2.result c.step-synced.ensures.moves c.of-2.ensures in
+    let took = on_step M _ _ (Take d) _ c.of.result c.step-took.ensures c.of.ensures in
+    let synced = on_step M _ _ (Sync d) _ c.of-2.result c.step-synced.ensures c.of-2.ensures in
     let passed = on_and M Took (IsPlacing d) (IsPass d) _ _ _ _ _ _ took c.place-placed.ensures c.and-passed.ensures.moved c.and-passed.ensures.placed
     (λ es fs rs ss p q. record { took = c.step-took.result; placed = ss; events_are = rw (p.0, q); replies_are = rw p.1 }) in
     let turn = on_and M (IsPass d) Synced (IsTurn d) _ _ _ _ _ _ passed synced c.and.ensures.moved c.and.ensures.placed

@@ -6,20 +6,23 @@ use Rattle.sd_moves.specs.Moves.{Moves}
 use Rattle.sd_moves.specs.Rules.{IsWorld}
 use Rattle.sd_moves.specs.World.{WorldView}
 use Rattle.sd_moves.proofs.Moves.{moves_keep_rules}
-use Rattle.sd_core.proofs.Steps.{is_step, append_tells_none}
 use Rattle.sd_core.proofs.world.World.append.Goals as goal
 
 pub invariant_of-self : goal.invariant_of-self
 invariant_of-self g c =
-    moves_keep_rules (λ d. g.D.Driver.meaning d) _ (world_of c.append.new.parts) (Append c.args.ticket c.args.rec.now) c.append.result c.self.invariant c.append.ensures.moves
+    moves_keep_rules (λ d. g.D.Driver.meaning d) _ (world_of c.answer_append.new.parts) (Append c.args.ticket c.args.rec.now) c.answer_append.result c.self.invariant
+    c.answer_append.ensures.moves
 
 pub returns : goal.returns
 returns g c =
     let meaning : g.row.D.Denot → Meaning = λ d. g.D.Driver.meaning d in
-    let new = world_of c.append.new.parts in
+    let new = world_of c.answer_append.new.parts in
     let event = Append c.args.ticket c.args.rec.now in
-    let W : WorldView g.row.D.Denot → Type 0 = λ w. IsWorld w in
-    let M : WorldView g.row.D.Denot → Type 0 = λ w. Moves meaning w event c.append.result new in
-    let h = subst W c.self.view_is c.self.invariant in
-    let m = subst M c.self.view_is c.append.ensures.moves in
-    is_step meaning _ new event c.append.result h m (append_tells_none meaning _ new c.args.ticket c.args.rec.now c.append.result m)
+    let M : WorldView g.row.D.Denot → Type 0 = λ w. Moves meaning w event c.answer_append.result new in
+    record {
+      moves = subst M c.self.view_is c.answer_append.ensures.moves;
+      sound = record {
+        rules = moves_keep_rules meaning _ new event c.answer_append.result c.self.invariant c.answer_append.ensures.moves;
+        drives = c.answer_append.ensures.drives;
+      };
+    }

@@ -1,4 +1,6 @@
-use Rattle.std.proofs.Common.{length, refl, ap, arith}
+use Rattle.std.proofs.Common.{List, length, refl, ap, subst, arith}
+use Rattle.sd_moves.specs.World.{BayView}
+use Rattle.sd_closed.specs.Steps.{DrivesKeep}
 use Rattle.sd_core.specs.Conf.{limits_of}
 use Rattle.sd_core.proofs.FreshWorld.{as_many_queues, as_many_stores, is_fresh, fresh_is_world}
 use Rattle.sd_core.proofs.world.World.new.Goals as goal
@@ -29,3 +31,16 @@ returns-in-Ok-clause-fresh g c =
     c.args.drivers.items c.args.lanes.items c.args.spools.items c.in-Ok.ensures.made.0 _
     refl refl refl c.new.ensures.items c.new-in-Ok.ensures.no_claim c.new-in-Ok.ensures.no_request
     c.deref.ensures.value c.in-Ok.ensures.made.1 c.in-Ok.ensures.made.2
+
+pub returns-in-Ok-clause-sound : goal.returns-in-Ok-clause-sound
+returns-in-Ok-clause-sound g c = record {
+  rules = fresh_is_world (λ d. g.D.Driver.meaning d) (λ q. record { lanes = g.Q.Lane.lanes q; capacity = g.Q.Lane.capacity q; held = g.Q.Lane.held q })
+      (λ s. g.S.SpoolStore.meaning s) c.args.conf c.args.time c.args.drivers.items c.args.lanes.items c.args.spools.items _
+      c.requires.conf c.requires.time_least c.requires.time_most c.requires.lanes c.requires.spools
+      (is_fresh (λ d. g.D.Driver.meaning d) (λ q. record { lanes = g.Q.Lane.lanes q; capacity = g.Q.Lane.capacity q; held = g.Q.Lane.held q })
+      (λ s. g.S.SpoolStore.meaning s) (limits_of c.args.conf c.args.time) c.args.conf.queue c.args.conf.drives.items c.deref.result.now
+      c.args.drivers.items c.args.lanes.items c.args.spools.items c.in-Ok.ensures.made.0 _
+      refl refl refl c.new.ensures.items c.new-in-Ok.ensures.no_claim c.new-in-Ok.ensures.no_request
+      c.deref.ensures.value c.in-Ok.ensures.made.1 c.in-Ok.ensures.made.2);
+  drives = subst (λ (bays : List (BayView g.row.D.Denot)). DrivesKeep (λ d. g.D.Driver.meaning d) bays) c.deref-in-Ok.ensures.value c.know_drives.ensures;
+}

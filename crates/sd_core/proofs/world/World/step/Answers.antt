@@ -5,7 +5,6 @@ use Rattle.sd_moves.specs.Moves.{Moves}
 use Rattle.sd_moves.specs.Rules.{IsWorld}
 use Rattle.sd_moves.specs.World.{WorldView}
 use Rattle.sd_moves.proofs.Moves.{moves_keep_rules}
-use Rattle.sd_core.proofs.Steps.{is_step}
 use Rattle.sd_core.proofs.world.World.step.Goals as goal
 
 pub invariant_of-self : goal.invariant_of-self
@@ -16,8 +15,11 @@ pub returns : goal.returns
 returns g c =
     let meaning : g.row.D.Denot → Meaning = λ d. g.D.Driver.meaning d in
     let new = world_of c.answer.new.parts in
-    let W : WorldView g.row.D.Denot → Type 0 = λ w. IsWorld w in
     let M : WorldView g.row.D.Denot → Type 0 = λ w. Moves meaning w c.args.event c.answer.result new in
-    let h = subst W c.self.view_is c.self.invariant in
-    let m = subst M c.self.view_is c.answer.ensures.moves in
-    is_step meaning _ new c.args.event c.answer.result h m c.answer.ensures.keep
+    record {
+      moves = subst M c.self.view_is c.answer.ensures.moves;
+      sound = record {
+        rules = moves_keep_rules meaning _ new c.args.event c.answer.result c.self.invariant c.answer.ensures.moves;
+        drives = c.answer.ensures.drives;
+      };
+    }

@@ -1,7 +1,7 @@
 use Rattle.std.proofs.Common.{ap, subst, ◌∙◌}
 use Rattle.sd_drive.specs.declared.limits.Limits.{Limits}
 use Rattle.sd_driver.specs.Meaning.{Meaning}
-use Rattle.sd_moves.specs.Moves.{Moves}
+use Rattle.sd_closed.specs.Steps.{IsStep}
 use Rattle.sd_tool.specs.Stage.{StageView}
 use Rattle.sd_tool.proofs.StageLemmas.{moves_limits, moves_online, retired_other}
 use Rattle.sd_tool.proofs.stage.Stage.step.Goals as goal
@@ -21,8 +21,8 @@ invariant_of-self-in_default g c =
 
 pub returns-in_default : goal.returns-in_default
 returns-in_default g c =
-    let Step : StageView g.row.D.Denot → Type 0 = λ s. Moves (λ d. g.D.Driver.meaning d) s.world c.args.event c.step-reply.result c.step-reply.new.self in (
-      subst Step c.self.view_is c.step-reply.ensures.moves,
+    let Step : StageView g.row.D.Denot → Type 0 = λ s. IsStep (λ d. g.D.Driver.meaning d) s.world c.args.event c.step-reply.result c.step-reply.new.self in (
+      subst Step c.self.view_is c.step-reply.ensures,
       ap (λ (s : StageView g.row.D.Denot). s.values) c.self.view_is,
       ap (λ (s : StageView g.row.D.Denot). s.retired) c.self.view_is ∙ retired_other c.step-reply.result c.args.self.now.retired c.in_default.not-Retired,
     )

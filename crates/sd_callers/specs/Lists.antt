@@ -1,0 +1,60 @@
+-- What a caller has of the theorems, over devices in memory.
+use Rattle.std.specs.Prelude.{◌≡◌, ◌⊎◌, ℕ, ◌≤◌, true, Result, Err, List}
+use Rattle.std.specs.Global.{Global}
+use Rattle.sd_base.specs.Record.{Record}
+use Rattle.sd_base.specs.declared.number.SessionKey.{SessionKey}
+use Rattle.sd_base.specs.declared.refusal.Refusal.{Refusal}
+use Rattle.sd_base.specs.declared.refusal.Refusal.TheVariants.{DriveOffline}
+use Rattle.sd_drive.specs.View.{DriveIs}
+use Rattle.sd_driver.specs.Shelf.{Shelf, AfterStop}
+use Rattle.sd_lane.specs.Queue.{PlainView, lanes_view}
+use Rattle.sd_machine.specs.Machine.{Machine, empty_machine}
+use Rattle.sd_machine.specs.Step.{Run}
+use Rattle.sd_memdrive.specs.Drive.{meaning_of}
+use Rattle.sd_memdrive.specs.declared.drive.MemDrive.{MemDrive}
+use Rattle.sd_moves.specs.World.{WorldView, BayView, IsOnline}
+use Rattle.sd_readback.specs.declared.read.ReadEnd.{ReadEnd}
+use Rattle.sd_session.specs.declared.status.Status.TheVariants.{Closed}
+use Rattle.sd_span.specs.declared.span.Span.{Span}
+use Rattle.sd_spool.specs.MemSpool.{meaning_of as store_of}
+use Rattle.sd_spool.specs.declared.memory.MemSpool.{MemSpool}
+use Rattle.sd_closed.specs.Deeds.{events_in, replies_in}
+use Rattle.sd_theorem.specs.Gives.{GivesAll}
+use Rattle.sd_theorem.specs.Headline.{HasStatus}
+use Rattle.sd_theorem.specs.Start.{Meanings, Start}
+use Rattle.sd_theorem.specs.Stops.{WasClosed, deeds_of}
+
+-- devices, queues and stores in memory
+abbrev pub in_memory : Meanings MemDrive PlainView MemSpool
+in_memory = record { device = λ d. meaning_of d; queue = λ q. lanes_view q; store = λ s. store_of s }
+
+-- what a world over them is made of
+abbrev pub MemoryStart : Type 0
+MemoryStart = Start MemDrive PlainView MemSpool Global
+
+-- The session is closed in the machine, and the read gave its list; or its drive was retired, which is what it was answered.
+pub record GivesList (m : Machine) (key : SessionKey) (got got' : List Record) (result : Result ReadEnd Refusal) : Type 0 where
+  pub has : HasStatus m key Closed
+  pub gives : GivesAll has.s.records true got got' result ⊎ (result ≡ Err DriveOffline)
+
+-- this holds of what a device was when the session was closed on it
+abbrev pub WhenClosed : {start : MemoryStart} {key : SessionKey} {spans : List Span} {w : WorldView MemDrive}
+    → WasClosed in_memory start key spans w → (MemDrive → Type 0) → Type 0
+WhenClosed c holds = (bay : BayView MemDrive) (d : DriveIs MemDrive) → IsOnline c.at_close c.e.drive c.at bay d → holds d.device
+
+-- it had changed so often at most
+abbrev pub ClosedBy : {start : MemoryStart} {key : SessionKey} {spans : List Span} {w : WorldView MemDrive}
+    → WasClosed in_memory start key spans w → ℕ → Type 0
+ClosedBy c calls = WhenClosed c (λ device. (meaning_of device).shelf.moment ≤ calls)
+
+-- a stop since then left this
+abbrev pub LeftSince : {start : MemoryStart} {key : SessionKey} {spans : List Span} {w : WorldView MemDrive}
+    → WasClosed in_memory start key spans w → Shelf → Type 0
+LeftSince c left = WhenClosed c (λ device. AfterStop (meaning_of device).shelf.moment (meaning_of c.d.device).shelf left)
+
+-- the run is one of the list machine, in which the session is closed; and this holds of its list
+abbrev pub OfItsList : {start : MemoryStart} {key : SessionKey} {spans : List Span} {w : WorldView MemDrive}
+    → WasClosed in_memory start key spans w → (List Record → Type 0) → Type 0
+OfItsList {start} {key} c holds = (m : Machine)
+    × Run (empty_machine start.time) (events_in (deeds_of c)) (replies_in (deeds_of c)) m
+    × (has : HasStatus m key Closed) × holds has.s.records

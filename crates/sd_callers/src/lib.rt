@@ -1,0 +1,11 @@
+//! What callers of the daemon's core have of the two theorems, by its public calls alone: of a world over devices in
+//! memory, of any world behind a port, and of a session that was closed before a stop.
+#![tactic(auto)]
+
+mod behind;
+mod given;
+mod stopped;
+
+pub use behind::know_lists;
+pub use given::{Told, run_and_read};
+pub use stopped::{leave, read_again};

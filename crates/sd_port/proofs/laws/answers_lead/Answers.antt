@@ -1,0 +1,7 @@
+use Rattle.sd_closed.proofs.DeedLemmas.{steps_lead}
+use Rattle.sd_port.proofs.TryLemmas.{answers_along}
+use Rattle.sd_port.proofs.laws.answers_lead.Goals as goal
+
+pub returns : goal.returns
+returns g c = λ meaning syncing rounds old new event reply events replies answers.
+    (steps_lead meaning old new events replies (answers_along meaning syncing rounds event reply old new events replies answers)).0

@@ -1,0 +1,5 @@
+use Rattle.sd_port.proofs.PortLemmas.{port_leads}
+use Rattle.sd_port.proofs.laws.port_leads.Goals as goal
+
+pub returns : goal.returns
+returns g c = λ meaning syncing rounds old new deeds leads. port_leads meaning syncing rounds old new deeds leads

@@ -1,4 +1,0 @@
-pub mod AgainLemmas
-pub mod LeadLemmas
-pub mod RunLemmas
-pub mod StayLemmas

@@ -1,0 +1,153 @@
+-- The session theorem.
+use Rattle.std.proofs.Common.{◌≡◌, ◌≢◌, ℕ, refl, sym, ap, subst, ◌∙◌, inl, inr, arith, length-append, Option, Some, None, Result, List, [], length}
+use Rattle.sd_base.specs.Record.{Record}
+use Rattle.sd_base.specs.declared.number.SessionKey.{SessionKey}
+use Rattle.sd_base.specs.declared.refusal.Refusal.{Refusal}
+use Rattle.sd_driver.specs.Meaning.{Meaning}
+use Rattle.sd_drive.specs.View.{DriveIs}
+use Rattle.sd_label.specs.Cutting.{total_bytes}
+use Rattle.sd_machine.specs.Machine.{Machine, MachineSession, empty_machine}
+use Rattle.sd_machine.specs.declared.event.Event.TheVariants.{Media}
+use Rattle.sd_machine.specs.declared.reply.Reply.TheVariants.{Media as Spans}
+use Rattle.sd_readback.specs.Reading.{volumes_on}
+use Rattle.sd_readback.specs.declared.read.ReadEnd.{ReadEnd}
+use Rattle.sd_readback.proofs.FaultLemmas.{total_bytes-append}
+use Rattle.sd_session.specs.declared.status.Status.TheVariants.{Cancelled}
+use Rattle.sd_span.specs.declared.span.Span.{Span}
+use Rattle.sd_moves.specs.Honest.{AreHonest}
+use Rattle.sd_moves.specs.World.{WorldView, WorldSession, BayView, IsOnline, session_at}
+use Rattle.sd_matches.specs.Matches.{Matches, SessionsMatch}
+use Rattle.sd_matches.proofs.Sessions.{found_session}
+use Rattle.sd_closed.specs.Deeds.{Deed, IsRead, LeadsTo}
+use Rattle.sd_closed.specs.Reads.{HasCancelled, ReadsToFront}
+use Rattle.sd_closed.specs.Stays.{AreClaimed}
+use Rattle.sd_closed.specs.Steps.{IsSound}
+use Rattle.sd_closed.proofs.DeedLemmas.{leads_keep, leads_run}
+use Rattle.sd_closed.proofs.ReadLemmas.{closed_reads, told_spans_read}
+use Rattle.sd_theorem.specs.Headline.{HasStatus, ReadsClosed, ReadsCancelled, Headline}
+use Rattle.sd_theorem.specs.Start.{Meanings, Start, IsMadeOf}
+use Rattle.sd_theorem.specs.Told.{WereAsked}
+use Rattle.sd_theorem.proofs.Deeds.{given_at}
+use Rattle.sd_theorem.proofs.Fresh.{made_honest}
+use Rattle.sd_theorem.proofs.Read.{world_gives, world_refuses, counts_small}
+use Rattle.sd_theorem.proofs.Stood.{Stood, honest_drive, is_then, told_of, told_stood}
+
+module _ {D : Type 0} (meaning : D → Meaning) (w : WorldView D) (m : Machine) (sound : IsSound meaning w) (honest : AreHonest meaning w) (pairs : Matches meaning w m)
+    (key : SessionKey) (spans : List Span) (after : WorldView D) (got got' : List Record) (result : Result ReadEnd Refusal) (read : IsRead meaning key spans got got' result w after) where
+  -- Closed sessions.
+
+  pub reads_closed : Stood w key spans → ReadsClosed meaning w m key spans got got' result
+  reads_closed stood =
+      let s = stood.stands in
+      elim s.spans_are [
+        | inl p ↦
+            let here = honest_drive meaning w s.e.drive p.0 p.1 p.2 sound honest p.3 in
+            let t = closed_reads meaning w m key spans p.0 p.1 p.2 pairs (record { e = s.e; there = s.there; key_is = s.key_is; closed = s.closed; spans_are = p }) here in
+            let small = counts_small meaning w m key s.e t.s pairs s.there t.there read.fit in
+            record {
+              has = record { s = t.s; there = t.there; key_is = t.key_is; status_is = t.closed };
+              e = s.e;
+              there = s.there;
+              reads = inl (world_gives meaning w after key spans t.s.records _ got got' result s.e.drive p.0 p.1 p.2 p.3 s.claimed here.honest.device t.reads small.0 small.1 read.reads);
+            }
+        | inr retired ↦
+            let f = found_session meaning w key.id w.sessions m.sessions s.e pairs.sessions s.there in
+            record {
+              has = record { s = f.session; there = f.there; key_is = f.matches.key_is ∙ s.key_is; status_is = f.matches.status_is ∙ s.closed };
+              e = s.e;
+              there = s.there;
+              reads = inr (world_refuses meaning w after key spans got got' result s.e.drive retired s.claimed stood.some read.reads);
+            }
+      ]
+
+  -- Cancelled ones.
+
+  -- of the session's drive, which is online
+  reads_front : (e : WorldSession) (bodies : List (List ℕ)) (at : ℕ) (bay : BayView D) (d : DriveIs D) → session_at key.id w.sessions ≡ Some e → IsOnline w e.drive at bay d → AreClaimed w.desk e.drive spans
+      → ReadsToFront (volumes_on (meaning d.device).shelf) m key bodies spans → ReadsCancelled meaning w m key spans got got' result
+  reads_front e bodies at bay d there online claimed t =
+      let small = counts_small meaning w m key e t.s pairs there t.there read.fit in
+      let few = small.0 in
+      let light = small.1 in
+      let long = ap length t.records_begin ∙ length-append t.records t.others in
+      let wide = ap total_bytes t.records_begin ∙ total_bytes-append t.records t.others in
+      record {
+        has = record { s = t.s; there = t.there; key_is = t.key_is; status_is = t.cancelled };
+        e = e;
+        there = there;
+        reads = inl (record {
+          records = t.records;
+          others = t.others;
+          ended = t.ended;
+          begin = t.records_begin;
+          reads = world_gives meaning w after key spans t.records t.ended got got' result e.drive at bay d online claimed (honest.devices e.drive at bay d online) t.reads
+              (omega (arith, long, few)) (omega (arith, wide, light)) read.reads;
+        });
+      }
+
+  pub reads_cancelled : {first : WorldView D} (m0 : Machine) (deeds : List Deed) → IsSound meaning first → AreHonest meaning first → Matches meaning first m0 → LeadsTo meaning first deeds w
+      → WereAsked key spans deeds → spans ≢ [] → HasStatus m key Cancelled → ReadsCancelled meaning w m key spans got got' result
+  reads_cancelled {first} m0 deeds sound0 honest0 pairs0 leads given some has =
+      let event = Media key.id in
+      let reply = Spans spans in
+      let g = given_at meaning first w event reply deeds leads given in
+      let t = is_then meaning first w event reply m0 sound0 honest0 pairs0 g in
+      let told = told_of meaning g.asked g.now key spans t.sound g.step in
+      let seat = t.stays.seats key.id told.e told.there in
+      let e = seat.0 in
+      let f = found_session meaning w key.id w.sessions m.sessions e pairs.sessions seat.1 in
+      let one : f.session ≡ has.s = cc (sym f.there ∙ has.there) in
+      let cancelled : e.session.status ≡ Cancelled = sym f.matches.status_is ∙ ap (λ (x : MachineSession). x.status) one ∙ has.status_is in
+      let own : e.session.key ≡ key = sym f.matches.key_is ∙ ap (λ (x : MachineSession). x.key) one ∙ has.key_is in
+      let was : told.e.session.key ≡ key = sym seat.2.key_is ∙ own in
+      let claimed : AreClaimed w.desk e.drive spans =
+      subst (λ n. AreClaimed w.desk n spans) (sym seat.2.drive_is) (λ at s within. t.stays.claims _ told.e.drive (told.claimed at s within)) in
+      let gone : HasCancelled w key = record { e = e; there = seat.1; key_is = own; cancelled = cancelled } in
+      let place = sound.rules.seated key.id e seat.1 in
+      let At : SessionKey → Type 0 = λ k. session_at k.id g.now.sessions ≡ Some told.e in
+      let C : SessionKey → Type 0 = λ k. HasCancelled w k in
+      let whether : (o : Option (DriveIs D)) → place.bay.drive ≡ o → ReadsCancelled meaning w m key spans got got' result = λ o.
+      elim o as (λ o. place.bay.drive ≡ o → ReadsCancelled meaning w m key spans got got' result) [
+        | None ↦ λ off. record {
+            has = has;
+            e = e;
+            there = seat.1;
+            reads = inr (world_refuses meaning w after key spans got got' result e.drive (place.at, place.bay, place.drive_is, place.bay_there, off) claimed some read.reads);
+          }
+        | Some d ↦ λ on.
+            let online : IsOnline w e.drive place.at place.bay d = record { number = place.drive_is; there = place.bay_there; online = on } in
+            let there : IsOnline w told.e.drive place.at place.bay d = subst (λ n. IsOnline w n place.at place.bay d) seat.2.drive_is online in
+            let F : SessionKey → Type 0 = λ k. (bodies : List (List ℕ)) × ReadsToFront (volumes_on (meaning d.device).shelf) m k bodies spans in
+            let front = subst F was
+            (told_spans_read meaning g.now w m told.e spans place.at place.bay d (subst At (sym was) told.there) told.spans_are some t.stays.seats t.stays.grow pairs (subst C (sym was) gone)
+            (honest_drive meaning w told.e.drive place.at place.bay d sound honest there)) in
+            reads_front e front.0 place.at place.bay d seat.1 online claimed front.1
+      ] in
+      whether place.bay.drive refl
+
+-- a world that was just made matches the empty machine
+pub made_matches : {D Q S Z : Type 0} (is : Meanings D Q S) (start : Start D Q S Z) (w : WorldView D) → IsMadeOf is start w → Matches is.device w (empty_machine start.time)
+made_matches is start w made = record {
+  time_is = ap (λ l. l.time) (sym made.fresh.limits_are);
+  next_is = sym made.fresh.next_is;
+  sessions = subst (λ es. SessionsMatch is.device w es []) (sym made.fresh.no_session) tt;
+}
+
+pub headline : {D Q S Z : Type 0} → Headline D Q S Z
+headline is start first w deeds made leads =
+    let pairs0 = made_matches is start first made in
+    let kept = leads_keep is.device first w deeds made.sound leads in
+    let run = leads_run is.device first w deeds (empty_machine start.time) made.sound leads pairs0 in
+    record {
+      m = run.0;
+      run = run.1;
+      matches = run.2;
+      closed = λ honest key spans told after got got' result read.
+          let h = made_honest is start first made honest in
+          reads_closed is.device w run.0 kept.0 (kept.1.honest h) run.2 key spans after got got' result read
+          (told_stood is.device first w (empty_machine start.time) key spans deeds made.sound h pairs0 leads told);
+      cancelled = λ honest key spans asked some has after got got' result read.
+          let h = made_honest is start first made honest in
+          reads_cancelled is.device w run.0 kept.0 (kept.1.honest h) run.2 key spans after got got' result read
+          (empty_machine start.time) deeds made.sound h pairs0 leads asked some has;
+    }
