@@ -8,6 +8,7 @@ import pathlib
 import random
 import subprocess
 
+from ample import never_wanting
 from drive_model import CALLS, WAYS
 from script_model import Settings, World
 
@@ -72,7 +73,7 @@ def run(settings, lines):
     done = subprocess.run([SDTOOL, "run"], input=text.encode(), capture_output=True, timeout=60)
     if done.returncode or done.stderr:
         return [f"status {done.returncode}: {done.stderr!r}"]
-    return done.stdout.decode().splitlines()
+    return never_wanting(done.stdout.decode()).splitlines()
 
 
 def length(word, printed):

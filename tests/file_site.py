@@ -13,6 +13,7 @@ import subprocess
 import threading
 import time
 
+from ample import never_wanting
 from drive_model import END_LABEL, START_LABEL, fragment, label_block, seal, session_label
 
 ROOT = pathlib.Path(__file__).resolve().parent.parent
@@ -151,7 +152,7 @@ class Site:
             talk.send(client.text_packet("console " + line))
             lines = []
             while not isinstance(answer := talk.receive(), int):
-                lines.append(answer.decode().rstrip("\n"))
+                lines.append(never_wanting(answer.decode()).rstrip("\n"))
                 if lines[0].startswith("39"):
                     break
             return "\n".join(lines)
@@ -164,7 +165,7 @@ class Site:
                 client.append_packets(talk, ticket, map(client.packet, records))
                 return client.close_session(talk, ticket)
             except client.Refused as why:
-                return [str(why)]
+                return [never_wanting(str(why))]
 
     def read(self, lines):
         """The records of a session with these lines, and the last line that is said."""
@@ -176,7 +177,7 @@ class Site:
             while not isinstance(talk.receive(), int):
                 records.append(talk.receive())
                 talk.receive()
-            return records, talk.receive().decode().rstrip("\n")
+            return records, never_wanting(talk.receive().decode()).rstrip("\n")
 
     def status(self, volume):
         """The status of a volume, or None where it isn't known."""
@@ -188,14 +189,14 @@ class Site:
     def tool(self, *words):
         """What `sdtool` prints, where calls fail, and its status."""
         done = subprocess.run([SDTOOL, *words], capture_output=True, timeout=WAIT, env=self.env(1000))
-        return done.stdout.decode(), done.returncode
+        return never_wanting(done.stdout.decode()), done.returncode
 
     def by_tool(self, lines, env=None):
         """The data of the records that `sdtool read` gives of a session, and its last line."""
         spans = self.folder / "spans"
         spans.write_text("".join(f"{line}\n" for line in lines))
         done = subprocess.run([SDTOOL, "read", spans, self.volumes], capture_output=True, timeout=WAIT, env=env)
-        data, last = records_of(done.stdout)
+        data, last = records_of(never_wanting(done.stdout))
         if done.returncode != int(last.startswith(b"39")):
             return data, f"status {done.returncode}: {last}"
         return data, last.decode().rstrip("\n")

@@ -11,6 +11,8 @@ import struct
 import subprocess
 import time
 
+from ample import never_wanting
+
 ROOT = pathlib.Path(__file__).resolve().parent.parent
 SDD = ROOT / "crates" / "sdd" / "out" / "sdd"
 SDTOOL = ROOT / "crates" / "sdtool" / "out" / "sdtool"
@@ -122,7 +124,7 @@ def tool(folder, *words, **environment):
     """What `sdtool` prints, and its status. It says nothing on standard error."""
     done = subprocess.run([SDTOOL, *words], capture_output=True, timeout=PATIENCE, cwd=folder,
                           env=os.environ | environment)
-    return done.stdout + done.stderr, done.returncode
+    return never_wanting(done.stdout + done.stderr), done.returncode
 
 
 def printed(records, last):
@@ -209,7 +211,7 @@ def console(talk, line):
     talk.send(client.text_packet(f"console {line}"))
     answer = []
     while not isinstance(packet := talk.receive(), int):
-        answer.append(packet.decode())
+        answer.append(never_wanting(packet.decode()))
         if answer[0].startswith("39"):
             break
     return "".join(answer)
@@ -251,4 +253,4 @@ def read_over_the_socket(daemon, text):
             records.append((index, stream, talk.receive()))
             if header != b"%d %d 0" % (index, stream) or talk.receive() != client.END_OF_DATA:
                 return records, f"a record with the header {header}, or without its end"
-        return records, talk.receive().decode()
+        return records, never_wanting(talk.receive().decode())

@@ -2,6 +2,8 @@
 import pathlib
 import subprocess
 
+from ample import never_wanting
+
 ROOT = pathlib.Path(__file__).resolve().parent.parent
 SDTOOL = ROOT / "crates" / "sdtool" / "out" / "sdtool"
 WAIT = 60
@@ -12,7 +14,7 @@ def program_answers(settings, lines, wanted):
     and the last one all that is left."""
     script = "".join(f"{line}\n" for line in [*settings.lines(), *lines])
     done = subprocess.run([SDTOOL, "run"], input=script.encode(), capture_output=True, timeout=WAIT)
-    printed, got = done.stdout.decode().splitlines(), []
+    printed, got = never_wanting(done.stdout.decode()).splitlines(), []
     for answer in wanted[:-1]:
         got.append(printed[:len(answer)])
         printed = printed[len(answer):]
