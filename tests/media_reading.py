@@ -8,12 +8,15 @@ from media_bench import printed, tool
 from media_tables import BLOCKS, DAMAGE, DAMAGES, END, HELLO, KEY, NO_SESSION_LABELS, NO_TEXTS, OTHER_SESSION, RECORD
 from media_tables import RECORDS_ON_SHELF, SESSIONS, SMALL_ENDS, SMALL_LAST, SMALL_RECORDS, SPAN, SPANS, START, TEXTS
 from media_tables import label_record, no_label_blocks, small
-from volumes import BLOCK_HEADER, LEAST_BLOCK, MOST_BLOCK, MOST_VOLUME, block, fragment, label, packed, summed
+from volumes import BLOCK_HEADER, LEAST_BLOCK, MOST_BLOCK, MOST_VOLUME, RECORD_HEADER, block, fragment, label, packed
+from volumes import summed
 from volumes_model import BAD_SPAN, DAMAGED, ENDS_EARLY, NOT_OURS, NOT_THERE, Refused, read, said, whole_blocks
 
 LABEL = label(b"Vol-0001")
 LISTED = b"label Vol-0001 Default File\n"
 DEVICE_FAULT = "3940 Device fault\n"
+# The data of a record that fills a body of a block of 1,024 bytes.
+FILLING = 1024 - BLOCK_HEADER - RECORD_HEADER
 NAME_CHARACTERS = b"ABCDEFGHIJKLMNOPQRSTUVWXYZabcdefghijklmnopqrstuvwxyz0123456789-_:."
 
 
@@ -367,4 +370,22 @@ def devices(checks, room, other_system):
     checks.same("a folder", read_by(room, asked(given)), printed(first, DEVICE_FAULT))
 
 
-READING = (listings, names, checksums, sessions, spans, blocks, every_byte, every_place, texts, far_away, devices)
+def lengths(checks, room, other_system):
+    """A session of one block up to 10,000 is read whole. Where a bit of its last block is turned, the records before stay,
+    and the damage is told."""
+    numbers = random.Random(17)
+    for count in (1, 100, 10_000):
+        # The first body has the start label, and each other one a record that fills it, or the end label.
+        sizes = [FILLING - len(START), *[FILLING] * (count - 2)] if count > 1 else [5]
+        records = [(index, 2, numbers.randbytes(size)) for index, size in enumerate(sizes, 1)]
+        bodies = [body.data for body in packed(1024, records)]
+        image = blocks_of(*bodies)
+        checks.same(f"{count} blocks are so many", len(bodies), count)
+        last = f"ok read {len(sizes)} {sum(sizes)} ended\n"
+        checks.same(f"{count} blocks", read_blocks(room, image), printed(records, last))
+        before = records if count > 1 else []
+        checks.same(f"{count} blocks, the last one damaged", read_blocks(room, image[:-1] + bytes([image[-1] ^ 1])),
+                    printed(before, DAMAGE))
+
+
+READING = (listings, names, checksums, sessions, spans, blocks, every_byte, every_place, texts, far_away, devices, lengths)
