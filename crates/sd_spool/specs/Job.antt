@@ -1,5 +1,5 @@
 -- What a session's spool is: the bodies in it, and how much of its limit they use.
-use Rattle.std.specs.Prelude.{◌≡◌, ℕ, ◌+◌, ◌≤◌, ◌<◌, Bool, true, false, List, [], ◌∷◌, ◌++◌, length, map, take, drop, Err, IsTrue}
+use Rattle.std.specs.Prelude.{◌≡◌, ◌≢◌, ℕ, ◌+◌, ◌≤◌, ◌<◌, Bool, true, false, List, [], ◌∷◌, ◌++◌, length, map, take, drop, Err, IsTrue}
 use Rattle.std.specs.List.{AllByRecursion}
 use Rattle.sd_base.specs.Limits.{least_body, most_body}
 use Rattle.sd_pack.specs.Body.{PackedBody}
@@ -58,6 +58,11 @@ used_with (s ∷ ss) used = used
 abbrev pub torn_with : List BodyShape → Bool → Bool
 torn_with [] torn = false
 torn_with (s ∷ ss) torn = torn
+
+-- where no failed put is felt, an honest store under a spool that isn't empty holds as many bytes as count towards
+-- the limit: the bodies since the spool was last empty, and nothing from before
+abbrev pub HoldsUsed : JobView → Meaning → Type 0
+HoldsUsed view store = IsHonest store → view.torn ≡ false → view.shapes ≢ [] → length store.bytes ≡ view.used
 
 -- what a spool knows of the body of an entry
 abbrev pub entry_shape : Entry → BodyShape

@@ -1,6 +1,6 @@
 // The spool of one session.
 ghost use Rattle.std.specs.Prelude.{◌≡◌, ◌≢◌, ◌↔◌, ◌+◌, ◌<◌, [], length, IfOk, IfErr, OnOk, OnErr, IsErrOf, IsTrue, MatchOption};
-ghost use Rattle.sd_spool.specs.Job.{state_of, empty_on, HasCause, FailsToClear, Puts, FailsToPut, Takes, FailsToTake};
+ghost use Rattle.sd_spool.specs.Job.{state_of, empty_on, HoldsUsed, HasCause, FailsToClear, Puts, FailsToPut, Takes, FailsToTake};
 
 use crate::entry::{Entry, Extent};
 use crate::store::{SpoolStore, SpoolStoreFault};
@@ -73,9 +73,10 @@ impl<S: SpoolStore> JobSpool<S> {
         }
     }
 
-    /// The store; what bodies are in it are lost.
+    /// The store as it stands; what bodies are in it are lost.
     pub fn into_store(self) -> S
-        ensures { state_of (S.meaning result) ≡ self.store }
+        ensures state { state_of (S.meaning result) ≡ self.store }
+        ensures bytes { HoldsUsed self (S.meaning result) }
     {
         let JobSpool {
             alloc: _,
