@@ -41,3 +41,15 @@ least_block_limit = 1024
 -- the most bytes of a volume, and the greatest volume limit of a daemon
 abbrev pub most_volume : ℕ
 most_volume = 68719476736
+
+-- the most drives of a daemon, which are numbered from 1
+abbrev pub most_drives : ℕ
+most_drives = 8
+
+-- the most lanes of a drive, which are numbered from 1
+abbrev pub most_lanes : ℕ
+most_lanes = 32
+
+-- the most pieces that the queue before a drive has room for
+abbrev pub most_queue : ℕ
+most_queue = 1024

@@ -1,8 +1,9 @@
 // Numbers with a range of their own: a value of such a type is within it, so no call tests it again.
 ghost use Rattle.std.specs.Prelude.{◌≡◌, ◌≤◌, ◌↔◌, IsSome, IfSome};
 ghost use Rattle.std.specs.Option.{SomeIff};
-ghost use Rattle.sd_base.specs.Limits.{most_number};
+ghost use Rattle.sd_base.specs.Limits.{most_number, most_drives, most_lanes};
 
+use crate::limits::{MOST_DRIVES, MOST_LANES};
 use std::marker::{Model, PhantomData};
 
 /// The greatest FileIndex, Stream, JobId, VolSessionId and VolSessionTime.
@@ -38,10 +39,10 @@ pub type JobId = Number<Job, MOST_NUMBER>;
 pub type Ticket = Number<Session, MOST_NUMBER>;
 
 /// A drive of the daemon.
-pub type DriveNo = Number<Drive, 8>;
+pub type DriveNo = Number<Drive, MOST_DRIVES>;
 
 /// A lane of a drive.
-pub type LaneNo = Number<Lane, 32>;
+pub type LaneNo = Number<Lane, MOST_LANES>;
 
 impl<K, const MOST: u32> Model for Number<K, MOST> {
     ghost use Rattle.std.specs.Prelude.{ℕ, ◌≤◌};
@@ -91,8 +92,8 @@ pub fn number_limits(
 )
     ensures job { SomeIff result.0 ((1 ≤ value) × (value ≤ most_number)) value }
     ensures ticket { SomeIff result.1 ((1 ≤ value) × (value ≤ most_number)) value }
-    ensures drive { SomeIff result.2 ((1 ≤ value) × (value ≤ 8)) value }
-    ensures lane { SomeIff result.3 ((1 ≤ value) × (value ≤ 32)) value }
+    ensures drive { SomeIff result.2 ((1 ≤ value) × (value ≤ most_drives)) value }
+    ensures lane { SomeIff result.3 ((1 ≤ value) × (value ≤ most_lanes)) value }
 {
     (
         JobId::new(value),
