@@ -1,6 +1,15 @@
--- How a count of failures tells that it rose.
-use Rattle.std.specs.Prelude.{◌≡◌, ℕ, ◌<◌, ◌-◌, ◌^◌, ◌⊎◌}
+-- How a count of failures tells of them. It stays at the greatest value of 64 bits.
+use Rattle.std.specs.Prelude.{◌≡◌, ℕ, ◌+◌, ◌<◌, ◌-◌, ◌^◌, ◌⊎◌, min}
 
 -- a count rose, or stands at the greatest value of 64 bits
 abbrev pub Rose : ℕ → ℕ → Type 0
 Rose old new = (old < new) ⊎ (new ≡ 2 ^ 64 - 1)
+
+-- where a call failed the count rose by one, and where it didn't it is as it was
+pub record CountsOnce (failed : Type 0) (old new : ℕ) : Type 0 where
+  pub rose : failed → new ≡ min (old + 1) (2 ^ 64 - 1)
+  pub stayed : ¬ failed → new ≡ old
+
+-- no further failure can be counted
+abbrev pub IsSpent : ℕ → Type 0
+IsSpent count = count ≡ 2 ^ 64 - 1

@@ -1,6 +1,5 @@
 pub mod Fault
 pub mod Place
-pub mod Count
 pub mod Loaded
 pub mod Volumes
 pub mod Drive

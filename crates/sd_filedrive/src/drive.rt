@@ -1,7 +1,7 @@
 // A folder of files, as a device.
-ghost use Rattle.std.specs.Prelude.{◌≡◌, ◌≢◌, ◌⊎◌, ◌≤◌, None, Some, IfOk, IfErr, OnOk, OnErr, IsSome, length};
+ghost use Rattle.std.specs.Prelude.{◌≡◌, ◌≢◌, ◌⊎◌, ◌≤◌, None, Some, IfOk, IfErr, OnOk, OnErr, IsSome, IsErrOf, length};
+ghost use Rattle.sd_base.specs.Count.{CountsOnce, IsSpent};
 ghost use Rattle.sd_driver.specs.Meaning.{CountsFailures, SameCounts};
-ghost use Rattle.sd_filedrive.specs.Count.{failures_after, IsSpent};
 ghost use Rattle.sd_filedrive.specs.Drive.{meaning_of, unused, folder_of, counted_from};
 ghost use Rattle.sd_filedrive.specs.Place.{folder_named};
 
@@ -80,8 +80,8 @@ where
     fn create(&mut self, name: &VolName) -> Result<(), DriverFault>
         requires { (meaning_of self.old).loaded ≡ None }
         ensures counts { CountsFailures result (meaning_of self.old) (meaning_of self.new) }
-        ensures once { (meaning_of self.new).failures
-            ≡ failures_after result (meaning_of self.old).failures }
+        ensures once { CountsOnce (IsErrOf result DriverFault.Device)
+            (meaning_of self.old).failures (meaning_of self.new).failures }
         ensures spent { IsSpent (meaning_of self.old).failures → self.new ≡ self.old }
         ensures faults { IfErr result (λ fault.
             (fault ≢ DriverFault.NotThere) × (fault ≢ DriverFault.NoRoom)) }
@@ -98,8 +98,8 @@ where
     fn load(&mut self, name: &VolName) -> Result<(), DriverFault>
         requires { (meaning_of self.old).loaded ≡ None }
         ensures counts { CountsFailures result (meaning_of self.old) (meaning_of self.new) }
-        ensures once { (meaning_of self.new).failures
-            ≡ failures_after result (meaning_of self.old).failures }
+        ensures once { CountsOnce (IsErrOf result DriverFault.Device)
+            (meaning_of self.old).failures (meaning_of self.new).failures }
         ensures spent { IsSpent (meaning_of self.old).failures → self.new ≡ self.old }
         ensures faults { IfErr result (λ fault.
             (fault ≢ DriverFault.Exists) × (fault ≢ DriverFault.NoRoom)) }
@@ -122,8 +122,8 @@ where
 
     fn len(&mut self, name: &VolName) -> Result<u64, DriverFault>
         ensures counts { CountsFailures result (meaning_of self.old) (meaning_of self.new) }
-        ensures once { (meaning_of self.new).failures
-            ≡ failures_after result (meaning_of self.old).failures }
+        ensures once { CountsOnce (IsErrOf result DriverFault.Device)
+            (meaning_of self.old).failures (meaning_of self.new).failures }
         ensures spent { IsSpent (meaning_of self.old).failures → self.new ≡ self.old }
         ensures faults { IfErr result (λ fault.
             (fault ≢ DriverFault.Exists) × (fault ≢ DriverFault.NoRoom)) }
@@ -138,8 +138,8 @@ where
 
     fn read_at(&mut self, name: &VolName, at: u64, into: &mut [u8]) -> Result<usize, DriverFault>
         ensures counts { CountsFailures result (meaning_of self.old) (meaning_of self.new) }
-        ensures once { (meaning_of self.new).failures
-            ≡ failures_after result (meaning_of self.old).failures }
+        ensures once { CountsOnce (IsErrOf result DriverFault.Device)
+            (meaning_of self.old).failures (meaning_of self.new).failures }
         ensures spent { IsSpent (meaning_of self.old).failures → self.new ≡ self.old }
         ensures within { IfOk result (λ count. count ≤ length into.old) }
         ensures faults { IfErr result (λ fault.
@@ -156,8 +156,8 @@ where
     fn append(&mut self, bytes: &[u8]) -> Result<(), DriverFault>
         requires { IsSome (meaning_of self.old).loaded }
         ensures counts { CountsFailures result (meaning_of self.old) (meaning_of self.new) }
-        ensures once { (meaning_of self.new).failures
-            ≡ failures_after result (meaning_of self.old).failures }
+        ensures once { CountsOnce (IsErrOf result DriverFault.Device)
+            (meaning_of self.old).failures (meaning_of self.new).failures }
         ensures spent { IsSpent (meaning_of self.old).failures → self.new ≡ self.old }
         ensures faults { IfErr result (λ fault.
             (fault ≡ DriverFault.NoRoom) ⊎ (fault ≡ DriverFault.Device)) }
@@ -173,8 +173,8 @@ where
     fn sync(&mut self) -> Result<(), DriverFault>
         requires { IsSome (meaning_of self.old).loaded }
         ensures counts { CountsFailures result (meaning_of self.old) (meaning_of self.new) }
-        ensures once { (meaning_of self.new).failures
-            ≡ failures_after result (meaning_of self.old).failures }
+        ensures once { CountsOnce (IsErrOf result DriverFault.Device)
+            (meaning_of self.old).failures (meaning_of self.new).failures }
         ensures spent { IsSpent (meaning_of self.old).failures → self.new ≡ self.old }
         ensures faults { IfErr result (λ fault. fault ≡ DriverFault.Device) }
         ensures loaded { (meaning_of self.new).loaded ≡ (meaning_of self.old).loaded }
@@ -189,8 +189,8 @@ where
     fn cut(&mut self, to: u64) -> Result<(), DriverFault>
         requires { IsSome (meaning_of self.old).loaded }
         ensures counts { CountsFailures result (meaning_of self.old) (meaning_of self.new) }
-        ensures once { (meaning_of self.new).failures
-            ≡ failures_after result (meaning_of self.old).failures }
+        ensures once { CountsOnce (IsErrOf result DriverFault.Device)
+            (meaning_of self.old).failures (meaning_of self.new).failures }
         ensures spent { IsSpent (meaning_of self.old).failures → self.new ≡ self.old }
         ensures faults { IfErr result (λ fault. fault ≡ DriverFault.Device) }
         ensures loaded { (meaning_of self.new).loaded ≡ (meaning_of self.old).loaded }

@@ -1,8 +1,7 @@
 // How a device counts what it answers.
-ghost use Rattle.std.specs.Prelude.{◌≡◌, ◌≢◌, ◌↔◌, ◌≤◌, ◌^◌, ◌-◌, IsErrOf, IsTrue};
-ghost use Rattle.sd_base.specs.Count.{Rose};
+ghost use Rattle.std.specs.Prelude.{◌≡◌, ◌↔◌, ◌≤◌, IsErrOf, IsTrue};
+ghost use Rattle.sd_base.specs.Count.{CountsOnce, IsSpent, Rose};
 ghost use Rattle.sd_driver.specs.Meaning.{told_after};
-ghost use Rattle.sd_filedrive.specs.Count.{failures_after};
 
 use sd_driver::DriverFault;
 
@@ -35,16 +34,17 @@ impl Tally {
 
     /// Whether no further failure can be counted. Then the device answers `Device` and does nothing.
     pub(crate) fn is_spent(&self) -> bool
-        ensures { IsTrue result ↔ (self.now.failures ≡ 2 ^ 64 - 1) }
+        ensures { IsTrue result ↔ IsSpent self.now.failures }
     {
         self.failures == u64::MAX
     }
 
     /// Counts an answer, and hands it on.
     pub(crate) fn answer<T>(&mut self, answer: Result<T, DriverFault>) -> Result<T, DriverFault>
-        requires { self.old.failures ≢ 2 ^ 64 - 1 }
+        requires { ¬ IsSpent self.old.failures }
         ensures same { result ≡ answer }
-        ensures failures { self.new.failures ≡ failures_after result self.old.failures }
+        ensures failures { CountsOnce (IsErrOf result DriverFault.Device)
+            self.old.failures self.new.failures }
         ensures later { self.old.failures ≤ self.new.failures }
         ensures device { IsErrOf result DriverFault.Device
             ↔ Rose self.old.failures self.new.failures }

@@ -1,10 +1,8 @@
 -- What a spool in a file is, as a store.
-use Rattle.std.specs.Prelude.{◌≡◌, ℕ, ◌<◌, ◌+◌, ◌-◌, ◌^◌, min, false, List, [], ◌++◌, None, codes, string_bytes, Result, Ok, Err}
+use Rattle.std.specs.Prelude.{◌≡◌, ℕ, ◌<◌, ◌^◌, false, List, [], ◌++◌, None, codes, string_bytes}
 use Rattle.std.specs.Fmt.{decimal}
 use Rattle.sd_spool.specs.Meaning.{Meaning}
 use Rattle.sd_spool.specs.declared.file.FileSpool.{FileSpool}
-use Rattle.sd_spool.specs.declared.store.SpoolStoreFault.{SpoolStoreFault}
-use Rattle.sd_spool.specs.declared.store.SpoolStoreFault.TheVariants.{Device, Memory}
 
 -- the meaning of a spool: what the system does with a file can't be known, so it isn't claimed to be honest
 abbrev pub meaning_of : {R F D : Type 0} → FileSpool R F D → Meaning
@@ -13,16 +11,6 @@ meaning_of spool = record { honest = false; bytes = []; failures = spool.failure
 -- the meaning of a spool of which no call was made yet
 abbrev pub unused : Meaning
 unused = record { honest = false; bytes = []; failures = 0 }
-
--- the count of failures after this answer: `Device` counts once; it stays at the greatest value of 64 bits
-abbrev pub failures_after : {T : Type 0} → Result T SpoolStoreFault → ℕ → ℕ
-failures_after (Ok value) failures = failures
-failures_after (Err Device) failures = min (failures + 1) (2 ^ 64 - 1)
-failures_after (Err Memory) failures = failures
-
--- no further failure can be counted
-abbrev pub IsSpent : ℕ → Type 0
-IsSpent failures = failures ≡ 2 ^ 64 - 1
 
 -- the path of a spool's file
 abbrev pub path_of : {R F D : Type 0} → FileSpool R F D → List ℕ

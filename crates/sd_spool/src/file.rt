@@ -1,8 +1,8 @@
 // A spool in a file, as a store.
-ghost use Rattle.std.specs.Prelude.{◌≡◌, ◌≢◌, ◌↔◌, ◌≤◌, ◌+◌, ◌-◌, ◌^◌, ◌++◌, [], codes, length, IsOk, IfOk, IfErr, OnOk, OnErr, IsErrOf};
-ghost use Rattle.sd_base.specs.Count.{Rose};
+ghost use Rattle.std.specs.Prelude.{◌≡◌, ◌≢◌, ◌↔◌, ◌≤◌, ◌+◌, ◌++◌, [], codes, length, IsOk, IfOk, IfErr, OnOk, OnErr, IsErrOf};
+ghost use Rattle.sd_base.specs.Count.{CountsOnce, IsSpent, Rose};
 ghost use Rattle.sd_spool.specs.Meaning.{CountsFailures};
-ghost use Rattle.sd_spool.specs.FileSpool.{meaning_of, unused, failures_after, IsSpent, IsUntouched, LaneFilesDiffer, lane_file, path_of, written};
+ghost use Rattle.sd_spool.specs.FileSpool.{meaning_of, unused, IsUntouched, LaneFilesDiffer, lane_file, path_of, written};
 
 use crate::spool_file::SpoolFile;
 use crate::store::{SpoolStore, SpoolStoreFault};
@@ -57,8 +57,8 @@ where
 
     fn append(&mut self, bytes: &[u8]) -> Result<(), SpoolStoreFault>
         ensures counts { CountsFailures result (meaning_of self.old) (meaning_of self.new) }
-        ensures once { (meaning_of self.new).failures
-            ≡ failures_after result (meaning_of self.old).failures }
+        ensures once { CountsOnce (IsErrOf result SpoolStoreFault.Device)
+            (meaning_of self.old).failures (meaning_of self.new).failures }
         ensures spent { IsSpent (meaning_of self.old).failures → self.new ≡ self.old }
         ensures faults { IfErr result (λ fault. fault ≡ SpoolStoreFault.Device) }
         ensures adds { OnOk result (written self.new ≡ written self.old + length bytes.now) }
@@ -72,8 +72,8 @@ where
 
     fn read_at(&mut self, at: u64, into: &mut [u8]) -> Result<(), SpoolStoreFault>
         ensures counts { CountsFailures result (meaning_of self.old) (meaning_of self.new) }
-        ensures once { (meaning_of self.new).failures
-            ≡ failures_after result (meaning_of self.old).failures }
+        ensures once { CountsOnce (IsErrOf result SpoolStoreFault.Device)
+            (meaning_of self.old).failures (meaning_of self.new).failures }
         ensures spent { IsSpent (meaning_of self.old).failures → self.new ≡ self.old }
         ensures faults { IfErr result (λ fault. fault ≡ SpoolStoreFault.Device) }
         ensures within { OnOk result (at + length into.old ≤ written self.old) }
@@ -87,8 +87,8 @@ where
 
     fn clear(&mut self) -> Result<(), SpoolStoreFault>
         ensures counts { CountsFailures result (meaning_of self.old) (meaning_of self.new) }
-        ensures once { (meaning_of self.new).failures
-            ≡ failures_after result (meaning_of self.old).failures }
+        ensures once { CountsOnce (IsErrOf result SpoolStoreFault.Device)
+            (meaning_of self.old).failures (meaning_of self.new).failures }
         ensures spent { IsSpent (meaning_of self.old).failures → self.new ≡ self.old }
         ensures faults { IfErr result (λ fault. fault ≡ SpoolStoreFault.Device) }
         ensures clears { OnOk result (written self.new ≡ 0) }
@@ -113,9 +113,9 @@ pub fn lane_files_differ()
 
 // What the system's answer is to the spool's caller; a failure is counted.
 fn answer(failures: &mut u64, answer: io::Result<()>) -> Result<(), SpoolStoreFault>
-    requires { failures.old ≢ 2 ^ 64 - 1 }
+    requires { ¬ IsSpent failures.old }
     ensures ok { IsOk result ↔ IsOk answer }
-    ensures once { failures.new ≡ failures_after result failures.old }
+    ensures once { CountsOnce (IsErrOf result SpoolStoreFault.Device) failures.old failures.new }
     ensures later { failures.old ≤ failures.new }
     ensures device { IsErrOf result SpoolStoreFault.Device ↔ Rose failures.old failures.new }
     ensures faults { IfErr result (λ fault. fault ≡ SpoolStoreFault.Device) }
