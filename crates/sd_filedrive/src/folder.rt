@@ -8,10 +8,6 @@ use sd_driver::DriverFault;
 use std::alloc::{AllocError, Global};
 use std::fs::{self, File, Files, OpenFile, OpenOptions};
 use std::io::{self, ErrorKind};
-use std::os::unix::fs::{MetadataExt, OpenOptionsExt};
-
-/// The permissions of a volume that is made: its owner reads and writes it.
-const OWNER_ONLY: u32 = 0o600;
 
 /// A folder in which each volume is a file.
 #[derive(Drop)]
@@ -44,8 +40,7 @@ impl<R: Files + Drop> Folder<R> {
         format!(in self.alloc; "{folder}/{file}")
     }
 
-    /// Makes the file of a new volume, and opens it. The system makes it only where nothing has its name, and
-    /// follows no link there.
+    /// Makes the file of a new volume, and opens it.
     pub(crate) fn create(&self, name: &VolName) -> Result<R::File, DriverFault>
         ensures faults { IfErr result (λ fault.
             (fault ≢ DriverFault.NotThere) × (fault ≢ DriverFault.NoRoom)) }
@@ -53,13 +48,7 @@ impl<R: Files + Drop> Folder<R> {
         let Ok(path) = self.path_of(name) else {
             return Err(DriverFault::Memory);
         };
-        let made = OpenOptions::new()
-            .read(true)
-            .write(true)
-            .create_new(true)
-            .mode(OWNER_ONLY)
-            .open(&self.system, path.as_str());
-        match made {
+        match sd_file::make(&self.system, path.as_str()) {
             Ok(file) => Ok(file),
             Err(error) if error.kind() == ErrorKind::AlreadyExists => {
                 Err(self.standing(path.as_str()))
@@ -78,8 +67,7 @@ impl<R: Files + Drop> Folder<R> {
         }
     }
 
-    /// Opens the file of a volume, if that is what has the volume's name. What was opened is compared with
-    /// what stood there before, since a link could take its place in between.
+    /// Opens the file of a volume, if that is what has the volume's name.
     pub(crate) fn open(&self, name: &VolName, how: &OpenOptions) -> Result<R::File, DriverFault>
         ensures faults { IfErr result (λ fault.
             (fault ≢ DriverFault.Exists) × (fault ≢ DriverFault.NoRoom)) }
@@ -87,20 +75,9 @@ impl<R: Files + Drop> Folder<R> {
         let Ok(path) = self.path_of(name) else {
             return Err(DriverFault::Memory);
         };
-        let found = match fs::symlink_metadata(&self.system, path.as_str()) {
-            Ok(found) => found,
-            Err(error) => return Err(missing(&error)),
-        };
-        if !found.is_file() {
-            return Err(DriverFault::Device);
-        }
-        let file = match how.open(&self.system, path.as_str()) {
-            Ok(file) => file,
-            Err(error) => return Err(missing(&error)),
-        };
-        match file.metadata() {
-            Ok(opened) if opened.dev() == found.dev() && opened.ino() == found.ino() => Ok(file),
-            _ => Err(DriverFault::Device),
+        match sd_file::open_there(&self.system, path.as_str(), how) {
+            Ok(file) => Ok(file),
+            Err(error) => Err(missing(&error)),
         }
     }
 

@@ -1,12 +1,9 @@
 // The file of a spool.
 ghost use Rattle.std.specs.Prelude.{◌≡◌, ◌+◌, ◌≤◌, None, length, string_bytes, OnOk, OnErr};
 
-use std::fs::{self, Files, Metadata, OpenFile, OpenOptions};
+use std::fs::{self, Files, OpenFile, OpenOptions};
 use std::io::{self, ErrorKind};
-use std::os::unix::fs::{FileExt, MetadataExt, OpenOptionsExt};
-
-/// The permissions of a file that is made: its owner reads and writes it.
-const OWNER_ONLY: u32 = 0o600;
+use std::os::unix::fs::FileExt;
 
 /// A file at a path, which is not looked at before the first write or clear. Where it is made by this, it goes
 /// with it. Reads and writes name their place, so the file's own position is never used.
@@ -36,13 +33,7 @@ impl<R: Files + Drop> SpoolFile<R> {
 
     // Makes the file, or opens what an earlier run left and empties it; tells which.
     fn find(&self) -> io::Result<(R::File, bool)> {
-        let made = OpenOptions::new()
-            .read(true)
-            .write(true)
-            .create_new(true)
-            .mode(OWNER_ONLY)
-            .open(&self.system, self.path.as_str());
-        match made {
+        match sd_file::make(&self.system, self.path.as_str()) {
             Ok(file) => Ok((file, true)),
             Err(error) if error.kind() == ErrorKind::AlreadyExists => Ok((
                 self.find_left()?,
@@ -52,20 +43,13 @@ impl<R: Files + Drop> SpoolFile<R> {
         }
     }
 
-    // Opens what stands at the path, if that is a file, and empties it. What was opened is compared with what
-    // stood there before, since a link could take its place in between.
+    // Opens what stands at the path, if that is a file, and empties it.
     fn find_left(&self) -> io::Result<R::File> {
-        let found = fs::symlink_metadata(&self.system, self.path.as_str())?;
-        if !found.is_file() {
-            return Err(ErrorKind::Other.into());
-        }
-        let file = OpenOptions::new()
-            .read(true)
-            .write(true)
-            .open(&self.system, self.path.as_str())?;
-        if !is_same(&file.metadata()?, &found) {
-            return Err(ErrorKind::Other.into());
-        }
+        let file = sd_file::open_there(
+            &self.system,
+            self.path.as_str(),
+            OpenOptions::new().read(true).write(true),
+        )?;
         file.set_len(0)?;
         Ok(file)
     }
@@ -86,8 +70,7 @@ impl<R: Files + Drop> SpoolFile<R> {
     // Removes the file, if it was made by this one and stands there still.
     fn remove(&self) -> io::Result<()> {
         if let Some((file, true)) = &self.opened {
-            let found = fs::symlink_metadata(&self.system, self.path.as_str())?;
-            if is_same(&file.metadata()?, &found) {
+            if sd_file::is_there(&self.system, self.path.as_str(), file)? {
                 fs::remove_file(&self.system, self.path.as_str())?;
             }
         }
@@ -141,8 +124,4 @@ impl<R: Files + Drop> Drop for SpoolFile<R> {
             end: _,
         } = self;
     }
-}
-
-fn is_same(one: &Metadata, other: &Metadata) -> bool {
-    one.dev() == other.dev() && one.ino() == other.ino()
 }
