@@ -2,7 +2,6 @@
 use Rattle.std.specs.Prelude.{List, [], Option, Some, None}
 use Rattle.sd_base.specs.Record.{Record}
 use Rattle.sd_append.specs.declared.outbox.Outbox.{Outbox}
-use Rattle.sd_append.specs.declared.handed.Handed.{Handed}
 
 -- the outbox, and the records that the sink got
 pub record SinkIs (W : Type 0) : Type 0 where
@@ -10,6 +9,6 @@ pub record SinkIs (W : Type 0) : Type 0 where
   pub got : List Record
 
 -- the records that were handed over, if any
-abbrev pub records_of : Option Handed → List Record
+abbrev pub records_of : Option (List Record) → List Record
 records_of None = []
 records_of (Some handed) = handed

@@ -7,7 +7,6 @@ mod command;
 mod conversation;
 mod data;
 mod end;
-mod handed;
 mod header;
 mod line;
 mod log;

@@ -9,10 +9,9 @@ ghost use Rattle.sd_append.specs.Reader.{SinkIs};
 ghost use Rattle.sd_append.specs.Talk.{record_said};
 
 use crate::answers::say_record;
-use crate::handed::Handed;
 use crate::outbox::Outbox;
 use crate::port::{ReadBack, SessionPort};
-use sd_base::{Rec, Refusal, SessionKey};
+use sd_base::{Rec, Refusal, Seen, SessionKey};
 use sd_readback::{ReadEnd, Sink};
 use sd_span::Span;
 use std::alloc::AllocError;
@@ -35,7 +34,7 @@ impl Before for Brand {
 #[derive(Drop)]
 pub(crate) struct RecordPackets<K: Before, W: Write> {
     outbox: Outbox<W>,
-    handed: Option<Handed>,
+    handed: Option<Seen<Rec>>,
     of: PhantomData<K>,
 }
 
@@ -62,10 +61,7 @@ impl<K: Before, W: Write> Sink for RecordPackets<K, W> {
         if self.outbox.fault().is_some() {
             return Err(AllocError);
         }
-        let handed = match &self.handed {
-            None => Handed::first(&rec),
-            Some(before) => before.with(&rec),
-        };
+        let handed = Seen::with(&self.handed, &rec);
         say_record(&mut self.outbox, &rec);
         self.handed = Some(handed);
         Ok(())
