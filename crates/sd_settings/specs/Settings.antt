@@ -54,8 +54,11 @@ values_after v (s ∷ ss) = values_after (values_with v s) ss
 pub record AreSettable (v : ValuesView) : Type 0 where
   pub block : IsSettingWithin (setting.Block v.block)
   pub volume : IsSettingWithin (setting.Volume v.volume)
+  pub spool : IsSettingWithin (setting.Spool v.spool)
+  pub queue : IsSettingWithin (setting.Queue v.queue)
   pub time : IsSettingWithin (setting.Time v.time)
-  pub lanes : All (λ (d : List ℕ × ℕ). d.1 ≤ most_lanes) v.drives
+  pub lanes_least : All (λ (d : List ℕ × ℕ). 1 ≤ d.1) v.drives
+  pub lanes_most : All (λ (d : List ℕ × ℕ). d.1 ≤ most_lanes) v.drives
 
 -- the lines are these settings, one after another
 abbrev pub AreSettings : List (List ℕ) → List Setting → Type 0
