@@ -132,11 +132,9 @@ class Drive:
         return found
 
     def leave(self, name, count):
-        """A stop leaves so many zero bytes on a volume. For more than it may have the device isn't asked."""
+        """A stop leaves so many zero bytes on a volume. Of more than it may have, one byte more than that is asked."""
         self.device.load(name)
         try:
-            if count > self.device.capacity:
-                raise Refused(NO_ROOM)
-            self.device.append(bytes(count))
+            self.device.append(bytes(min(count, self.device.capacity + 1)))
         finally:
             self.device.unload()

@@ -126,8 +126,8 @@ fn append_tail<D: Driver>(
     )
 }
 
-// Appends so many zero bytes to a volume, and says why not where that is refused. More bytes than a volume may have are
-// asked of no device, and take no memory.
+// Appends so many zero bytes to a volume, and says why not where that is refused. Of more bytes than a volume may have
+// one byte more than that is asked: the device refuses it as it would refuse all, and it takes no more memory.
 fn append_zeros<D: Driver>(
     alloc: Global,
     driver: &mut D,
@@ -139,13 +139,12 @@ fn append_zeros<D: Driver>(
     if let Err(fault) = driver.load(volume) {
         return Some(refusal_of(fault));
     }
-    if count > capacity {
-        return Some(Refusal::NoRoom);
-    }
-    let Ok(zeros) = vec![in alloc; 0u8; count as usize] else {
+    let asked = count.min(capacity.saturating_add(1));
+    let Ok(zeros) = vec![in alloc; 0u8; asked as usize] else {
         return Some(Refusal::Memory);
     };
     match driver.append(&zeros) {
+        Ok(()) if asked < count => Some(Refusal::NoRoom),
         Ok(()) => None,
         Err(fault) => Some(refusal_of(fault)),
     }
