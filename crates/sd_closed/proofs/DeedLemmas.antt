@@ -1,7 +1,6 @@
 -- What deeds keep of a world, and the run that they are.
-use Rattle.std.proofs.Common.{◌≡◌, refl, sym, ap, subst, ◌∙◌, List, [], ◌∷◌, ◌++◌}
+use Rattle.std.proofs.Common.{refl, sym, ap, subst, ◌∙◌, [], ◌∷◌}
 use Rattle.sd_driver.specs.Meaning.{Meaning}
-use Rattle.sd_machine.specs.Machine.{Machine}
 use Rattle.sd_machine.specs.declared.event.Event.{Event}
 use Rattle.sd_machine.specs.declared.reply.Reply.{Reply}
 use Rattle.sd_moves.specs.World.{WorldView}
@@ -11,8 +10,8 @@ use Rattle.sd_moves.proofs.Moves.{moves_keep_closed}
 use Rattle.sd_matches.specs.Matches.{Matches}
 use Rattle.sd_matches.specs.Steps.{newly_failed}
 use Rattle.sd_matches.proofs.MovesSteps.{moves_steps}
-use Rattle.sd_closed.specs.Deeds.{Deed, IsRead, IsDone, LeadsTo, RunsTo, StaysFrom, StepsLead, LeadsJoin, LeadsKeep, LeadsRun, events_in, replies_in}
-use Rattle.sd_closed.specs.Steps.{IsSound, IsStep, StepsAlong}
+use Rattle.sd_closed.specs.Deeds.{Deed, IsDone, LeadsTo, StaysFrom, StepsLead, LeadsJoin, LeadsKeep, LeadsRun}
+use Rattle.sd_closed.specs.Steps.{IsSound, IsStep}
 use Rattle.sd_closed.proofs.GrowLemmas.{journals_grow, growths_join, moves_go_on, going_on_joins, devices_go_on, stays as drives_stay}
 use Rattle.sd_closed.proofs.ReadKeeps.{read_matches, read_leaves, read_goes_on, read_honest}
 use Rattle.sd_closed.proofs.SeatLemmas.{moves_keep_seats}

@@ -13,7 +13,7 @@ use Rattle.sd_span.specs.declared.span.Span.{Span}
 use Rattle.sd_volume.specs.Device.{OnlyReads}
 use Rattle.sd_moves.specs.Honest.{AreHonest}
 use Rattle.sd_moves.specs.Rules.{IsWorld}
-use Rattle.sd_moves.specs.World.{WorldView, WorldSession, BayView, IsOnline, session_at, with_drive}
+use Rattle.sd_moves.specs.World.{WorldView, BayView, IsOnline, session_at, with_drive}
 use Rattle.sd_moves.proofs.DriveMoves.{goes_on_knowing}
 use Rattle.sd_moves.proofs.DriveSteps.{adds_none}
 use Rattle.sd_moves.proofs.HonestSteps.{drive_changes}

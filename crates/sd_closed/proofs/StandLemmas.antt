@@ -18,7 +18,7 @@ use Rattle.sd_moves.proofs.MoveLeaves.{moves_keep_claims}
 use Rattle.sd_closed.specs.Grows.{Grows, AllGrow}
 use Rattle.sd_closed.specs.Seats.{SeatsStay}
 use Rattle.sd_closed.specs.Stays.{AreClaimed}
-use Rattle.sd_closed.specs.Stands.{IsRetired, StandsClosed, ClosedLast, ReplyStands, ToldAreClaimed, StepsKeepSpans}
+use Rattle.sd_closed.specs.Stands.{IsRetired, ClosedLast, ReplyStands, ToldAreClaimed, StepsKeepSpans}
 use Rattle.sd_closed.specs.Steps.{DrivesKeep}
 use Rattle.sd_closed.proofs.ClaimLemmas.{closed_is_found, placed_is_found}
 use Rattle.sd_closed.proofs.GrowLemmas.{journals_grow}
@@ -93,13 +93,13 @@ stands_on {D} w w' l key spans s =
       claimed = subst (λ n. AreClaimed w'.desk n spans) (sym drive) (claimed_stay w w' s.e.drive spans l.claims s.claimed);
       spans_are = elim s.spans_are [
         | inl is ↦ elim (l.spans key spans (record { e = s.e; there = s.there; key_is = s.key_is; closed = s.closed; spans_are = is })) [
-            | inl c ↦
-                let one : c.e ≡ h.e = cc (sym c.there ∙ h.there) in
-                inl (subst (λ x. SpansAt w' x spans) one c.spans_are)
-            | inr off ↦
-                let one : off.e ≡ h.e = cc (sym off.there ∙ h.there) in
-                inr (off.at, off.bay, ap (λ (x : WorldSession). x.drive) (sym one) ∙ off.drive_is, off.bay_is, off.offline)
-          ]
+          | inl c ↦
+              let one : c.e ≡ h.e = cc (sym c.there ∙ h.there) in
+              inl (subst (λ x. SpansAt w' x spans) one c.spans_are)
+          | inr off ↦
+              let one : off.e ≡ h.e = cc (sym off.there ∙ h.there) in
+              inr (off.at, off.bay, ap (λ (x : WorldSession). x.drive) (sym one) ∙ off.drive_is, off.bay_is, off.offline)
+        ]
         | inr retired ↦ inr (retired_stays w w' key.id s.e h.e l.rules l.grow h.there drive retired)
       ];
     }

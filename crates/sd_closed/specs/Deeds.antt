@@ -1,5 +1,5 @@
 -- What a world did since it was made, one deed after another: it answered events and read sessions back.
-use Rattle.std.specs.Prelude.{◌≡◌, ℕ, ◌<◌, ◌^◌, Some, Result, List, [], ◌∷◌, ◌++◌}
+use Rattle.std.specs.Prelude.{◌≡◌, ◌<◌, ◌^◌, Some, Result, List, [], ◌∷◌, ◌++◌}
 use Rattle.sd_base.specs.Record.{Record}
 use Rattle.sd_base.specs.declared.number.SessionKey.{SessionKey}
 use Rattle.sd_base.specs.declared.refusal.Refusal.{Refusal}

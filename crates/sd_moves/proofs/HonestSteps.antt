@@ -1,5 +1,5 @@
 -- Every move leaves honest devices and stores honest.
-use Rattle.std.proofs.Common.{◌≡◌, ℕ, ◌+◌, Bool, true, false, refl, sym, ap, subst, ◌∙◌, inl, inr, zero, suc, Some, None, List, [], ◌∷◌, ◌++◌, slice_get, slice_set}
+use Rattle.std.proofs.Common.{◌≡◌, ℕ, ◌+◌, Bool, true, false, refl, sym, ap, subst, ◌∙◌, inl, inr, zero, suc, Some, None, List, [], slice_get, slice_set}
 use Rattle.std.specs.Prelude.{IsTrue}
 use Rattle.sd_base.specs.declared.number.SessionKey.{SessionKey}
 use Rattle.sd_base.specs.declared.refusal.Refusal.{Refusal}
@@ -8,7 +8,7 @@ use Rattle.sd_drive.specs.View.{DriveIs}
 use Rattle.sd_machine.specs.declared.event.Event.{Event}
 use Rattle.sd_machine.specs.declared.reply.Reply.{Reply}
 use Rattle.sd_session.specs.Session.{SessionView, home_of, store_of, unused_store, new_spool}
-use Rattle.sd_spool.specs.Job.{StoreState, state_of}
+use Rattle.sd_spool.specs.Job.{StoreState}
 use Rattle.sd_spool.specs.Meaning.{Meaning as StoreMeaning}
 use Rattle.sd_moves.specs.World.{WorldView, WorldSession, BayView, LaneView, IsOnline, session_at, with_session}
 use Rattle.sd_moves.specs.Sessions.{TakesStore, FailsToEmpty, OpensSession, OpensNot}
@@ -21,7 +21,7 @@ use Rattle.sd_moves.proofs.OpenSteps.{LosesStore, taken_from}
 use Rattle.sd_moves.proofs.Pairs.{PairAt, WithOne, FallsWhere, pair_before, with_pairs, fail_pairs}
 use Rattle.sd_moves.proofs.QueueSteps.{sends_one}
 use Rattle.sd_moves.proofs.Shapes as shape
-use Rattle.sd_moves.proofs.Shapes.{Shape, DeviceStays, shape_of}
+use Rattle.sd_moves.proofs.Shapes.{Shape, shape_of}
 use Rattle.sd_moves.proofs.Views.{StaysTrue, fails}
 
 -- Sessions.

@@ -109,11 +109,11 @@ module _ {D : Type 0} (meaning : D → Meaning) (w : WorldView D) (m : Machine) 
       let whether : (o : Option (DriveIs D)) → place.bay.drive ≡ o → ReadsCancelled meaning w m key spans got got' result = λ o.
       elim o as (λ o. place.bay.drive ≡ o → ReadsCancelled meaning w m key spans got got' result) [
         | None ↦ λ off. record {
-            has = has;
-            e = e;
-            there = seat.1;
-            reads = inr (world_refuses meaning w after key spans got got' result e.drive (place.at, place.bay, place.drive_is, place.bay_there, off) claimed some read.reads);
-          }
+          has = has;
+          e = e;
+          there = seat.1;
+          reads = inr (world_refuses meaning w after key spans got got' result e.drive (place.at, place.bay, place.drive_is, place.bay_there, off) claimed some read.reads);
+        }
         | Some d ↦ λ on.
             let online : IsOnline w e.drive place.at place.bay d = record { number = place.drive_is; there = place.bay_there; online = on } in
             let there : IsOnline w told.e.drive place.at place.bay d = subst (λ n. IsOnline w n place.at place.bay d) seat.2.drive_is online in

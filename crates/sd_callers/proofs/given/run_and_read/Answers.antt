@@ -1,5 +1,4 @@
 use Rattle.std.proofs.Common.{List, inl, inr, refl, subst}
-use Rattle.std.specs.Global.{Global}
 use Rattle.sd_closed.specs.Deeds.{answered, events_in}
 use Rattle.sd_machine.specs.Machine.{empty_machine}
 use Rattle.sd_machine.specs.Step.{Run}
@@ -27,12 +26,18 @@ returns g c =
     let h = c.headline.ensures in_memory start c.in-Ok.world c.run.new.self (answered events replies) made lead.0 in
     let E : List Event → Type 0 = λ es. Run (empty_machine c.args.time) es replies h.m in
     let R : List Reply → Type 0 = λ rs. Run (empty_machine c.args.time) (events_in (answered events replies)) rs h.m in
-    record { lists = (h.m, subst E lead.1 (subst R lead.2 h.run), λ told.
-    let r = h.closed honest c.args.key c.args.spans.now told c.read-end.new.self _ _ c.read-end.result c.read-end.ensures in
     record {
-      has = r.has;
-      gives = elim r.reads [
-        | inl x ↦ inl x.gives
-        | inr x ↦ inr x.1
-      ];
-    }) }
+      lists = (
+        h.m,
+        subst E lead.1 (subst R lead.2 h.run),
+        λ told.
+            let r = h.closed honest c.args.key c.args.spans.now told c.read-end.new.self _ _ c.read-end.result c.read-end.ensures in
+            record {
+              has = r.has;
+              gives = elim r.reads [
+                | inl x ↦ inl x.gives
+                | inr x ↦ inr x.1
+              ];
+            },
+      );
+    }

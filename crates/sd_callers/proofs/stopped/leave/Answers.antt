@@ -1,4 +1,4 @@
-use Rattle.std.proofs.Common.{◌≡◌, ◌≤◌, arith, refl, sym, subst, []}
+use Rattle.std.proofs.Common.{◌≤◌, arith, refl, sym, subst, []}
 use Rattle.std.proofs.lemmas.Result.{IfOk-weaker}
 use Rattle.sd_driver.specs.Shelf.{AfterStop}
 use Rattle.sd_memdrive.specs.Drive.{meaning_of}

@@ -3,7 +3,6 @@ use Rattle.sd_driver.specs.Meaning.{Meaning}
 use Rattle.sd_machine.specs.declared.event.Event.TheVariants.{Append}
 use Rattle.sd_parts.specs.View.{world_of}
 use Rattle.sd_moves.specs.Moves.{Moves}
-use Rattle.sd_moves.specs.Rules.{IsWorld}
 use Rattle.sd_moves.specs.World.{WorldView}
 use Rattle.sd_moves.proofs.Moves.{moves_keep_rules}
 use Rattle.sd_core.proofs.world.World.append.Goals as goal

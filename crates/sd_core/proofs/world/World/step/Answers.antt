@@ -2,7 +2,6 @@ use Rattle.std.proofs.Common.{subst}
 use Rattle.sd_driver.specs.Meaning.{Meaning}
 use Rattle.sd_parts.specs.View.{world_of}
 use Rattle.sd_moves.specs.Moves.{Moves}
-use Rattle.sd_moves.specs.Rules.{IsWorld}
 use Rattle.sd_moves.specs.World.{WorldView}
 use Rattle.sd_moves.proofs.Moves.{moves_keep_rules}
 use Rattle.sd_core.proofs.world.World.step.Goals as goal
