@@ -5,9 +5,9 @@ use Rattle.std.proofs.lemmas.List.{drop_more}
 use Rattle.toml.specs.Data.{Data, Items, Members, as_array}
 use Rattle.toml.specs.View.{table_view}
 use Rattle.toml.specs.declared.value.Value.{Value}
+use Rattle.sd_base.specs.Limits.{most_drives}
 use Rattle.sd_conf.specs.Conf.{drive_of}
 use Rattle.sd_conf.specs.FirstFault.{Fault, At, DriveFault, TablesFault}
-use Rattle.sd_conf.specs.Limits.{most_drives}
 use Rattle.sd_conf.specs.Told.{TellsAs}
 use Rattle.sd_conf.specs.Values.{required, drives_fault, count_fault, tables_of, tables_at}
 use Rattle.sd_conf.specs.declared.conf.DriveConf.{DriveConf}
@@ -79,7 +79,7 @@ pub drives_many : (v : Data) (d : Option Data) (items : Items) (tables : List Me
     → most_drives < length tables → At (codes "drive") (required drives_fault d) (Some (codes "drive", Range))
 drives_many v d items [] e is counts many = absurd (omega arith)
 drives_many v d items (table ∷ more) e is counts many =
-    let past : nat_le (length (table ∷ more)) 8 ≡ false = grind (arith, nat_tests) in
+    let past : nat_le (length (table ∷ more)) most_drives ≡ false = grind (arith, nat_tests) in
     at_fault (required drives_fault d) Range (counted v d items (Some (table ∷ more)) e is counts ∙ rw past refl)
 
 pub drives_counted : (v : Data) (d : Option Data) (items : Items) (tables : List Members) → Some v ≡ d → Some items ≡ as_array v → Some tables ≡ tables_of items
@@ -87,7 +87,7 @@ pub drives_counted : (v : Data) (d : Option Data) (items : Items) (tables : List
     → At (codes "drive") (required drives_fault d) None × (tables ≡ tables_at d)
 drives_counted v d items [] e is counts some few = absurd (omega arith)
 drives_counted v d items (table ∷ more) e is counts some few =
-    let none : required drives_fault d ≡ None = counted v d items (Some (table ∷ more)) e is counts ∙ rw (le-leb (length (table ∷ more)) 8 few) refl in (
+    let none : required drives_fault d ≡ None = counted v d items (Some (table ∷ more)) e is counts ∙ rw (le-leb (length (table ∷ more)) most_drives few) refl in (
       subst (λ w. At (codes "drive") w None) (sym none) refl,
       subst (λ q. table ∷ more ≡ tables_at q) e (rw (← is) (rw (← counts) refl)),
     )

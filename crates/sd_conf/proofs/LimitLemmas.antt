@@ -5,11 +5,11 @@ use Rattle.std.proofs.lemmas.Bool.Decides.{nat_tests}
 use Rattle.std.proofs.lemmas.List.{length-map}
 use Rattle.std.proofs.lemmas.List.Elements.{All-nil, All-cons}
 use Rattle.toml.specs.Data.{Data, Members, get_member, as_integer, as_str}
-use Rattle.sd_base.specs.Limits.{least_block_limit, most_block, most_volume}
+use Rattle.sd_base.specs.Limits.{least_block_limit, most_block, most_volume, most_drives, most_lanes, most_queue}
 use Rattle.sd_base.specs.Name.{IsName}
 use Rattle.sd_conf.specs.Conf.{IsWithinLimits, IsDriveWithinLimits, conf_of, drive_of}
 use Rattle.sd_conf.specs.FirstFault.{Fault, ◌then◌, UnknownKey, FirstFault, At, MediaName, MediaTest, FolderTest, LanesTest, BlockTest, VolumeTest, SpoolTest, QueueTest, PortTest, SpoolFolderTest, DriveTest, DriveFault, TablesFault, block_of, spool_of}
-use Rattle.sd_conf.specs.Limits.{default_block, default_queue, default_port, default_lanes, most_queue, most_port, most_drives, most_lanes}
+use Rattle.sd_conf.specs.Limits.{default_block, default_queue, default_port, default_lanes, most_port}
 use Rattle.sd_conf.specs.Values.{required, optional, is_within, is_spool_limit, integer_fault, number_fault, natural_or, number_or, text_fault, kind_unless, text_at, drives_fault, count_fault, tables_in, tables_at}
 use Rattle.sd_conf.specs.declared.fault.FaultKind.{FaultKind}
 use Rattle.sd_conf.specs.declared.keys.Level.TheVariants.{Daemon, Drive}

@@ -2,10 +2,10 @@
 use Rattle.std.specs.Prelude.{◌≡◌, ◌⊎◌, ◌≢◌, ℕ, ◌*◌, ◌≤◌, All, List, [], length, map, Option, Some, None, codes, unwrap_or, IsSome}
 use Rattle.toml.specs.Data.{Members, get_member}
 use Rattle.toml.specs.Parse.{parse_document}
-use Rattle.sd_base.specs.Limits.{least_block_limit, most_block, most_volume}
+use Rattle.sd_base.specs.Limits.{least_block_limit, most_block, most_volume, most_drives, most_lanes, most_queue}
 use Rattle.sd_base.specs.Name.{IsName}
 use Rattle.sd_conf.specs.FirstFault.{Fault, FirstFault, block_of, spool_of}
-use Rattle.sd_conf.specs.Limits.{default_queue, most_queue, default_port, most_port, most_drives, default_lanes, most_lanes}
+use Rattle.sd_conf.specs.Limits.{default_queue, default_port, most_port, default_lanes}
 use Rattle.sd_conf.specs.Values.{number_or, text_at, tables_at}
 use Rattle.sd_conf.specs.declared.conf.Conf.{Conf}
 use Rattle.sd_conf.specs.declared.conf.DriveConf.{DriveConf}
@@ -45,7 +45,7 @@ abbrev pub HasFirstFault : List ℕ → List ℕ → FaultKind → Type 0
 HasFirstFault text key wrong =
     (table : Members) × (parse_document text ≡ Some table) × FirstFault table (Some (key, wrong))
 
--- a drive has a media with a name, and 1 to 32 lanes
+-- a drive has a media with a name, a lane at least, and no more than it may have
 pub record IsDriveWithinLimits (drive : DriveConf) : Type 0 where
   pub media_is : IsName drive.media
   pub lanes_least : 1 ≤ drive.lanes

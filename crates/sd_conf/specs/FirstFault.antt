@@ -1,10 +1,10 @@
 -- The first fault of a configuration, in the order in which its keys are tested.
 use Rattle.std.specs.Prelude.{◌≡◌, ◌⊎◌, ℕ, ◌*◌, ◌==◌, if◌then◌else◌, List, [], ◌∷◌, Option, Some, None, codes}
 use Rattle.toml.specs.Data.{Data, Members, get_member, as_str}
-use Rattle.sd_base.specs.Limits.{least_block_limit, most_block, most_volume}
+use Rattle.sd_base.specs.Limits.{least_block_limit, most_block, most_volume, most_lanes, most_queue}
 use Rattle.sd_base.specs.Name.{IsName}
 use Rattle.sd_conf.specs.Keys.{AllKnown, IsFirstUnknown}
-use Rattle.sd_conf.specs.Limits.{default_block, most_queue, most_port, most_lanes}
+use Rattle.sd_conf.specs.Limits.{default_block, most_port}
 use Rattle.sd_conf.specs.Values.{required, optional, is_within, is_spool_limit, number_fault, number_or, text_fault, drives_fault, tables_at}
 use Rattle.sd_conf.specs.declared.fault.FaultKind.{FaultKind}
 use Rattle.sd_conf.specs.declared.fault.FaultKind.TheVariants.{Unknown, Missing, Kind, Range}

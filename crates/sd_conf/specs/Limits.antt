@@ -5,11 +5,7 @@ use Rattle.std.specs.Prelude.{ℕ}
 abbrev pub default_block : ℕ
 default_block = 64512
 
--- the most blocks that wait before a drive
-abbrev pub most_queue : ℕ
-most_queue = 1024
-
--- how many wait there where none are given
+-- how many blocks wait before a drive where none are given
 abbrev pub default_queue : ℕ
 default_queue = 8
 
@@ -20,14 +16,6 @@ most_port = 65535
 -- the port where none is given
 abbrev pub default_port : ℕ
 default_port = 9103
-
--- the most drives
-abbrev pub most_drives : ℕ
-most_drives = 8
-
--- the most lanes of a drive
-abbrev pub most_lanes : ℕ
-most_lanes = 32
 
 -- the lanes of a drive where none are given
 abbrev pub default_lanes : ℕ

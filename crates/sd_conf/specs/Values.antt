@@ -1,8 +1,7 @@
 -- The values at keys: what they say, and what may be wrong with one.
 use Rattle.std.specs.Prelude.{ℕ, ℤ, pos, negsuc, Bool, false, ◌&&◌, ◌||◌, nat_le, if◌then◌else◌, List, [], ◌∷◌, length, Option, Some, None, option_map, option_and_then, unwrap_or}
 use Rattle.toml.specs.Data.{Data, Items, no_items, item, Members, as_integer, as_str, as_array, as_table}
-use Rattle.sd_base.specs.Limits.{most_volume}
-use Rattle.sd_conf.specs.Limits.{most_drives}
+use Rattle.sd_base.specs.Limits.{most_volume, most_drives}
 use Rattle.sd_conf.specs.declared.fault.FaultKind.{FaultKind}
 use Rattle.sd_conf.specs.declared.fault.FaultKind.TheVariants.{Missing, Kind, Range}
 

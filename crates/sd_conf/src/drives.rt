@@ -4,7 +4,7 @@ ghost use Rattle.toml.specs.Data.{get_member};
 ghost use Rattle.toml.specs.View.{array_view, table_view};
 ghost use Rattle.sd_conf.specs.Conf.{drive_of};
 ghost use Rattle.sd_conf.specs.FirstFault.{◌then◌, DriveFault, DriveTest, TablesFault};
-ghost use Rattle.sd_conf.specs.Limits.{default_lanes, most_lanes, most_drives};
+ghost use Rattle.sd_conf.specs.Limits.{default_lanes};
 ghost use Rattle.sd_conf.specs.Told.{Tells, TellsAs};
 ghost use Rattle.sd_conf.specs.Values.{tables_at, tables_of};
 
@@ -12,16 +12,10 @@ use crate::conf::DriveConf;
 use crate::fault::{ConfFault, FaultKind};
 use crate::keys::{Level, only_known};
 use crate::values::{fault_at, media, number_at, required_text};
-use sd_base::Items;
+use sd_base::{Items, MOST_DRIVES, MOST_LANES};
 use std::alloc::{AllocError, Global};
 use toml::Table;
 use toml::value::Array;
-
-/// The most drives of a daemon.
-const MOST_DRIVES: usize = 8;
-
-/// The most lanes of a drive.
-const MOST_LANES: u64 = 32;
 
 /// The lanes of a drive where none are given.
 const DEFAULT_LANES: u64 = 4;
@@ -36,7 +30,7 @@ pub fn drives(alloc: Global, table: &Table) -> Result<Items<DriveConf>, ConfFaul
     drives_of(alloc, &tables)
 }
 
-// The tables of the drives, 1 to 8 of them.
+// The tables of the drives, of which there are one at least and not too many.
 fn tables(alloc: Global, table: &Table) -> Result<Vec<&Table>, ConfFault>
     ensures { TellsAs (λ tables. map (λ t. table_view t.now) tables.items)
         (DriveTest (table_view table.now))
@@ -57,7 +51,7 @@ fn tables(alloc: Global, table: &Table) -> Result<Vec<&Table>, ConfFault>
     if tables.is_empty() {
         return Err(fault_at(alloc, "drive", FaultKind::Missing));
     }
-    if tables.len() > MOST_DRIVES {
+    if tables.len() > MOST_DRIVES as usize {
         return Err(fault_at(alloc, "drive", FaultKind::Range));
     }
     Ok(tables)
@@ -100,7 +94,7 @@ fn drive(alloc: Global, table: &Table) -> Result<DriveConf, ConfFault>
     only_known(alloc, table, Level::Drive)?;
     let media = media(alloc, table)?;
     let folder = required_text(alloc, table, "folder")?;
-    let lanes = number_at(alloc, table, "lanes", (1, MOST_LANES), DEFAULT_LANES)?;
+    let lanes = number_at(alloc, table, "lanes", (1, u64::from(MOST_LANES)), DEFAULT_LANES)?;
     Ok(DriveConf {
         media,
         folder,

@@ -14,15 +14,12 @@ use crate::drives::drives;
 use crate::fault::ConfFault;
 use crate::keys::{Level, only_known};
 use crate::values::{number_at, spool_at, spool_folder};
-use sd_base::{LEAST_BLOCK_LIMIT, MOST_BLOCK, MOST_VOLUME};
+use sd_base::{LEAST_BLOCK_LIMIT, MOST_BLOCK, MOST_QUEUE, MOST_VOLUME};
 use std::alloc::Global;
 use toml::Table;
 
 /// The block limit where none is given.
 const DEFAULT_BLOCK: u64 = 64_512;
-
-/// The most blocks that wait before a drive.
-const MOST_QUEUE: u64 = 1024;
 
 /// How many blocks wait before a drive where none are given.
 const DEFAULT_QUEUE: u64 = 8;
@@ -71,7 +68,7 @@ fn conf(alloc: Global, table: &Table) -> Result<Conf, ConfFault>
         MOST_VOLUME,
     )?;
     let spool = spool_at(alloc, table, block)?;
-    let queue = number_at(alloc, table, "queue", (1, MOST_QUEUE), DEFAULT_QUEUE)?;
+    let queue = number_at(alloc, table, "queue", (1, MOST_QUEUE as u64), DEFAULT_QUEUE)?;
     let port = number_at(alloc, table, "port", (1, u16::MAX as u64), DEFAULT_PORT)?;
     let spool_folder = spool_folder(alloc, table, spool)?;
     let drives = drives(alloc, table)?;

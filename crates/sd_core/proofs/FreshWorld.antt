@@ -3,7 +3,7 @@ use Rattle.std.proofs.Common.{◌≡◌, ◌≤◌, ℕ, zero, suc, ◌+◌, ◌
 use Rattle.std.specs.List.{AllZip}
 use Rattle.std.proofs.lemmas.List.{length-map}
 use Rattle.std.proofs.lemmas.Option.{get_or_from_slice_get, slice_get_within}
-use Rattle.sd_base.specs.Limits.{most_number}
+use Rattle.sd_base.specs.Limits.{most_lanes, most_number}
 use Rattle.sd_desk.specs.Desk.{claimed_by}
 use Rattle.sd_driver.specs.Meaning.{Meaning}
 use Rattle.sd_drive.specs.View.{DriveIs}
@@ -77,14 +77,14 @@ new_lanes store (x ∷ xs) sessions drive number (suc place) lane there = new_la
 -- so is a new bay, in a world of its limits
 new_bay_is : {D S Z : Type 0} (meaning : D → Meaning) (store : S → StoreMeaning) (room : ℕ) (medias : List (List ℕ × ℕ))
     (w : WorldView D) (at : ℕ) (bay : BayView D) → IsNewBay Z meaning store w.limits room medias at bay → w.queue ≡ room
-    → All (λ (m : List ℕ × ℕ). m.1 ≤ 32) medias → IsBay w at bay
+    → All (λ (m : List ℕ × ℕ). m.1 ≤ most_lanes) medias → IsBay w at bay
 new_bay_is {D} meaning store room medias w at bay b queue_is most =
-    let few : b.m.1 ≤ 32 = subst (λ (m : List ℕ × ℕ). m.1 ≤ 32) (get_or_from_slice_get medias at b.m b.m b.there) (most at b.m (slice_get_within medias at b.m b.there)) in
+    let few : b.m.1 ≤ most_lanes = subst (λ (m : List ℕ × ℕ). m.1 ≤ most_lanes) (get_or_from_slice_get medias at b.m b.m b.there) (most at b.m (slice_get_within medias at b.m b.there)) in
     let new : DriveIs D = record { device = b.d.device; media = b.m.0; limits = w.limits; volumes = []; loaded = None; pool = None; hand = None; journal = [] } in
     let long : length (new_bay store b.d b.queue b.stores).lanes ≡ b.m.1 = length-map b.stores.items (λ s. new_lane (store s)) ∙ b.many in
     let one : (e : DriveIs D) → Some b.d ≡ Some e → e ≡ new = λ e is. let same : e ≡ b.d = cc is in same ∙ b.new.is in
     subst (λ x. IsBay w at x) (sym b.bay_is) (record {
-      lanes_most = subst (λ n. n ≤ 32) (sym long) few;
+      lanes_most = subst (λ n. n ≤ most_lanes) (sym long) few;
       lanes_are = ap (λ (q : LanesView). q.lanes) b.empty ∙ sym long;
       capacity_is = ap (λ (q : LanesView). q.capacity) b.empty ∙ sym queue_is;
       media_is = λ e is. ap (λ (x : DriveIs D). x.media) (one e is ∙ sym b.new.is);

@@ -1,19 +1,19 @@
 -- Which settings a world may have, and which queues and stores fit them.
 use Rattle.std.specs.Prelude.{◌≡◌, ℕ, ◌≤◌, List, [], length, All, Vec}
 use Rattle.std.specs.List.{AllZip}
-use Rattle.sd_base.specs.Limits.{least_block_limit, most_block, most_volume}
+use Rattle.sd_base.specs.Limits.{least_block_limit, most_block, most_volume, most_drives, most_lanes}
 use Rattle.sd_drive.specs.declared.limits.Limits.{Limits}
 use Rattle.sd_lane.specs.Queue.{LanesView}
 use Rattle.sd_core.specs.declared.conf.WorldConf.{WorldConf}
 
--- The settings are those that a world may have: the limits of a block and of a volume are in their bounds; there are 8
--- drives at most, of 32 lanes each at most.
+-- The settings are those that a world may have: the limits of a block and of a volume are in their bounds, and there are
+-- not too many drives, and of none too many lanes.
 pub record IsConf (conf : WorldConf) : Type 0 where
   pub block_least : least_block_limit ≤ conf.block
   pub block_most : conf.block ≤ most_block
   pub volume_most : conf.volume ≤ most_volume
-  pub drives_most : length conf.drives.items ≤ 8
-  pub lanes_most : All (λ d. d.1 ≤ 32) conf.drives.items
+  pub drives_most : length conf.drives.items ≤ most_drives
+  pub lanes_most : All (λ d. d.1 ≤ most_lanes) conf.drives.items
 
 -- the limits of these settings, in the run of this time
 abbrev pub limits_of : WorldConf → ℕ → Limits

@@ -15,7 +15,7 @@ use sd_spool::SpoolStore;
 use std::alloc::{AllocError, Global};
 
 /// Makes an empty list of lanes for each list of stores, with room for a lane over each of them. Calls itself for the
-/// lists before the last one, of which a world has 8 at most.
+/// lists before the last one, of which a world has `MOST_DRIVES` at most.
 pub(crate) fn reserve_lanes<S: SpoolStore + Drop>(
     alloc: Global,
     spools: &[Vec<S>],

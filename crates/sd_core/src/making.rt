@@ -13,7 +13,7 @@ use sd_spool::SpoolStore;
 use std::alloc::{AllocError, Global};
 
 /// Takes drives apart again: their devices go behind the others, in their order. Calls itself for the drives before the
-/// last one, of which a world has 8 at most. Takes no memory.
+/// last one, of which a world has `MOST_DRIVES` at most. Takes no memory.
 pub(crate) fn unmake_drives<D: Driver>(drives: &mut Vec<Drive<D>>, drivers: &mut Vec<D>)
     requires room { vec_len drivers.old + vec_len drives.old ≤ vec_capacity drivers.old }
     ensures devices { drivers.new.items ≡ drivers.old.items ++ map
@@ -30,8 +30,8 @@ pub(crate) fn unmake_drives<D: Driver>(drives: &mut Vec<Drive<D>>, drivers: &mut
     drivers.push_reserved(drive.into_driver());
 }
 
-/// Makes a lane over each store, in their order. Calls itself for the stores before the last one, of which a drive has 32
-/// at most. Takes no memory.
+/// Makes a lane over each store, in their order. Calls itself for the stores before the last one, of which a drive has
+/// `MOST_LANES` at most. Takes no memory.
 pub(crate) fn make_lanes<S: SpoolStore>(stores: &mut Vec<S>, lanes: &mut Vec<LaneSlot<S>>)
     requires room { vec_len lanes.old + vec_len stores.old ≤ vec_capacity lanes.old }
     ensures lanes { lanes.new.items ≡ lanes.old.items ++ map

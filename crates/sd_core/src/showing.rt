@@ -1,7 +1,7 @@
 // What a world shows of itself.
 ghost use Rattle.std.specs.Prelude.{◌≡◌, ◌≤◌, ◌<◌, ◌+◌, ◌++◌, ℕ, length, map, IfOk, OnOk, not};
 ghost use Rattle.std.specs.List.{count_by};
-ghost use Rattle.sd_base.specs.Limits.{most_number};
+ghost use Rattle.sd_base.specs.Limits.{most_drives, most_lanes, most_number};
 ghost use Rattle.sd_moves.specs.Rules.{NumbersRise};
 ghost use Rattle.sd_moves.specs.World.{busy_lanes};
 ghost use Rattle.sd_core.specs.Drives.{HaveFewLanes};
@@ -23,7 +23,7 @@ pub(crate) fn show_drives<D: Driver, Q: Lanes, S: SpoolStore + Drop>(
     bays: &[Bay<D, Q, S>],
 ) -> Result<Items<DriveLine>, AllocError>
     requires rise { (time : ℕ) × (next : ℕ) × NumbersRise time 1 next sessions.now }
-    requires most { length bays.now ≤ 8 }
+    requires most { length bays.now ≤ most_drives }
     requires lanes { HaveFewLanes bays.now }
     ensures { IfOk result (λ lines. lines ≡ drive_lines sessions.now 0 bays.now) }
 {
@@ -42,8 +42,8 @@ fn show_drive<D: Driver, Q: Lanes, S: SpoolStore + Drop>(
     bay: &Bay<D, Q, S>,
 ) -> DriveLine
     requires rise { (time : ℕ) × (next : ℕ) × NumbersRise time 1 next sessions.now }
-    requires at { at < 8 }
-    requires lanes { length bay.now.lanes ≤ 32 }
+    requires at { at < most_drives }
+    requires lanes { length bay.now.lanes ≤ most_lanes }
     ensures { result ≡ drive_line sessions.now at bay.now }
 {
     DriveLine {
@@ -74,7 +74,7 @@ fn count_busy<D: Driver, Q: Lanes, S: SpoolStore + Drop>(
     bay: &Bay<D, Q, S>,
 ) -> usize
     requires rise { (time : ℕ) × (next : ℕ) × NumbersRise time 1 next sessions.now }
-    requires lanes { length bay.now.lanes ≤ 32 }
+    requires lanes { length bay.now.lanes ≤ most_lanes }
     ensures { result ≡ busy_lanes sessions.now bay.now.drive bay.now.lanes }
 {
     let Some(drive) = &bay.drive else {

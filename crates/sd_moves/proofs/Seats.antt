@@ -2,6 +2,7 @@
 use Rattle.std.proofs.Common.{◌≡◌, ◌≢◌, ◌⊎◌, ℕ, ◌+◌, ◌≤◌, refl, sym, ap, subst, ◌∙◌, arith, inl, inr, true, false, Some, IsSome, List, ◌++◌, length, slice_get, slice_set}
 use Rattle.std.proofs.lemmas.Option.{IfSome_then}
 use Rattle.sd_base.specs.Key.{is_key}
+use Rattle.sd_base.specs.Limits.{most_lanes}
 use Rattle.sd_base.specs.declared.number.SessionKey.{SessionKey}
 use Rattle.sd_desk.specs.Desk.{claimed_by}
 use Rattle.sd_drive.specs.View.{DriveIs, items}
@@ -214,7 +215,7 @@ pub bay_with : {D : Type 0} (w w' : WorldView D) (at : ℕ) (bay bay' : BayView 
     → ((d : DriveIs D) → bay'.drive ≡ Some d → IsInBay w' at bay'.media bay'.queue d)
     → AreLanes w'.sessions (at + 1) bay'.lanes → IsBay w' at bay'
 bay_with w w' at bay bay' stays h shape inside lanes = record {
-  lanes_most = subst (λ n. n ≤ 32) (sym shape.lanes_are) h.lanes_most;
+  lanes_most = subst (λ n. n ≤ most_lanes) (sym shape.lanes_are) h.lanes_most;
   lanes_are = shape.queue_lanes ∙ h.lanes_are ∙ sym shape.lanes_are;
   capacity_is = shape.capacity_is ∙ h.capacity_is ∙ sym stays.queue_is;
   media_is = λ d on. (inside d on).media_is;

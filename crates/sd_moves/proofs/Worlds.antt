@@ -1,7 +1,7 @@
 -- A world keeps its rules where sessions change, or one bay, or both.
 use Rattle.std.proofs.Common.{◌≡◌, ◌≢◌, ℕ, ◌+◌, ◌≤◌, refl, sym, ap, subst, ◌∙◌, arith, inl, inr, Option, Some, List, length, slice_get, slice_set}
 use Rattle.std.proofs.lemmas.List.{length-set}
-use Rattle.sd_base.specs.Limits.{most_number}
+use Rattle.sd_base.specs.Limits.{most_drives, most_number}
 use Rattle.sd_base.specs.declared.number.SessionKey.{SessionKey}
 use Rattle.sd_desk.specs.Desk.{DeskView, claimed_by}
 use Rattle.sd_drive.specs.View.{DriveIs}
@@ -58,7 +58,7 @@ world_with w w' at bay' h stays next numbers bays seated here lanes = record {
   limits = subst AreLimits (sym stays.limits_are) h.limits;
   next_most = next;
   numbers = numbers;
-  bays_most = subst (λ n. n ≤ 8) (sym (ap length bays ∙ length-set w.bays at bay')) h.bays_most;
+  bays_most = subst (λ n. n ≤ most_drives) (sym (ap length bays ∙ length-set w.bays at bay')) h.bays_most;
   seated = seated;
   bays = λ other b there. elim (get_set-tells w.bays at other bay' b (ap (λ bs. slice_get bs other) (sym bays) ∙ there)) [
     | inl p ↦ subst (λ x. IsBay w' other x) (sym p.1) (subst (λ n. IsBay w' n bay') (sym p.0) here)

@@ -1,6 +1,6 @@
 -- What every world keeps, whatever happens to it.
 use Rattle.std.specs.Prelude.{◌≡◌, ℕ, ◌+◌, ◌≤◌, ◌<◌, false, Some, None, IfSome, IsSome, List, [], ◌∷◌, length, slice_get}
-use Rattle.sd_base.specs.Limits.{most_number, least_block_limit, most_block, most_volume}
+use Rattle.sd_base.specs.Limits.{most_number, least_block_limit, most_block, most_volume, most_drives, most_lanes}
 use Rattle.sd_desk.specs.Desk.{claimed_by}
 use Rattle.sd_drive.specs.View.{DriveIs}
 use Rattle.sd_drive.specs.declared.limits.Limits.{Limits}
@@ -63,7 +63,7 @@ pub record IsLane (sessions : List WorldSession) (drive place : ℕ) (lane : Lan
 -- a drive's bay: the drive is of its media and of the world's limits, its volumes are claimed for it, the pieces given to
 -- it and before it are of sessions that were opened, and each lane is as it should be
 pub record IsBay {D : Type 0} (w : WorldView D) (at : ℕ) (bay : BayView D) : Type 0 where
-  pub lanes_most : length bay.lanes ≤ 32
+  pub lanes_most : length bay.lanes ≤ most_lanes
   pub lanes_are : bay.queue.lanes ≡ length bay.lanes
   pub capacity_is : bay.queue.capacity ≡ w.queue
   pub media_is : (d : DriveIs D) → bay.drive ≡ Some d → d.media ≡ bay.media
@@ -78,6 +78,6 @@ pub record IsWorld {D : Type 0} (w : WorldView D) : Type 0 where
   pub limits : AreLimits w.limits
   pub next_most : w.next ≤ most_number + 1
   pub numbers : NumbersRise w.limits.time 1 w.next w.sessions
-  pub bays_most : length w.bays ≤ 8
+  pub bays_most : length w.bays ≤ most_drives
   pub seated : (ticket : ℕ) (e : WorldSession) → session_at ticket w.sessions ≡ Some e → IsSeated w e
   pub bays : (at : ℕ) (bay : BayView D) → slice_get w.bays at ≡ Some bay → IsBay w at bay

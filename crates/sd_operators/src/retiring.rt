@@ -1,5 +1,6 @@
 // A drive goes offline for good.
 ghost use Rattle.std.specs.Prelude.{◌≤◌, ◌↔◌, ℕ, IsTrue, length};
+ghost use Rattle.sd_base.specs.Limits.{most_lanes};
 ghost use Rattle.sd_machine.specs.declared.event.Event.TheVariants.{Retire};
 ghost use Rattle.sd_moves.specs.Moves.{Moves};
 ghost use Rattle.sd_moves.specs.Rules.{IsWorld, NumbersRise};
@@ -45,7 +46,7 @@ fn is_used<D: Driver, Q: Lanes, S: SpoolStore + Drop>(
     queue: &Q,
 ) -> bool
     requires rise { (time : ℕ) × (next : ℕ) × NumbersRise time 1 next sessions.now }
-    requires most { length lanes.now ≤ 32 }
+    requires most { length lanes.now ≤ most_lanes }
     ensures { IsTrue result ↔ IsUsed sessions.now drive.now lanes.now (Q.held queue.now) }
 {
     let None = drive.loaded() else {
@@ -67,7 +68,7 @@ fn has_busy_lane<D: Driver, S: SpoolStore + Drop>(
     lanes: &[LaneSlot<S>],
 ) -> bool
     requires rise { (time : ℕ) × (next : ℕ) × NumbersRise time 1 next sessions.now }
-    requires most { length lanes.now ≤ 32 }
+    requires most { length lanes.now ≤ most_lanes }
     ensures { IsTrue result ↔ HasBusyLane sessions.now drive.now.journal lanes.now }
 {
     let free = free_lanes(sessions, drive, lanes);

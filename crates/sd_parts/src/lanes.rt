@@ -1,25 +1,29 @@
 // Which lanes of a drive are free.
 ghost use Rattle.std.specs.Prelude.{◌≡◌, ◌≤◌, ℕ, length};
+ghost use Rattle.sd_base.specs.Limits.{most_lanes};
 ghost use Rattle.sd_moves.specs.Rules.{NumbersRise};
 ghost use Rattle.sd_moves.specs.World.{free_lanes, lane_is_free};
 
 use crate::bay::LaneSlot;
 use crate::entry::{Entry, find};
 use arrayvec::ArrayVec;
-use sd_base::Ticket;
+use sd_base::{MOST_LANES, Ticket};
 use sd_drive::Drive;
 use sd_driver::Driver;
 use sd_session::Status;
 use sd_spool::SpoolStore;
+
+/// For how many lanes there is room.
+const LANES: usize = MOST_LANES as usize;
 
 /// Of each lane of a drive whether it is free. Takes no memory.
 pub fn free_lanes<D: Driver, S: SpoolStore + Drop>(
     sessions: &[Entry<S>],
     drive: &Drive<D>,
     lanes: &[LaneSlot<S>],
-) -> ArrayVec<bool, 32>
+) -> ArrayVec<bool, LANES>
     requires rise { (time : ℕ) × (next : ℕ) × NumbersRise time 1 next sessions.now }
-    requires most { length lanes.now ≤ 32 }
+    requires most { length lanes.now ≤ most_lanes }
     ensures { result.items ≡ free_lanes sessions.now drive.now.journal lanes.now }
 {
     let mut free = ArrayVec::new();

@@ -1,6 +1,7 @@
 // The drive that takes a new session.
 ghost use Rattle.std.specs.Prelude.{◌≡◌, ◌+◌, ◌≤◌, ◌<◌, ◌↔◌, length, slice_get, IfOk, IfSome, IsErrOf, IsTrue, MatchBool, MatchOption, None, Some};
 ghost use Rattle.sd_base.specs.Choice.{FirstOf, NoneOf};
+ghost use Rattle.sd_base.specs.Limits.{most_drives};
 ghost use Rattle.sd_reserve.specs.Better.{IsBetter};
 ghost use Rattle.sd_reserve.specs.Reserve.{TakesMedia, IsOnline, IsCandidate, Precedes};
 
@@ -53,7 +54,7 @@ pub fn reserve(
     pool: &PoolName,
     media: &MediaName,
 ) -> Result<DriveNo, ReserveFault>
-    requires { length drives.now ≤ 8 }
+    requires { length drives.now ≤ most_drives }
     ensures ok { IfOk result (λ drive. (place : _) × (drive ≡ place + 1)
         × FirstOf (IsCandidate pool.now media.now) (Precedes pool.now) drives.now place) }
     ensures no_drive { IsErrOf result ReserveFault.NoDriveOfMedia

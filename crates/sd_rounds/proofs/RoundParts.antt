@@ -6,6 +6,7 @@ use Rattle.std.proofs.lemmas.List.Sums.{sum_by-append}
 use Rattle.std.proofs.lemmas.List.{length-append, take_more}
 use Rattle.std.proofs.lemmas.Option.{slice_get-map}
 use Rattle.std.proofs.lemmas.List.Elements.{All-append, All-nil, All-cons, filter-append}
+use Rattle.sd_base.specs.Limits.{most_drives}
 use Rattle.sd_driver.specs.Meaning.{Meaning}
 use Rattle.sd_machine.specs.declared.event.Event.{Event}
 use Rattle.sd_machine.specs.declared.event.Event.TheVariants.{Spool, Despool, Take, Sync, Retire}
@@ -209,7 +210,7 @@ round_of meaning syncs old between new sent turned sum p q moved placed =
       sent = rs;
       turns = fs;
       turned = ss;
-      are_turns = subst (λ f. AreTurns (turn_kind syncs) (filter (is_online f) (range_with_len 1 8)) fs ss) flags y;
+      are_turns = subst (λ f. AreTurns (turn_kind syncs) (filter (is_online f) (range_with_len 1 most_drives)) fs ss) flags y;
       events_are = ap (λ l. l ++ fs) x;
       replies_are = refl;
     })

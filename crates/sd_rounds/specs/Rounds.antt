@@ -1,6 +1,7 @@
 -- What rounds play, and what comes of them.
 use Rattle.std.specs.Prelude.{◌≡◌, ◌⊎◌, ℕ, ◌-◌, ◌^◌, min, Bool, true, false, IsTrue, Option, Some, None, is_some, List, [], ◌∷◌, ◌++◌, length, map, filter, slice_get, All}
 use Rattle.std.specs.List.{list_any, count_by, sum_by, range_with_len}
+use Rattle.sd_base.specs.Limits.{most_drives}
 use Rattle.sd_driver.specs.Meaning.{Meaning}
 use Rattle.sd_machine.specs.declared.event.Event.{Event}
 use Rattle.sd_machine.specs.declared.event.Event.TheVariants.{Spool, Despool, Take, Place, Sync, Seek}
@@ -81,9 +82,9 @@ is_set (Some flag) = flag
 abbrev pub is_online : List Bool → ℕ → Bool
 is_online flags drive = is_set (slice_get flags (drive - 1))
 
--- the numbers of the drives that are online, by rising number; a world has 8 at most
+-- the numbers of the drives that are online, by rising number; a world has no more than it may have
 abbrev pub drives_online : {D : Type 0} → WorldView D → List ℕ
-drives_online w = filter (is_online (online_flags w)) (range_with_len 1 8)
+drives_online w = filter (is_online (online_flags w)) (range_with_len 1 most_drives)
 
 -- The body in the hand is placed; where a volume is needed one is sought; and where that mounted one, the
 -- body is placed again.

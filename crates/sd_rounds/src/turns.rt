@@ -3,15 +3,12 @@ ghost use Rattle.std.specs.Prelude.{◌∷◌, [], filter};
 ghost use Rattle.sd_rounds.specs.Rounds.{AreTurns, IsPlacing, PlaysOn, drives_online, is_online, online_flags, turn_kind};
 
 use crate::headway::Round;
-use sd_base::DriveNo;
+use sd_base::{DriveNo, MOST_DRIVES};
 use sd_core::World;
 use sd_driver::Driver;
 use sd_lane::Lanes;
 use sd_machine::{Event, Reply};
 use sd_spool::SpoolStore;
-
-/// The most drives of a world.
-const MOST_DRIVES: u32 = 8;
 
 /// A turn of each drive that is online, by rising number, with its sync or without.
 pub(crate) fn turn_all<D: Driver + Drop, Q: Lanes, S: SpoolStore + Drop>(

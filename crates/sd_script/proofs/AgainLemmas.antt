@@ -9,7 +9,7 @@ use Rattle.std.proofs.lemmas.List.Elements.{All-from_get_or}
 use Rattle.std.proofs.lemmas.Int.{ints}
 use Rattle.std.proofs.lemmas.Fmt.{digits_decimal}
 use Rattle.std.proofs.lemmas.Str.Parse.{digit_at}
-use Rattle.sd_base.specs.Limits.{least_block_limit, most_block, most_data, most_number, most_volume}
+use Rattle.sd_base.specs.Limits.{least_block_limit, most_block, most_data, most_drives, most_lanes, most_number, most_queue, most_volume}
 use Rattle.sd_script.specs.declared.command.Command.{Command}
 use Rattle.sd_script.specs.declared.command.Command.TheVariants.{Block, Volume, SpoolLimit, Queue, Time, Drive, Capacity, Fail, At, Label, Adopt, Mount, Unmount, Seek, Retire, Open, Rec, Fill, End, Cancel, Spool, Despool, Take, Place, Sync, Close, JobMedia, Read, Again, Drain, Status, Requests, Restart}
 use Rattle.sd_script.specs.declared.console.ConsoleCmd.TheVariants as console
@@ -22,7 +22,7 @@ use Rattle.sd_script.specs.declared.line.Part.{Part}
 use Rattle.sd_script.specs.declared.line.Tail.{Tail}
 use Rattle.sd_script.specs.Command.{command_text, stands}
 use Rattle.sd_words.specs.Fields.{HasNoBlank, joined, Fields, fields_of}
-use Rattle.sd_script.specs.Grammar.{IsWord, IsSpelled, IsWithin, AreWords, IsNumber, IsDrive, call_text, most_capacity, most_lanes, most_queue, when_text}
+use Rattle.sd_script.specs.Grammar.{IsWord, IsSpelled, IsWithin, AreWords, IsNumber, IsDrive, call_text, most_capacity, when_text}
 use Rattle.sd_words.specs.Reading.{word_at}
 use Rattle.sd_script.specs.Reading.{most_moment, most_wide, shape, one_number, label_shape, adopt_shape, mount_shape, open_shape, rec_shape, fill_shape, drive_shape, capacity_shape, fail_shape, again_shape, behind_shape, restart_shape}
 use Rattle.sd_words.proofs.NumberLemmas.{own}
@@ -61,8 +61,8 @@ one_parts bytes k least most n made kind small within same e =
     plain_parts bytes k (decimal n ∷ []) (made n) kind (decimal-plain n (omega arith), tt) e (same ∙ one_number_again least most n made small within.0 within.1)
 
 drive_parts : (bytes : List ℕ) (k : Command) (n : ℕ) (made : ℕ → Line) → kinds k ≡ line_kinds (made n) → IsDrive n
-    → shape k (decimal n ∷ []) ≡ one_number 1 8 made (decimal n ∷ []) → bytes ≡ joined (command_text k ∷ decimal n ∷ []) → Parts bytes (made n)
-drive_parts bytes k n made kind within same e = one_parts bytes k 1 8 n made kind (lit< tt) within same e
+    → shape k (decimal n ∷ []) ≡ one_number 1 most_drives made (decimal n ∷ []) → bytes ≡ joined (command_text k ∷ decimal n ∷ []) → Parts bytes (made n)
+drive_parts bytes k n made kind within same e = one_parts bytes k 1 most_drives n made kind (lit< tt) within same e
 
 session_parts : (bytes : List ℕ) (k : Command) (n : ℕ) (made : ℕ → Line) → kinds k ≡ line_kinds (made n) → IsNumber n
     → shape k (decimal n ∷ []) ≡ one_number 1 most_number made (decimal n ∷ []) → bytes ≡ joined (command_text k ∷ decimal n ∷ []) → Parts bytes (made n)
@@ -71,15 +71,15 @@ session_parts bytes k n made kind within same e = one_parts bytes k 1 most_numbe
 label_again : (d : ℕ) (v p m : List ℕ) → IsDrive d → IsWord v → IsWord p → IsWord m → label_shape (decimal d ∷ v ∷ p ∷ m ∷ []) ≡ Some (line.Console (console.Label d v p m))
 unfolding label_shape
 label_again d v p m within v_word p_word m_word =
-    rw (number_at_again 1 8 d (v ∷ p ∷ m ∷ []) (lit< tt) within.0 within.1, word_at_again v (p ∷ m ∷ []) v_word.0, word_at_again p (m ∷ []) p_word.0, word_at_again m [] m_word.0) refl
+    rw (number_at_again 1 most_drives d (v ∷ p ∷ m ∷ []) (lit< tt) within.0 within.1, word_at_again v (p ∷ m ∷ []) v_word.0, word_at_again p (m ∷ []) p_word.0, word_at_again m [] m_word.0) refl
 
 adopt_again : (d : ℕ) (v : List ℕ) → IsDrive d → IsWord v → adopt_shape (decimal d ∷ v ∷ []) ≡ Some (line.Console (console.Adopt d v))
 unfolding adopt_shape
-adopt_again d v within v_word = rw (number_at_again 1 8 d (v ∷ []) (lit< tt) within.0 within.1, word_at_again v [] v_word.0) refl
+adopt_again d v within v_word = rw (number_at_again 1 most_drives d (v ∷ []) (lit< tt) within.0 within.1, word_at_again v [] v_word.0) refl
 
 mount_again : (d : ℕ) (v : List ℕ) → IsDrive d → IsWord v → mount_shape (decimal d ∷ v ∷ []) ≡ Some (line.Console (console.Mount d v))
 unfolding mount_shape
-mount_again d v within v_word = rw (number_at_again 1 8 d (v ∷ []) (lit< tt) within.0 within.1, word_at_again v [] v_word.0) refl
+mount_again d v within v_word = rw (number_at_again 1 most_drives d (v ∷ []) (lit< tt) within.0 within.1, word_at_again v [] v_word.0) refl
 
 open_again : (j : ℕ) (p m : List ℕ) → IsNumber j → IsWord p → IsWord m → open_shape (decimal j ∷ p ∷ m ∷ []) ≡ Some (line.Open j p m)
 unfolding open_shape
@@ -116,7 +116,7 @@ drive_again media n media_word low high = rw (word_at_again media (decimal n ∷
 capacity_again : (d n : ℕ) → IsDrive d → n ≤ most_capacity → capacity_shape (decimal d ∷ decimal n ∷ []) ≡ Some (line.Set (setting.Capacity d n))
 unfolding capacity_shape
 capacity_again d n within high =
-    rw (number_at_again 1 8 d (decimal n ∷ []) (lit< tt) within.0 within.1, only_number_again 0 most_capacity n (lit< tt) (omega arith) high) refl
+    rw (number_at_again 1 most_drives d (decimal n ∷ []) (lit< tt) within.0 within.1, only_number_again 0 most_capacity n (lit< tt) (omega arith) high) refl
 
 fail_again : (d : ℕ) (fail : plan.Fail) → IsWithin (line.Set (setting.Fail d fail))
     → fail_shape (decimal d ∷ call_text fail.call ∷ decimal fail.nth ∷ when_text fail.when ∷ []) ≡ Some (line.Set (setting.Fail d fail))
@@ -124,7 +124,7 @@ unfolding fail_shape
 fail_again d fail within =
     let high : fail.nth ≤ most_wide = omega (arith, within.2) in
     rw (
-      number_at_again 1 8 d (call_text fail.call ∷ decimal fail.nth ∷ when_text fail.when ∷ []) (lit< tt) within.0.0 within.0.1,
+      number_at_again 1 most_drives d (call_text fail.call ∷ decimal fail.nth ∷ when_text fail.when ∷ []) (lit< tt) within.0.0 within.0.1,
       call_at_again fail.call (decimal fail.nth ∷ when_text fail.when ∷ []),
       number_at_again 1 most_wide fail.nth (when_text fail.when ∷ []) (lit< tt) within.1 high,
       when_at_again fail.when [],
@@ -146,7 +146,7 @@ restart_again t tail within volume_word =
     let high : tail.count ≤ most_wide = omega (arith, within.2) in
     rw (
       number_at_again 1 most_number t (decimal tail.drive ∷ tail.volume ∷ decimal tail.count ∷ []) (lit< tt) within.0.0 within.0.1,
-      number_at_again 1 8 tail.drive (tail.volume ∷ decimal tail.count ∷ []) (lit< tt) within.1.0 within.1.1,
+      number_at_again 1 most_drives tail.drive (tail.volume ∷ decimal tail.count ∷ []) (lit< tt) within.1.0 within.1.1,
       word_at_again tail.volume (decimal tail.count ∷ []) volume_word.0,
       only_number_again 0 most_wide tail.count (lit< tt) (omega arith) high,
     ) refl

@@ -7,7 +7,7 @@ use Rattle.std.specs.Fmt.{decimal}
 use Rattle.std.proofs.lemmas.Bool.{leb-true}
 use Rattle.std.proofs.lemmas.Int.{ints}
 use Rattle.std.proofs.lemmas.Option.{cond_some}
-use Rattle.sd_base.specs.Limits.{least_block_limit, most_block, most_data, most_number, most_volume}
+use Rattle.sd_base.specs.Limits.{least_block_limit, most_block, most_data, most_drives, most_lanes, most_number, most_queue, most_volume}
 use Rattle.sd_script.specs.declared.command.Command.{Command}
 use Rattle.sd_script.specs.declared.command.Command.TheVariants.{Block, Volume, SpoolLimit, Queue, Time, Drive, Capacity, Fail, At, Label, Adopt, Mount, Unmount, Seek, Retire, Open, Rec, Fill, End, Cancel, Spool, Despool, Take, Place, Sync, Close, JobMedia, Read, Again, Drain, Status, Requests, Restart}
 use Rattle.sd_script.specs.declared.console.ConsoleCmd.TheVariants as console
@@ -18,7 +18,7 @@ use Rattle.sd_script.specs.Command.{command_text}
 use Rattle.sd_words.specs.Fields.{HasNoBlank, joined, Fields, fields_of}
 use Rattle.sd_memdrive.specs.declared.plan.Call.{Call}
 use Rattle.sd_memdrive.specs.declared.plan.When.{When}
-use Rattle.sd_script.specs.Grammar.{IsSpelled, IsWithin, IsNumber, AreWords, call_text, most_capacity, most_lanes, most_queue, when_text}
+use Rattle.sd_script.specs.Grammar.{IsSpelled, IsWithin, IsNumber, AreWords, call_text, most_capacity, when_text}
 use Rattle.sd_words.specs.Reading.{◌>>=◌, number_at, word_at, all_read, only_number}
 use Rattle.sd_script.specs.Reading.{most_moment, most_wide, shape, one_number, label_shape, adopt_shape, mount_shape, open_shape, rec_shape, fill_shape, drive_shape, capacity_shape, call_at, when_at, fail_shape, again_shape, behind_shape, restart_behind, restart_shape}
 use Rattle.sd_words.proofs.FieldLemmas.{joined-fields_of, fields_of-plain}
@@ -50,12 +50,12 @@ one_text bytes command fs least most n has takes = has.text ∙ ap (λ (gs : Fie
 label_takes : (bytes : List ℕ) (fs : Fields) (l : Line) → HasFields bytes (command_text Label) fs → label_shape fs ≡ Some l → Spells Label bytes l
 unfolding label_shape
 label_takes bytes fs l has e =
-    let a = bind_some (number_at 1 8 fs) (λ drive. word_at drive.1 >>= λ volume. word_at volume.1 >>= λ pool. word_at pool.1 >>= λ media. all_read (line.Console (console.Label drive.0 volume.0 pool.0 media.0)) media.1) l e in
+    let a = bind_some (number_at 1 most_drives fs) (λ drive. word_at drive.1 >>= λ volume. word_at volume.1 >>= λ pool. word_at pool.1 >>= λ media. all_read (line.Console (console.Label drive.0 volume.0 pool.0 media.0)) media.1) l e in
     let b = bind_some (word_at a.0.1) (λ volume. word_at volume.1 >>= λ pool. word_at pool.1 >>= λ media. all_read (line.Console (console.Label a.0.0 volume.0 pool.0 media.0)) media.1) l a.2 in
     let p = bind_some (word_at b.0.1) (λ pool. word_at pool.1 >>= λ media. all_read (line.Console (console.Label a.0.0 b.0.0 pool.0 media.0)) media.1) l b.2 in
     let m = bind_some (word_at p.0.1) (λ media. all_read (line.Console (console.Label a.0.0 b.0.0 p.0.0 media.0)) media.1) l p.2 in
     let all = all_read_takes (line.Console (console.Label a.0.0 b.0.0 p.0.0 m.0.0)) l m.0.1 m.2 in
-    let drive = number_at_takes 1 8 fs a.0 a.1 in
+    let drive = number_at_takes 1 most_drives fs a.0 a.1 in
     let volume = word_at_takes a.0.1 b.0 b.1 in
     let pool = word_at_takes b.0.1 p.0 p.1 in
     let media = word_at_takes p.0.1 m.0 m.1 in
@@ -72,10 +72,10 @@ label_takes bytes fs l has e =
 adopt_takes : (bytes : List ℕ) (fs : Fields) (l : Line) → HasFields bytes (command_text Adopt) fs → adopt_shape fs ≡ Some l → Spells Adopt bytes l
 unfolding adopt_shape
 adopt_takes bytes fs l has e =
-    let a = bind_some (number_at 1 8 fs) (λ drive. word_at drive.1 >>= λ volume. all_read (line.Console (console.Adopt drive.0 volume.0)) volume.1) l e in
+    let a = bind_some (number_at 1 most_drives fs) (λ drive. word_at drive.1 >>= λ volume. all_read (line.Console (console.Adopt drive.0 volume.0)) volume.1) l e in
     let b = bind_some (word_at a.0.1) (λ volume. all_read (line.Console (console.Adopt a.0.0 volume.0)) volume.1) l a.2 in
     let all = all_read_takes (line.Console (console.Adopt a.0.0 b.0.0)) l b.0.1 b.2 in
-    let drive = number_at_takes 1 8 fs a.0 a.1 in
+    let drive = number_at_takes 1 most_drives fs a.0 a.1 in
     let volume = word_at_takes a.0.1 b.0 b.1 in
     let fields : fs ≡ decimal a.0.0 ∷ b.0.0 ∷ [] = drive.fields_are ∙ ap (λ (gs : Fields). decimal a.0.0 ∷ gs) (volume.0 ∙ ap (λ (gs : Fields). b.0.0 ∷ gs) all.0) in
     let plain = subst (λ (gs : Fields). AllByRecursion HasNoBlank gs) fields has.plain in
@@ -89,10 +89,10 @@ adopt_takes bytes fs l has e =
 mount_takes : (bytes : List ℕ) (fs : Fields) (l : Line) → HasFields bytes (command_text Mount) fs → mount_shape fs ≡ Some l → Spells Mount bytes l
 unfolding mount_shape
 mount_takes bytes fs l has e =
-    let a = bind_some (number_at 1 8 fs) (λ drive. word_at drive.1 >>= λ volume. all_read (line.Console (console.Mount drive.0 volume.0)) volume.1) l e in
+    let a = bind_some (number_at 1 most_drives fs) (λ drive. word_at drive.1 >>= λ volume. all_read (line.Console (console.Mount drive.0 volume.0)) volume.1) l e in
     let b = bind_some (word_at a.0.1) (λ volume. all_read (line.Console (console.Mount a.0.0 volume.0)) volume.1) l a.2 in
     let all = all_read_takes (line.Console (console.Mount a.0.0 b.0.0)) l b.0.1 b.2 in
-    let drive = number_at_takes 1 8 fs a.0 a.1 in
+    let drive = number_at_takes 1 most_drives fs a.0 a.1 in
     let volume = word_at_takes a.0.1 b.0 b.1 in
     let fields : fs ≡ decimal a.0.0 ∷ b.0.0 ∷ [] = drive.fields_are ∙ ap (λ (gs : Fields). decimal a.0.0 ∷ gs) (volume.0 ∙ ap (λ (gs : Fields). b.0.0 ∷ gs) all.0) in
     let plain = subst (λ (gs : Fields). AllByRecursion HasNoBlank gs) fields has.plain in
@@ -208,9 +208,9 @@ drive_takes bytes fs l has e =
 capacity_takes : (bytes : List ℕ) (fs : Fields) (l : Line) → HasFields bytes (command_text Capacity) fs → capacity_shape fs ≡ Some l → Spells Capacity bytes l
 unfolding capacity_shape
 capacity_takes bytes fs l has e =
-    let a = bind_some (number_at 1 8 fs) (λ drive. only_number 0 most_capacity drive.1 >>= λ size. Some (line.Set (setting.Capacity drive.0 size))) l e in
+    let a = bind_some (number_at 1 most_drives fs) (λ drive. only_number 0 most_capacity drive.1 >>= λ size. Some (line.Set (setting.Capacity drive.0 size))) l e in
     let n = bind_some (only_number 0 most_capacity a.0.1) (λ size. Some (line.Set (setting.Capacity a.0.0 size))) l a.2 in
-    let drive = number_at_takes 1 8 fs a.0 a.1 in
+    let drive = number_at_takes 1 most_drives fs a.0 a.1 in
     let size = only_number_takes 0 most_capacity a.0.1 n.0 n.1 in
     let fields : fs ≡ decimal a.0.0 ∷ decimal n.0 ∷ [] = drive.fields_are ∙ ap (λ (gs : Fields). decimal a.0.0 ∷ gs) size.fields_are in
     subst (λ (x : Line). Spells Capacity bytes x) (some_is (line.Set (setting.Capacity a.0.0 n.0)) l n.2) (record {
@@ -227,12 +227,12 @@ failing drive kind nth way = line.Set (setting.Fail drive (record { call = kind;
 fail_takes : (bytes : List ℕ) (fs : Fields) (l : Line) → HasFields bytes (command_text Fail) fs → fail_shape fs ≡ Some l → Spells Fail bytes l
 unfolding fail_shape
 fail_takes bytes fs l has e =
-    let a = bind_some (number_at 1 8 fs) (λ drive. call_at drive.1 >>= λ kind. number_at 1 most_wide kind.1 >>= λ nth. when_at nth.1 >>= λ way. all_read (failing drive.0 kind.0 nth.0 way.0) way.1) l e in
+    let a = bind_some (number_at 1 most_drives fs) (λ drive. call_at drive.1 >>= λ kind. number_at 1 most_wide kind.1 >>= λ nth. when_at nth.1 >>= λ way. all_read (failing drive.0 kind.0 nth.0 way.0) way.1) l e in
     let b = bind_some (call_at a.0.1) (λ kind. number_at 1 most_wide kind.1 >>= λ nth. when_at nth.1 >>= λ way. all_read (failing a.0.0 kind.0 nth.0 way.0) way.1) l a.2 in
     let d = bind_some (number_at 1 most_wide b.0.1) (λ nth. when_at nth.1 >>= λ way. all_read (failing a.0.0 b.0.0 nth.0 way.0) way.1) l b.2 in
     let w = bind_some (when_at d.0.1) (λ way. all_read (failing a.0.0 b.0.0 d.0.0 way.0) way.1) l d.2 in
     let all = all_read_takes (failing a.0.0 b.0.0 d.0.0 w.0.0) l w.0.1 w.2 in
-    let drive = number_at_takes 1 8 fs a.0 a.1 in
+    let drive = number_at_takes 1 most_drives fs a.0 a.1 in
     let kind = call_at_takes a.0.1 b.0 b.1 in
     let nth = number_at_takes 1 most_wide b.0.1 d.0 d.1 in
     let way = when_at_takes d.0.1 w.0 w.1 in
@@ -266,10 +266,10 @@ behind_takes : (bytes : List ℕ) (t : ℕ) (fs : Fields) (l : Line) → HasFiel
     → behind_shape t fs ≡ Some l → Spells Restart bytes l
 unfolding behind_shape
 behind_takes bytes t fs l has t_is e =
-    let a = bind_some (number_at 1 8 fs) (λ drive. word_at drive.1 >>= λ volume. only_number 0 most_wide volume.1 >>= λ count. Some (line.Restart t (Some (record { drive = drive.0; volume = volume.0; count = count })))) l e in
+    let a = bind_some (number_at 1 most_drives fs) (λ drive. word_at drive.1 >>= λ volume. only_number 0 most_wide volume.1 >>= λ count. Some (line.Restart t (Some (record { drive = drive.0; volume = volume.0; count = count })))) l e in
     let b = bind_some (word_at a.0.1) (λ volume. only_number 0 most_wide volume.1 >>= λ count. Some (line.Restart t (Some (record { drive = a.0.0; volume = volume.0; count = count })))) l a.2 in
     let n = bind_some (only_number 0 most_wide b.0.1) (λ count. Some (line.Restart t (Some (record { drive = a.0.0; volume = b.0.0; count = count })))) l b.2 in
-    let drive = number_at_takes 1 8 fs a.0 a.1 in
+    let drive = number_at_takes 1 most_drives fs a.0 a.1 in
     let volume = word_at_takes a.0.1 b.0 b.1 in
     let count = only_number_takes 0 most_wide b.0.1 n.0 n.1 in
     let fields : fs ≡ decimal a.0.0 ∷ b.0.0 ∷ decimal n.0 ∷ [] =
@@ -321,13 +321,13 @@ fields_take Fill bytes fs l has e = fill_takes bytes fs l has e
 fields_take Again bytes fs l has e = again_takes bytes fs l has e
 fields_take Restart bytes fs l has e = restart_takes bytes fs l has e
 fields_take Seek bytes fs l has e =
-    one_takes bytes Seek fs 1 8 line.Seek l (λ n low high text. spelled_so Seek bytes (line.Seek n) (inl text) (low, high) tt refl) has e
+    one_takes bytes Seek fs 1 most_drives line.Seek l (λ n low high text. spelled_so Seek bytes (line.Seek n) (inl text) (low, high) tt refl) has e
 fields_take Take bytes fs l has e =
-    one_takes bytes Take fs 1 8 line.Take l (λ n low high text. spelled_so Take bytes (line.Take n) (inl text) (low, high) tt refl) has e
+    one_takes bytes Take fs 1 most_drives line.Take l (λ n low high text. spelled_so Take bytes (line.Take n) (inl text) (low, high) tt refl) has e
 fields_take Place bytes fs l has e =
-    one_takes bytes Place fs 1 8 line.Place l (λ n low high text. spelled_so Place bytes (line.Place n) (inl text) (low, high) tt refl) has e
+    one_takes bytes Place fs 1 most_drives line.Place l (λ n low high text. spelled_so Place bytes (line.Place n) (inl text) (low, high) tt refl) has e
 fields_take Sync bytes fs l has e =
-    one_takes bytes Sync fs 1 8 line.Sync l (λ n low high text. spelled_so Sync bytes (line.Sync n) (inl text) (low, high) tt refl) has e
+    one_takes bytes Sync fs 1 most_drives line.Sync l (λ n low high text. spelled_so Sync bytes (line.Sync n) (inl text) (low, high) tt refl) has e
 fields_take End bytes fs l has e =
     one_takes bytes End fs 1 most_number line.End l (λ n low high text. spelled_so End bytes (line.End n) (inl text) (low, high) tt refl) has e
 fields_take Spool bytes fs l has e =
@@ -339,9 +339,9 @@ fields_take Close bytes fs l has e =
 fields_take Read bytes fs l has e =
     one_takes bytes Read fs 1 most_number line.Read l (λ n low high text. spelled_so Read bytes (line.Read n) (inl text) (low, high) tt refl) has e
 fields_take Unmount bytes fs l has e =
-    one_takes bytes Unmount fs 1 8 (λ n. line.Console (console.Unmount n)) l (λ n low high text. spelled_so Unmount bytes (line.Console (console.Unmount n)) (inl text) (low, high) tt refl) has e
+    one_takes bytes Unmount fs 1 most_drives (λ n. line.Console (console.Unmount n)) l (λ n low high text. spelled_so Unmount bytes (line.Console (console.Unmount n)) (inl text) (low, high) tt refl) has e
 fields_take Retire bytes fs l has e =
-    one_takes bytes Retire fs 1 8 (λ n. line.Console (console.Retire n)) l (λ n low high text. spelled_so Retire bytes (line.Console (console.Retire n)) (inl text) (low, high) tt refl) has e
+    one_takes bytes Retire fs 1 most_drives (λ n. line.Console (console.Retire n)) l (λ n low high text. spelled_so Retire bytes (line.Console (console.Retire n)) (inl text) (low, high) tt refl) has e
 fields_take Cancel bytes fs l has e =
     one_takes bytes Cancel fs 1 most_number (λ n. line.Console (console.Cancel n)) l (λ n low high text. spelled_so Cancel bytes (line.Console (console.Cancel n)) (inl text) (low, high) tt refl) has e
 fields_take JobMedia bytes fs l has e =

@@ -4,7 +4,7 @@ use Rattle.std.specs.Int.{w64}
 use Rattle.std.specs.List.{AllByRecursion}
 use Rattle.std.specs.Fmt.{decimal, signed_decimal}
 use Rattle.sd_base.specs.Name.{IsName}
-use Rattle.sd_base.specs.Limits.{least_block_limit, most_block, most_data, most_number, most_volume}
+use Rattle.sd_base.specs.Limits.{least_block_limit, most_block, most_data, most_drives, most_lanes, most_number, most_queue, most_volume}
 use Rattle.sd_base.specs.declared.refusal.Refusal as base
 use Rattle.sd_base.specs.declared.refusal.Refusal.TheVariants as refusals
 use Rattle.sd_words.specs.Fields.{HasNoBlank, joined}
@@ -105,14 +105,6 @@ IsShorter bytes line = ⊥
 abbrev pub IsSpelled : List ℕ → Line → Type 0
 IsSpelled bytes line = (bytes ≡ spelling line) ⊎ IsShorter bytes line
 
--- the most blocks that wait before a drive
-abbrev pub most_queue : ℕ
-most_queue = 1024
-
--- the most lanes of a drive
-abbrev pub most_lanes : ℕ
-most_lanes = 32
-
 -- the most bytes that a volume of a drive in memory may have room for
 abbrev pub most_capacity : ℕ
 most_capacity = 67108864
@@ -121,9 +113,9 @@ most_capacity = 67108864
 abbrev pub IsNumber : ℕ → Type 0
 IsNumber n = (1 ≤ n) × (n ≤ most_number)
 
--- the number of a drive: from 1 to 8
+-- the number of a drive: from 1 on
 abbrev pub IsDrive : ℕ → Type 0
-IsDrive n = (1 ≤ n) × (n ≤ 8)
+IsDrive n = (1 ≤ n) × (n ≤ most_drives)
 
 -- the numbers of a console's line are within their limits
 abbrev pub IsConsoleWithin : ConsoleCmd → Type 0

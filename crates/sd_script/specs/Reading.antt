@@ -1,7 +1,7 @@
 -- What line the fields spell that are read one after another; apart from how lines are spelled.
 use Rattle.std.specs.Prelude.{◌≡◌, ℕ, nat_le, if◌then◌else◌, pos, List, [], length, Option, Some, None, Result, Err, MatchResult}
 use Rattle.std.specs.Str.{bytes_eq}
-use Rattle.sd_base.specs.Limits.{least_block_limit, most_block, most_data, most_number, most_volume}
+use Rattle.sd_base.specs.Limits.{least_block_limit, most_block, most_data, most_drives, most_lanes, most_number, most_queue, most_volume}
 use Rattle.sd_memdrive.specs.declared.plan.Call.{Call}
 use Rattle.sd_memdrive.specs.declared.plan.Call.TheVariants as call
 use Rattle.sd_memdrive.specs.declared.plan.When.{When}
@@ -14,7 +14,7 @@ use Rattle.sd_script.specs.declared.line.LineFault.{LineFault}
 use Rattle.sd_script.specs.declared.line.LineFault.TheVariants.{BadCommand, BadName}
 use Rattle.sd_script.specs.declared.command.Command.{Command}
 use Rattle.sd_script.specs.declared.command.Command.TheVariants.{Block, Volume, SpoolLimit, Queue, Time, Drive, Capacity, Fail, At, Label, Adopt, Mount, Unmount, Seek, Retire, Open, Rec, Fill, End, Cancel, Spool, Despool, Take, Place, Sync, Close, JobMedia, Read, Again, Drain, Status, Requests, Restart}
-use Rattle.sd_script.specs.Grammar.{AreNames, call_text, most_capacity, most_lanes, most_queue, when_text}
+use Rattle.sd_script.specs.Grammar.{AreNames, call_text, most_capacity, when_text}
 use Rattle.sd_words.specs.Fields.{Fields, joined}
 use Rattle.sd_words.specs.Reading.{◌>>=◌, number_at, word_at, all_read, only_number}
 
@@ -36,7 +36,7 @@ Gives result (Some line) =
 -- the line of `label` that these fields spell, whatever its names are
 unfoldable pub label_shape : Fields → Option Line
 label_shape fs = do
-  drive ← number_at 1 8 fs
+  drive ← number_at 1 most_drives fs
   volume ← word_at drive.1
   pool ← word_at volume.1
   media ← word_at pool.1
@@ -45,14 +45,14 @@ label_shape fs = do
 -- the same of `adopt`
 unfoldable pub adopt_shape : Fields → Option Line
 adopt_shape fs = do
-  drive ← number_at 1 8 fs
+  drive ← number_at 1 most_drives fs
   volume ← word_at drive.1
   all_read (line.Console (console.Adopt drive.0 volume.0)) volume.1
 
 -- the same of `mount`
 unfoldable pub mount_shape : Fields → Option Line
 mount_shape fs = do
-  drive ← number_at 1 8 fs
+  drive ← number_at 1 most_drives fs
   volume ← word_at drive.1
   all_read (line.Console (console.Mount drive.0 volume.0)) volume.1
 
@@ -93,7 +93,7 @@ drive_shape fs = do
 -- the same of `capacity`
 unfoldable pub capacity_shape : Fields → Option Line
 capacity_shape fs = do
-  drive ← number_at 1 8 fs
+  drive ← number_at 1 most_drives fs
   bytes ← only_number 0 most_capacity drive.1
   Some (line.Set (setting.Capacity drive.0 bytes))
 
@@ -134,7 +134,7 @@ when_at fs = do
 -- the same of `fail`
 unfoldable pub fail_shape : Fields → Option Line
 fail_shape fs = do
-  drive ← number_at 1 8 fs
+  drive ← number_at 1 most_drives fs
   kind ← call_at drive.1
   nth ← number_at 1 most_wide kind.1
   way ← when_at nth.1
@@ -150,7 +150,7 @@ again_shape fs = do
 -- the same of `restart` of that time, with what a stop leaves
 unfoldable pub behind_shape : ℕ → Fields → Option Line
 behind_shape time fs = do
-  drive ← number_at 1 8 fs
+  drive ← number_at 1 most_drives fs
   volume ← word_at drive.1
   count ← only_number 0 most_wide volume.1
   Some (line.Restart time (Some (record { drive = drive.0; volume = volume.0; count = count })))
@@ -184,9 +184,9 @@ shape At fs = one_number 0 most_moment (λ n. line.At (pos n)) fs
 shape Label fs = label_shape fs
 shape Adopt fs = adopt_shape fs
 shape Mount fs = mount_shape fs
-shape Unmount fs = one_number 1 8 (λ n. line.Console (console.Unmount n)) fs
-shape Seek fs = one_number 1 8 line.Seek fs
-shape Retire fs = one_number 1 8 (λ n. line.Console (console.Retire n)) fs
+shape Unmount fs = one_number 1 most_drives (λ n. line.Console (console.Unmount n)) fs
+shape Seek fs = one_number 1 most_drives line.Seek fs
+shape Retire fs = one_number 1 most_drives (λ n. line.Console (console.Retire n)) fs
 shape Open fs = open_shape fs
 shape Rec fs = rec_shape fs
 shape Fill fs = fill_shape fs
@@ -194,9 +194,9 @@ shape End fs = one_number 1 most_number line.End fs
 shape Cancel fs = one_number 1 most_number (λ n. line.Console (console.Cancel n)) fs
 shape Spool fs = one_number 1 most_number line.Spool fs
 shape Despool fs = one_number 1 most_number line.Despool fs
-shape Take fs = one_number 1 8 line.Take fs
-shape Place fs = one_number 1 8 line.Place fs
-shape Sync fs = one_number 1 8 line.Sync fs
+shape Take fs = one_number 1 most_drives line.Take fs
+shape Place fs = one_number 1 most_drives line.Place fs
+shape Sync fs = one_number 1 most_drives line.Sync fs
 shape Close fs = one_number 1 most_number line.Close fs
 shape JobMedia fs = one_number 1 most_number (λ n. line.Console (console.JobMedia n)) fs
 shape Read fs = one_number 1 most_number line.Read fs

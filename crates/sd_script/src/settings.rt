@@ -5,15 +5,9 @@ ghost use Rattle.sd_script.specs.Reading.{Gives, call_at, shape, when_at};
 ghost use Rattle.sd_script.specs.declared.command.Command.TheVariants as commands;
 
 use crate::line::{Line, LineFault, Setting};
-use sd_base::{LEAST_BLOCK_LIMIT, MOST_BLOCK, MOST_NUMBER, MOST_VOLUME, Name};
+use sd_base::{LEAST_BLOCK_LIMIT, MOST_BLOCK, MOST_LANES, MOST_NUMBER, MOST_QUEUE, MOST_VOLUME, Name};
 use sd_memdrive::{Call, Fail, When};
 use sd_words::{BadField, Words};
-
-/// The most blocks that wait before a drive.
-const MOST_QUEUE: u64 = 1024;
-
-/// The most lanes of a drive.
-const MOST_LANES: u64 = 32;
 
 /// The most bytes that a volume of a drive in memory may have room for.
 const MOST_CAPACITY: u64 = 67_108_864;
@@ -42,7 +36,7 @@ pub fn spool_limit(words: Words<'_>) -> Result<Line<'_>, LineFault>
 pub fn queue(words: Words<'_>) -> Result<Line<'_>, LineFault>
     ensures { Gives result (shape commands.Queue words.entry) }
 {
-    let blocks = words.only_number(1, MOST_QUEUE)?;
+    let blocks = words.only_number(1, MOST_QUEUE as u64)?;
     Ok(Line::Set(Setting::Queue(blocks as usize)))
 }
 
@@ -58,7 +52,7 @@ pub fn drive(mut words: Words<'_>) -> Result<Line<'_>, LineFault>
     ensures { Gives result (shape commands.Drive words.entry) }
 {
     let media = words.word()?;
-    let lanes = words.only_number(1, MOST_LANES)?;
+    let lanes = words.only_number(1, u64::from(MOST_LANES))?;
     Ok(Line::Set(Setting::Drive {
         media: Name::parse(media)?,
         lanes: lanes as u32,

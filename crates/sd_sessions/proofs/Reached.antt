@@ -3,6 +3,7 @@ use Rattle.std.proofs.Common.{◌≡◌, ◌≤◌, ℕ, ℤ, ◌+◌, ◌-◌, 
 use Rattle.std.specs.Prelude.{IsTrue}
 use Rattle.std.proofs.lemmas.Option.{get_or_from_slice_get, slice_get_within}
 use Rattle.sd_base.specs.Choice.{FirstOf}
+use Rattle.sd_base.specs.Limits.{most_lanes}
 use Rattle.sd_drive.specs.View.{DriveIs}
 use Rattle.sd_journal.specs.Journal.{Entry}
 use Rattle.sd_reserve.specs.Reserve.{IsCandidate, Precedes}
@@ -53,8 +54,8 @@ never_offline {D} b off = absurd (cc (sym b.reached.chosen.on ∙ ap (λ (x : Ba
 
 -- its lanes are few
 pub lanes_few : {D : Type 0} {w : WorldView D} {pool media : List ℕ} {drive at : ℕ} {bay : BayView D} (lanes : List LaneView) → IsBayRead w pool media drive at bay
-    → lanes ≡ bay.lanes → length lanes ≤ 32
-lanes_few {at = at} {bay = bay} lanes b had = subst (λ (ls : List LaneView). length ls ≤ 32) (sym had) (b.world.bays at bay b.there).lanes_most
+    → lanes ≡ bay.lanes → length lanes ≤ most_lanes
+lanes_few {at = at} {bay = bay} lanes b had = subst (λ (ls : List LaneView). length ls ≤ most_lanes) (sym had) (b.world.bays at bay b.there).lanes_most
 
 -- and not all of them are busy
 pub some_free : {D : Type 0} {w : WorldView D} {pool media : List ℕ} {drive at : ℕ} {bay : BayView D} (d : DriveIs D) (sessions : List WorldSession) (lanes : List LaneView)

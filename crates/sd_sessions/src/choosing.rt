@@ -2,13 +2,14 @@
 ghost use Rattle.std.specs.Prelude.{◌≡◌, ◌+◌, ◌<◌, ◌≤◌, ℕ, Some, None, false, not, length, map, take, slice_get, IfOk, IfErr, IsTrue};
 ghost use Rattle.std.specs.List.{count_by};
 ghost use Rattle.sd_base.specs.Choice.{FirstOf};
+ghost use Rattle.sd_base.specs.Limits.{most_drives, most_lanes};
 ghost use Rattle.sd_reserve.specs.Reserve.{IsCandidate, Precedes};
 ghost use Rattle.sd_moves.specs.Rules.{IsWorld, NumbersRise};
 ghost use Rattle.sd_moves.specs.Sessions.{NoneReserved};
 ghost use Rattle.sd_moves.specs.World.{drives_for, bay_for, loaded_pool, free_lanes};
 ghost use Rattle.sd_parts.specs.View.{world_of};
 
-use sd_base::{DriveNo, LaneNo, MediaName, PoolName, Refusal};
+use sd_base::{DriveNo, LaneNo, MOST_DRIVES, MediaName, PoolName, Refusal};
 use sd_drive::Drive;
 use sd_driver::Driver;
 use sd_lane::Lanes;
@@ -16,6 +17,9 @@ use sd_parts::{Bay, Entry, LaneSlot, Parts, free_lanes};
 use sd_reserve::{DriveView, lowest_free_lane, reserve};
 use sd_spool::SpoolStore;
 use std::array;
+
+/// For how many drives there is room.
+const DRIVES: usize = MOST_DRIVES as usize;
 
 // The drive that takes a new session of this pool and media.
 pub fn choose_drive<D: Driver, Q: Lanes, S: SpoolStore + Drop>(
@@ -36,16 +40,17 @@ pub fn choose_drive<D: Driver, Q: Lanes, S: SpoolStore + Drop>(
     }
 }
 
-// What decides of each drive whether it takes a session, and behind them as many that take none as make eight.
+// What decides of each drive whether it takes a session, and behind them others that take none, up to the most that
+// there may be.
 fn drives_of<D: Driver, Q: Lanes, S: SpoolStore + Drop>(
     sessions: &[Entry<S>],
     bays: &[Bay<D, Q, S>],
     media: &MediaName,
-) -> [DriveView; 8]
+) -> [DriveView; DRIVES]
     requires rise { (time : ℕ) × (next : ℕ) × NumbersRise time 1 next sessions.now }
-    requires bays_most { length bays.now ≤ 8 }
+    requires bays_most { length bays.now ≤ most_drives }
     requires lanes_most { (at : ℕ) (bay : _) → slice_get bays.now at ≡ Some bay
-        → length bay.lanes ≤ 32 }
+        → length bay.lanes ≤ most_lanes }
     ensures { take (length bays.now) result ≡ map (bay_for sessions.now) bays.now }
 {
     let mut drives = array::from_fn(|_| offline(media, 0));
@@ -61,7 +66,7 @@ fn drive_in<D: Driver, Q: Lanes, S: SpoolStore + Drop>(
     bay: &Bay<D, Q, S>,
 ) -> DriveView
     requires rise { (time : ℕ) × (next : ℕ) × NumbersRise time 1 next sessions.now }
-    requires most { length bay.now.lanes ≤ 32 }
+    requires most { length bay.now.lanes ≤ most_lanes }
     ensures { result ≡ bay_for sessions.now bay.now }
 {
     let lanes = bay.lanes.len() as u32;
@@ -123,7 +128,7 @@ fn count_busy<D: Driver, S: SpoolStore + Drop>(
     lanes: &[LaneSlot<S>],
 ) -> u32
     requires rise { (time : ℕ) × (next : ℕ) × NumbersRise time 1 next sessions.now }
-    requires most { length lanes.now ≤ 32 }
+    requires most { length lanes.now ≤ most_lanes }
     ensures { result ≡ count_by not (free_lanes sessions.now drive.now.journal lanes.now) }
 {
     let frees = free_lanes(sessions, drive, lanes);
@@ -143,7 +148,7 @@ pub fn choose_lane<D: Driver, S: SpoolStore + Drop>(
     lanes: &[LaneSlot<S>],
 ) -> LaneNo
     requires rise { (time : ℕ) × (next : ℕ) × NumbersRise time 1 next sessions.now }
-    requires most { length lanes.now ≤ 32 }
+    requires most { length lanes.now ≤ most_lanes }
     requires free { count_by not (free_lanes sessions.now drive.now.journal lanes.now) < length
         lanes.now }
     ensures lowest { (place : _) × (result ≡ place + 1)

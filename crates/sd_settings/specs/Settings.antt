@@ -2,7 +2,8 @@
 use Rattle.std.specs.Prelude.{ℕ, ◌*◌, ◌≤◌, ◌&&◌, ◌==◌, nat_lt, if◌then◌else◌, Bool, Option, None, Some, List, [], ◌∷◌, ◌++◌, length, map, filter, All, codes}
 use Rattle.std.specs.List.{list_any}
 use Rattle.sd_memdrive.specs.declared.plan.Fail.{Fail}
-use Rattle.sd_script.specs.Grammar.{HasForm, IsSettingWithin, most_lanes}
+use Rattle.sd_base.specs.Limits.{most_drives, most_lanes}
+use Rattle.sd_script.specs.Grammar.{HasForm, IsSettingWithin}
 use Rattle.sd_script.specs.declared.line.Line.TheVariants.{Set}
 use Rattle.sd_script.specs.declared.line.Setting.{Setting}
 use Rattle.sd_script.specs.declared.line.Setting.TheVariants as setting
@@ -92,7 +93,7 @@ abbrev pub misfit_of : ValuesView → Option Misfit
 misfit_of v =
     if nat_lt v.volume (v.block * 2) then Some misfit.Volume
     else if is_spool_short v.spool v.block then Some misfit.Spool
-    else if nat_lt 8 (length v.drives) then Some misfit.Drive
+    else if nat_lt most_drives (length v.drives) then Some misfit.Drive
     else if has_stranger (drive_count v) v.capacities then Some misfit.Capacity
     else if has_stranger (drive_count v) v.fails then Some misfit.Fail
     else None

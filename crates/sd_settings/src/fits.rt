@@ -3,12 +3,9 @@ ghost use Rattle.std.specs.Prelude.{◌≡◌, IfOk};
 ghost use Rattle.sd_settings.specs.Settings.{capacity_for, drive_count, fails_for, given_capacity, has_stranger, is_spool_short, misfit_of, misfit_word, plan_for};
 
 use crate::values::Values;
-use sd_base::DriveNo;
+use sd_base::{DriveNo, MOST_DRIVES};
 use sd_script::Fail;
 use std::alloc::{AllocError, Global};
-
-/// The most drives of a world.
-const MOST_DRIVES: usize = 8;
 
 /// For how many bytes a volume has room where the script doesn't set it.
 const USUAL_CAPACITY: u64 = 1_048_576;
@@ -54,7 +51,7 @@ impl Values {
         if is_spool_short(self.spool, self.block) {
             return Some(Misfit::Spool);
         }
-        if self.drives.len() > MOST_DRIVES {
+        if self.drives.len() > MOST_DRIVES as usize {
             return Some(Misfit::Drive);
         }
         if has_stranger(self.drive_count(), &self.capacities) {

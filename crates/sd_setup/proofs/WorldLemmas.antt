@@ -3,6 +3,7 @@ use Rattle.std.proofs.Common.{◌≡◌, ◌≢◌, ◌≤◌, ◌+◌, ℕ, suc
 use Rattle.std.specs.List.{AllZip}
 use Rattle.std.proofs.lemmas.List.{map-append}
 use Rattle.std.proofs.lemmas.List.Elements.{All-map, All-weaker}
+use Rattle.sd_base.specs.Limits.{most_lanes}
 use Rattle.sd_conf.specs.Conf.{IsDriveWithinLimits}
 use Rattle.sd_core.specs.Conf.{AreStores}
 use Rattle.sd_core.proofs.FreshWorld.{zip_long}
@@ -64,6 +65,6 @@ files_more folder drives front last number spools all one drives_are is stores a
     (subst (λ n. map path_of one.items ≡ lane_paths folder n last.1) place paths)))
 
 -- the lanes of each drive are few
-pub lanes_few : (drives : List DriveConf) → All IsDriveWithinLimits drives → All (λ d. d.1 ≤ 32) (map media_of drives)
+pub lanes_few : (drives : List DriveConf) → All IsDriveWithinLimits drives → All (λ d. d.1 ≤ most_lanes) (map media_of drives)
 lanes_few drives within =
-    All-map (λ (d : List ℕ × ℕ). d.1 ≤ 32) media_of drives (All-weaker IsDriveWithinLimits (λ d. d.lanes ≤ 32) (λ d w. w.lanes_most) drives within)
+    All-map (λ (d : List ℕ × ℕ). d.1 ≤ most_lanes) media_of drives (All-weaker IsDriveWithinLimits (λ d. d.lanes ≤ most_lanes) (λ d w. w.lanes_most) drives within)

@@ -2,7 +2,7 @@
 ghost use Rattle.std.specs.Prelude.{◌≡◌, ◌≤◌, map, length, All, IfOk};
 ghost use Rattle.sd_lane.specs.Queue.{lanes_view};
 ghost use Rattle.std.specs.List.{AllZip};
-ghost use Rattle.sd_base.specs.Limits.{most_number};
+ghost use Rattle.sd_base.specs.Limits.{most_drives, most_lanes, most_number};
 ghost use Rattle.sd_conf.specs.Conf.{IsWithinLimits};
 ghost use Rattle.sd_core.specs.Conf.{AreQueues, AreStores, IsConf};
 ghost use Rattle.sd_spool.specs.FileSpool.{path_of};
@@ -122,8 +122,8 @@ fn spools_of(
     folder: &str,
     drives: &[(MediaName, u32)],
 ) -> Result<Vec<Vec<FileSpool<HostRuntime>>>, AllocError>
-    requires drives { length drives.now ≤ 8 }
-    requires lanes { All (λ d. d.1 ≤ 32) drives.now }
+    requires drives { length drives.now ≤ most_drives }
+    requires lanes { All (λ d. d.1 ≤ most_lanes) drives.now }
     ensures stores { IfOk result (λ spools. AreStores drives.now spools.items) }
     ensures files { IfOk result (λ spools. AreLaneFiles folder.now spools.items) }
 {
@@ -140,7 +140,7 @@ fn spools_of(
 // The number of the last of these drives.
 fn last_number(drives: &[(MediaName, u32)]) -> DriveNo
     requires least { 1 ≤ length drives.now }
-    requires most { length drives.now ≤ 8 }
+    requires most { length drives.now ≤ most_drives }
     ensures { result ≡ length drives.now }
 {
     DriveNo::new(drives.len() as u32).unwrap()
@@ -153,7 +153,7 @@ fn lanes_of(
     drive: DriveNo,
     lanes: u32,
 ) -> Result<Vec<FileSpool<HostRuntime>>, AllocError>
-    requires { lanes ≤ 32 }
+    requires { lanes ≤ most_lanes }
     ensures many { IfOk result (λ spools. length spools.items ≡ lanes) }
     ensures files { IfOk result (λ spools. map path_of spools.items ≡ lane_paths folder.now drive
         lanes) }

@@ -3,6 +3,7 @@ use Rattle.std.proofs.lemmas.Bool.Decides.{nat_tests}
 use Rattle.std.proofs.lemmas.List.{length-map}
 use Rattle.toml.specs.Data.{get_member}
 use Rattle.toml.specs.View.{array_view, table_view, view}
+use Rattle.sd_base.specs.Limits.{most_drives}
 use Rattle.sd_conf.specs.FirstFault.{At}
 use Rattle.sd_conf.specs.Values.{required, drives_fault, tables_at}
 use Rattle.sd_conf.specs.declared.fault.FaultKind.TheVariants.{Missing, Kind, Range}
@@ -43,14 +44,14 @@ returns-then-is_empty c =
     (rw c.in-Some-as_array.is at c.as_array.ensures) (rw c.in-Some-tables.is at c.in-Ok.ensures)
     (length-map c.in-Some-tables.tables.items (λ t. table_view t.now) ∙ none))
 
-pub returns-then-len-gt-MOST_DRIVES : goal.returns-then-len-gt-MOST_DRIVES
-returns-then-len-gt-MOST_DRIVES c =
+pub returns-then-len : goal.returns-then-len
+returns-then-len c =
     let d = get_member (codes "drive") (table_view c.args.table.now) in
     let items = c.in-Some-tables.tables.items in
     let ts = map (λ t. table_view t.now) items in
     let same : length ts ≡ length items = length-map items (λ t. table_view t.now) in
-    let many : 8 < length ts = omega (arith, same, c.len.ensures, c.if-len-gt-MOST_DRIVES.true) in
-    named seen (At (codes "drive") (required drives_fault d)) (tables_at d) (codes "drive") Range c.fault_at-then-len-gt-MOST_DRIVES.result c.fault_at-then-len-gt-MOST_DRIVES.ensures
+    let many : most_drives < length ts = omega (arith, same, c.len.ensures, c.if-len.true) in
+    named seen (At (codes "drive") (required drives_fault d)) (tables_at d) (codes "drive") Range c.fault_at-then-len.result c.fault_at-then-len.ensures
     (drives_many (view c.in-Some.value.now) d (array_view c.in-Some-as_array.array.now) ts
     (at_key c.get.result (codes "drive") c.args.table.now.entries c.get.ensures.value _ c.in-Some.is)
     (rw c.in-Some-as_array.is at c.as_array.ensures) (rw c.in-Some-tables.is at c.in-Ok.ensures) many)
@@ -63,7 +64,7 @@ returns c =
     let same : length ts ≡ length items = length-map items (λ t. table_view t.now) in
     let held : 0 < length items = grind (arith, nat_tests, c.is_empty.ensures, c.if-is_empty.false) in
     let some : 0 < length ts = omega (arith, same, held) in
-    let few : length ts ≤ 8 = omega (arith, same, c.len.ensures, c.if-len-gt-MOST_DRIVES.false) in
+    let few : length ts ≤ most_drives = omega (arith, same, c.len.ensures, c.if-len.false) in
     drives_counted (view c.in-Some.value.now) d (array_view c.in-Some-as_array.array.now) ts
     (at_key c.get.result (codes "drive") c.args.table.now.entries c.get.ensures.value _ c.in-Some.is)
     (rw c.in-Some-as_array.is at c.as_array.ensures) (rw c.in-Some-tables.is at c.in-Ok.ensures) some few

@@ -1,4 +1,5 @@
 use Rattle.std.proofs.Common.{◌≤◌, List, length, refl, sym, subst, inl, inr}
+use Rattle.sd_base.specs.Limits.{most_lanes}
 use Rattle.sd_moves.specs.World.{LaneView}
 use Rattle.sd_moves.proofs.Bays.{read_bay, online_in, offline_in}
 use Rattle.sd_parts.specs.View.{world_of}
@@ -13,7 +14,7 @@ returns-in_default-drive g c =
 pub is_used-requires-clause-most : goal.is_used-requires-clause-most
 is_used-requires-clause-most g c κs within =
     let bay = read_bay (world_of c.args.parts.now) c.args.drive c.get.result _ _ _ c.args.parts.now.bays.ok.0 c.get.ensures.value c.get.ensures.least (c.in-Some.ensures.variant.0 refl) c.in-Some.ensures.value c.bay.view_is in
-    subst (λ (ls : List LaneView). length ls ≤ 32) (sym c.deref-2.ensures.value) (c.requires.world.bays _ _ bay.there).lanes_most
+    subst (λ (ls : List LaneView). length ls ≤ most_lanes) (sym c.deref-2.ensures.value) (c.requires.world.bays _ _ bay.there).lanes_most
 
 pub returns-then-is_used : goal.returns-then-is_used
 returns-then-is_used g c =

@@ -1,5 +1,6 @@
 use Rattle.std.proofs.Common.{◌≤◌, All, ap, length, subst, sym, arith}
 use Rattle.std.proofs.lemmas.List.{length-map}
+use Rattle.sd_base.specs.Limits.{most_lanes}
 use Rattle.sd_setup.specs.World.{media_of}
 use Rattle.sd_setup.proofs.WorldLemmas.{lanes_few}
 use Rattle.sd_setup.proofs.world.settings_of.Goals as goal
@@ -13,7 +14,7 @@ returns-clause-conf c =
       block_most = w.block_most;
       volume_most = w.volume_most;
       drives_most = omega (arith, ap length c.requires.medias, length-map drives media_of, w.drives_most);
-      lanes_most = subst (All (λ d. d.1 ≤ 32)) (sym c.requires.medias) (lanes_few drives w.drives_within);
+      lanes_most = subst (All (λ d. d.1 ≤ most_lanes)) (sym c.requires.medias) (lanes_few drives w.drives_within);
     }
 
 pub returns-clause-many : goal.returns-clause-many
