@@ -6,12 +6,13 @@ use Rattle.std.proofs.lemmas.Option.{get_or_from_slice_get, slice_get_within}
 use Rattle.sd_base.specs.Limits.{most_lanes, most_number}
 use Rattle.sd_desk.specs.Desk.{claimed_by}
 use Rattle.sd_driver.specs.Meaning.{Meaning}
+use Rattle.sd_drive.specs.Limits.{AreLimits}
 use Rattle.sd_drive.specs.View.{DriveIs}
 use Rattle.sd_drive.specs.declared.limits.Limits.{Limits}
 use Rattle.sd_lane.specs.Queue.{LanesView}
 use Rattle.sd_spool.specs.Meaning.{Meaning as StoreMeaning}
 use Rattle.sd_moves.specs.World.{WorldView, WorldSession, BayView, LaneView, session_at, items_before}
-use Rattle.sd_moves.specs.Rules.{AreLimits, NumbersRise, AreOfOpened, IsLane, IsBay, IsWorld}
+use Rattle.sd_moves.specs.Rules.{NumbersRise, AreOfOpened, IsLane, IsBay, IsWorld}
 use Rattle.sd_core.specs.Conf.{IsConf, AreQueues, AreStores, empty_queue, limits_of}
 use Rattle.sd_core.specs.Fresh.{IsNewDrive, AreNewDrives, IsFresh, new_lane, new_bay, new_bays}
 use Rattle.sd_core.specs.declared.conf.WorldConf.{WorldConf}
@@ -121,22 +122,28 @@ is_fresh meaning queue store limits room medias read devices qs ss drives w limi
   bays_are = bays_are;
 }
 
+-- the limits of a world's settings, in a run of a session's time
+pub are_limits : (conf : WorldConf) (time : ℕ) → IsConf conf → 1 ≤ time → time ≤ most_number → AreLimits (limits_of conf time)
+are_limits conf time is_conf least most = record {
+  block_least = is_conf.block_least;
+  block_most = is_conf.block_most;
+  volume_least = is_conf.volume_least;
+  volume_most = is_conf.volume_most;
+  spool_least = is_conf.spool_least;
+  spool_most = is_conf.spool_most;
+  time_least = least;
+  time_most = most;
+}
+
 -- A world that was just made keeps its rules.
 pub fresh_is_world : {D Q S Z : Type 0} (meaning : D → Meaning) (queue : Q → LanesView) (store : S → StoreMeaning) (conf : WorldConf) (time : ℕ)
     (devices : List D) (qs : List Q) (ss : List (Vec S Z)) (w : WorldView D) → IsConf conf → 1 ≤ time → time ≤ most_number
     → AreQueues queue conf.queue conf.drives.items qs → AreStores conf.drives.items ss
     → IsFresh meaning queue store (limits_of conf time) conf.queue conf.drives.items devices qs ss w → IsWorld w
 fresh_is_world {D} {Q} {S} {Z} meaning queue store conf time devices qs ss w is_conf least most queues stores f =
-    let limits : AreLimits (limits_of conf time) = record {
-      block_least = is_conf.block_least;
-      block_most = is_conf.block_most;
-      volume_most = is_conf.volume_most;
-      time_least = least;
-      time_most = most;
-    } in
     let first : 1 ≤ w.next = omega (arith, f.next_is) in
     record {
-      limits = subst AreLimits (sym f.limits_are) limits;
+      limits = subst AreLimits (sym f.limits_are) (are_limits conf time is_conf least most);
       next_most = omega (arith, f.next_is);
       numbers = subst (λ es. NumbersRise w.limits.time 1 w.next es) (sym f.no_session) first;
       bays_most = omega (

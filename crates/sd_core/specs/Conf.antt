@@ -1,18 +1,26 @@
 -- Which settings a world may have, and which queues and stores fit them.
-use Rattle.std.specs.Prelude.{◌≡◌, ℕ, ◌≤◌, List, [], length, All, Vec}
+use Rattle.std.specs.Prelude.{◌≡◌, ◌≢◌, ℕ, ◌*◌, ◌≤◌, List, [], length, All, Vec}
 use Rattle.std.specs.List.{AllZip}
-use Rattle.sd_base.specs.Limits.{least_block_limit, most_block, most_volume, most_drives, most_lanes}
+use Rattle.sd_base.specs.Limits.{least_block_limit, most_block, most_volume, most_drives, most_lanes, most_queue}
 use Rattle.sd_drive.specs.declared.limits.Limits.{Limits}
 use Rattle.sd_lane.specs.Queue.{LanesView}
 use Rattle.sd_core.specs.declared.conf.WorldConf.{WorldConf}
 
--- The settings are those that a world may have: the limits of a block and of a volume are in their bounds, and there are
--- not too many drives, and of none too many lanes.
+-- The settings are those that a world may have: each limit is in its bounds, a volume has room for two blocks, a spool,
+-- where there is one, for a block, and a queue for a piece; there is a drive, and each has a lane, and there are not too
+-- many of either.
 pub record IsConf (conf : WorldConf) : Type 0 where
   pub block_least : least_block_limit ≤ conf.block
   pub block_most : conf.block ≤ most_block
+  pub volume_least : 2 * conf.block ≤ conf.volume
   pub volume_most : conf.volume ≤ most_volume
+  pub spool_least : conf.spool ≢ 0 → conf.block ≤ conf.spool
+  pub spool_most : conf.spool ≤ most_volume
+  pub queue_least : 1 ≤ conf.queue
+  pub queue_most : conf.queue ≤ most_queue
+  pub drives_least : 1 ≤ length conf.drives.items
   pub drives_most : length conf.drives.items ≤ most_drives
+  pub lanes_least : All (λ d. 1 ≤ d.1) conf.drives.items
   pub lanes_most : All (λ d. d.1 ≤ most_lanes) conf.drives.items
 
 -- the limits of these settings, in the run of this time

@@ -6,13 +6,14 @@ use sd_base::MediaName;
 pub struct WorldConf {
     /// The most bytes of a block, its header included: 1,024 to 1,048,576.
     pub block: usize,
-    /// The most bytes of a volume, at most 68,719,476,736.
+    /// The most bytes of a volume: at least those of two blocks, at most 68,719,476,736.
     pub volume: u64,
-    /// The most bytes of a session's spool, 0 where there is none.
+    /// The most bytes of a session's spool: 0 where there is none, else at least those of a block, and at most
+    /// 68,719,476,736.
     pub spool: u64,
-    /// How many pieces the queue before a drive has room for.
+    /// How many pieces the queue before a drive has room for: 1 to 1,024.
     pub queue: usize,
-    /// The media and the number of lanes of the drives 1, 2 and on: at most 8 drives, of at most 32 lanes each.
+    /// The media and the number of lanes of the drives 1, 2 and on: 1 to 8 drives, of 1 to 32 lanes each.
     pub drives: Vec<(MediaName, u32)>,
 }
 

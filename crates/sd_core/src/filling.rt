@@ -1,7 +1,7 @@
 // The bays of a new world are filled.
 ghost use Rattle.std.specs.Prelude.{◌≡◌, ◌≤◌, [], length, vec_len, vec_capacity, IfOk, OnOk, OnErr, List};
 ghost use Rattle.std.specs.List.{AllZip};
-ghost use Rattle.sd_base.specs.Limits.{most_volume};
+ghost use Rattle.sd_drive.specs.Limits.{AreLimits};
 ghost use Rattle.sd_drive.specs.View.{DriveIs};
 ghost use Rattle.sd_core.specs.Fresh.{AreNewDrives, StaysDevice, HasRoom, new_bays};
 
@@ -88,7 +88,7 @@ pub(crate) fn fill_bays<D: Driver + Drop, Q: Lanes + Drop, S: SpoolStore + Drop>
     queues: &mut Vec<Q>,
     spools: &mut Vec<Vec<S>>,
 ) -> Result<Vec<Bay<D, Q, S>>, AllocError>
-    requires limit { limits.volume ≤ most_volume }
+    requires limits { AreLimits limits }
     requires medias { vec_len drivers.old ≡ length medias.now }
     requires queues { vec_len queues.old ≡ length medias.now }
     requires spools { vec_len spools.old ≡ length medias.now }

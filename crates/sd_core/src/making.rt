@@ -1,7 +1,7 @@
 // The drives of a new world are made.
 ghost use Rattle.std.specs.Prelude.{◌≡◌, ◌≤◌, ◌+◌, ◌++◌, [], length, map, vec_len, vec_capacity, OnOk, OnErr};
 ghost use Rattle.std.specs.List.{AllZip};
-ghost use Rattle.sd_base.specs.Limits.{most_volume};
+ghost use Rattle.sd_drive.specs.Limits.{AreLimits};
 ghost use Rattle.sd_drive.specs.View.{DriveIs};
 ghost use Rattle.sd_core.specs.Fresh.{AreNewDrives, StaysDevice, new_lane};
 
@@ -59,7 +59,7 @@ pub(crate) fn make_drives<D: Driver>(
     drivers: &mut Vec<D>,
     drives: &mut Vec<Drive<D>>,
 ) -> Result<(), AllocError>
-    requires limit { limits.volume ≤ most_volume }
+    requires limits { AreLimits limits }
     requires medias { vec_len drivers.old ≤ length medias.now }
     requires none_made { drives.old.items ≡ [] }
     requires room { vec_len drivers.old ≤ vec_capacity drives.old }

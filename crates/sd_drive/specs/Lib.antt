@@ -1,3 +1,4 @@
+pub mod Limits
 pub mod Moves
 pub mod Placing
 pub mod Receipt

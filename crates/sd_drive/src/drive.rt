@@ -1,11 +1,11 @@
 // A drive, its parts, and the piece in its hand.
 ghost use Rattle.std.specs.Prelude.{◌≡◌, ◌↔◌, ◌≤◌, ◌<◌, ◌⊎◌, [], None, Some, IfOk, IfErr, OnOk, OnErr, IsTrue, List, ℕ};
 ghost use Rattle.std.specs.Option.{option_copied};
-ghost use Rattle.sd_base.specs.Limits.{most_volume};
 ghost use Rattle.sd_driver.specs.Meaning.{IsHonest, SameCounts};
 ghost use Rattle.sd_driver.specs.Shelf.{SameShelf, StillLasts};
 ghost use Rattle.sd_journal.specs.Journal.{placements, progress_of};
 ghost use Rattle.sd_span.specs.Spans.{spans_of};
+ghost use Rattle.sd_drive.specs.Limits.{AreLimits};
 ghost use Rattle.sd_drive.specs.Shelf.{Kept, KeepsPieces, LeavesStable};
 ghost use Rattle.sd_drive.specs.View.{DriveIs};
 
@@ -80,7 +80,7 @@ impl<D: Driver> Drive<D> {
         media: MediaName,
         limits: Limits,
     ) -> Result<Drive<D>, NotMade<D>>
-        requires { limits.volume ≤ most_volume }
+        requires { AreLimits limits }
         ensures ok { IfOk result (λ drive. drive ≡ record {
           device = drive.device;
           media = media;

@@ -1,14 +1,15 @@
 // What a drive is told of the daemon's limits.
 
-/// The limits that hold for a drive, and the run that it is of.
+/// The limits that hold for a drive, and the run that it is of. What each may be stands in `AreLimits`.
 #[derive(Clone, Copy, Debug, PartialEq, Eq)]
 pub struct Limits {
-    /// The most bytes of a block, its header included.
+    /// The most bytes of a block, its header included: 1,024 to 1,048,576.
     pub block: usize,
-    /// The most bytes of a volume; no more than `sd_base::MOST_VOLUME`.
+    /// The most bytes of a volume: at least those of two blocks, at most `sd_base::MOST_VOLUME`.
     pub volume: u64,
-    /// The most bytes of a session's spool, 0 where there is none.
+    /// The most bytes of a session's spool: 0 where there is none, else at least those of a block, and at most
+    /// `sd_base::MOST_VOLUME`.
     pub spool: u64,
-    /// The time of the run, in seconds.
+    /// The time of the run, in seconds: 1 to 2,147,483,647.
     pub time: u32,
 }

@@ -4,11 +4,12 @@ use Rattle.std.proofs.lemmas.List.{length-set}
 use Rattle.sd_base.specs.Limits.{most_drives, most_number}
 use Rattle.sd_base.specs.declared.number.SessionKey.{SessionKey}
 use Rattle.sd_desk.specs.Desk.{DeskView, claimed_by}
+use Rattle.sd_drive.specs.Limits.{AreLimits}
 use Rattle.sd_drive.specs.View.{DriveIs}
 use Rattle.sd_session.specs.Session.{IsRunning}
 use Rattle.sd_volume.specs.Volume.{VolumeView}
 use Rattle.sd_moves.specs.World.{WorldView, WorldSession, BayView, LaneView, session_at, with_session}
-use Rattle.sd_moves.specs.Rules.{AreLimits, NumbersRise, IsSeated, IsBay, IsWorld}
+use Rattle.sd_moves.specs.Rules.{NumbersRise, IsSeated, IsBay, IsWorld}
 use Rattle.sd_moves.proofs.Lookups.{session_id, get_set-tells}
 use Rattle.sd_moves.proofs.Pairs.{PairOf, PairAt, WithOne, pair_after, pair_before, same_pair, with_pairs, is_numbered, numbers_with}
 use Rattle.sd_moves.proofs.Seats.{sits_of, sits_session, sits_drive, seated_on, seated_with, DriveStays, FailsStay, NamesStay, HolderStays, AreLanes, WorldStays, lane_stays, bay_same, bay_drive}

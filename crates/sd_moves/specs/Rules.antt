@@ -1,22 +1,14 @@
 -- What every world keeps, whatever happens to it.
 use Rattle.std.specs.Prelude.{◌≡◌, ℕ, ◌+◌, ◌≤◌, ◌<◌, false, Some, None, IfSome, IsSome, List, [], ◌∷◌, length, slice_get}
-use Rattle.sd_base.specs.Limits.{most_number, least_block_limit, most_block, most_volume, most_drives, most_lanes}
+use Rattle.sd_base.specs.Limits.{most_number, most_drives, most_lanes}
 use Rattle.sd_desk.specs.Desk.{claimed_by}
+use Rattle.sd_drive.specs.Limits.{AreLimits}
 use Rattle.sd_drive.specs.View.{DriveIs}
-use Rattle.sd_drive.specs.declared.limits.Limits.{Limits}
 use Rattle.sd_journal.specs.Journal.{Item, fails, placed_of}
 use Rattle.sd_session.specs.Session.{IsRunning, store_of}
 use Rattle.sd_session.specs.declared.status.Status.TheVariants.{Closed}
 use Rattle.sd_volume.specs.Volume.{VolumeView}
 use Rattle.sd_moves.specs.World.{WorldView, WorldSession, BayView, LaneView, session_at, items_before, items_with}
-
--- the limits are those that a world may have
-pub record AreLimits (limits : Limits) : Type 0 where
-  pub block_least : least_block_limit ≤ limits.block
-  pub block_most : limits.block ≤ most_block
-  pub volume_most : limits.volume ≤ most_volume
-  pub time_least : 1 ≤ limits.time
-  pub time_most : limits.time ≤ most_number
 
 -- The numbers of the sessions rise from `least` on, and are below the next one; each is of this run.
 abbrev pub NumbersRise : ℕ → ℕ → ℕ → List WorldSession → Type 0

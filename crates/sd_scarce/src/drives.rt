@@ -52,7 +52,7 @@ fn make(
 ) -> Result<Drive<MemDrive>, NotMade<MemDrive>> {
     let limits = Limits {
         block: 1024,
-        volume: 2000,
+        volume: 2048,
         spool: 0,
         time: KEY.time,
     };

@@ -97,7 +97,7 @@ impl<S: SpoolStore> Model for Session<S> {
 impl<S: SpoolStore + Drop> Session<S> {
     /// A new session, with its start label, for blocks of at most `block` bytes, 1,024 to 1,048,576. It spools on the
     /// store up to a limit of `spool` body bytes, and not at all where that is 0; then the store is not touched. Any
-    /// other limit is to be `block` at least, since a body that passes the limit by itself would wait for ever.
+    /// other limit is `block` at least, since a body that passes the limit by itself would wait for ever.
     ///
     /// All room is made first; then the store is cleared for the spool. Where that fails the session is refused with
     /// `SpoolFault`, and the store comes back, as it does for want of memory.
@@ -110,6 +110,7 @@ impl<S: SpoolStore + Drop> Session<S> {
     ) -> Result<Self, NotOpened<S>>
         requires least { least_block_limit ≤ block }
         requires most { block ≤ most_block }
+        requires spool_least { spool ≢ 0 → block ≤ spool }
         ensures ok { IfOk result
             (λ s. StartsSession opening (block - block_header) spool (S.meaning store) s) }
         ensures err { IfErr result

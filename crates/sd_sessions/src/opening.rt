@@ -1,6 +1,6 @@
 // A session is opened.
 ghost use Rattle.std.specs.Prelude.{◌≡◌, ◌≤◌, ◌<◌, ℕ, OnOk, OnErr, IfErr, vec_len, vec_capacity};
-ghost use Rattle.sd_base.specs.Limits.{least_block_limit, most_block};
+ghost use Rattle.sd_drive.specs.Limits.{AreLimits};
 ghost use Rattle.sd_machine.specs.declared.event.Event.TheVariants.{Open};
 ghost use Rattle.sd_moves.specs.Moves.{Moves};
 ghost use Rattle.sd_moves.specs.Rules.{IsWorld, NumbersRise};
@@ -89,8 +89,7 @@ fn open_at<D: Driver, S: SpoolStore + Drop>(
     drive: DriveNo,
     opening: Opening,
 ) -> Result<(), Refusal>
-    requires least { least_block_limit ≤ limits.block }
-    requires most { limits.block ≤ most_block }
+    requires limits { AreLimits limits }
     requires rise { (time : ℕ) × (next : ℕ) × NumbersRise time 1 next sessions.old.items }
     requires stored { CanTakeStore lane.old sessions.old.items }
     ensures ok { OnOk result (OpensAt limits ticket drive opening lane.old sessions.old.items at.old

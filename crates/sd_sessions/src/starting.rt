@@ -1,6 +1,6 @@
 // A session begins on its lane's store.
 ghost use Rattle.std.specs.Prelude.{◌≡◌, ◌≤◌, ℕ, None, IfOk, IfErr, vec_len, vec_capacity};
-ghost use Rattle.sd_base.specs.Limits.{least_block_limit, most_block};
+ghost use Rattle.sd_drive.specs.Limits.{AreLimits};
 ghost use Rattle.sd_spool.specs.Job.{state_of};
 ghost use Rattle.sd_moves.specs.Rules.{NumbersRise};
 ghost use Rattle.sd_moves.specs.Sessions.{TakesStore};
@@ -22,8 +22,7 @@ pub fn start<S: SpoolStore + Drop>(
     ticket: Ticket,
     opening: Opening,
 ) -> Result<Session<S>, Refusal>
-    requires least { least_block_limit ≤ limits.block }
-    requires most { limits.block ≤ most_block }
+    requires limits { AreLimits limits }
     requires rise { (time : ℕ) × (next : ℕ) × NumbersRise time 1 next sessions.old.items }
     requires stored { CanTakeStore lane.old sessions.old.items }
     ensures ok { IfOk result (λ session. StartsInLane limits ticket opening lane.old

@@ -68,3 +68,8 @@ files_more folder drives front last number spools all one drives_are is stores a
 pub lanes_few : (drives : List DriveConf) → All IsDriveWithinLimits drives → All (λ d. d.1 ≤ most_lanes) (map media_of drives)
 lanes_few drives within =
     All-map (λ (d : List ℕ × ℕ). d.1 ≤ most_lanes) media_of drives (All-weaker IsDriveWithinLimits (λ d. d.lanes ≤ most_lanes) (λ d w. w.lanes_most) drives within)
+
+-- each drive has a lane
+pub lanes_some : (drives : List DriveConf) → All IsDriveWithinLimits drives → All (λ d. 1 ≤ d.1) (map media_of drives)
+lanes_some drives within =
+    All-map (λ (d : List ℕ × ℕ). 1 ≤ d.1) media_of drives (All-weaker IsDriveWithinLimits (λ d. 1 ≤ d.lanes) (λ d w. w.lanes_least) drives within)

@@ -2,8 +2,11 @@ use Rattle.std.proofs.Common.{List, length, refl, ap, subst, arith}
 use Rattle.sd_moves.specs.World.{BayView}
 use Rattle.sd_closed.specs.Steps.{DrivesKeep}
 use Rattle.sd_core.specs.Conf.{limits_of}
-use Rattle.sd_core.proofs.FreshWorld.{as_many_queues, as_many_stores, is_fresh, fresh_is_world}
+use Rattle.sd_core.proofs.FreshWorld.{as_many_queues, as_many_stores, are_limits, is_fresh, fresh_is_world}
 use Rattle.sd_core.proofs.world.World.new.Goals as goal
+
+pub fill_bays-requires-clause-limits : goal.fill_bays-requires-clause-limits
+fill_bays-requires-clause-limits g c κs within = are_limits c.args.conf c.args.time c.requires.conf c.requires.time_least c.requires.time_most
 
 pub fill_bays-requires-clause-queues : goal.fill_bays-requires-clause-queues
 fill_bays-requires-clause-queues g c κs within =

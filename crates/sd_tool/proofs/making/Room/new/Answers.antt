@@ -1,0 +1,24 @@
+use Rattle.std.proofs.Common.{ap, refl, subst}
+use Rattle.sd_lane.specs.Queue.{lanes_view}
+use Rattle.sd_core.specs.Conf.{AreQueues, AreStores}
+use Rattle.sd_settings.specs.Settings.{AreSettable, ValuesView}
+use Rattle.sd_tool.proofs.MakingLemmas.{settings_fit}
+use Rattle.sd_tool.proofs.making.Room.new.Goals as goal
+
+pub returns : goal.returns
+returns c =
+    let is = c.values.view_is in
+    let block = ap (λ (v : ValuesView). v.block) is in
+    let volume = ap (λ (v : ValuesView). v.volume) is in
+    let spool = ap (λ (v : ValuesView). v.spool) is in
+    let queue = ap (λ (v : ValuesView). v.queue) is in
+    record {
+      conf = settings_fit c.args.values.now _ (subst AreSettable is c.values.invariant) c.requires block volume spool queue c.in_ok-drives.ensures;
+      block_is = block;
+      volume_is = volume;
+      spool_is = spool;
+      queue_is = queue;
+      drives_are = c.in_ok-drives.ensures;
+      queues = c.in_ok-queues.ensures;
+      stores = c.in_ok-stores.ensures;
+    }
