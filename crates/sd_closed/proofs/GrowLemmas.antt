@@ -13,7 +13,7 @@ use Rattle.sd_moves.specs.Moves.{Moves}
 use Rattle.sd_moves.specs.World.{WorldView, BayView, IsOnline}
 use Rattle.sd_moves.proofs.Lookups.{get_set-tells}
 use Rattle.sd_moves.proofs.MoveLeaves.{Continues, LeavesBays, leaves, untouched}
-use Rattle.sd_moves.proofs.Shapes.{DeviceStays}
+use Rattle.sd_moves.proofs.StationShapes.{DeviceStays}
 use Rattle.sd_closed.specs.Devices.{GoesOn, DevicesGoOn, MovesGoOn, GoingOnJoins}
 use Rattle.sd_closed.specs.Grows.{EachDrive, JournalsGrow, GrowthsJoin}
 

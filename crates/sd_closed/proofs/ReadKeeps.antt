@@ -18,7 +18,7 @@ use Rattle.sd_moves.proofs.DriveMoves.{goes_on_knowing}
 use Rattle.sd_moves.proofs.DriveSteps.{adds_none}
 use Rattle.sd_moves.proofs.HonestSteps.{drive_changes}
 use Rattle.sd_moves.proofs.Lookups.{one_or_two, get_set-same, get_set-other, get_set-tells}
-use Rattle.sd_moves.proofs.Shapes.{DeviceStays}
+use Rattle.sd_moves.proofs.StationShapes.{DeviceStays}
 use Rattle.sd_matches.specs.Matches.{Matches}
 use Rattle.sd_matches.proofs.MovesSteps.{reading_keeps as matches_stay}
 use Rattle.sd_closed.specs.Devices.{DevicesGoOn}

@@ -10,7 +10,8 @@ use Rattle.sd_moves.specs.Sessions.{OpensSession, OpensNot}
 use Rattle.sd_moves.specs.Moves.{Moves}
 use Rattle.sd_moves.specs.Rules.{IsWorld}
 use Rattle.sd_moves.specs.World.{WorldView, WorldSession, session_at, with_session}
-use Rattle.sd_moves.specs.Drives.{LosesBlocks, FailsWhere, loses_by}
+use Rattle.sd_moves.specs.Drives.{FailsWhere, loses_by}
+use Rattle.sd_moves.proofs.Framed.{LosesIn}
 use Rattle.sd_moves.proofs.Lookups.{session_id, session_at-front}
 use Rattle.sd_moves.proofs.OpenSteps.{LosesStore, taken_from}
 use Rattle.sd_moves.proofs.Pairs.{PairAt, WithOne, FallsWhere, pair_after, with_pairs, fail_pairs}
@@ -72,7 +73,7 @@ falls : (b : Bool) (x y : WorldSession) → FailsWhere b x y → HasSeat x y
 falls true x y (s, failed, is) = subst (HasSeat x) (sym is) (record { key_is = (fails x.session s failed).stays.key_is; drive_is = refl })
 falls false x y is = same_seat x y is
 
-loses_blocks : {D : Type 0} (meaning : D → Meaning) (w w' : WorldView D) (drive : ℕ) → LosesBlocks meaning w drive w' → SeatsStay w w'
+loses_blocks : {D : Type 0} (meaning : D → Meaning) (w w' : WorldView D) (drive : ℕ) → LosesIn meaning w drive w' → SeatsStay w w'
 loses_blocks {D} meaning w w' drive l =
     let chooses = loses_by drive l.fails.volume.name l.d.journal in
     let now : w'.sessions ≡ l.sessions = ap (λ (x : WorldView D). x.sessions) l.new_is in

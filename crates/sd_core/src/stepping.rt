@@ -10,7 +10,7 @@ use sd_base::{Rec, Ticket};
 use sd_driver::Driver;
 use sd_lane::Lanes;
 use sd_machine::{Event, Reply};
-use sd_operators::{adopt, label, mount, place, retire, seek, sync, take, unmount};
+use sd_operators::{operate, retire};
 use sd_parts::Parts;
 use sd_sessions::{append, cancel, close, despool, end, media, open, spool};
 use sd_spool::SpoolStore;
@@ -68,20 +68,14 @@ fn apply<D: Driver + Drop, Q: Lanes, S: SpoolStore + Drop>(
         Event::Cancel { ticket } => cancel(parts, ticket),
         Event::Spool { ticket } => spool(parts, ticket),
         Event::Despool { ticket } => despool(parts, ticket),
-        Event::Take { drive } => take(parts, drive),
-        Event::Place { drive } => place(parts, drive),
-        Event::Sync { drive } => sync(parts, drive),
-        Event::Label {
-            drive,
-            name,
-            pool,
-            media,
-            moment,
-        } => label(parts, drive, &name, &pool, &media, moment),
-        Event::Adopt { drive, name } => adopt(parts, drive, &name),
-        Event::Mount { drive, name } => mount(parts, drive, &name),
-        Event::Unmount { drive } => unmount(parts, drive),
-        Event::Seek { drive } => seek(parts, drive),
+        Event::Take { drive }
+        | Event::Place { drive }
+        | Event::Sync { drive }
+        | Event::Label { drive, .. }
+        | Event::Adopt { drive, .. }
+        | Event::Mount { drive, .. }
+        | Event::Unmount { drive }
+        | Event::Seek { drive } => operate(parts, drive, &event),
         Event::Retire { drive } => retire(parts, drive),
         Event::Media { ticket } => media(parts, ticket),
     }

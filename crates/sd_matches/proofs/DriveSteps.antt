@@ -1,34 +1,36 @@
 -- A move of the world on an event of a drive is a step of the list machine, which stays as it is but for sessions that fail.
-use Rattle.std.proofs.Common.{◌≡◌, ◌⊎◌, ℕ, refl, sym, ap, subst, ◌∙◌, inl, inr, Bool, true, false, Option, Some, None, List, [], ◌∷◌, ◌++◌, map, option_to_list, slice_set, Ok, Err}
+use Rattle.std.proofs.Common.{◌≡◌, ◌⊎◌, ℕ, refl, sym, ap, subst, ◌∙◌, inl, inr, Bool, true, false, Option, Some, None, List, [], ◌∷◌, ◌++◌, map, option_to_list, slice_set}
 use Rattle.std.proofs.lemmas.Bool.{and_parts}
 use Rattle.sd_base.specs.declared.refusal.Refusal.{Refusal}
-use Rattle.sd_base.specs.declared.refusal.Refusal.TheVariants.{NoSuchDrive, DriveOffline, DeviceFault, Memory}
+use Rattle.sd_base.specs.declared.refusal.Refusal.TheVariants.{NoSuchDrive, DriveOffline, DeviceFault}
 use Rattle.sd_driver.specs.Meaning.{Meaning}
-use Rattle.sd_drive.specs.Moves.{Places, Unmounts}
 use Rattle.sd_drive.specs.View.{DriveIs}
-use Rattle.sd_drive.specs.declared.place.Placed.TheVariants as place
 use Rattle.sd_journal.specs.declared.mark.Mark.TheVariants.{Lost}
 use Rattle.sd_lane.specs.Queue.{LanesView}
 use Rattle.sd_lane.specs.declared.piece.Piece.{Piece}
 use Rattle.sd_machine.specs.Machine.{Machine}
 use Rattle.sd_machine.specs.Step.{Turns, MayFail, MayRefuse, NoDrive, AreRunning}
 use Rattle.sd_machine.specs.declared.event.Event.{Event}
-use Rattle.sd_machine.specs.declared.event.Event.TheVariants.{Take, Place, Sync, Unmount, Retire}
+use Rattle.sd_machine.specs.declared.event.Event.TheVariants.{Take, Place, Sync, Label, Adopt, Mount, Unmount, Seek, Retire}
 use Rattle.sd_machine.specs.declared.reply.Reply.{Reply}
-use Rattle.sd_machine.specs.declared.reply.Reply.TheVariants.{Refused, InHand, HandFull, Idle, Placed, NeedVolume, VolumeFull, VolumeError, Synced, Unmounted, Retired}
+use Rattle.sd_machine.specs.declared.reply.Reply.TheVariants.{Refused, Retired}
 use Rattle.sd_session.specs.Session.{IsRunning}
-use Rattle.sd_span.specs.declared.placement.Placement.{Placement}
-use Rattle.sd_moves.specs.Drives.{DriveMissing, CallsDrive, TakesPiece, LosesBlocks, FailsWhere, FailExactly, loses_by}
-use Rattle.sd_moves.specs.Moves.{Moves, MissingOr, PlacesNone}
+use Rattle.sd_moves.specs.Drives.{DriveMissing, IsOfDrive, AtDrive, MovesDrive, FailsWhere, FailExactly, loses_by}
+use Rattle.sd_moves.specs.Fails.{IsOfSync}
+use Rattle.sd_moves.specs.Moves.{Moves}
 use Rattle.sd_moves.specs.Rules.{IsWorld}
 use Rattle.sd_moves.specs.World.{WorldView, WorldSession, BayView, IsOnline, with_bay}
+use Rattle.sd_moves.proofs.Framed.{TakesIn, LosesIn, station, calls_knowing, stays_knowing, stays_all, takes_in, loses_in}
 use Rattle.sd_moves.proofs.Lookups.{get_set-tells}
+use Rattle.sd_moves.proofs.StationShapes as place
+use Rattle.sd_moves.proofs.StationShapes.{JournalGoes, StationShape, station_shape}
 use Rattle.sd_moves.proofs.Views.{running_is}
 use Rattle.sd_matches.specs.Matches.{Matches, IsOutstanding, body_of_piece, bodies_with, queued_bodies}
 use Rattle.sd_matches.specs.Steps.{StepsTo, newly_failed}
 use Rattle.sd_matches.proofs.Bodies.{sent_taken, bodies_queued}
-use Rattle.sd_matches.proofs.Drives.{Settles, settles_same, settles_settled, settles_synced, settles_placed, drive_frame, drive_step}
-use Rattle.sd_matches.proofs.Failing.{drops_falls, steps, stays, none_fall_stay, fails_step, failed_went_on, Falls, FallOrStay}
+use Rattle.sd_matches.proofs.Drives.{Settles, settles_same, settles_settled, settles_synced, settles_placed, drive_frame, drive_step, desk_step}
+use Rattle.sd_matches.proofs.DriveTurns.{may_miss, drive_turns}
+use Rattle.sd_matches.proofs.Failing.{drops_falls, steps, stays, fails_step, none_fall_stay, failed_went_on, Falls, FallOrStay}
 use Rattle.sd_matches.proofs.Frames.{Framed, frame_in_bay}
 use Rattle.sd_matches.proofs.Honesty.{honest_back, honest_here, fail_stores}
 use Rattle.sd_matches.proofs.Sessions.{all_same}
@@ -36,13 +38,13 @@ use Rattle.sd_matches.proofs.Sessions.{all_same}
 -- Refused.
 
 -- a refusal for this reason, that leaves the world as it was
-pub refused : {D : Type 0} (meaning : D → Meaning) (old new : WorldView D) (m : Machine) (event : Event) (why reason : Refusal) → why ≡ reason → MayRefuse m event reason
+refused : {D : Type 0} (meaning : D → Meaning) (old new : WorldView D) (m : Machine) (event : Event) (why reason : Refusal) → why ≡ reason → MayRefuse m event reason
     → MayFail m event (Refused reason) [] → Matches meaning old m → new ≡ old → StepsTo meaning m old event (Refused why) new
 refused meaning old new m event why reason is cause fail h same =
     subst (λ (x : Refusal). StepsTo meaning m old event (Refused x) new) (sym is) (stays meaning old new m event (Refused reason) (cause, refl) fail h same)
 
 -- the drive isn't there, or is offline for good
-pub missing : {D : Type 0} (meaning : D → Meaning) (old new : WorldView D) (m : Machine) (event : Event) (drive : ℕ) (why : Refusal) → DriveMissing old drive why
+missing : {D : Type 0} (meaning : D → Meaning) (old new : WorldView D) (m : Machine) (event : Event) (drive : ℕ) (why : Refusal) → DriveMissing old drive why
     → ((r : Refusal) → NoDrive r → MayRefuse m event r) → MayFail m event (Refused NoSuchDrive) [] → MayFail m event (Refused DriveOffline) []
     → Matches meaning old m → new ≡ old → StepsTo meaning m old event (Refused why) new
 missing meaning old new m event drive why none may there offline h same = elim none.2 [
@@ -52,9 +54,9 @@ missing meaning old new m event drive why none may there offline h same = elim n
 
 -- Take.
 
-take_in_hand : {D : Type 0} (meaning : D → Meaning) (old new : WorldView D) (drive ticket seq : ℕ) (m : Machine) → TakesPiece old drive ticket seq new → Matches meaning old m
-    → StepsTo meaning m old (Take drive) (InHand ticket seq) new
-take_in_hand {D} meaning old new drive ticket seq m t h =
+take_step : {D : Type 0} (meaning : D → Meaning) (old new : WorldView D) (m : Machine) (event : Event) (reply : Reply) (drive ticket seq : ℕ) → TakesIn old drive ticket seq new
+    → Turns m event reply m → MayFail m event reply [] → Matches meaning old m → StepsTo meaning m old event reply new
+take_step {D} meaning old new m event reply drive ticket seq t turns fail h =
     let d = t.d in
     let d' : DriveIs D = record d { hand = Some t.piece } in
     let queue' : LanesView = record t.bay.queue { held = t.rest } in
@@ -79,60 +81,8 @@ take_in_hand {D} meaning old new drive ticket seq m t h =
           ∙ none))
       | inr unsynced ↦ inr unsynced
     ]) in
-    steps meaning old new m m (Take drive) (InHand ticket seq) (ap (λ w. newly_failed old.sessions w.sessions) t.new_is ∙ none_fall_stay old.sessions) refl refl
+    steps meaning old new m m event reply (ap (λ w. newly_failed old.sessions w.sessions) t.new_is ∙ none_fall_stay old.sessions) turns fail
     (subst (λ w. Matches meaning w m) (sym t.new_is) (all_same meaning old w' m refl refl refl frames h))
-
-pub take_steps : {D : Type 0} (meaning : D → Meaning) (old new : WorldView D) (drive : ℕ) (reply : Reply) (m : Machine) → IsWorld old
-    → Moves meaning old (Take drive) reply new → Matches meaning old m → StepsTo meaning m old (Take drive) reply new
-take_steps meaning old new drive (InHand ticket seq) m rules moves h = take_in_hand meaning old new drive ticket seq m moves h
-take_steps meaning old new drive HandFull m rules moves h = stays meaning old new m (Take drive) HandFull refl refl h moves.1
-take_steps meaning old new drive Idle m rules moves h = stays meaning old new m (Take drive) Idle refl refl h moves.1
-take_steps meaning old new drive (Refused why) m rules moves h = missing meaning old new m (Take drive) drive why moves.0 (λ r no. no) refl refl h moves.1
-take_steps meaning old new drive reply m rules moves h = absurd moves
-
--- One call of a drive.
-
--- a call that answers no fault leaves the machine
-pub call_step : {D : Type 0} (meaning : D → Meaning) (old new : WorldView D) (m : Machine) (event : Event) (reply : Reply) (drive : ℕ) (change : DriveIs D → DriveIs D → Type 0)
-    → CallsDrive meaning old drive new change → ((d after : DriveIs D) → change d after → Settles d after)
-    → Turns m event reply m → MayFail m event reply [] → Matches meaning old m → StepsTo meaning m old event reply new
-call_step meaning old new m event reply drive change c settle turns fail h =
-    drive_step meaning old new m event reply drive c.0 c.1 c.2 c.3 old.desk c.4 c.5.1.keeps (settle c.2 c.3 c.5.0) turns fail h c.6
-
--- Place.
-
-placed_settles : {D : Type 0} (p : Placement) (d after : DriveIs D) → Places {E = Unit {0}} (Ok (place.At p)) d after → Settles d after
-placed_settles {D} p d after c =
-    settles_placed d after c.piece p c.ready.hand (ap (λ (x : Placement). x.key) c.on.1) c.on.3 (ap (λ (x : DriveIs D). x.hand) c.becomes)
-
-full_settles : {D : Type 0} (d after : DriveIs D) → Places {E = Unit {0}} (Ok place.VolumeFull) d after → Settles d after
-full_settles {D} d after c = settles_same d after c.on.1 (ap (λ (x : DriveIs D). x.hand) c.becomes)
-
-error_settles : {D : Type 0} (d after : DriveIs D) → Places {E = Unit {0}} (Ok place.VolumeError) d after → Settles d after
-error_settles {D} d after c = settles_same d after c.on.2 (ap (λ (x : DriveIs D). x.hand) c.becomes)
-
-unplaced_settles : {D : Type 0} (d after : DriveIs D) → Places {E = Unit {0}} (Err tt) d after → Settles d after
-unplaced_settles {D} d after c = settles_same d after c.on.2 (ap (λ (x : DriveIs D). x.hand) c.becomes)
-
-place_refused : {D : Type 0} (meaning : D → Meaning) (old new : WorldView D) (drive : ℕ) (why : Refusal) (m : Machine)
-    → MissingOr old drive why new ((why ≡ Memory) × PlacesNone meaning old drive new) → Matches meaning old m
-    → StepsTo meaning m old (Place drive) (Refused why) new
-place_refused meaning old new drive why m (inl c) h = missing meaning old new m (Place drive) drive why c.0 (λ r no. inl no) refl refl h c.1
-place_refused meaning old new drive why m (inr c) h =
-    call_step meaning old new m (Place drive) (Refused why) drive _ c.1 (λ d after p. unplaced_settles d after p.0) (inr c.0, refl) refl h
-
-pub place_steps : {D : Type 0} (meaning : D → Meaning) (old new : WorldView D) (drive : ℕ) (reply : Reply) (m : Machine) → IsWorld old
-    → Moves meaning old (Place drive) reply new → Matches meaning old m → StepsTo meaning m old (Place drive) reply new
-place_steps meaning old new drive (Placed volume start end) m rules moves h =
-    call_step meaning old new m (Place drive) (Placed volume start end) drive (Places {E = Unit {0}} (Ok (place.At moves.0))) moves.4 (placed_settles moves.0) refl refl h
-place_steps meaning old new drive NeedVolume m rules moves h = stays meaning old new m (Place drive) NeedVolume refl refl h moves.1
-place_steps meaning old new drive VolumeFull m rules moves h =
-    drive_step meaning old new m (Place drive) VolumeFull drive moves.0 moves.1 moves.2 moves.3 old.desk moves.4 moves.5.1.keeps (full_settles moves.2 moves.3 moves.5.0) refl refl h moves.6
-place_steps meaning old new drive VolumeError m rules moves h =
-    drive_step meaning old new m (Place drive) VolumeError drive moves.0 moves.1 moves.2 moves.3 old.desk moves.4 moves.5.1.keeps (error_settles moves.2 moves.3 moves.5.0) refl refl h moves.6
-place_steps meaning old new drive Idle m rules moves h = stays meaning old new m (Place drive) Idle refl refl h moves.1
-place_steps meaning old new drive (Refused why) m rules moves h = place_refused meaning old new drive why m moves h
-place_steps meaning old new drive reply m rules moves h = absurd moves
 
 -- A sync that fails.
 
@@ -153,7 +103,7 @@ fall_exactly meaning w w' loses (e ∷ es) (e' ∷ es') runs frames h =
     (fails_where meaning w w' e e' (loses e) (runs e) (frames e) h.0, fall_exactly meaning w w' loses es es' runs frames h.1)
 
 -- the sessions that lose a block fail, and the machine's with them
-pub loses_step : {D : Type 0} (meaning : D → Meaning) (old new : WorldView D) (m : Machine) (event : Event) (drive : ℕ) → IsWorld old → LosesBlocks meaning old drive new
+pub loses_step : {D : Type 0} (meaning : D → Meaning) (old new : WorldView D) (m : Machine) (event : Event) (drive : ℕ) → IsWorld old → LosesIn meaning old drive new
     → MayRefuse m event DeviceFault → ((failing : List ℕ) → AreRunning m failing → MayFail m event (Refused DeviceFault) failing)
     → Matches meaning old m → StepsTo meaning m old event (Refused DeviceFault) new
 loses_step {D} meaning old new m event drive rules l may fail h =
@@ -169,41 +119,64 @@ loses_step {D} meaning old new m event drive rules l may fail h =
     (λ e is. running_is e.session.status (and_parts _ _ (and_parts _ _ is).1).0) frames l.fail)
     (may, refl) (fail (newly_failed old.sessions l.sessions) (failed_went_on meaning old m l.sessions rules.numbers h)) h)
 
--- the same for a cause that is a fault of the device
-pub device_fault : {D : Type 0} (meaning : D → Meaning) (old new : WorldView D) (m : Machine) (event : Event) (drive : ℕ) (why : Refusal) → IsWorld old → why ≡ DeviceFault → LosesBlocks meaning old drive new
-    → MayRefuse m event DeviceFault → ((failing : List ℕ) → AreRunning m failing → MayFail m event (Refused DeviceFault) failing)
-    → Matches meaning old m → StepsTo meaning m old event (Refused why) new
-device_fault meaning old new m event drive why rules is l may fail h =
-    subst (λ (x : Refusal). StepsTo meaning m old event (Refused x) new) (sym is) (loses_step meaning old new m event drive rules l may fail h)
+-- Every event of a drive.
 
--- Sync and unmount.
+-- no session may fail by it
+none_may_fail : (m : Machine) (event : Event) (own : ℕ) (reply : Reply) → IsOfDrive event own → MayFail m event reply []
+none_may_fail m (Sync drive) own (Refused DeviceFault) is = tt
+none_may_fail m (Mount drive name) own (Refused DeviceFault) is = tt
+none_may_fail m (Unmount drive) own (Refused DeviceFault) is = tt
+none_may_fail m (Seek drive) own (Refused DeviceFault) is = tt
+none_may_fail m (Sync drive) own reply is = refl
+none_may_fail m (Mount drive name) own reply is = refl
+none_may_fail m (Unmount drive) own reply is = refl
+none_may_fail m (Seek drive) own reply is = refl
+none_may_fail m (Take drive) own reply is = refl
+none_may_fail m (Place drive) own reply is = refl
+none_may_fail m (Label drive name pool media moment) own reply is = refl
+none_may_fail m (Adopt drive name) own reply is = refl
+none_may_fail m event own reply is = absurd is
 
-sync_refused : {D : Type 0} (meaning : D → Meaning) (old new : WorldView D) (drive : ℕ) (why : Refusal) (m : Machine) → IsWorld old
-    → MissingOr old drive why new ((why ≡ DeviceFault) × LosesBlocks meaning old drive new) → Matches meaning old m → StepsTo meaning m old (Sync drive) (Refused why) new
-sync_refused meaning old new drive why m rules (inl c) h = missing meaning old new m (Sync drive) drive why c.0 (λ r no. inl no) refl refl h c.1
-sync_refused meaning old new drive why m rules (inr c) h = device_fault meaning old new m (Sync drive) drive why rules c.0 c.1 (inr refl) (λ failing are. are) h
+-- or any that go on, where a sync failed
+sync_may_fail : (m : Machine) (event : Event) (own : ℕ) (failing : List ℕ) → IsOfSync event own → AreRunning m failing → MayFail m event (Refused DeviceFault) failing
+sync_may_fail m (Sync drive) own failing is are = are
+sync_may_fail m (Mount drive name) own failing is are = are
+sync_may_fail m (Unmount drive) own failing is are = are
+sync_may_fail m (Seek drive) own failing is are = are
+sync_may_fail m event own failing is are = absurd is
 
-pub sync_steps : {D : Type 0} (meaning : D → Meaning) (old new : WorldView D) (drive : ℕ) (reply : Reply) (m : Machine) → IsWorld old
-    → Moves meaning old (Sync drive) reply new → Matches meaning old m → StepsTo meaning m old (Sync drive) reply new
-sync_steps {D} meaning old new drive Synced m rules moves h =
-    drive_step meaning old new m (Sync drive) Synced drive moves.0 moves.1 moves.2 moves.3 old.desk moves.4 moves.5.1.keeps
-    (settles_synced moves.2 moves.3 (ap (λ (x : DriveIs D). x.journal) moves.5.0) (ap (λ (x : DriveIs D). x.hand) moves.5.0)) refl refl h moves.6
-sync_steps meaning old new drive (Refused why) m rules moves h = sync_refused meaning old new drive why m rules moves h
-sync_steps meaning old new drive reply m rules moves h = absurd moves
+-- what becomes of a journal and a hand settles what wasn't settled
+journal_settles : {D : Type 0} (d after : DriveIs D) → JournalGoes d after → Settles d after
+journal_settles d after (inl (hand, inl same)) = settles_same d after same hand
+journal_settles d after (inl (hand, inr synced)) = settles_synced d after synced hand
+journal_settles d after (inr (piece, p, in_hand, own, journal, none)) = settles_placed d after piece p in_hand own journal none
 
-pub unmounts_settles : {D : Type 0} (d after : DriveIs D) → Unmounts d after → Settles d after
-unmounts_settles {D} d after c = settles_synced d after (ap (λ (x : DriveIs D). x.journal) c) (ap (λ (x : DriveIs D). x.hand) c)
+at_station : {D : Type 0} (meaning : D → Meaning) (old new : WorldView D) (drive : ℕ) (event : Event) (reply : Reply) (m : Machine) → IsWorld old
+    → (a : AtDrive meaning old drive event reply new) → StationShape meaning drive event reply (station a) a.outcome
+    → Turns m event reply m → MayFail m event reply [] → Matches meaning old m → StepsTo meaning m old event reply new
+at_station meaning old new drive event reply m rules a (place.rests is) turns fail h = stays meaning old new m event reply turns fail h (stays_all a is)
+at_station meaning old new drive event reply m rules a (place.takes ticket seq t) turns fail h =
+    take_step meaning old new m event reply drive ticket seq (takes_in a ticket seq t) turns fail h
+at_station meaning old new drive event reply m rules a (place.goes g) turns fail h =
+    drive_step meaning old new m event reply drive a.at a.bay a.d a.outcome.drive a.outcome.desk a.online g.keeps (journal_settles a.d a.outcome.drive g.journal) turns fail h (calls_knowing a g.is)
+at_station meaning old new drive event reply m rules a (place.gets g) turns fail h =
+    drive_step meaning old new m event reply drive a.at a.bay a.d a.outcome.drive a.outcome.desk a.online g.keeps (journal_settles a.d a.outcome.drive g.journal) turns fail h (calls_knowing a g.is)
+at_station meaning old new drive event reply m rules a (place.loses of_sync fault l) turns fail h =
+    let may = subst (λ r. Turns m event r m) fault turns in
+    subst (λ r. StepsTo meaning m old event r new) (sym fault)
+    (loses_step meaning old new m event drive rules (loses_in a l) may.0 (λ failing are. sync_may_fail m event drive failing of_sync are) h)
+at_station meaning old new drive event reply m rules a (place.knows claims is) turns fail h =
+    desk_step meaning old new m event reply a.outcome.desk turns fail h (stays_knowing a is)
 
-unmount_refused : {D : Type 0} (meaning : D → Meaning) (old new : WorldView D) (drive : ℕ) (why : Refusal) (m : Machine) → IsWorld old
-    → MissingOr old drive why new ((why ≡ DeviceFault) × LosesBlocks meaning old drive new) → Matches meaning old m → StepsTo meaning m old (Unmount drive) (Refused why) new
-unmount_refused meaning old new drive why m rules (inl c) h = missing meaning old new m (Unmount drive) drive why c.0 (λ r no. inl no) refl refl h c.1
-unmount_refused meaning old new drive why m rules (inr c) h = device_fault meaning old new m (Unmount drive) drive why rules c.0 c.1 (inr refl) (λ failing are. are) h
-
-pub unmount_steps : {D : Type 0} (meaning : D → Meaning) (old new : WorldView D) (drive : ℕ) (reply : Reply) (m : Machine) → IsWorld old
-    → Moves meaning old (Unmount drive) reply new → Matches meaning old m → StepsTo meaning m old (Unmount drive) reply new
-unmount_steps meaning old new drive Unmounted m rules moves h = call_step meaning old new m (Unmount drive) Unmounted drive Unmounts moves unmounts_settles refl refl h
-unmount_steps meaning old new drive (Refused why) m rules moves h = unmount_refused meaning old new drive why m rules moves h
-unmount_steps meaning old new drive reply m rules moves h = absurd moves
+pub drive_steps : {D : Type 0} (meaning : D → Meaning) (old new : WorldView D) (drive : ℕ) (event : Event) (reply : Reply) (m : Machine) → IsWorld old → IsOfDrive event drive
+    → MovesDrive meaning old drive event reply new → Matches meaning old m → StepsTo meaning m old event reply new
+drive_steps meaning old new drive event reply m rules own (inl none) h =
+    subst (λ r. StepsTo meaning m old event r new) (sym none.1)
+    (missing meaning old new m event drive none.0 none.2 (λ r no. may_miss m event drive r own no)
+    (none_may_fail m event drive (Refused NoSuchDrive) own) (none_may_fail m event drive (Refused DriveOffline) own) h none.3)
+drive_steps meaning old new drive event reply m rules own (inr a) h =
+    at_station meaning old new drive event reply m rules a (station_shape meaning drive event reply (station a) a.outcome own a.moves)
+    (drive_turns meaning m drive event reply (station a) a.outcome a.moves) (none_may_fail m event drive reply own) h
 
 -- Retire.
 
@@ -239,6 +212,6 @@ retire_steps {D} meaning old new drive Retired m rules moves h =
     let w' = with_bay moves.at gone old in
     steps meaning old new m m (Retire drive) Retired (ap (λ w. newly_failed old.sessions w.sessions) moves.new_is ∙ none_fall_stay old.sessions) refl refl
     (subst (λ w. Matches meaning w m) (sym moves.new_is) (all_same meaning old w' m refl refl refl (retired_frame meaning old moves.at gone refl) h))
-retire_steps meaning old new drive (Refused why) m rules (inl c) h = missing meaning old new m (Retire drive) drive why c.0 (λ r no. inl no) refl refl h c.1
-retire_steps meaning old new drive (Refused why) m rules (inr c) h = stays meaning old new m (Retire drive) (Refused why) (inr c.1, refl) refl h c.2
+retire_steps meaning old new drive (Refused why) m rules (same, inl none) h = missing meaning old new m (Retire drive) drive why none (λ r no. inl no) refl refl h same
+retire_steps meaning old new drive (Refused why) m rules (same, inr used) h = stays meaning old new m (Retire drive) (Refused why) (inr used.0, refl) refl h same
 retire_steps meaning old new drive reply m rules moves h = absurd moves

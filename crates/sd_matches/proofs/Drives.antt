@@ -20,8 +20,8 @@ use Rattle.sd_machine.specs.Step.{Turns, MayFail}
 use Rattle.sd_machine.specs.declared.event.Event.{Event}
 use Rattle.sd_machine.specs.declared.reply.Reply.{Reply}
 use Rattle.sd_span.specs.declared.placement.Placement.{Placement}
-use Rattle.sd_moves.specs.Operators.{with_desk}
 use Rattle.sd_moves.specs.World.{WorldView, WorldSession, BayView, IsOnline}
+use Rattle.sd_moves.proofs.Framed.{with_desk}
 use Rattle.sd_matches.specs.Matches.{Matches, IsOnTheWay, IsUnsynced, body_of_piece, bodies_with, queued_bodies}
 use Rattle.sd_matches.specs.Steps.{StepsTo, newly_failed}
 use Rattle.sd_matches.proofs.Bodies.{given_kept}

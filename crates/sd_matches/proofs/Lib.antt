@@ -3,13 +3,13 @@ pub mod Changes
 pub mod Close
 pub mod Despool
 pub mod DriveSteps
+pub mod DriveTurns
 pub mod Drives
 pub mod Failing
 pub mod Frames
 pub mod Honesty
 pub mod MovesSteps
 pub mod OpenSteps
-pub mod OperatorSteps
 pub mod Sent
 pub mod SessionSteps
 pub mod Sessions

@@ -7,9 +7,8 @@ use Rattle.sd_matches.specs.Steps.{MovesAreSteps, ReadingKeepsMatches}
 use Rattle.sd_matches.proofs.Close.{close_steps}
 use Rattle.sd_matches.proofs.Despool.{despool_steps}
 use Rattle.sd_matches.proofs.Drives.{settles_same, drive_frame}
-use Rattle.sd_matches.proofs.DriveSteps.{take_steps, place_steps, sync_steps, unmount_steps, retire_steps}
+use Rattle.sd_matches.proofs.DriveSteps.{drive_steps, retire_steps}
 use Rattle.sd_matches.proofs.OpenSteps.{open_steps}
-use Rattle.sd_matches.proofs.OperatorSteps.{label_steps, adopt_steps, mount_steps, seek_steps}
 use Rattle.sd_matches.proofs.SessionSteps.{append_steps, end_steps, cancel_steps, media_steps, spool_steps}
 use Rattle.sd_matches.proofs.Sessions.{all_same}
 
@@ -21,14 +20,14 @@ moves_steps meaning old new (Close ticket) reply m rules moves h = close_steps m
 moves_steps meaning old new (Cancel ticket) reply m rules moves h = cancel_steps meaning old new ticket reply m rules moves h
 moves_steps meaning old new (Spool ticket) reply m rules moves h = spool_steps meaning old new ticket reply m rules moves h
 moves_steps meaning old new (Despool ticket) reply m rules moves h = despool_steps meaning old new ticket reply m rules moves h
-moves_steps meaning old new (Take drive) reply m rules moves h = take_steps meaning old new drive reply m rules moves h
-moves_steps meaning old new (Place drive) reply m rules moves h = place_steps meaning old new drive reply m rules moves h
-moves_steps meaning old new (Sync drive) reply m rules moves h = sync_steps meaning old new drive reply m rules moves h
-moves_steps meaning old new (Label drive name pool media moment) reply m rules moves h = label_steps meaning old new drive name pool media moment reply m rules moves h
-moves_steps meaning old new (Adopt drive name) reply m rules moves h = adopt_steps meaning old new drive name reply m rules moves h
-moves_steps meaning old new (Mount drive name) reply m rules moves h = mount_steps meaning old new drive name reply m rules moves h
-moves_steps meaning old new (Unmount drive) reply m rules moves h = unmount_steps meaning old new drive reply m rules moves h
-moves_steps meaning old new (Seek drive) reply m rules moves h = seek_steps meaning old new drive reply m rules moves h
+moves_steps meaning old new (Take drive) reply m rules moves h = drive_steps meaning old new drive (Take drive) reply m rules refl moves h
+moves_steps meaning old new (Place drive) reply m rules moves h = drive_steps meaning old new drive (Place drive) reply m rules refl moves h
+moves_steps meaning old new (Sync drive) reply m rules moves h = drive_steps meaning old new drive (Sync drive) reply m rules refl moves h
+moves_steps meaning old new (Label drive name pool media moment) reply m rules moves h = drive_steps meaning old new drive (Label drive name pool media moment) reply m rules refl moves h
+moves_steps meaning old new (Adopt drive name) reply m rules moves h = drive_steps meaning old new drive (Adopt drive name) reply m rules refl moves h
+moves_steps meaning old new (Mount drive name) reply m rules moves h = drive_steps meaning old new drive (Mount drive name) reply m rules refl moves h
+moves_steps meaning old new (Unmount drive) reply m rules moves h = drive_steps meaning old new drive (Unmount drive) reply m rules refl moves h
+moves_steps meaning old new (Seek drive) reply m rules moves h = drive_steps meaning old new drive (Seek drive) reply m rules refl moves h
 moves_steps meaning old new (Retire drive) reply m rules moves h = retire_steps meaning old new drive reply m rules moves h
 moves_steps meaning old new (Media ticket) reply m rules moves h = media_steps meaning old new ticket reply m rules moves h
 

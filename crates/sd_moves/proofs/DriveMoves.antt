@@ -8,9 +8,10 @@ use Rattle.sd_driver.specs.Meaning.{Meaning}
 use Rattle.sd_journal.specs.Journal.{fails_with}
 use Rattle.sd_moves.specs.World.{WorldView, WorldSession, BayView, IsOnline, session_at}
 use Rattle.sd_moves.specs.Rules.{IsWorld}
-use Rattle.sd_moves.specs.Drives.{LosesBlocks, FailsWhere, is_running, loses_by}
-use Rattle.sd_moves.specs.Operators.{ClaimsName, with_desk}
+use Rattle.sd_moves.specs.Drives.{FailsWhere, is_running, loses_by}
+use Rattle.sd_moves.specs.Operators.{ClaimsName}
 use Rattle.sd_moves.proofs.DriveSteps.{DriveGoesOn, DriveAdds, DriveLoses, fails_to_sync}
+use Rattle.sd_moves.proofs.Framed.{LosesIn, with_desk}
 use Rattle.sd_moves.proofs.Pairs.{FallsWhere, fail_pairs, numbers_fail}
 use Rattle.sd_moves.proofs.Views.{runs, failed_over, fails as session_fails}
 use Rattle.sd_moves.proofs.Worlds.{whole_same, pair_map, GoesOnBy, drive_world, calm_world, claimed_on}
@@ -68,7 +69,7 @@ falls drive at name d after x y false number loses is becomes =
           loses.fails x.session.key ∙ ap₂ (λ p q. p || q) none none_with,
     )
 
-pub loses_blocks : {D : Type 0} (meaning : D → Meaning) (w w' : WorldView D) (drive : ℕ) → IsWorld w → LosesBlocks meaning w drive w' → IsWorld w'
+pub loses_blocks : {D : Type 0} (meaning : D → Meaning) (w w' : WorldView D) (drive : ℕ) → IsWorld w → LosesIn meaning w drive w' → IsWorld w'
 loses_blocks meaning w w' drive h l =
     let loses = fails_to_sync l.d l.after l.fails in
     let there = l.online.there in

@@ -17,12 +17,12 @@ use Rattle.sd_session.specs.Sending.{DespoolRefused}
 use Rattle.sd_session.specs.declared.status.Status.TheVariants.{Failed}
 use Rattle.sd_moves.specs.World.{WorldView, WorldSession, BayView, session_at, with_session}
 use Rattle.sd_moves.specs.Sessions.{RefusedWith}
-use Rattle.sd_moves.specs.Drives.{LosesBlocks, FailsWhere, is_running, loses_by}
-use Rattle.sd_moves.specs.Operators.{MountFails}
+use Rattle.sd_moves.specs.Drives.{IsOfDrive, MovesDrive, FailsWhere, is_running, loses_by}
 use Rattle.sd_moves.specs.Fails.{IsOfSpool, IsOfSync, SpoolFailed, SyncFailed, FailByCause}
 use Rattle.sd_moves.specs.Moves.{Moves}
 use Rattle.sd_moves.specs.Rules.{IsWorld}
 use Rattle.sd_moves.proofs.DriveSteps.{fails_to_sync}
+use Rattle.sd_moves.proofs.Framed.{LosesIn, station, stays_sessions, loses_in}
 use Rattle.sd_moves.proofs.Lookups.{session_id, session_at-same, session_at-front, get_set-same}
 use Rattle.sd_moves.proofs.Moves.{moves_keep_rules}
 use Rattle.sd_moves.proofs.OpenSteps.{LosesStore, taken_from}
@@ -30,6 +30,7 @@ use Rattle.sd_moves.proofs.Pairs.{WithOne, FallsWhere, pair_after, with_pairs, f
 use Rattle.sd_moves.proofs.QueueSteps.{sends_one}
 use Rattle.sd_moves.proofs.Shapes as shape
 use Rattle.sd_moves.proofs.Shapes.{Shape, shape_of}
+use Rattle.sd_moves.proofs.StationShapes.{station_shape, who_loses}
 use Rattle.sd_moves.proofs.Views.{failed_not_running, running_is}
 
 -- the session went on, and its own spool failed or it lost a block by a sync
@@ -95,7 +96,7 @@ module _ {D : Type 0} (meaning : D → Meaning) (w w' : WorldView D) (event : Ev
       ])
 
   -- a session loses a block by a sync
-  loses_caused : (drive : ℕ) → IsOfSync event drive → reply ≡ Refused DeviceFault → (l : LosesBlocks meaning w drive w') → (x y : WorldSession)
+  loses_caused : (drive : ℕ) → IsOfSync event drive → reply ≡ Refused DeviceFault → (l : LosesIn meaning w drive w') → (x y : WorldSession)
       → (b : Bool) → loses_by drive l.fails.volume.name l.d.journal x ≡ b → FailsWhere b x y → IsCaused w event reply w' x y.session
   loses_caused drive of_sync fault l x y true loses falls = λ failed.
       let name = l.fails.volume.name in
@@ -219,7 +220,7 @@ module _ {D : Type 0} (w w' : WorldView D) (ticket : ℕ) (e e' : WorldSession)
   fails_where true other (s, inr over, is) = absurd (over.0 runs)
   fails_where false other is = absurd (other is)
 
-  loses_fails : (meaning : D → Meaning) (drive : ℕ) → (e' ≡ e → ⊥) → LosesBlocks meaning w drive w' → e'.session.status ≡ Failed
+  loses_fails : (meaning : D → Meaning) (drive : ℕ) → (e' ≡ e → ⊥) → LosesIn meaning w drive w' → e'.session.status ≡ Failed
   loses_fails meaning drive other l =
       let chooses = loses_by drive l.fails.volume.name l.d.journal in
       let p = pair_after (FallsWhere chooses) (session_at ticket w.sessions) (session_at ticket l.sessions) e (fail_pairs chooses w.sessions l.sessions l.fail ticket) at in
@@ -230,21 +231,19 @@ module _ {D : Type 0} (w w' : WorldView D) (ticket : ℕ) (e e' : WorldSession)
   stays_fails : w'.sessions ≡ w.sessions → (e' ≡ e → ⊥) → e'.session.status ≡ Failed
   stays_fails same other = absurd (other (cc (sym at' ∙ ap (session_at ticket) same ∙ at)))
 
-  mount_causes : (meaning : D → Meaning) (drive : ℕ) (name : List ℕ) (why : Refusal) → (e' ≡ e → ⊥) → MountFails meaning w drive name why w' → e'.session.status ≡ Failed
-  mount_causes meaning drive name why other (inl m) = loses_fails meaning drive other m.2
-  mount_causes meaning drive name why other (inr m) = stays_fails (ap (λ (v : WorldView D). v.sessions) m.new_is) other
+  drive_causes : (meaning : D → Meaning) (event : Event) (drive : ℕ) → IsOfDrive event drive → (e' ≡ e → ⊥) → MovesDrive meaning w drive event (Refused DeviceFault) w' → e'.session.status ≡ Failed
+  drive_causes meaning event drive own other (inl m) = stays_fails (ap (λ (v : WorldView D). v.sessions) m.3) other
+  drive_causes meaning event drive own other (inr a) =
+      elim (who_loses (station_shape meaning drive event (Refused DeviceFault) (station a) a.outcome own a.moves)) [
+        | inl none ↦ stays_fails (stays_sessions a none.lost) other
+        | inr l ↦ loses_fails meaning drive other (loses_in a l.1)
+      ]
 
   sync_causes : (meaning : D → Meaning) (event : Event) (own : ℕ) → IsOfSync event own → (e' ≡ e → ⊥) → Moves meaning w event (Refused DeviceFault) w' → e'.session.status ≡ Failed
-  sync_causes meaning (Sync drive) own is other (inl m) = stays_fails (ap (λ (v : WorldView D). v.sessions) m.1) other
-  sync_causes meaning (Sync drive) own is other (inr m) = loses_fails meaning drive other m.1
-  sync_causes meaning (Unmount drive) own is other (inl m) = stays_fails (ap (λ (v : WorldView D). v.sessions) m.1) other
-  sync_causes meaning (Unmount drive) own is other (inr m) = loses_fails meaning drive other m.1
-  sync_causes meaning (Mount drive name) own is other (inl m) = stays_fails (ap (λ (v : WorldView D). v.sessions) m.1) other
-  sync_causes meaning (Mount drive name) own is other (inr (inl m)) = stays_fails (ap (λ (v : WorldView D). v.sessions) m.1) other
-  sync_causes meaning (Mount drive name) own is other (inr (inr m)) = mount_causes meaning drive name DeviceFault other m
-  sync_causes meaning (Seek drive) own is other (inl m) = stays_fails (ap (λ (v : WorldView D). v.sessions) m.1) other
-  sync_causes meaning (Seek drive) own is other (inr (inl m)) = stays_fails (ap (λ (v : WorldView D). v.sessions) m.3.2) other
-  sync_causes meaning (Seek drive) own is other (inr (inr m)) = mount_causes meaning drive m.0 DeviceFault other m.2
+  sync_causes meaning (Sync drive) own is other m = drive_causes meaning (Sync drive) drive refl other m
+  sync_causes meaning (Unmount drive) own is other m = drive_causes meaning (Unmount drive) drive refl other m
+  sync_causes meaning (Mount drive name) own is other m = drive_causes meaning (Mount drive name) drive refl other m
+  sync_causes meaning (Seek drive) own is other m = drive_causes meaning (Seek drive) drive refl other m
   sync_causes meaning event own is other m = absurd is
 
 -- Both ways.

@@ -12,10 +12,11 @@ use Rattle.sd_spool.specs.Job.{StoreState}
 use Rattle.sd_spool.specs.Meaning.{Meaning as StoreMeaning}
 use Rattle.sd_moves.specs.World.{WorldView, WorldSession, BayView, LaneView, IsOnline, session_at, with_session}
 use Rattle.sd_moves.specs.Sessions.{TakesStore, FailsToEmpty, OpensSession, OpensNot}
-use Rattle.sd_moves.specs.Drives.{LosesBlocks, FailsWhere, loses_by}
+use Rattle.sd_moves.specs.Drives.{FailsWhere, loses_by}
 use Rattle.sd_moves.specs.Honest.{StoreIsTrue, AreHonest}
 use Rattle.sd_moves.specs.Moves.{Moves}
 use Rattle.sd_moves.specs.Rules.{IsWorld}
+use Rattle.sd_moves.proofs.Framed.{LosesIn}
 use Rattle.sd_moves.proofs.Lookups.{session_id, session_at-push, get_set-tells}
 use Rattle.sd_moves.proofs.OpenSteps.{LosesStore, taken_from}
 use Rattle.sd_moves.proofs.Pairs.{PairAt, WithOne, FallsWhere, pair_before, with_pairs, fail_pairs}
@@ -163,7 +164,7 @@ opens_not {D} meaning w w' pool media why rules o h =
     ])
     (sessions_of w' _ o.leaves.new_is (pairs_true (LosesStore (o.at + 1) (o.place + 1)) w.sessions o.leaves.sessions taken.pairs (λ x y q. q.honest) h.sessions))
 
-loses_blocks : {D : Type 0} (meaning : D → Meaning) (w w' : WorldView D) (drive : ℕ) → LosesBlocks meaning w drive w' → AreHonest meaning w → AreHonest meaning w'
+loses_blocks : {D : Type 0} (meaning : D → Meaning) (w w' : WorldView D) (drive : ℕ) → LosesIn meaning w drive w' → AreHonest meaning w → AreHonest meaning w'
 loses_blocks {D} meaning w w' drive l h =
     let chooses = loses_by drive l.fails.volume.name l.d.journal in
     drive_changes meaning w w' h drive l.at l.bay (record l.bay { drive = Some l.after }) l.d l.after l.online (ap (λ (x : WorldView D). x.bays) l.new_is) refl refl

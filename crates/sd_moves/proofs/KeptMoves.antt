@@ -13,12 +13,12 @@ use Rattle.sd_span.specs.declared.span.Span.{Span}
 use Rattle.sd_machine.proofs.Lookups.{not_closed}
 use Rattle.sd_moves.specs.World.{WorldView, WorldSession, BayView, IsOnline, session_at, with_session}
 use Rattle.sd_moves.specs.Sessions.{DespoolsSession, OpensSession, OpensNot, ClosesAt}
-use Rattle.sd_moves.specs.Drives.{LosesBlocks, TakesPiece, loses_by}
-use Rattle.sd_moves.specs.Operators.{RetiresDrive}
+use Rattle.sd_moves.specs.Drives.{RetiresDrive, loses_by}
 use Rattle.sd_moves.specs.Rules.{IsWorld}
 use Rattle.sd_moves.specs.Kept.{KeepsClosed}
 use Rattle.sd_moves.proofs.DriveMoves.{falls}
 use Rattle.sd_moves.proofs.DriveSteps.{fails_to_sync}
+use Rattle.sd_moves.proofs.Framed.{TakesIn, LosesIn}
 use Rattle.sd_moves.proofs.Kept.{ClosedStay, ClosedAreThere, closed_stay, all_there, pairs_there, one_there, all_placed_there, bay_there, drive_there, journal_there}
 use Rattle.sd_moves.proofs.Lookups.{session_id, session_at-same, session_at-front}
 use Rattle.sd_moves.proofs.OpenSteps.{LosesStore, taken_from}
@@ -108,7 +108,7 @@ closes {D} w w' ticket key spans c =
 
 -- Drives and operators.
 
-pub takes_piece : {D : Type 0} (w w' : WorldView D) (drive ticket seq : ℕ) → TakesPiece w drive ticket seq w' → ClosedStay w w'
+pub takes_piece : {D : Type 0} (w w' : WorldView D) (drive ticket seq : ℕ) → TakesIn w drive ticket seq w' → ClosedStay w w'
 takes_piece {D} w w' drive ticket seq t =
     let after : DriveIs D = record t.d { hand = Some t.piece } in
     let bay' : BayView D = record t.bay { drive = Some after; queue = record t.bay.queue { held = t.rest } } in
@@ -122,7 +122,7 @@ pub calls : {D : Type 0} (w v : WorldView D) (drive at : ℕ) (bay : BayView D) 
 calls w v drive at bay d after h online goes there bays =
     closed_stay w v there (drive_there w v at bay d after h online.there online.online goes bays)
 
-pub loses_blocks : {D : Type 0} (meaning : D → Meaning) (w w' : WorldView D) (drive : ℕ) → IsWorld w → LosesBlocks meaning w drive w' → ClosedStay w w'
+pub loses_blocks : {D : Type 0} (meaning : D → Meaning) (w w' : WorldView D) (drive : ℕ) → IsWorld w → LosesIn meaning w drive w' → ClosedStay w w'
 loses_blocks {D} meaning w w' drive h l =
     let loses = fails_to_sync l.d l.after l.fails in
     let name = l.fails.volume.name in

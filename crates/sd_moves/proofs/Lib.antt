@@ -2,6 +2,7 @@ pub mod Bays
 pub mod DriveMoves
 pub mod DriveSteps
 pub mod FailSteps
+pub mod Framed
 pub mod HonestSteps
 pub mod Items
 pub mod Kept
@@ -16,5 +17,6 @@ pub mod Pairs
 pub mod QueueSteps
 pub mod Seats
 pub mod Shapes
+pub mod StationShapes
 pub mod Views
 pub mod Worlds

@@ -1,6 +1,7 @@
 -- Want of memory changes no session, and is not the answer of an event that takes none.
 use Rattle.std.proofs.Common.{◌≡◌, ℕ, refl, sym, ap, subst, ◌∙◌, inl, inr, Option, Some, None, List}
 use Rattle.sd_base.specs.declared.number.SessionKey.{SessionKey}
+use Rattle.sd_base.specs.declared.refusal.Refusal.{Refusal}
 use Rattle.sd_base.specs.declared.refusal.Refusal.TheVariants.{Memory}
 use Rattle.sd_driver.specs.Meaning.{Meaning}
 use Rattle.sd_machine.specs.declared.event.Event.{Event}
@@ -107,6 +108,9 @@ missing_not : {D : Type 0} (w : WorldView D) (drive : ℕ) → DriveMissing w dr
 missing_not w drive (at, number, inl p) = cc p.1
 missing_not w drive (at, number, inr p) = cc p.3
 
+refused_is : {why : Refusal} → Refused Memory ≡ Refused why → why ≡ Memory
+refused_is is = cc is
+
 status_not : (status : Status) → Memory ≡ status_refusal status → ⊥
 status_not Active is = cc is
 status_not Ended is = cc is
@@ -119,13 +123,14 @@ never meaning w w' (Cancel ticket) h m = elim m.0 [
   | inl p ↦ cc p.1
   | inr p ↦ status_not p.0.session.status p.2.1
 ]
-never meaning w w' (Take drive) h m = missing_not w drive m.0
-never meaning w w' (Sync drive) h (inl m) = missing_not w drive m.0
-never meaning w w' (Sync drive) h (inr m) = cc m.0
-never meaning w w' (Unmount drive) h (inl m) = missing_not w drive m.0
-never meaning w w' (Unmount drive) h (inr m) = cc m.0
-never meaning w w' (Retire drive) h (inl m) = missing_not w drive m.0
-never meaning w w' (Retire drive) h (inr m) = cc m.1
+never meaning w w' (Take drive) h (inl m) = missing_not w drive (subst (DriveMissing w drive) (refused_is m.1) m.2)
+never meaning w w' (Take drive) h (inr a) = a.moves
+never meaning w w' (Sync drive) h (inl m) = missing_not w drive (subst (DriveMissing w drive) (refused_is m.1) m.2)
+never meaning w w' (Sync drive) h (inr a) = cc a.moves.0
+never meaning w w' (Unmount drive) h (inl m) = missing_not w drive (subst (DriveMissing w drive) (refused_is m.1) m.2)
+never meaning w w' (Unmount drive) h (inr a) = cc a.moves.0
+never meaning w w' (Retire drive) h (m, inl missing) = missing_not w drive missing
+never meaning w w' (Retire drive) h (m, inr used) = cc used.0
 never meaning w w' event h m = absurd h
 
 pub no_memory : {D : Type 0} (meaning : D → Meaning) (w w' : WorldView D) (event : Event) (reply : Reply) → Moves meaning w event reply w' → WantsNone event reply

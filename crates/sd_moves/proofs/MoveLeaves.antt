@@ -13,7 +13,8 @@ use Rattle.sd_moves.proofs.DriveMoves.{ClaimsStay, name_claimed}
 use Rattle.sd_moves.proofs.DriveSteps.{fails_to_sync}
 use Rattle.sd_moves.proofs.Seats.{JournalGrows}
 use Rattle.sd_moves.proofs.Shapes as shape
-use Rattle.sd_moves.proofs.Shapes.{DeviceStays, Shape, shape_of, called}
+use Rattle.sd_moves.proofs.Shapes.{Shape, shape_of}
+use Rattle.sd_moves.proofs.StationShapes.{DeviceStays, called}
 
 -- the drive's journal grows, and its device goes on
 pub record Continues {D : Type 0} (meaning : D → Meaning) (d after : DriveIs D) : Type 0 where

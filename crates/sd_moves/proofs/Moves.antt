@@ -2,7 +2,7 @@
 use Rattle.std.proofs.Common.{◌≡◌, ℕ, refl, sym, subst, Some, List}
 use Rattle.sd_driver.specs.Meaning.{Meaning}
 use Rattle.sd_machine.specs.declared.event.Event.{Event}
-use Rattle.sd_machine.specs.declared.event.Event.TheVariants.{Close}
+use Rattle.sd_machine.specs.declared.event.Event.TheVariants.{Close, Take, Place, Sync, Label, Adopt, Mount, Unmount, Seek}
 use Rattle.sd_machine.specs.declared.reply.Reply.{Reply}
 use Rattle.sd_machine.specs.declared.reply.Reply.TheVariants.{Closed}
 use Rattle.sd_session.specs.Session.{SessionView}
@@ -13,11 +13,11 @@ use Rattle.sd_moves.specs.Rules.{IsWorld}
 use Rattle.sd_desk.specs.Desk.{DeskView}
 use Rattle.sd_drive.specs.View.{DriveIs}
 use Rattle.sd_moves.specs.World.{WorldView, WorldSession, BayView, IsOnline, session_at, with_session}
-use Rattle.sd_moves.specs.Drives.{LosesBlocks}
-use Rattle.sd_moves.specs.Operators.{ClaimsName, with_desk}
+use Rattle.sd_moves.specs.Operators.{ClaimsName}
 use Rattle.sd_moves.specs.Kept.{ClosedStands, KeepsClosed}
 use Rattle.sd_moves.proofs.DriveMoves as rule
 use Rattle.sd_moves.proofs.DriveSteps.{DriveGoesOn, DriveAdds}
+use Rattle.sd_moves.proofs.Framed.{LosesIn, with_desk, none_there}
 use Rattle.sd_moves.proofs.Kept.{ClosedStay, closed_stay, all_there, all_placed_there}
 use Rattle.sd_moves.proofs.KeptMoves as kept
 use Rattle.sd_moves.proofs.OpenSteps.{opens, opens_not}
@@ -73,7 +73,7 @@ gets_volume w w' drive at bay d after desk name h online more claims same =
       closed = kept.calls w (with_desk at bay after desk w) drive at bay d after h online more.stays (all_there w.sessions) refl;
     })
 
-loses_blocks : {D : Type 0} (meaning : D → Meaning) (w w' : WorldView D) (drive : ℕ) → IsWorld w → LosesBlocks meaning w drive w' → Keeps w w'
+loses_blocks : {D : Type 0} (meaning : D → Meaning) (w w' : WorldView D) (drive : ℕ) → IsWorld w → LosesIn meaning w drive w' → Keeps w w'
 loses_blocks meaning w w' drive h m = record { world = rule.loses_blocks meaning w w' drive h m; closed = kept.loses_blocks meaning w w' drive h m }
 
 -- only the desk changes, and its claims stay
@@ -110,6 +110,14 @@ keeps meaning w w' event reply h m = shape_keeps meaning w w' event reply h (sha
 -- what a reply closed is closed
 stands_by : {D : Type 0} (meaning : D → Meaning) (w w' : WorldView D) (event : Event) (reply : Reply) → Moves meaning w event reply w' → ClosedStands w' reply
 stands_by meaning w w' (Close ticket) (Closed key spans) m = (kept.closes w w' ticket key spans m).stands
+stands_by meaning w w' (Take drive) (Closed key spans) m = absurd (none_there m tt)
+stands_by meaning w w' (Place drive) (Closed key spans) m = absurd (none_there m tt)
+stands_by meaning w w' (Sync drive) (Closed key spans) m = absurd (none_there m tt)
+stands_by meaning w w' (Label drive name pool media moment) (Closed key spans) m = absurd (none_there m tt)
+stands_by meaning w w' (Adopt drive name) (Closed key spans) m = absurd (none_there m tt)
+stands_by meaning w w' (Mount drive name) (Closed key spans) m = absurd (none_there m tt)
+stands_by meaning w w' (Unmount drive) (Closed key spans) m = absurd (none_there m tt)
+stands_by meaning w w' (Seek drive) (Closed key spans) m = absurd (none_there m tt)
 stands_by meaning w w' event (Closed key spans) m = absurd m
 stands_by meaning w w' event reply m = tt
 

@@ -15,11 +15,11 @@ use Rattle.sd_machine.proofs.Lookups.{not_closed}
 use Rattle.sd_moves.specs.World.{WorldView, WorldSession, BayView, LaneView, IsOnline, session_at, with_session, with_bay, items_before, items_with}
 use Rattle.sd_moves.specs.Rules.{IsOfOpened, AreOfOpened, IsSeated, IsWorld}
 use Rattle.sd_moves.specs.Sessions.{SendsStep, ClosesAt}
-use Rattle.sd_moves.specs.Drives.{TakesPiece}
-use Rattle.sd_moves.specs.Operators.{RetiresDrive}
+use Rattle.sd_moves.specs.Drives.{RetiresDrive}
 use Rattle.sd_moves.specs.Honest.{StoreIsTrue}
 use Rattle.sd_spool.specs.Job.{StoreState}
 use Rattle.std.specs.Prelude.{IsTrue}
+use Rattle.sd_moves.proofs.Framed.{TakesIn}
 use Rattle.sd_moves.proofs.Lookups.{one_or_two, session_id, set_same}
 use Rattle.sd_moves.proofs.Items.{is_key_same, is_key_other, items_with-own, items_with-other, items_before-take, items_before-send, of_opened-push, placed_most}
 use Rattle.sd_moves.proofs.LaneSteps.{Lodges, lodge_of, lanes_lodge, running_busy}
@@ -30,7 +30,7 @@ use Rattle.sd_moves.proofs.Worlds.{world_with}
 
 -- Taking.
 
-pub takes_piece : {D : Type 0} (w w' : WorldView D) (drive ticket seq : ℕ) → IsWorld w → TakesPiece w drive ticket seq w' → IsWorld w'
+pub takes_piece : {D : Type 0} (w w' : WorldView D) (drive ticket seq : ℕ) → IsWorld w → TakesIn w drive ticket seq w' → IsWorld w'
 takes_piece {D} w w' drive ticket seq h t =
     let after : DriveIs D = record t.d { hand = Some t.piece } in
     let queue : LanesView = record t.bay.queue { held = t.rest } in

@@ -1,3 +1,4 @@
+pub mod DriveMoves
 pub mod Drives
 pub mod Fails
 pub mod Honest
@@ -7,4 +8,5 @@ pub mod Moves
 pub mod Operators
 pub mod Rules
 pub mod Sessions
+pub mod Stations
 pub mod World

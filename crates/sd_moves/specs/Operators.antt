@@ -1,5 +1,5 @@
--- What an event of the operator, or of a drive that seeks a volume, does to a world.
-use Rattle.std.specs.Prelude.{◌≡◌, ◌≢◌, ◌⊎◌, ℕ, ℤ, ◌==◌, not, filter, Some, None, IsSome, List, [], ◌∷◌, ◌++◌, Ok, slice_set}
+-- What an event of the operator, or of a drive that seeks a volume, does where the drive is.
+use Rattle.std.specs.Prelude.{◌≡◌, ◌≢◌, ◌⊎◌, ℕ, ℤ, ◌==◌, not, filter, Some, None, IsSome, List, [], ◌∷◌, ◌++◌, Ok}
 use Rattle.sd_base.specs.Choice.{FirstOf, NoneOf}
 use Rattle.sd_base.specs.declared.refusal.Refusal.{Refusal}
 use Rattle.sd_base.specs.declared.refusal.Refusal.TheVariants.{OtherPoolOrMedia, InUse, AlreadyLabelled, VolumeNotOnShelf, NoRoom, DeviceFault, Memory}
@@ -17,8 +17,7 @@ use Rattle.sd_volume.specs.Fault.{label_refusal, adopt_refusal}
 use Rattle.sd_volume.specs.Label.{Labels, new_volume}
 use Rattle.sd_volume.specs.declared.fault.AdoptFault.{AdoptFault}
 use Rattle.sd_volume.specs.declared.fault.LabelFault.{LabelFault}
-use Rattle.sd_moves.specs.World.{WorldView, BayView, IsOnline, with_bay, busy_lanes}
-use Rattle.sd_moves.specs.Drives.{OnDrive, Calls, LosesBlocks}
+use Rattle.sd_moves.specs.Stations.{Station, Outcome, stays, Calls, CallsDrive, LosesBlocks}
 
 -- The desk.
 
@@ -45,65 +44,47 @@ pub record AsksOnce (request : Request) (old new : DeskView) : Type 0 where
   pub first : HasNotAsked request.drive old.requests → new.requests ≡ old.requests ++ request ∷ []
   pub again : (HasNotAsked request.drive old.requests → ⊥) → new.requests ≡ old.requests
 
--- the drive in a bay is another, and the desk
-abbrev pub with_desk : {D : Type 0} → ℕ → BayView D → DriveIs D → DeskView → WorldView D → WorldView D
-with_desk at bay d desk w = record w { bays = slice_set w.bays at (record bay { drive = Some d }); desk = desk }
-
 -- only the desk is another, which knows what it knew
-abbrev pub StaysKnowing : {D : Type 0} → WorldView D → WorldView D → Type 0
-StaysKnowing old new = (desk : DeskView) × SameDesk old.desk desk × (new ≡ record old { desk = desk })
+abbrev pub StaysKnowing : {D : Type 0} → Station D → Outcome D → Type 0
+StaysKnowing s o = SameDesk s.desk o.desk × (o ≡ record (stays s) { desk = o.desk })
 
 -- Labels.
 
 -- a new volume comes to the drive, and its name is claimed for it
-pub record LabelsVolume {D : Type 0} (meaning : D → Meaning) (old : WorldView D) (drive : ℕ)
-    (name pool media : List ℕ) (moment : ℤ) (new : WorldView D) : Type 0 where
-  pub at : ℕ
-  pub bay : BayView D
-  pub d : DriveIs D
-  pub after : DriveIs D
-  pub desk : DeskView
-  pub online : IsOnline old drive at bay d
-  pub media_is : media ≡ d.media
-  pub none_loaded : d.loaded ≡ None
-  pub claims : ClaimsName name drive old.desk desk
-  pub adds : AddsVolume (new_volume (label_of name pool media moment)) d after
-  pub calls : Calls meaning ⊥ ⊥ d after
-  pub labels : IsHonest (meaning d.device)
-      → Labels (label_of name pool media moment) (meaning d.device).shelf (meaning after.device).shelf
-  pub new_is : new ≡ with_desk at bay after desk old
+pub record LabelsVolume {D : Type 0} (meaning : D → Meaning) (own : ℕ) (name pool media : List ℕ) (moment : ℤ) (s : Station D) (o : Outcome D) : Type 0 where
+  pub media_is : media ≡ s.drive.media
+  pub none_loaded : s.drive.loaded ≡ None
+  pub claims : ClaimsName name own s.desk o.desk
+  pub adds : AddsVolume (new_volume (label_of name pool media moment)) s.drive o.drive
+  pub calls : Calls meaning ⊥ ⊥ s.drive o.drive
+  pub labels : IsHonest (meaning s.drive.device)
+      → Labels (label_of name pool media moment) (meaning s.drive.device).shelf (meaning o.drive.device).shelf
+  pub is : o ≡ record (stays s) { drive = o.drive; desk = o.desk }
 
 -- A new volume isn't labelled: by what the device answered, or for want of memory. The name is in no table.
-pub record LabelFails {D : Type 0} (meaning : D → Meaning) (old : WorldView D) (drive : ℕ)
-    (name media : List ℕ) (why : Refusal) (new : WorldView D) : Type 0 where
-  pub at : ℕ
-  pub bay : BayView D
-  pub d : DriveIs D
-  pub after : DriveIs D
-  pub desk : DeskView
-  pub online : IsOnline old drive at bay d
-  pub media_is : media ≡ d.media
-  pub none_loaded : d.loaded ≡ None
-  pub unclaimed : claimed_by old.desk name ≡ None
-  pub knows : SameDesk old.desk desk
+pub record LabelFails {D : Type 0} (meaning : D → Meaning) (name media : List ℕ) (why : Refusal) (s : Station D) (o : Outcome D) : Type 0 where
+  pub media_is : media ≡ s.drive.media
+  pub none_loaded : s.drive.loaded ≡ None
+  pub unclaimed : claimed_by s.desk name ≡ None
+  pub knows : SameDesk s.desk o.desk
   pub cause : LabelFault
   pub why_is : why ≡ label_refusal cause
-  pub adds_none : AddsNone d after
-  pub calls : Calls meaning (why ≡ DeviceFault) (why ≡ NoRoom) d after
-  pub on_shelf : IsHonest (meaning d.device) → why ≡ AlreadyLabelled → IsSome ((meaning d.device).shelf.volume name)
-  pub off_shelf : IsHonest (meaning d.device) → IsSome ((meaning d.device).shelf.volume name) → why ≢ NoRoom
-  pub may_create : IsHonest (meaning d.device) → MayCreate name (meaning d.device).shelf (meaning after.device).shelf
-  pub new_is : new ≡ with_desk at bay after desk old
+  pub adds_none : AddsNone s.drive o.drive
+  pub calls : Calls meaning (why ≡ DeviceFault) (why ≡ NoRoom) s.drive o.drive
+  pub on_shelf : IsHonest (meaning s.drive.device) → why ≡ AlreadyLabelled → IsSome ((meaning s.drive.device).shelf.volume name)
+  pub off_shelf : IsHonest (meaning s.drive.device) → IsSome ((meaning s.drive.device).shelf.volume name) → why ≢ NoRoom
+  pub may_create : IsHonest (meaning s.drive.device) → MayCreate name (meaning s.drive.device).shelf (meaning o.drive.device).shelf
+  pub is : o ≡ record (stays s) { drive = o.drive; desk = o.desk }
 
 -- Why no volume is labelled, in this order: another media; a volume is loaded; the name is claimed; then what the device
 -- answers, or want of memory.
-abbrev pub LabelRefused : {D : Type 0} → (D → Meaning) → WorldView D → ℕ → List ℕ → List ℕ → Refusal → WorldView D → Type 0
-LabelRefused meaning old drive name media why new =
-    (OnDrive old drive (λ d. (media ≢ d.media) × (why ≡ OtherPoolOrMedia)) × (new ≡ old))
-    ⊎ (OnDrive old drive (λ d. (media ≡ d.media) × (d.loaded ≢ None) × (why ≡ InUse)) × (new ≡ old))
-    ⊎ (OnDrive old drive (λ d. (media ≡ d.media) × (d.loaded ≡ None) × (claimed_by old.desk name ≢ None) × (why ≡ AlreadyLabelled)) × (new ≡ old))
-    ⊎ (OnDrive old drive (λ d. (media ≡ d.media) × (d.loaded ≡ None) × (claimed_by old.desk name ≡ None) × (why ≡ Memory)) × StaysKnowing old new)
-    ⊎ LabelFails meaning old drive name media why new
+abbrev pub LabelRefused : {D : Type 0} → (D → Meaning) → List ℕ → List ℕ → Refusal → Station D → Outcome D → Type 0
+LabelRefused meaning name media why s o =
+    ((media ≢ s.drive.media) × (why ≡ OtherPoolOrMedia) × (o ≡ stays s))
+    ⊎ ((media ≡ s.drive.media) × (s.drive.loaded ≢ None) × (why ≡ InUse) × (o ≡ stays s))
+    ⊎ ((media ≡ s.drive.media) × (s.drive.loaded ≡ None) × (claimed_by s.desk name ≢ None) × (why ≡ AlreadyLabelled) × (o ≡ stays s))
+    ⊎ ((media ≡ s.drive.media) × (s.drive.loaded ≡ None) × (claimed_by s.desk name ≡ None) × (why ≡ Memory) × StaysKnowing s o)
+    ⊎ LabelFails meaning name media why s o
 
 -- Adoptions.
 
@@ -116,94 +97,64 @@ pub record CallsAdopting {D : Type 0} (meaning : D → Meaning) (fault : Type 0)
   pub whole_blocks : IsHonest (meaning old.device) → KeepsWholeBlocks name (meaning old.device).shelf (meaning new.device).shelf
 
 -- a volume that an earlier run left comes to the drive, and its name is claimed for it
-pub record AdoptsAt {D : Type 0} (meaning : D → Meaning) (old : WorldView D) (drive : ℕ) (name : List ℕ)
-    (end next : ℕ) (new : WorldView D) : Type 0 where
-  pub at : ℕ
-  pub bay : BayView D
-  pub d : DriveIs D
-  pub after : DriveIs D
-  pub desk : DeskView
-  pub online : IsOnline old drive at bay d
-  pub none_loaded : d.loaded ≡ None
-  pub claims : ClaimsName name drive old.desk desk
-  pub adopts : AdoptsVolume name (record { end = end; next_number = next }) (meaning d.device) (meaning after.device) d after
-  pub calls : CallsAdopting meaning ⊥ name d after
-  pub new_is : new ≡ with_desk at bay after desk old
+pub record AdoptsAt {D : Type 0} (meaning : D → Meaning) (own : ℕ) (name : List ℕ) (end next : ℕ) (s : Station D) (o : Outcome D) : Type 0 where
+  pub none_loaded : s.drive.loaded ≡ None
+  pub claims : ClaimsName name own s.desk o.desk
+  pub adopts : AdoptsVolume name (record { end = end; next_number = next }) (meaning s.drive.device) (meaning o.drive.device) s.drive o.drive
+  pub calls : CallsAdopting meaning ⊥ name s.drive o.drive
+  pub is : o ≡ record (stays s) { drive = o.drive; desk = o.desk }
 
 -- A volume isn't adopted: by what the device answered, by what stands on it, or for want of memory. The name is in no table.
-pub record AdoptFails {D : Type 0} (meaning : D → Meaning) (old : WorldView D) (drive : ℕ) (name : List ℕ)
-    (why : Refusal) (new : WorldView D) : Type 0 where
-  pub at : ℕ
-  pub bay : BayView D
-  pub d : DriveIs D
-  pub after : DriveIs D
-  pub desk : DeskView
-  pub online : IsOnline old drive at bay d
-  pub none_loaded : d.loaded ≡ None
-  pub unclaimed : claimed_by old.desk name ≡ None
-  pub knows : SameDesk old.desk desk
+pub record AdoptFails {D : Type 0} (meaning : D → Meaning) (name : List ℕ) (why : Refusal) (s : Station D) (o : Outcome D) : Type 0 where
+  pub none_loaded : s.drive.loaded ≡ None
+  pub unclaimed : claimed_by s.desk name ≡ None
+  pub knows : SameDesk s.desk o.desk
   pub cause : AdoptFault
   pub why_is : why ≡ adopt_refusal cause
-  pub adds_none : AddsNone d after
-  pub calls : CallsAdopting meaning (why ≡ DeviceFault) name d after
-  pub due : IsHonest (meaning d.device) → why ≢ DeviceFault → why ≢ Memory
-      → (first : AdoptFault) × (why ≡ adopt_refusal first) × IsDue first name d.media d.limits.time (meaning d.device).shelf
-  pub same : IsHonest (meaning d.device) → why ≢ DeviceFault → SameShelf (meaning d.device).shelf (meaning after.device).shelf
-  pub lasts : why ≢ DeviceFault → StillLasts (meaning d.device).shelf (meaning after.device).shelf
-  pub new_is : new ≡ with_desk at bay after desk old
+  pub adds_none : AddsNone s.drive o.drive
+  pub calls : CallsAdopting meaning (why ≡ DeviceFault) name s.drive o.drive
+  pub due : IsHonest (meaning s.drive.device) → why ≢ DeviceFault → why ≢ Memory
+      → (first : AdoptFault) × (why ≡ adopt_refusal first) × IsDue first name s.drive.media s.drive.limits.time (meaning s.drive.device).shelf
+  pub same : IsHonest (meaning s.drive.device) → why ≢ DeviceFault → SameShelf (meaning s.drive.device).shelf (meaning o.drive.device).shelf
+  pub lasts : why ≢ DeviceFault → StillLasts (meaning s.drive.device).shelf (meaning o.drive.device).shelf
+  pub is : o ≡ record (stays s) { drive = o.drive; desk = o.desk }
 
 -- Why no volume is adopted, in this order: the name is claimed; a volume is loaded; then what stands on it and what the
 -- device answers, or want of memory.
-abbrev pub AdoptRefused : {D : Type 0} → (D → Meaning) → WorldView D → ℕ → List ℕ → Refusal → WorldView D → Type 0
-AdoptRefused meaning old drive name why new =
-    (OnDrive old drive (λ d. (claimed_by old.desk name ≢ None) × (why ≡ AlreadyLabelled)) × (new ≡ old))
-    ⊎ (OnDrive old drive (λ d. (claimed_by old.desk name ≡ None) × (d.loaded ≢ None) × (why ≡ InUse)) × (new ≡ old))
-    ⊎ (OnDrive old drive (λ d. (claimed_by old.desk name ≡ None) × (d.loaded ≡ None) × (why ≡ Memory)) × StaysKnowing old new)
-    ⊎ AdoptFails meaning old drive name why new
+abbrev pub AdoptRefused : {D : Type 0} → (D → Meaning) → List ℕ → Refusal → Station D → Outcome D → Type 0
+AdoptRefused meaning name why s o =
+    ((claimed_by s.desk name ≢ None) × (why ≡ AlreadyLabelled) × (o ≡ stays s))
+    ⊎ ((claimed_by s.desk name ≡ None) × (s.drive.loaded ≢ None) × (why ≡ InUse) × (o ≡ stays s))
+    ⊎ ((claimed_by s.desk name ≡ None) × (s.drive.loaded ≡ None) × (why ≡ Memory) × StaysKnowing s o)
+    ⊎ AdoptFails meaning name why s o
 
 -- Mounts.
 
 -- the drive's volume of a name is loaded, in place of the one that was, and the drive's request is taken away
-pub record MountsAt {D : Type 0} (meaning : D → Meaning) (old : WorldView D) (drive : ℕ) (name : List ℕ) (new : WorldView D) : Type 0 where
-  pub at : ℕ
-  pub bay : BayView D
-  pub d : DriveIs D
-  pub after : DriveIs D
-  pub desk : DeskView
+pub record MountsAt {D : Type 0} (meaning : D → Meaning) (own : ℕ) (name : List ℕ) (s : Station D) (o : Outcome D) : Type 0 where
   pub place : ℕ
-  pub online : IsOnline old drive at bay d
-  pub due : mount_due d name ≡ None
-  pub place_is : place_of d.volumes name ≡ Some place
-  pub mounts : Mounts {T = Unit {0}} place (Ok tt) d after
-  pub calls : Calls meaning ⊥ ⊥ d after
-  pub answers : AnswersDrive drive old.desk desk
-  pub new_is : new ≡ with_desk at bay after desk old
+  pub due : mount_due s.drive name ≡ None
+  pub place_is : place_of s.drive.volumes name ≡ Some place
+  pub mounts : Mounts {T = Unit {0}} place (Ok tt) s.drive o.drive
+  pub calls : Calls meaning ⊥ ⊥ s.drive o.drive
+  pub answers : AnswersDrive own s.desk o.desk
+  pub is : o ≡ record (stays s) { drive = o.drive; desk = o.desk }
 
 -- the volume that was loaded is synced and out, and the other could not be loaded
-pub record LoadFails {D : Type 0} (meaning : D → Meaning) (old : WorldView D) (drive : ℕ) (name : List ℕ)
-    (why : Refusal) (new : WorldView D) : Type 0 where
-  pub at : ℕ
-  pub bay : BayView D
-  pub d : DriveIs D
-  pub after : DriveIs D
-  pub online : IsOnline old drive at bay d
-  pub due : mount_due d name ≡ None
-  pub unmounts : Unmounts d after
+pub record LoadFails {D : Type 0} (meaning : D → Meaning) (name : List ℕ) (why : Refusal) (s : Station D) (o : Outcome D) : Type 0 where
+  pub due : mount_due s.drive name ≡ None
   pub refuses : RefusesLoad why
-  pub on_shelf : IsHonest (meaning d.device) → why ≢ VolumeNotOnShelf
-  pub calls : Calls meaning (why ≡ DeviceFault) ⊥ d after
-  pub new_is : new ≡ with_bay at (record bay { drive = Some after }) old
+  pub on_shelf : IsHonest (meaning s.drive.device) → why ≢ VolumeNotOnShelf
+  pub unmounts : CallsDrive meaning (why ≡ DeviceFault) ⊥ Unmounts s o
 
 -- a mount that isn't refused at once fails: in the sync of the loaded volume, or in the load of the other
-abbrev pub MountFails : {D : Type 0} → (D → Meaning) → WorldView D → ℕ → List ℕ → Refusal → WorldView D → Type 0
-MountFails meaning old drive name why new =
-    (OnDrive old drive (λ d. mount_due d name ≡ None) × (why ≡ DeviceFault) × LosesBlocks meaning old drive new)
-    ⊎ LoadFails meaning old drive name why new
+abbrev pub MountFails : {D : Type 0} → (D → Meaning) → List ℕ → Refusal → Station D → Outcome D → Type 0
+MountFails meaning name why s o =
+    ((mount_due s.drive name ≡ None) × (why ≡ DeviceFault) × LosesBlocks meaning s o) ⊎ LoadFails meaning name why s o
 
 -- why a volume isn't mounted: by the drive's own order of refusals, or the mount fails
-abbrev pub MountRefused : {D : Type 0} → (D → Meaning) → WorldView D → ℕ → List ℕ → Refusal → WorldView D → Type 0
-MountRefused meaning old drive name why new =
-    (OnDrive old drive (λ d. mount_due d name ≡ Some why) × (new ≡ old)) ⊎ MountFails meaning old drive name why new
+abbrev pub MountRefused : {D : Type 0} → (D → Meaning) → List ℕ → Refusal → Station D → Outcome D → Type 0
+MountRefused meaning name why s o = ((mount_due s.drive name ≡ Some why) × (o ≡ stays s)) ⊎ MountFails meaning name why s o
 
 -- Seeking.
 
@@ -221,40 +172,14 @@ abbrev pub HasNoNext : {D : Type 0} → List ℕ → DriveIs D → Type 0
 HasNoNext pool d = (TakesBlocks d → ⊥) × (d.pool ≡ Some pool) × NoneOf (TakesBlocksOf pool) d.volumes
 
 -- the drive asks for a volume of its pool
-pub record AsksFor {D : Type 0} (old : WorldView D) (drive : ℕ) (new : WorldView D) : Type 0 where
-  pub at : ℕ
-  pub bay : BayView D
-  pub d : DriveIs D
+pub record AsksFor {D : Type 0} (own : ℕ) (s : Station D) (o : Outcome D) : Type 0 where
   pub pool : List ℕ
-  pub desk : DeskView
-  pub online : IsOnline old drive at bay d
-  pub none : HasNoNext pool d
-  pub asks : AsksOnce (record { drive = drive; pool = pool; media = d.media }) old.desk desk
-  pub new_is : new ≡ record old { desk = desk }
+  pub none : HasNoNext pool s.drive
+  pub asks : AsksOnce (record { drive = own; pool = pool; media = s.drive.media }) s.desk o.desk
+  pub is : o ≡ record (stays s) { desk = o.desk }
 
 -- why a drive finds no volume: memory is wanted for its request, where it has none yet; or the mount of the next one fails
-abbrev pub SeekRefused : {D : Type 0} → (D → Meaning) → WorldView D → ℕ → Refusal → WorldView D → Type 0
-SeekRefused meaning old drive why new =
-    (OnDrive old drive (λ d. (pool : List ℕ) × HasNoNext pool d) × HasNotAsked drive old.desk.requests × (why ≡ Memory) × StaysKnowing old new)
-    ⊎ ((name : List ℕ) × OnDrive old drive (NextIs name) × MountFails meaning old drive name why new)
-
--- Retiring.
-
--- a lane of the drive isn't free, a volume is loaded, or a piece is in its hand or in the queue
-abbrev pub IsInUse : {D : Type 0} → WorldView D → BayView D → DriveIs D → Type 0
-IsInUse w bay d =
-    (busy_lanes w.sessions bay.drive bay.lanes ≢ 0) ⊎ (d.loaded ≢ None) ⊎ (d.hand ≢ None) ⊎ (bay.queue.held ≢ [])
-
--- the drive goes offline for good
-pub record RetiresDrive {D : Type 0} (old : WorldView D) (drive : ℕ) (new : WorldView D) : Type 0 where
-  pub at : ℕ
-  pub bay : BayView D
-  pub d : DriveIs D
-  pub online : IsOnline old drive at bay d
-  pub unused : IsInUse old bay d → ⊥
-  pub new_is : new ≡ with_bay at (record bay { drive = None }) old
-
--- the drive is in use, and nothing changes
-abbrev pub RetireRefused : {D : Type 0} → WorldView D → ℕ → Refusal → WorldView D → Type 0
-RetireRefused {D} old drive why new = ((at : ℕ) × (bay : BayView D) × (d : DriveIs D) × IsOnline old drive at bay d × IsInUse old bay d)
-    × (why ≡ InUse) × (new ≡ old)
+abbrev pub SeekRefused : {D : Type 0} → (D → Meaning) → ℕ → Refusal → Station D → Outcome D → Type 0
+SeekRefused meaning own why s o =
+    (((pool : List ℕ) × HasNoNext pool s.drive) × HasNotAsked own s.desk.requests × (why ≡ Memory) × StaysKnowing s o)
+    ⊎ ((name : List ℕ) × NextIs name s.drive × MountFails meaning name why s o)

@@ -3,6 +3,7 @@ pub mod DeskLemmas
 pub mod Lists
 pub mod LosingLemmas
 pub mod MountLemmas
+pub mod OperatingLemmas
 pub mod SeekLemmas
 pub mod TakingLemmas
 pub mod UsingLemmas

@@ -1,34 +1,24 @@
 -- Which sessions fail by a sync that failed, looked at lane by lane.
-use Rattle.std.proofs.Common.{◌≡◌, ◌≢◌, ℕ, zero, suc, ◌+◌, ◌<◌, ◌≤◌, ◌==◌, ◌&&◌, ◌||◌, Bool, true, false, refl, sym, ap, subst, ◌∙◌, arith, inl, inr, Option, Err, Some, None, IfSome, IsSome, List, [], ◌∷◌, ◌++◌, length, take, get_or, slice_get}
-use Rattle.std.specs.Prelude.{IsErrOf}
+use Rattle.std.proofs.Common.{◌≡◌, ◌≢◌, ℕ, zero, suc, ◌+◌, ◌<◌, ◌≤◌, ◌==◌, ◌&&◌, ◌||◌, Bool, true, false, refl, sym, ap, subst, ◌∙◌, arith, inl, inr, Option, Some, None, IfSome, IsSome, List, [], ◌∷◌, ◌++◌, length, take, get_or, slice_get}
 use Rattle.std.specs.List.{list_any}
 use Rattle.std.proofs.lemmas.Bool.Decides.{eqb_tells}
 use Rattle.std.proofs.lemmas.List.{take_more, take_all}
 use Rattle.std.proofs.lemmas.List.Folds.{list_any-append}
 use Rattle.sd_base.specs.declared.number.SessionKey.{SessionKey}
-use Rattle.sd_base.specs.declared.refusal.Refusal.{Refusal}
-use Rattle.sd_base.specs.declared.refusal.Refusal.TheVariants.{DeviceFault}
 use Rattle.sd_drive.specs.View.{DriveIs}
 use Rattle.sd_drive.specs.Moves.{FailsToSync}
-use Rattle.sd_drive.specs.Shelf.{KeepsPieces}
-use Rattle.sd_driver.specs.Meaning.{Meaning}
-use Rattle.sd_driver.specs.Shelf.{StillLasts}
-use Rattle.sd_volume.specs.Device.{Counted}
 use Rattle.sd_journal.specs.Journal.{Entry, fails, fails_with, settled}
 use Rattle.sd_journal.proofs.EntryLemmas.{failing}
 use Rattle.sd_journal.specs.declared.mark.Mark.TheVariants.{Lost}
 use Rattle.sd_session.specs.Session.{SessionView, FailsSession, IsRunning, store_of}
 use Rattle.sd_moves.specs.World.{WorldView, WorldSession, BayView, LaneView, IsOnline, session_at}
-use Rattle.sd_moves.specs.Drives.{FailsWhere, FailExactly, is_running, loses_by, LosesBlocks, Calls}
-use Rattle.sd_moves.specs.Moves.{MissingOr}
+use Rattle.sd_moves.specs.Drives.{FailsWhere, FailExactly, is_running, loses_by}
 use Rattle.sd_moves.specs.Rules.{IsWorld}
 use Rattle.sd_moves.proofs.Lookups.{found_by_number}
 use Rattle.sd_moves.proofs.Pairs.{fails_key}
 use Rattle.sd_moves.proofs.Views.{runs, running_is, not_running, failed_over}
-use Rattle.sd_operators.specs.OnDrives.{with_sessions}
 use Rattle.sd_operators.specs.Losing.{is_holder, holds_lane, has_lost}
 use Rattle.sd_operators.proofs.Lists.{fail_alike, all_stay}
-use Rattle.sd_operators.proofs.CallLemmas.{recounted, counted_refused, calls_are}
 
 and_false : (a : Bool) → (a && false) ≡ false
 and_false true = refl
@@ -228,46 +218,19 @@ fail_session holder journal e s is lost kept =
           | inr p ↦ stays p.1
         ])
 
--- the sessions that lose blocks have failed
-pub loses : {D : Type 0} (meaning : D → Meaning) (w : WorldView D) (drive at : ℕ) (bay : BayView D) (d after : DriveIs D) (why : Refusal)
-    (lanes : List LaneView) (sessions sessions' : List WorldSession)
-    → IsWorld w → IsOnline w drive at bay d → bay.lanes ≡ lanes → w.sessions ≡ sessions
-    → FailsToSync d after → why ≡ DeviceFault → Calls meaning (why ≡ DeviceFault) ⊥ d after
-    → FailExactly (λ e. holds_lane lanes e && has_lost after.journal e) sessions sessions'
-    → LosesBlocks meaning w drive (with_sessions at bay after sessions' w)
-loses {D} meaning w drive at bay d after why lanes sessions sessions' world on laned had failed is calls exactly = record {
-  at = at;
-  bay = bay;
-  d = d;
-  after = after;
-  online = on;
-  fails = failed;
-  calls = record { counted = recounted _ _ (λ x. is) (λ x. tt) (λ x. x) (λ x. x) calls.counted; keeps = calls.keeps; later = calls.later };
-  sessions = sessions';
-  fail = fail_alike (λ e. holds_lane bay.lanes e && has_lost (settled Lost failed.volume.name d.journal) e) (loses_by drive failed.volume.name d.journal) w.sessions sessions'
-      (λ place e there. lost_here w drive at place bay d failed.volume.name e world on there)
-      (subst (λ (ls : List LaneView). FailExactly (λ e. holds_lane ls e && has_lost (settled Lost failed.volume.name d.journal) e) w.sessions sessions') (sym laned)
-      (subst (λ (es : List WorldSession). FailExactly (λ e. holds_lane lanes e && has_lost (settled Lost failed.volume.name d.journal) e) es sessions') (sym had)
-      (subst (λ (j : List Entry). FailExactly (λ e. holds_lane lanes e && has_lost j e) sessions sessions') (ap (λ (x : DriveIs D). x.journal) failed.becomes) exactly)));
-  new_is = refl;
-}
-
--- so is a call answered that fails its device
-pub device_fails : {D T : Type 0} (meaning : D → Meaning) (w : WorldView D) (drive at : ℕ) (bay : BayView D) (d after : DriveIs D) (why : Refusal)
-    (lanes : List LaneView) (sessions sessions' : List WorldSession)
-    → IsWorld w → IsOnline w drive at bay d → bay.lanes ≡ lanes → w.sessions ≡ sessions → FailsToSync d after → why ≡ DeviceFault
-    → Counted (IsErrOf {T = T} {E = Refusal} (Err why) DeviceFault) ⊥ (meaning d.device) (meaning after.device)
-    → KeepsPieces (meaning d.device) (meaning after.device) d.journal after.journal d.hand after.hand
-    → StillLasts (meaning d.device).shelf (meaning after.device).shelf
-    → FailExactly (λ e. holds_lane lanes e && has_lost after.journal e) sessions sessions'
-    → MissingOr w drive why (with_sessions at bay after sessions' w) ((why ≡ DeviceFault) × LosesBlocks meaning w drive (with_sessions at bay after sessions' w))
-device_fails meaning w drive at bay d after why lanes sessions sessions' world on laned had failed is counted keeps later exactly =
-    let calls = calls_are meaning (why ≡ DeviceFault) ⊥ d after (counted_refused (meaning d.device) (meaning after.device) why counted) keeps later in
-    inr (is, loses meaning w drive at bay d after why lanes sessions sessions' world on laned had failed is calls exactly)
+-- exactly the sessions have failed that lose blocks
+pub loses : {D : Type 0} (w : WorldView D) (drive at : ℕ) (bay : BayView D) (d after : DriveIs D) (sessions : List WorldSession)
+    → IsWorld w → IsOnline w drive at bay d → (failed : FailsToSync d after)
+    → FailExactly (λ e. holds_lane bay.lanes e && has_lost after.journal e) w.sessions sessions
+    → FailExactly (loses_by drive failed.volume.name d.journal) w.sessions sessions
+loses {D} w drive at bay d after sessions world on failed exactly =
+    fail_alike (λ e. holds_lane bay.lanes e && has_lost after.journal e) (loses_by drive failed.volume.name d.journal) w.sessions sessions
+    (λ place e there. ap (λ (x : DriveIs D). holds_lane bay.lanes e && has_lost x.journal e) failed.becomes ∙ lost_here w drive at place bay d failed.volume.name e world on there)
+    exactly
 
 -- where the journal tells of no lost block more, none of a session that goes on is lost
 none_lost : {D : Type 0} (w : WorldView D) (drive at place : ℕ) (bay : BayView D) (d : DriveIs D) (journal : List Entry) (e : WorldSession)
-    → IsWorld w → IsOnline w drive at bay d → ((key : SessionKey) → fails key journal ≡ fails key d.journal) → slice_get w.sessions place ≡ Some e
+    → IsWorld w → IsOnline w drive at bay d → ((key : SessionKey) → fails key d.journal ≡ false → fails key journal ≡ false) → slice_get w.sessions place ≡ Some e
     → (holds_lane bay.lanes e && has_lost journal e) ≡ false
 none_lost {D} w drive at place bay d journal e world on same there =
     from (is_running e.session.status) refl
@@ -283,19 +246,15 @@ none_lost {D} w drive at place bay d journal e world on same there =
           | inl p ↦
               let one = seat_is w drive at bay d e seat.at seat.bay on p.1 seat.drive_is seat.bay_there in
               let none : fails e.session.key d.journal ≡ false = seat.lost_none running d (ap (λ (b : BayView D). b.drive) (sym one) ∙ on.online) in
-              ap (λ f. (e.drive == drive) && (is_running e.session.status && f)) (same e.session.key ∙ none)
+              ap (λ f. (e.drive == drive) && (is_running e.session.status && f)) (same e.session.key none)
               ∙ ap (λ f. (e.drive == drive) && f) (and_false (is_running e.session.status)) ∙ and_false (e.drive == drive)
           | inr p ↦ ap (λ b. b && (is_running e.session.status && fails e.session.key journal)) p.0
         ]
 
 -- and the sessions stay
-pub sessions_stay : {D : Type 0} (w : WorldView D) (drive at : ℕ) (bay : BayView D) (d : DriveIs D) (journal : List Entry)
-    (lanes : List LaneView) (sessions sessions' : List WorldSession)
-    → IsWorld w → IsOnline w drive at bay d → bay.lanes ≡ lanes → w.sessions ≡ sessions
-    → ((key : SessionKey) → fails key journal ≡ fails key d.journal)
-    → FailExactly (λ e. holds_lane lanes e && has_lost journal e) sessions sessions' → sessions' ≡ w.sessions
-sessions_stay {D} w drive at bay d journal lanes sessions sessions' world on laned had same exactly =
-    all_stay (λ e. holds_lane bay.lanes e && has_lost journal e) w.sessions sessions'
-    (λ place e there. none_lost w drive at place bay d journal e world on same there)
-    (subst (λ (ls : List LaneView). FailExactly (λ e. holds_lane ls e && has_lost journal e) w.sessions sessions') (sym laned)
-    (subst (λ (es : List WorldSession). FailExactly (λ e. holds_lane lanes e && has_lost journal e) es sessions') (sym had) exactly))
+pub sessions_stay : {D : Type 0} (w : WorldView D) (drive at : ℕ) (bay : BayView D) (d : DriveIs D) (journal : List Entry) (sessions : List WorldSession)
+    → IsWorld w → IsOnline w drive at bay d → ((key : SessionKey) → fails key d.journal ≡ false → fails key journal ≡ false)
+    → FailExactly (λ e. holds_lane bay.lanes e && has_lost journal e) w.sessions sessions → sessions ≡ w.sessions
+sessions_stay w drive at bay d journal sessions world on same exactly =
+    all_stay (λ e. holds_lane bay.lanes e && has_lost journal e) w.sessions sessions
+    (λ place e there. none_lost w drive at place bay d journal e world on same there) exactly

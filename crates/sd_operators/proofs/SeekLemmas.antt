@@ -1,11 +1,10 @@
 -- A drive that seeks a volume.
-use Rattle.std.proofs.Common.{◌≡◌, ℕ, true, false, not, Option, Some, None, List, [], ◌∷◌, ◌++◌, refl, sym, ap, ◌∙◌, subst, arith, inl, inr, slice_get, map}
+use Rattle.std.proofs.Common.{◌≡◌, ℕ, true, false, not, Option, Some, None, List, refl, ap, ◌∙◌, inl, inr, slice_get, map}
 use Rattle.std.specs.Str.{bytes_eq}
 use Rattle.std.proofs.lemmas.Bool.Decides.{eqb_tells}
 use Rattle.std.proofs.lemmas.Slice.Eq.{bytes_eq-Decides}
 use Rattle.sd_base.specs.Choice.{FirstOf}
 use Rattle.sd_base.specs.declared.refusal.Refusal.{Refusal}
-use Rattle.sd_desk.specs.Desk.{DeskView, SameClaims, HasNotAsked}
 use Rattle.sd_desk.specs.Next.{TakesBlocksOf}
 use Rattle.sd_drive.specs.Moves.{TakesBlocks, mount_due, place_of, is_append, is_at, is_other_pool}
 use Rattle.sd_drive.specs.Shelf.{NamesDiffer}
@@ -14,10 +13,8 @@ use Rattle.sd_drive.proofs.FindLemmas.{place_there, place_none, due_there}
 use Rattle.sd_drive.proofs.Places.{get_map}
 use Rattle.sd_driver.specs.Meaning.{Meaning}
 use Rattle.sd_volume.specs.Volume.{VolumeView}
-use Rattle.sd_moves.specs.World.{WorldView, WorldSession, BayView, IsOnline}
-use Rattle.sd_moves.specs.Operators.{MountRefused, MountFails, AsksOnce}
-use Rattle.sd_operators.specs.OnDrives.{with_all}
-use Rattle.sd_operators.proofs.DeskLemmas.{desk_alone}
+use Rattle.sd_moves.specs.Stations.{Station, Outcome}
+use Rattle.sd_moves.specs.Operators.{MountRefused, MountFails}
 
 -- the volume of a name stands where it was found
 stands_at : (vs : List VolumeView) (name : List ℕ) (place : ℕ) (v : VolumeView) → NamesDiffer vs → slice_get vs place ≡ Some v → name ≡ v.name
@@ -56,44 +53,7 @@ next_free d pool name place first differ takes_none pool_is is =
     due_there d name place v (stands_at d.volumes name place v differ first.there is) first.there ∙ rw (append, apart, no_other)
 
 -- a mount that isn't refused at once fails
-pub fails_later : {D : Type 0} (meaning : D → Meaning) (w new : WorldView D) (drive at : ℕ) (bay : BayView D) (d : DriveIs D) (name : List ℕ) (why : Refusal)
-    → IsOnline w drive at bay d → mount_due d name ≡ None → MountRefused meaning w drive name why new → MountFails meaning w drive name why new
-fails_later meaning w new drive at bay d name why on none (inr fails) = fails
-fails_later {D} meaning w new drive at bay d name why on none (inl r) =
-    let on' = r.0.3 in
-    let number : at ≡ r.0.0 = (let a = on.number in let b = on'.number in omega (arith, a, b)) in
-    let bays : Some bay ≡ Some r.0.1 = sym on.there ∙ ap (slice_get w.bays) number ∙ on'.there in
-    let one : bay ≡ r.0.1 = cc bays in
-    let drives : Some d ≡ Some r.0.2 = sym on.online ∙ ap (λ (b : BayView D). b.drive) one ∙ on'.online in
-    let same : d ≡ r.0.2 = cc drives in
-    let due : mount_due r.0.2 name ≡ Some why = r.0.4 in
-    absurd (let e : None ≡ Some why = sym none ∙ ap (λ (x : DriveIs D). mount_due x name) same ∙ due in cc e)
-
--- only the desk is another
-pub all_alone : {D : Type 0} (w : WorldView D) (drive at : ℕ) (bay : BayView D) (d : DriveIs D) (sessions : List WorldSession) (desk : DeskView)
-    → IsOnline w drive at bay d → w.sessions ≡ sessions → with_all at bay d sessions desk w ≡ record w { desk = desk }
-all_alone {D} w drive at bay d sessions desk on had =
-    ap (λ (es : List WorldSession). with_all at bay d es desk w) (sym had) ∙ desk_alone w drive at bay d desk on
-
--- nothing is another
-pub all_stays : {D : Type 0} (w : WorldView D) (drive at : ℕ) (bay : BayView D) (d : DriveIs D) (sessions : List WorldSession) (desk : DeskView)
-    → IsOnline w drive at bay d → w.sessions ≡ sessions → w.desk ≡ desk → with_all at bay d sessions desk w ≡ w
-all_stays {D} w drive at bay d sessions desk on had desked =
-    all_alone w drive at bay d sessions desk on had ∙ ap (λ (k : DeskView). record w { desk = k }) (sym desked)
-
--- the desk was asked for a volume of the drive's media
-pub asked_once : (drive : ℕ) (pool media copy : List ℕ) (old desk new : DeskView) → old ≡ desk → copy ≡ media → SameClaims desk new
-    → (HasNotAsked drive desk.requests → new.requests ≡ desk.requests ++ record { drive = drive; pool = pool; media = copy } ∷ [])
-    → ((HasNotAsked drive desk.requests → ⊥) → new.requests ≡ desk.requests)
-    → AsksOnce (record { drive = drive; pool = pool; media = media }) old new
-asked_once drive pool media copy old desk new desked same claims first again =
-    subst (λ (k : DeskView). AsksOnce (record { drive = drive; pool = pool; media = media }) k new) (sym desked) (record {
-      claims = claims;
-      first = λ not_yet. first not_yet ∙ ap (λ m. desk.requests ++ record { drive = drive; pool = pool; media = m } ∷ []) same;
-      again = again;
-    })
-
--- where it can't be that the desk was asked, it wasn't
-pub not_asked : (drive : ℕ) (old desk : DeskView) → old ≡ desk → ((HasNotAsked drive desk.requests → ⊥) → ⊥) → HasNotAsked drive old.requests
-not_asked drive old desk desked not_not at r within same =
-    not_not (λ none. subst (λ (k : DeskView). HasNotAsked drive k.requests) (sym desked) none at r within same)
+pub fails_later : {D : Type 0} (meaning : D → Meaning) (name : List ℕ) (why : Refusal) (s : Station D) (o : Outcome D)
+    → mount_due s.drive name ≡ None → MountRefused meaning name why s o → MountFails meaning name why s o
+fails_later meaning name why s o none (inr fails) = fails
+fails_later meaning name why s o none (inl r) = absurd (let due = r.0 in cc (none, due))

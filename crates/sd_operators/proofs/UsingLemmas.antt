@@ -1,12 +1,12 @@
 -- Whether a drive is in use, and how it goes offline.
-use Rattle.std.proofs.Common.{◌≡◌, ◌≢◌, ◌⊎◌, ℕ, ◌+◌, Bool, true, false, ◌||◌, cond, refl, sym, ap, ◌∙◌, arith, inl, inr, List, [], ◌∷◌, Option, None}
+use Rattle.std.proofs.Common.{◌≡◌, ◌≢◌, ◌⊎◌, ℕ, ◌+◌, Bool, true, false, ◌||◌, cond, refl, sym, ap, subst, ◌∙◌, arith, inl, inr, List, [], ◌∷◌, None}
 use Rattle.std.specs.Prelude.{not}
 use Rattle.std.specs.List.{count_by, list_any}
 use Rattle.std.proofs.lemmas.List.Sums.{sum_by-cons}
 use Rattle.sd_drive.specs.View.{DriveIs}
-use Rattle.sd_moves.specs.World.{WorldView, WorldSession, BayView, LaneView, IsOnline, with_bay, free_lanes, busy_lanes}
-use Rattle.sd_moves.specs.Operators.{IsInUse, RetiresDrive}
-use Rattle.sd_operators.specs.Using.{IsUsed}
+use Rattle.sd_lane.specs.declared.piece.Queued.{Queued}
+use Rattle.sd_moves.specs.World.{WorldView, WorldSession, BayView, LaneView, IsOnline, with_bay}
+use Rattle.sd_moves.specs.Drives.{IsInUse, RetiresDrive}
 use Rattle.sd_moves.proofs.Bays.{IsBayAt, bay_stays}
 
 -- where a test that tells of `false` tells of one, one is counted
@@ -37,26 +37,11 @@ only_first (inr (inl x)) b c e = absurd (b x)
 only_first (inr (inr (inl x))) b c e = absurd (c x)
 only_first (inr (inr (inr x))) b c e = absurd (e x)
 
--- how many lanes aren't free
-counted : {D : Type 0} (w : WorldView D) (drive at : ℕ) (bay : BayView D) (d : DriveIs D) (sessions : List WorldSession) (lanes : List LaneView)
-    → IsOnline w drive at bay d → sessions ≡ w.sessions → lanes ≡ bay.lanes
-    → busy_lanes w.sessions bay.drive bay.lanes ≡ count_by not (free_lanes sessions d.journal lanes)
-counted {D} w drive at bay d sessions lanes on had laned =
-    ap (λ (o : Option (DriveIs D)). busy_lanes w.sessions o bay.lanes) on.online
-    ∙ ap (λ (es : List WorldSession). count_by not (free_lanes es d.journal bay.lanes)) (sym had)
-    ∙ ap (λ (ls : List LaneView). count_by not (free_lanes sessions d.journal ls)) (sym laned)
-
--- a drive that is used is in use in its world
-pub used_there : {D : Type 0} (w : WorldView D) (drive at : ℕ) (bay : BayView D) (d : DriveIs D) (sessions : List WorldSession) (lanes : List LaneView)
-    → IsOnline w drive at bay d → sessions ≡ w.sessions → lanes ≡ bay.lanes → IsUsed sessions d lanes bay.queue.held → IsInUse w bay d
-used_there w drive at bay d sessions lanes on had laned (inl busy) = inl (λ none. busy (sym (counted w drive at bay d sessions lanes on had laned) ∙ none))
-used_there w drive at bay d sessions lanes on had laned (inr other) = inr other
-
--- and only such a one
-pub used_here : {D : Type 0} (w : WorldView D) (drive at : ℕ) (bay : BayView D) (d : DriveIs D) (sessions : List WorldSession) (lanes : List LaneView)
-    → IsOnline w drive at bay d → sessions ≡ w.sessions → lanes ≡ bay.lanes → IsInUse w bay d → IsUsed sessions d lanes bay.queue.held
-used_here w drive at bay d sessions lanes on had laned (inl busy) = inl (λ none. busy (counted w drive at bay d sessions lanes on had laned ∙ none))
-used_here w drive at bay d sessions lanes on had laned (inr other) = inr other
+-- what is said of a drive's lanes and sessions where they were read
+pub used_as_read : {D : Type 0} (d : DriveIs D) (held : List Queued) (sessions read : List WorldSession) (lanes seen : List LaneView)
+    → read ≡ sessions → seen ≡ lanes → IsInUse read d seen held → IsInUse sessions d lanes held
+used_as_read d held sessions read lanes seen had laned used =
+    subst (λ (es : List WorldSession). IsInUse es d lanes held) had (subst (λ (ls : List LaneView). IsInUse read d ls held) laned used)
 
 -- a bay that was read and is left alone
 pub left_alone : {D : Type 0} (w : WorldView D) (drive at : ℕ) (bay now : BayView D) → IsBayAt w drive at bay → bay ≡ now → with_bay at now w ≡ w
@@ -64,5 +49,5 @@ left_alone w drive at bay now read same = ap (λ b. with_bay at b w) (sym same) 
 
 -- the drive goes offline
 pub retires : {D : Type 0} (w new : WorldView D) (drive at : ℕ) (bay : BayView D) (d : DriveIs D)
-    → IsOnline w drive at bay d → (IsInUse w bay d → ⊥) → new ≡ with_bay at (record bay { drive = None }) w → RetiresDrive w drive new
+    → IsOnline w drive at bay d → (IsInUse w.sessions d bay.lanes bay.queue.held → ⊥) → new ≡ with_bay at (record bay { drive = None }) w → RetiresDrive w drive new
 retires w new drive at bay d on unused is = record { at = at; bay = bay; d = d; online = on; unused = unused; new_is = is }

@@ -1,3 +1,2 @@
+pub mod AtStations
 pub mod Losing
-pub mod OnDrives
-pub mod Using

@@ -1,11 +1,12 @@
 // A drive goes offline for good.
-ghost use Rattle.std.specs.Prelude.{◌≤◌, ◌↔◌, ℕ, IsTrue, length};
+ghost use Rattle.std.specs.Prelude.{◌≢◌, ◌≤◌, ◌↔◌, ℕ, Some, IsTrue, length};
 ghost use Rattle.sd_base.specs.Limits.{most_lanes};
 ghost use Rattle.sd_machine.specs.declared.event.Event.TheVariants.{Retire};
+ghost use Rattle.sd_moves.specs.Drives.{IsInUse};
 ghost use Rattle.sd_moves.specs.Moves.{Moves};
 ghost use Rattle.sd_moves.specs.Rules.{IsWorld, NumbersRise};
+ghost use Rattle.sd_moves.specs.World.{busy_lanes};
 ghost use Rattle.sd_parts.specs.View.{world_of};
-ghost use Rattle.sd_operators.specs.Using.{IsUsed, HasBusyLane};
 
 use sd_base::{DriveNo, Refusal};
 use sd_drive::Drive;
@@ -47,7 +48,7 @@ fn is_used<D: Driver, Q: Lanes, S: SpoolStore + Drop>(
 ) -> bool
     requires rise { (time : ℕ) × (next : ℕ) × NumbersRise time 1 next sessions.now }
     requires most { length lanes.now ≤ most_lanes }
-    ensures { IsTrue result ↔ IsUsed sessions.now drive.now lanes.now (Q.held queue.now) }
+    ensures { IsTrue result ↔ IsInUse sessions.now drive.now lanes.now (Q.held queue.now) }
 {
     let None = drive.loaded() else {
         return true;
@@ -69,7 +70,7 @@ fn has_busy_lane<D: Driver, S: SpoolStore + Drop>(
 ) -> bool
     requires rise { (time : ℕ) × (next : ℕ) × NumbersRise time 1 next sessions.now }
     requires most { length lanes.now ≤ most_lanes }
-    ensures { IsTrue result ↔ HasBusyLane sessions.now drive.now.journal lanes.now }
+    ensures { IsTrue result ↔ (busy_lanes sessions.now (Some drive.now) lanes.now ≢ 0) }
 {
     let free = free_lanes(sessions, drive, lanes);
     free.as_slice().contains(&false)

@@ -3,59 +3,28 @@ ghost use Rattle.std.specs.Prelude.{◌≡◌, ◌↔◌, ℕ, Some, IsTrue, Mat
 ghost use Rattle.sd_drive.specs.Moves.{TakesBlocks, TakesOn};
 ghost use Rattle.sd_machine.specs.declared.event.Event.TheVariants.{Seek};
 ghost use Rattle.sd_volume.specs.Volume.{VolumeView};
-ghost use Rattle.sd_moves.specs.Moves.{Moves};
 ghost use Rattle.sd_moves.specs.Operators.{NeedsNone};
-ghost use Rattle.sd_moves.specs.Rules.{IsWorld, NumbersRise};
-ghost use Rattle.sd_parts.specs.View.{world_of};
-ghost use Rattle.sd_operators.specs.OnDrives.{MovesMounting};
+ghost use Rattle.sd_operators.specs.AtStations.{MovesAtDesk};
 
 use crate::mounting::mount_named;
 use sd_base::{DriveNo, PoolName, Refusal};
 use sd_desk::{Desk, Request, next_volume};
 use sd_drive::Drive;
 use sd_driver::Driver;
-use sd_lane::Lanes;
 use sd_machine::Reply;
-use sd_parts::{Entry, LaneSlot, Parts};
-use sd_spool::SpoolStore;
 
 /// Mounts the first of the drive's volumes that takes blocks of its pool; where it has none, asks the operator for one.
 /// A drive whose loaded volume takes blocks of its pool needs none, nor does one that never had a session.
-pub fn seek<D: Driver, Q: Lanes, S: SpoolStore + Drop>(
-    parts: &mut Parts<D, Q, S>,
-    drive: DriveNo,
-) -> Reply
-    requires world { IsWorld (world_of parts.old) }
-    ensures moves { Moves (λ d. D.meaning d) (world_of parts.old) (Seek drive) result
-        (world_of parts.new) }
-{
-    let Some(bay) = parts.bays.get_mut(drive.get() as usize - 1) else {
-        return Reply::Refused(Refusal::NoSuchDrive);
-    };
-    let Some(at) = &mut bay.drive else {
-        return Reply::Refused(Refusal::DriveOffline);
-    };
-    seek_on(at, &mut parts.sessions, &bay.lanes, &mut parts.desk, drive)
-}
-
-// The same at the drive.
-fn seek_on<D: Driver, S: SpoolStore + Drop>(
-    at: &mut Drive<D>,
-    sessions: &mut Vec<Entry<S>>,
-    lanes: &[LaneSlot<S>],
-    desk: &mut Desk,
-    drive: DriveNo,
-) -> Reply
-    requires rise { (time : ℕ) × (next : ℕ) × NumbersRise time 1 next sessions.old.items }
-    ensures { MovesMounting (λ d. D.meaning d) (Seek drive) drive
-        at.old lanes.now sessions.old.items desk.old result at.new sessions.new.items desk.new }
+pub(crate) fn seek<D: Driver>(at: &mut Drive<D>, desk: &mut Desk, drive: DriveNo) -> Reply
+    ensures { MovesAtDesk (λ d. D.meaning d) drive (Seek drive)
+        at.old desk.old result at.new desk.new }
 {
     let Some(pool) = wanted(at) else {
         return Reply::NoNeed;
     };
     at.know();
     match next_volume(at.volumes(), &pool) {
-        Some(name) => match mount_named(at, sessions, lanes, desk, drive, &name) {
+        Some(name) => match mount_named(at, desk, drive, &name) {
             Ok(()) => Reply::Mounted { name },
             Err(why) => Reply::Refused(why),
         },

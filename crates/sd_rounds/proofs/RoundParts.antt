@@ -9,13 +9,14 @@ use Rattle.std.proofs.lemmas.List.Elements.{All-append, All-nil, All-cons, filte
 use Rattle.sd_base.specs.Limits.{most_drives}
 use Rattle.sd_driver.specs.Meaning.{Meaning}
 use Rattle.sd_machine.specs.declared.event.Event.{Event}
-use Rattle.sd_machine.specs.declared.event.Event.TheVariants.{Spool, Despool, Take, Sync, Retire}
+use Rattle.sd_machine.specs.declared.event.Event.TheVariants.{Spool, Despool, Take, Place, Sync, Label, Adopt, Mount, Unmount, Seek, Retire}
 use Rattle.sd_machine.specs.declared.reply.Reply.{Reply}
-use Rattle.sd_machine.specs.declared.reply.Reply.TheVariants.{Refused, InHand, HandFull, Idle, Retired, NeedVolume, Mounted}
+use Rattle.sd_machine.specs.declared.reply.Reply.TheVariants.{Refused, Retired, NeedVolume, Mounted}
 use Rattle.sd_closed.specs.Steps.{StepsAlong}
 use Rattle.sd_moves.specs.Drives.{DriveMissing}
 use Rattle.sd_moves.specs.Moves.{Moves}
 use Rattle.sd_moves.specs.World.{WorldView, BayView, IsOnline}
+use Rattle.sd_moves.proofs.Framed.{none_there}
 use Rattle.sd_rounds.specs.declared.headway.Round.{Round}
 use Rattle.sd_rounds.specs.Rounds.{AllMove, AreSends, AreTurns, Drains, IsRoundOf, IsTurn, Moved, PlaysOn, PlaysOne, PlaysRound, PlaysRounds, Tells, counted, drives_online, is_online, is_set, online_flags, placed_in, placing, sends, turn_kind}
 use Rattle.sd_rounds.proofs.Online.{DrivesStay, IsNoRetiring, drives_same, drives_then, moves_stay}
@@ -36,6 +37,14 @@ RetireNone (e ∷ es) = RetiresNone e × RetireNone es
 -- only a retirement is answered so
 only_retiring : {D : Type 0} (meaning : D → Meaning) (w w' : WorldView D) (event : Event) (reply : Reply) → RetiresNone event → Moves meaning w event reply w' → IsNoRetiring reply
 only_retiring meaning w w' (Retire drive) reply h m = absurd h
+only_retiring meaning w w' (Take drive) Retired h m = absurd (none_there m tt)
+only_retiring meaning w w' (Place drive) Retired h m = absurd (none_there m tt)
+only_retiring meaning w w' (Sync drive) Retired h m = absurd (none_there m tt)
+only_retiring meaning w w' (Label drive name pool media moment) Retired h m = absurd (none_there m tt)
+only_retiring meaning w w' (Adopt drive name) Retired h m = absurd (none_there m tt)
+only_retiring meaning w w' (Mount drive name) Retired h m = absurd (none_there m tt)
+only_retiring meaning w w' (Unmount drive) Retired h m = absurd (none_there m tt)
+only_retiring meaning w w' (Seek drive) Retired h m = absurd (none_there m tt)
 only_retiring meaning w w' event Retired h m = absurd m
 only_retiring meaning w w' event reply h m = tt
 
@@ -160,16 +169,14 @@ missing_is w drive why (at, number, inr p) = flag_at w drive at p.0 false number
 -- a take that is refused: the drive isn't there, or not online, and nothing changed
 pub take_refused : {D : Type 0} (meaning : D → Meaning) (w w' : WorldView D) (drive : ℕ) (why : _) → Moves meaning w (Take drive) (Refused why) w'
     → (is_online (online_flags w) drive ≡ false) × (w' ≡ w)
-take_refused meaning w w' drive why m = (missing_is w drive why m.0, m.1)
+take_refused meaning w w' drive why (inl m) = (missing_is w drive m.0 m.2, m.3)
+take_refused meaning w w' drive why (inr a) = absurd a.moves
 
 -- a take that is answered: the drive is online
 pub take_answered : {D : Type 0} (meaning : D → Meaning) (w w' : WorldView D) (drive : ℕ) (reply : Reply) → ((why : _) → reply ≡ Refused why → ⊥)
     → Moves meaning w (Take drive) reply w' → is_online (online_flags w) drive ≡ true
-take_answered meaning w w' drive (InHand ticket seq) other m = online_is w drive m.at m.bay m.d m.online
-take_answered meaning w w' drive HandFull other m = online_is w drive m.0.0 m.0.1 m.0.2 m.0.3
-take_answered meaning w w' drive Idle other m = online_is w drive m.0.0 m.0.1 m.0.2 m.0.3
-take_answered meaning w w' drive (Refused why) other m = absurd (other why refl)
-take_answered meaning w w' drive reply other m = absurd m
+take_answered meaning w w' drive reply other (inl m) = absurd (other m.0 m.1)
+take_answered meaning w w' drive reply other (inr a) = online_is w drive a.at a.bay a.d a.online
 
 -- The drives below a number have had their turns.
 pub record TurnedBelow {D : Type 0} (meaning : D → Meaning) (syncs : Bool) (old : WorldView D) (number : ℕ) (turned : Round) (world : WorldView D) : Type 0 where

@@ -1,42 +1,57 @@
-use Rattle.std.proofs.Common.{◌≡◌, Some, sym, ap, ◌∙◌, inl, inr}
+use Rattle.std.proofs.Common.{◌≡◌, Some, None, refl, sym, ap, ◌∙◌, inl, inr}
 use Rattle.sd_drive.specs.Moves.{mount_due}
-use Rattle.sd_operators.proofs.CallLemmas.{counted_well, counted_refused, calls_are}
-use Rattle.sd_operators.proofs.MountLemmas.{due_or, mounted, refused_at_once, refused_by_sync, refused_by_load}
+use Rattle.sd_operators.proofs.CallLemmas.{counted_well, counted_refused, calls_are, calls_drive, drive_rests, device_fails}
+use Rattle.sd_operators.proofs.MountLemmas.{due_or}
 use Rattle.sd_operators.proofs.mounting.mount_named.Goals as goal
 
-pub returns-in-Ok : goal.returns-in-Ok
-returns-in-Ok g c = λ w at bay world on laned had desked.
+pub returns : goal.returns
+returns g c = λ queue.
     let e = c.in-Ok.ensures in
-    let name = c.args.name.now in
     let d = c.args.at.now in
-    elim (due_or (mount_due d name)) [
+    elim (due_or (mount_due d c.args.name.now)) [
       | inl none ↦
-          let m = e.mounts none in
-          mounted (λ x. g.D.Driver.meaning x) w c.args.drive at bay d c.mount.new.self name m.0 c.args.sessions.now.items c.args.desk.now c.answered.new.self on had desked none m.1 m.2
-          (calls_are (λ x. g.D.Driver.meaning x) ⊥ ⊥ _ _ (counted_well _ _ _ e.counted) e.keeps e.later)
-          (record { claims = c.answered.ensures.claims; requests = c.answered.ensures.requests })
+          let m = e.mounts none in (
+            None,
+            record {
+              place = m.0;
+              due = none;
+              place_is = m.1;
+              mounts = m.2;
+              calls = calls_are (λ x. g.D.Driver.meaning x) ⊥ ⊥ _ _ (counted_well _ _ _ e.counted) e.keeps e.later;
+              answers = record { claims = c.answered.ensures.claims; requests = c.answered.ensures.requests };
+              is = refl;
+            },
+          )
       | inr p ↦ absurd (let x = e.refused p.0 p.1 in cc x)
     ]
 
 pub returns-in-Err : goal.returns-in-Err
-returns-in-Err g c = λ w at bay world on laned had desked.
+returns-in-Err g c = λ queue.
     let e = c.in-Err.ensures in
-    let name = c.args.name.now in
     let d = c.args.at.now in
-    let why = c.in-Err.why in
-    let calls = calls_are (λ x. g.D.Driver.meaning x) _ ⊥ d c.mount.new.self (counted_refused _ _ why e.counted) e.keeps e.later in
-    elim (due_or (mount_due d name)) [
+    let after = c.mount.new.self in
+    let desk = c.args.desk.now in
+    let why = c.in-Err.error in
+    elim (due_or (mount_due d c.args.name.now)) [
       | inl none ↦
           elim (e.mounts none).2 [
-            | inl u ↦
-                refused_by_load (λ x. g.D.Driver.meaning x) w c.args.drive at bay d c.mount.new.self name why c.args.lanes.now c.args.sessions.now.items c.fail_lost.new.sessions.items c.args.desk.now world on laned had desked none u.0 u.1 (λ honest. e.on_shelf honest none)
-                calls c.fail_lost.ensures
-            | inr f ↦
-                refused_by_sync (λ x. g.D.Driver.meaning x) w c.args.drive at bay d c.mount.new.self name why c.args.lanes.now c.args.sessions.now.items c.fail_lost.new.sessions.items c.args.desk.now world on laned had desked none f.0 f.1
-                calls c.fail_lost.ensures
+            | inl u ↦ (
+              None,
+              inr (inr (record {
+                due = none;
+                refuses = u.1;
+                on_shelf = λ honest. e.on_shelf honest none;
+                unmounts = calls_drive (λ x. g.D.Driver.meaning x) _ ⊥ d after queue desk _ u.0 (counted_refused _ _ why e.counted) e.keeps e.later;
+              })),
+            )
+            | inr f ↦ (
+              Some f.0.volume.name,
+              inr (inl (none, f.1, device_fails (λ x. g.D.Driver.meaning x) d after queue desk why f.0 f.1 e.counted e.keeps e.later)),
+            )
           ]
       | inr p ↦
-          let is : why ≡ p.0 = (let x = e.refused p.0 p.1 in cc x) in
-          refused_at_once (λ x. g.D.Driver.meaning x) w c.args.drive at bay d c.mount.new.self name why c.args.lanes.now c.args.sessions.now.items c.fail_lost.new.sessions.items c.args.desk.now world on laned had desked (p.1 ∙ ap Some (sym is))
-          (e.unchanged (λ n. (let s = p.1 in cc (n, s)))) c.fail_lost.ensures
+          let is : why ≡ p.0 = (let x = e.refused p.0 p.1 in cc x) in (
+            None,
+            inl (p.1 ∙ ap Some (sym is), drive_rests d after queue desk (e.unchanged (λ n. (let s = p.1 in cc (n, s))))),
+          )
     ]

@@ -1,15 +1,13 @@
-use Rattle.std.proofs.Common.{refl, sym, inl}
-use Rattle.sd_moves.proofs.Bays.{read_bay, online_in, offline_in}
-use Rattle.sd_parts.specs.View.{world_of}
+use Rattle.std.proofs.Common.{Some, None}
+use Rattle.sd_operators.proofs.CallLemmas.{counted_well, calls_drive, device_fails}
 use Rattle.sd_operators.proofs.syncing.unmount.Goals as goal
 
-pub returns-in_default-drive : goal.returns-in_default-drive
-returns-in_default-drive g c =
-    let bay = read_bay (world_of c.args.parts.now) c.args.drive c.get.result _ _ _ c.args.parts.now.bays.ok.0 c.get.ensures.value c.get.ensures.least (c.in-Some.ensures.variant.0 refl) c.in-Some.ensures.value c.bay.view_is in
-    record { moves = inl (offline_in _ _ _ _ bay c.in_default-drive.is) }
+pub returns-in-Ok : goal.returns-in-Ok
+returns-in-Ok g c = λ own queue desk.
+    let e = c.in-Ok.ensures in
+    (None, calls_drive (λ d. g.D.Driver.meaning d) ⊥ ⊥ _ c.unmount.new.self queue desk _ e.ok (counted_well _ _ _ e.counted) e.keeps e.later)
 
-pub returns : goal.returns
-returns g c =
-    let bay = read_bay (world_of c.args.parts.now) c.args.drive c.get.result _ _ _ c.args.parts.now.bays.ok.0 c.get.ensures.value c.get.ensures.least (c.in-Some.ensures.variant.0 refl) c.in-Some.ensures.value c.bay.view_is in
-    let on = online_in _ _ _ _ _ bay c.in-Some-drive.is in
-    record { moves = c.unmount_on.ensures (world_of c.args.parts.now) c.args.drive _ _ c.requires.world on (sym c.deref.ensures.value) refl }
+pub returns-in-Err : goal.returns-in-Err
+returns-in-Err g c = λ own queue desk.
+    let e = c.in-Err.ensures in
+    (Some e.err.volume.name, e.refusal, device_fails (λ d. g.D.Driver.meaning d) c.args.drive.now c.unmount.new.self queue desk _ e.err e.refusal e.counted e.keeps e.later)

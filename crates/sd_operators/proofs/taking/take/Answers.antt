@@ -1,15 +1,38 @@
-use Rattle.std.proofs.Common.{refl}
-use Rattle.sd_moves.proofs.Bays.{read_bay, online_in, offline_in}
-use Rattle.sd_parts.specs.View.{world_of}
+use Rattle.std.proofs.Common.{◌≡◌, Option, Some, None, refl, sym, ap, ◌∙◌, subst}
+use Rattle.std.specs.Option.{option_copied, IsSome}
+use Rattle.sd_lane.specs.declared.piece.Piece.{Piece}
+use Rattle.sd_operators.proofs.TakingLemmas.{queue_same, queue_rests, took}
 use Rattle.sd_operators.proofs.taking.take.Goals as goal
 
-pub returns-in_default-drive : goal.returns-in_default-drive
-returns-in_default-drive g c =
-    let bay = read_bay (world_of c.args.parts.now) c.args.drive c.get.result _ _ _ c.args.parts.now.bays.ok.0 c.get.ensures.value c.get.ensures.least (c.in-Some.ensures.variant.0 refl) c.in-Some.ensures.value c.bay.view_is in
-    record { moves = offline_in _ _ _ _ bay c.in_default-drive.is }
+pub returns-in_default : goal.returns-in_default
+returns-in_default g c = λ own desk.
+    let full : Some c.in_default.field-0.now ≡ c.args.drive.now.hand = sym (ap option_copied c.in_default.is) ∙ c.hand.ensures in
+    (None, subst (λ (h : Option Piece). IsSome h) full refl, refl)
+
+pub returns-in_default-try_take : goal.returns-in_default-try_take
+returns-in_default-try_take g c = λ own desk.
+    let t = c.in_default-try_take.ensures in
+    let hand = sym c.hand.ensures ∙ ap option_copied c.in-None.is in
+    (None, hand, t.empty.0, queue_rests c.args.drive.now _ _ desk (queue_same _ _ _ _ _ _ t.lanes t.capacity (t.empty.1 ∙ sym t.empty.0)))
+
+pub returns-in_default-new : goal.returns-in_default-new
+returns-in_default-new g c = λ own desk.
+    let t = c.in-Some.ensures.first in
+    let some = c.in_default-new.ensures.within.1 (c.requires.first t.0 c.in-Some.piece _ t.1) in
+    absurd (cc some)
 
 pub returns : goal.returns
-returns g c =
-    let bay = read_bay (world_of c.args.parts.now) c.args.drive c.get.result _ _ _ c.args.parts.now.bays.ok.0 c.get.ensures.value c.get.ensures.least (c.in-Some.ensures.variant.0 refl) c.in-Some.ensures.value c.bay.view_is in
-    let on = online_in _ _ _ _ _ bay c.in-Some-drive.is in
-    record { moves = c.take_into.ensures (world_of c.args.parts.now) c.args.drive _ _ c.requires.world on refl }
+returns g c = λ own desk.
+    let t = c.in-Some.ensures in (
+      None,
+      record {
+        hand_empty = sym c.hand.ensures ∙ ap option_copied c.in-None.is;
+        lane = t.first.0;
+        piece = c.in-Some.piece;
+        rest = _;
+        held_is = t.first.1;
+        ticket_is = c.in-Some-new.ensures.value;
+        seq_is = refl;
+        is = took c.args.drive.now c.give.new.self _ _ desk c.in-Some.piece _ c.give.ensures (queue_same _ _ _ _ _ _ t.lanes t.capacity refl);
+      },
+    )

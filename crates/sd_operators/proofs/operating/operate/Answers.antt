@@ -1,0 +1,32 @@
+use Rattle.std.proofs.Common.{◌≡◌, ◌&&◌, List, refl, sym, subst}
+use Rattle.sd_moves.specs.Drives.{FailExactly}
+use Rattle.sd_moves.specs.World.{LaneView}
+use Rattle.sd_moves.proofs.Bays.{read_bay, online_in, offline_in, is_absent}
+use Rattle.sd_parts.specs.View.{world_of}
+use Rattle.sd_operators.specs.Losing.{holds_lane, has_lost}
+use Rattle.sd_operators.proofs.OperatingLemmas.{is_station, moves_failing, moves_calmly, missing}
+use Rattle.sd_operators.proofs.operating.operate.Goals as goal
+
+pub returns-in_default : goal.returns-in_default
+returns-in_default g c =
+    let absent = is_absent (world_of c.args.parts.now) c.args.drive c.get.result _ c.args.parts.now.bays.ok.0 c.get.ensures.value c.get.ensures.least
+    (λ below. (let some = c.in_default.ensures.variant.1 below in cc some)) in
+    record { moves = missing (λ d. g.D.Driver.meaning d) _ _ c.args.event.now c.args.drive _ c.requires.own absent refl }
+
+pub returns-in_default-drive : goal.returns-in_default-drive
+returns-in_default-drive g c =
+    let bay = read_bay (world_of c.args.parts.now) c.args.drive c.get.result _ _ _ c.args.parts.now.bays.ok.0 c.get.ensures.value c.get.ensures.least (c.in-Some.ensures.variant.0 refl) c.in-Some.ensures.value c.bay.view_is in
+    let off = offline_in _ _ _ _ bay c.in_default-drive.is in
+    record { moves = missing (λ d. g.D.Driver.meaning d) _ _ c.args.event.now c.args.drive _ c.requires.own off.0 off.1 }
+
+pub operate_on-requires-clause-station : goal.operate_on-requires-clause-station
+operate_on-requires-clause-station g c κs within =
+    let bay = read_bay (world_of c.args.parts.now) c.args.drive c.get.result _ _ _ c.args.parts.now.bays.ok.0 c.get.ensures.value c.get.ensures.least (c.in-Some.ensures.variant.0 refl) c.in-Some.ensures.value c.bay.view_is in
+    let on = online_in _ _ _ _ _ bay c.in-Some-drive.is in
+    is_station (world_of c.args.parts.now) c.args.drive _ _ _ c.requires.world on
+
+pub returns : goal.returns
+returns g c =
+    let bay = read_bay (world_of c.args.parts.now) c.args.drive c.get.result _ _ _ c.args.parts.now.bays.ok.0 c.get.ensures.value c.get.ensures.least (c.in-Some.ensures.variant.0 refl) c.in-Some.ensures.value c.bay.view_is in
+    let on = online_in _ _ _ _ _ bay c.in-Some-drive.is in
+    record { moves = moves_calmly (λ d. g.D.Driver.meaning d) (world_of c.args.parts.now) c.args.drive _ _ _ _ c.args.event.now _ _ _ _ c.requires.world on c.requires.own c.operate_on.ensures _ refl }
