@@ -8,7 +8,7 @@ use Rattle.sd_moves.proofs.HonestSteps.{moves_keep_honesty}
 use Rattle.sd_moves.proofs.MoveLeaves.{moves_keep_claims}
 use Rattle.sd_moves.proofs.Moves.{moves_keep_closed}
 use Rattle.sd_matches.specs.Matches.{Matches}
-use Rattle.sd_matches.specs.Steps.{newly_failed}
+use Rattle.sd_matches.specs.Steps.{newly_struck}
 use Rattle.sd_matches.proofs.MovesSteps.{moves_steps}
 use Rattle.sd_closed.specs.Deeds.{Deed, IsDone, LeadsTo, StaysFrom, StepsLead, LeadsJoin, LeadsKeep, LeadsRun}
 use Rattle.sd_closed.specs.Steps.{IsSound, IsStep}
@@ -104,6 +104,6 @@ leads_run meaning w w' (Deed.Answered e r ∷ ds) m sound leads pairs =
     let mid = leads.0 in
     let s = moves_steps meaning w mid e r m sound.rules leads.1.moves pairs in
     let rest = leads_run meaning mid w' ds s.0 leads.1.sound leads.2 s.2 in
-    (rest.0, (newly_failed w.sessions mid.sessions, s.0, s.1, rest.1), rest.2)
+    (rest.0, (newly_struck w.sessions mid.sessions, s.0, s.1, rest.1), rest.2)
 leads_run meaning w w' (Deed.ReadBack key spans got got' result ∷ ds) m sound leads pairs =
     leads_run meaning leads.0 w' ds m leads.1.sound leads.2 (read_matches meaning key spans got got' result w leads.0 m leads.1.reads pairs)

@@ -6,11 +6,10 @@ use Rattle.sd_machine.specs.declared.event.Event.TheVariants.{Open, Append, End,
 use Rattle.sd_machine.specs.declared.reply.Reply.{Reply}
 use Rattle.sd_machine.specs.declared.reply.Reply.TheVariants.{Refused, Opened, Taken, Ended, Closed, Cancelled, Spooled, SpoolFull, Nothing, NoSpool, Sent, LaneFull, NotDue, InHand, HandFull, Idle, Placed, NeedVolume, VolumeFull, VolumeError, Synced, Labelled, Adopted, Mounted, Unmounted, Requested, NoNeed, Retired, Media as Spans}
 use Rattle.sd_session.specs.declared.status.Status.{Status}
-use Rattle.sd_session.specs.declared.status.Status.TheVariants.{Closed as IsClosed}
-use Rattle.sd_machine.specs.Machine.{Machine, MachineSession, session_of, with_session, changed, opened, failed_status, failed_if, with_failed}
+use Rattle.sd_session.specs.declared.status.Status.TheVariants.{Closed as IsClosed, Failed as IsFailed}
+use Rattle.sd_machine.specs.Machine.{Machine, MachineSession, Strike, session_of, with_session, changed, opened, struck_with, status_after, struck, with_strikes}
 use Rattle.sd_machine.specs.Step.{Run, Turns, HasSession, Step}
 use Rattle.sd_machine.specs.Kept.{ClosedKeepTheirRecords, ClosedKeepTheirStatus}
-use Rattle.std.specs.List.{list_any}
 use Rattle.sd_machine.proofs.Lookups.{chosen, not_closed}
 
 -- Lists of sessions.
@@ -42,41 +41,37 @@ session_of-more ticket (y ∷ ss) more s at =
       | false ↦ λ later. session_of-more ticket ss more s later
     ]) at
 
--- a closed session can't fail
-not_failed : (s : MachineSession) → s.status ≡ IsClosed → record s { status = failed_status s.status } ≡ s
-not_failed s closed = ap (λ (status : Status). record s { status = status }) (ap failed_status closed ∙ sym closed)
+-- no strike hits a closed session
+struck_closed : (status : Status) → struck_with status IsClosed ≡ IsClosed
+struck_closed IsFailed = refl
+struck_closed status = refl
 
-pub failed_if-key : (failing : List ℕ) (s : MachineSession) → (failed_if failing s).key ≡ s.key
-failed_if-key failing s =
-    elim (list_any (λ ticket. ticket == s.key.id) failing) as (λ b. (cond b (record s { status = failed_status s.status }) s).key ≡ s.key) [
-      | true ↦ refl
-      | false ↦ refl
-    ]
+closed_after : (strikes : List Strike) (ticket : ℕ) → status_after strikes ticket IsClosed ≡ IsClosed
+closed_after [] ticket = refl
+closed_after (x ∷ xs) ticket = ap (status_after xs ticket) (elim (x.ticket == ticket) as (λ b. cond b (struck_with x.status IsClosed) IsClosed ≡ IsClosed) [
+  | true ↦ struck_closed x.status
+  | false ↦ refl
+]) ∙ closed_after xs ticket
 
-failed_if-closed : (failing : List ℕ) (s : MachineSession) → s.status ≡ IsClosed → failed_if failing s ≡ s
-failed_if-closed failing s closed =
-    elim (list_any (λ ticket. ticket == s.key.id) failing) as (λ b. cond b (record s { status = failed_status s.status }) s ≡ s) [
-      | true ↦ not_failed s closed
-      | false ↦ refl
-    ]
+struck-closed : (strikes : List Strike) (s : MachineSession) → s.status ≡ IsClosed → struck strikes s ≡ s
+struck-closed strikes s closed =
+    ap (λ (status : Status). record s { status = status }) (ap (status_after strikes s.key.id) closed ∙ closed_after strikes s.key.id ∙ sym closed)
 
--- the session that was found, failed where it is among these
-abbrev option_failed : List ℕ → Option MachineSession → Option MachineSession
-option_failed failing None = None
-option_failed failing (Some s) = Some (failed_if failing s)
+-- the session that was found, struck where it is among these
+abbrev option_struck : List Strike → Option MachineSession → Option MachineSession
+option_struck strikes None = None
+option_struck strikes (Some s) = Some (struck strikes s)
 
--- who is found among the sessions is found among them once some have failed
-pub session_of-failed : (failing : List ℕ) (ticket : ℕ) (ss : List MachineSession) (s : MachineSession)
-    → session_of ticket ss ≡ Some s → session_of ticket (map (failed_if failing) ss) ≡ Some (failed_if failing s)
-session_of-failed failing ticket [] s at = absurd (cc at)
-session_of-failed failing ticket (y ∷ ss) s at =
-    subst (λ (id : ℕ). cond (id == ticket) (Some (failed_if failing y)) (session_of ticket (map (failed_if failing) ss)) ≡ Some (failed_if failing s))
-    (sym (ap (λ (k : SessionKey). k.id) (failed_if-key failing y)))
-    ((elim (y.key.id == ticket) as (λ b. cond b (Some y) (session_of ticket ss) ≡ Some s
-    → cond b (Some (failed_if failing y)) (session_of ticket (map (failed_if failing) ss)) ≡ Some (failed_if failing s)) [
-      | true ↦ λ same. ap (option_failed failing) same
-      | false ↦ λ later. session_of-failed failing ticket ss s later
-    ]) at)
+-- who is found among the sessions is found among them once some were struck
+pub session_of-struck : (strikes : List Strike) (ticket : ℕ) (ss : List MachineSession) (s : MachineSession)
+    → session_of ticket ss ≡ Some s → session_of ticket (map (struck strikes) ss) ≡ Some (struck strikes s)
+session_of-struck strikes ticket [] s at = absurd (cc at)
+session_of-struck strikes ticket (y ∷ ss) s at =
+    (elim (y.key.id == ticket) as (λ b. cond b (Some y) (session_of ticket ss) ≡ Some s
+    → cond b (Some (struck strikes y)) (session_of ticket (map (struck strikes) ss)) ≡ Some (struck strikes s)) [
+      | true ↦ λ same. ap (option_struck strikes) same
+      | false ↦ λ later. session_of-struck strikes ticket ss s later
+    ]) at
 
 -- each closed session of the one machine is in the other as it was
 abbrev KeepsClosed : Machine → Machine → Type 0
@@ -137,14 +132,14 @@ turn_keeps old new (Retire drive) Retired turns = stays old new turns
 turn_keeps old new (Media ticket) (Spans spans) turns = stays old new turns.1
 turn_keeps old new event reply turns = absurd turns
 
-failed_keeps : (failing : List ℕ) (m : Machine) → KeepsClosed m (with_failed failing m)
-failed_keeps failing m ticket s at closed = session_of-failed failing ticket m.sessions s at ∙ ap Some (failed_if-closed failing s closed)
+strikes_keep : (strikes : List Strike) (m : Machine) → KeepsClosed m (with_strikes strikes m)
+strikes_keep strikes m ticket s at closed = session_of-struck strikes ticket m.sessions s at ∙ ap Some (struck-closed strikes s closed)
 
--- a step keeps each closed session as it is, whichever sessions fail
-pub step_keeps : (failing : List ℕ) (old new : Machine) (event : Event) (reply : Reply) → Step failing old event reply new → KeepsClosed old new
-step_keeps failing old new event reply step ticket s at closed =
-    stays (with_failed failing step.between) new step.new_is ticket s
-    (failed_keeps failing step.between ticket s (turn_keeps old step.between event reply step.turns ticket s at closed) closed) closed
+-- a step keeps each closed session as it is, whichever sessions are struck
+pub step_keeps : (strikes : List Strike) (old new : Machine) (event : Event) (reply : Reply) → Step strikes old event reply new → KeepsClosed old new
+step_keeps strikes old new event reply step ticket s at closed =
+    stays (with_strikes strikes step.between) new step.new_is ticket s
+    (strikes_keep strikes step.between ticket s (turn_keeps old step.between event reply step.turns ticket s at closed) closed) closed
 
 run_keeps : (m m' : Machine) (events : List Event) (replies : List Reply) → Run m events replies m' → KeepsClosed m m'
 run_keeps m m' [] [] run = stays m m' run

@@ -1,6 +1,5 @@
 -- The list machine: sessions that only append to their own lists. It has no blocks, volumes, drives or queues.
 use Rattle.std.specs.Prelude.{ℕ, ◌+◌, ◌==◌, if◌then◌else◌, Option, Some, None, List, [], ◌∷◌, ◌++◌, map}
-use Rattle.std.specs.List.{list_any}
 use Rattle.sd_base.specs.Record.{Record}
 use Rattle.sd_base.specs.declared.number.SessionKey.{SessionKey}
 use Rattle.sd_session.specs.declared.status.Status.{Status}
@@ -59,10 +58,29 @@ failed_status Closed = Closed
 failed_status Cancelled = Cancelled
 failed_status Failed = Failed
 
--- the session, failed where these tickets have its own
-abbrev pub failed_if : List ℕ → MachineSession → MachineSession
-failed_if failing s = if list_any (λ ticket. ticket == s.key.id) failing then record s { status = failed_status s.status } else s
+-- a session that an event strikes beside its own: its ticket, and the status with which it is struck
+pub record Strike : Type 0 where
+  pub ticket : ℕ
+  pub status : Status
 
--- the machine with the sessions of these tickets failed
-abbrev pub with_failed : List ℕ → Machine → Machine
-with_failed failing m = record m { sessions = map (failed_if failing) m.sessions }
+-- the session of this ticket fails
+abbrev pub failure : ℕ → Strike
+failure ticket = record { ticket = ticket; status = Failed }
+
+-- the status of a session that is struck with the first, and had the second; no event strikes with another than Failed
+abbrev pub struck_with : Status → Status → Status
+struck_with Failed status = failed_status status
+struck_with other status = status
+
+-- the status of the session of a ticket after these strikes
+abbrev pub status_after : List Strike → ℕ → Status → Status
+status_after [] ticket status = status
+status_after (x ∷ xs) ticket status = status_after xs ticket (if x.ticket == ticket then struck_with x.status status else status)
+
+-- the session after these strikes
+abbrev pub struck : List Strike → MachineSession → MachineSession
+struck strikes s = record s { status = status_after strikes s.key.id s.status }
+
+-- the machine after them
+abbrev pub with_strikes : List Strike → Machine → Machine
+with_strikes strikes m = record m { sessions = map (struck strikes) m.sessions }

@@ -12,7 +12,7 @@ use Rattle.sd_machine.specs.declared.reply.Reply.TheVariants.{Refused, Opened, T
 use Rattle.sd_session.specs.declared.status.Status.{Status}
 use Rattle.sd_session.specs.declared.status.Status.TheVariants.{Active as IsActive, Ended as IsEnded, Closed as IsClosed, Cancelled as IsCancelled}
 use Rattle.sd_session.specs.Session.{IsRunning, MayTake, status_refusal}
-use Rattle.sd_machine.specs.Machine.{Machine, MachineSession, session_of, changed, opened, last_index, with_failed}
+use Rattle.sd_machine.specs.Machine.{Machine, MachineSession, Strike, session_of, changed, opened, last_index, failure, with_strikes}
 
 -- the ticket's session is this one
 abbrev pub HasSession : Machine → ℕ → MachineSession → Type 0
@@ -133,7 +133,7 @@ abbrev pub ChangesStatus : (Status → Type 0) → Machine → ℕ → Status �
 ChangesStatus allowed old ticket status new =
     (s : MachineSession) × HasSession old ticket s × allowed s.status × (new ≡ changed old (record s { status = status }))
 
--- From `old` the machine may give this reply to the event and go on to `new`, no session failing.
+-- From `old` the machine may give this reply to the event and go on to `new`, no session being struck.
 -- There is nothing for any other pair of event and reply.
 abbrev pub Turns : Machine → Event → Reply → Machine → Type 0
 Turns old event (Refused why) new = MayRefuse old event why × Stays old new
@@ -175,28 +175,28 @@ Turns old (Retire drive) Retired new = Stays old new
 Turns old (Media ticket) (Spans spans) new = ((s : MachineSession) × HasSession old ticket s) × Stays old new
 Turns old event reply new = ⊥
 
--- each of the tickets is of a session that goes on
-abbrev pub AreRunning : Machine → List ℕ → Type 0
-AreRunning m [] = Unit {0}
-AreRunning m (t ∷ ts) = ((s : MachineSession) × HasSession m t s × IsRunning s.status) × AreRunning m ts
+-- each of the strikes is the failure of a session that goes on
+abbrev pub AreFailures : Machine → List Strike → Type 0
+AreFailures m [] = Unit {0}
+AreFailures m (x ∷ xs) = ((x ≡ failure x.ticket) × (s : MachineSession) × HasSession m x.ticket s × IsRunning s.status) × AreFailures m xs
 
--- Which sessions a step may make failed: the one whose own spool failed; where a device failed to sync, any
--- that go on; else none.
-abbrev pub MayFail : Machine → Event → Reply → List ℕ → Type 0
-MayFail m (Spool ticket) (Refused SpoolFault) failing = failing ≡ ticket ∷ []
-MayFail m (Despool ticket) (Refused SpoolFault) failing = failing ≡ ticket ∷ []
-MayFail m (Sync drive) (Refused DeviceFault) failing = AreRunning m failing
-MayFail m (Mount drive name) (Refused DeviceFault) failing = AreRunning m failing
-MayFail m (Unmount drive) (Refused DeviceFault) failing = AreRunning m failing
-MayFail m (Seek drive) (Refused DeviceFault) failing = AreRunning m failing
-MayFail m event reply failing = failing ≡ []
+-- Which sessions a step may strike, and with what: the one whose own spool failed fails; where a device failed to sync,
+-- any may that go on; else none.
+abbrev pub MayStrike : Machine → Event → Reply → List Strike → Type 0
+MayStrike m (Spool ticket) (Refused SpoolFault) strikes = strikes ≡ failure ticket ∷ []
+MayStrike m (Despool ticket) (Refused SpoolFault) strikes = strikes ≡ failure ticket ∷ []
+MayStrike m (Sync drive) (Refused DeviceFault) strikes = AreFailures m strikes
+MayStrike m (Mount drive name) (Refused DeviceFault) strikes = AreFailures m strikes
+MayStrike m (Unmount drive) (Refused DeviceFault) strikes = AreFailures m strikes
+MayStrike m (Seek drive) (Refused DeviceFault) strikes = AreFailures m strikes
+MayStrike m event reply strikes = strikes ≡ []
 
--- a step, in which these sessions fail
-pub record Step (failing : List ℕ) (old : Machine) (event : Event) (reply : Reply) (new : Machine) : Type 0 where
+-- a step, in which these sessions are struck
+pub record Step (strikes : List Strike) (old : Machine) (event : Event) (reply : Reply) (new : Machine) : Type 0 where
   pub between : Machine
   pub turns : Turns old event reply between
-  pub fail : MayFail old event reply failing
-  pub new_is : new ≡ with_failed failing between
+  pub strike : MayStrike old event reply strikes
+  pub new_is : new ≡ with_strikes strikes between
 
 -- a run: a step for each event, with its reply
 abbrev pub Run : Machine → List Event → List Reply → Machine → Type 0
@@ -204,4 +204,4 @@ Run old [] [] new = new ≡ old
 Run old [] (reply ∷ replies) new = ⊥
 Run old (event ∷ events) [] new = ⊥
 Run old (event ∷ events) (reply ∷ replies) new =
-    (failing : List ℕ) × (between : Machine) × Step failing old event reply between × Run between events replies new
+    (strikes : List Strike) × (between : Machine) × Step strikes old event reply between × Run between events replies new

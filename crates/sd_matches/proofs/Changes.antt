@@ -7,7 +7,7 @@ use Rattle.sd_base.specs.declared.number.SessionKey.{SessionKey}
 use Rattle.sd_driver.specs.Meaning.{Meaning}
 use Rattle.sd_label.specs.Cutting.{Between, AtEnd, total_bytes}
 use Rattle.sd_machine.specs.Machine.{Machine, MachineSession, last_index, changed}
-use Rattle.sd_machine.specs.Step.{SessionMayTake, Turns, MayFail}
+use Rattle.sd_machine.specs.Step.{SessionMayTake, Turns, MayStrike}
 use Rattle.sd_machine.specs.declared.event.Event.{Event}
 use Rattle.sd_machine.specs.declared.reply.Reply.{Reply}
 use Rattle.sd_pack.specs.Body.{PackedBody}
@@ -21,7 +21,7 @@ use Rattle.sd_moves.specs.World.{WorldView, WorldSession, HasTicket, with_sessio
 use Rattle.sd_moves.proofs.Lookups.{session_id}
 use Rattle.sd_moves.specs.Honest.{StoreIsTrue}
 use Rattle.sd_matches.specs.Matches.{sent_to, bodies_with, HasBodies, BeginsPacked, SessionMatches, Matches, IsOutstanding}
-use Rattle.sd_matches.specs.Steps.{StepsTo, is_failed, newly_failed}
+use Rattle.sd_matches.specs.Steps.{StepsTo, is_failed, newly_struck}
 use Rattle.sd_matches.proofs.Failing.{steps, none_unless}
 use Rattle.sd_matches.proofs.Frames.{HonestBack, online_back, frame_unmoved}
 use Rattle.sd_matches.proofs.Honesty.{honest_back, with_stores}
@@ -72,15 +72,15 @@ pub session_step : {D : Type 0} (meaning : D → Meaning) (old new : WorldView D
     (event : Event) (reply : Reply) → IsWorld old → Matches meaning old m → HasTicket old ticket e → SessionMatches meaning old e s
     → new ≡ session_world old e v → is_failed v.status ≡ false → (StoreIsTrue (store_of v) → StoreIsTrue (store_of e.session)) → OwnChange e v s s'
     → (s'.status ≡ IsClosed → IsOutstanding (session_world old e v) (entry_with e v) → ⊥)
-    → Turns m event reply (changed m s') → MayFail m event reply [] → StepsTo meaning m old event reply new
+    → Turns m event reply (changed m s') → MayStrike m event reply [] → StepsTo meaning m old event reply new
 session_step meaning old new m ticket e v s s' event reply rules h there match is ok store c closed turns fail =
     let f = entry_with e v in
     let w' = session_world old e v in
     let id : v.key.id ≡ ticket = ap (λ (k : SessionKey). k.id) c.key_is ∙ session_id ticket old.sessions e there in
     let back : HonestBack meaning old w' = honest_back meaning old w' (with_stores old.sessions ticket e f there id refl store) in
-    let none : newly_failed old.sessions (with_session f old.sessions) ≡ [] =
+    let none : newly_struck old.sessions (with_session f old.sessions) ≡ [] =
     none_unless e f ticket old.sessions there id ok in
-    steps meaning old new m (changed m s') event reply (ap (λ w. newly_failed old.sessions w.sessions) is ∙ none) turns fail
+    steps meaning old new m (changed m s') event reply (ap (λ w. newly_struck old.sessions w.sessions) is ∙ none) turns fail
     (subst (λ w. Matches meaning w (changed m s')) (sym is)
     (one_changed meaning old w' m ticket f s' refl refl refl rules.numbers id (own_changed meaning old ticket e v s s' there back c closed match)
     (λ x n. frame_unmoved meaning old w' x refl back) h))

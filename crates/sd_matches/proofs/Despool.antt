@@ -24,7 +24,7 @@ use Rattle.sd_moves.specs.World.{WorldView, WorldSession, BayView, IsOnline, wit
 use Rattle.sd_moves.proofs.Lookups.{set_same}
 use Rattle.sd_moves.specs.Honest.{StoreIsTrue}
 use Rattle.sd_matches.specs.Matches.{HasBodies, SessionMatches, Matches, IsHonestAt, IsOnTheWay, body_of_piece, bodies_with, bodies_in, sent_to, queued_bodies}
-use Rattle.sd_matches.specs.Steps.{StepsTo, newly_failed}
+use Rattle.sd_matches.specs.Steps.{StepsTo, newly_struck}
 use Rattle.sd_matches.proofs.Bodies.{bodies_with_own, bodies_with_other, sent_behind, bodies_queued}
 use Rattle.sd_matches.proofs.Changes.{entry_with, session_world, MovesBodies, running_bodies, running_unfailed, spool_is_honest}
 use Rattle.sd_matches.proofs.Failing.{steps, none_unless}
@@ -184,7 +184,7 @@ despool_sent {D} meaning old new m ticket rules h moves =
     (sends.bodies (spool_is_honest e.session (honest.sessions ticket e moves.has moves.online.number)))) f.matches in
     let same : changed m s ≡ m = ap (λ ss. record m { sessions = ss }) (put_same ticket m.sessions s f.there (ap (λ (k : SessionKey). k.id) f.matches.key_is ∙ f.id_is)) in
     steps meaning old new m m (Despool ticket) Sent
-    (ap (λ w. newly_failed old.sessions w.sessions) moves.new_is
+    (ap (λ w. newly_struck old.sessions w.sessions) moves.new_is
     ∙ none_unless e (entry_with e v) ticket old.sessions moves.has id (running_unfailed v.status (subst IsRunning (sym moved.status_is) sends.running)))
     (s, f.there, subst IsRunning (sym f.matches.status_is) sends.running, refl) refl
     (subst (λ w. Matches meaning w m) (sym moves.new_is)
@@ -206,5 +206,5 @@ despool_steps meaning old new ticket Nothing m rules moves h = despool_nothing m
 despool_steps meaning old new ticket NotDue m rules moves h = despool_not_due meaning old new m ticket rules h moves
 despool_steps meaning old new ticket (Refused why) m rules moves h =
     refused_with meaning old new m ticket why (Despool ticket) (λ s t. DespoolRefused s why t) rules h moves (despool_causes why)
-    (λ r may. may) (λ failing is. is) refl refl refl refl
+    (λ r may. may) (λ strikes is. is) refl refl refl refl
 despool_steps meaning old new ticket reply m rules moves h = absurd moves

@@ -8,8 +8,8 @@ use Rattle.sd_drive.specs.View.{DriveIs}
 use Rattle.sd_journal.specs.declared.mark.Mark.TheVariants.{Lost}
 use Rattle.sd_lane.specs.Queue.{LanesView}
 use Rattle.sd_lane.specs.declared.piece.Piece.{Piece}
-use Rattle.sd_machine.specs.Machine.{Machine}
-use Rattle.sd_machine.specs.Step.{Turns, MayFail, MayRefuse, NoDrive, AreRunning}
+use Rattle.sd_machine.specs.Machine.{Machine, Strike}
+use Rattle.sd_machine.specs.Step.{Turns, MayStrike, MayRefuse, NoDrive, AreFailures}
 use Rattle.sd_machine.specs.declared.event.Event.{Event}
 use Rattle.sd_machine.specs.declared.event.Event.TheVariants.{Take, Place, Sync, Label, Adopt, Mount, Unmount, Seek, Retire}
 use Rattle.sd_machine.specs.declared.reply.Reply.{Reply}
@@ -26,7 +26,7 @@ use Rattle.sd_moves.proofs.StationShapes as place
 use Rattle.sd_moves.proofs.StationShapes.{JournalGoes, StationShape, station_shape}
 use Rattle.sd_moves.proofs.Views.{running_is}
 use Rattle.sd_matches.specs.Matches.{Matches, IsOutstanding, body_of_piece, bodies_with, queued_bodies}
-use Rattle.sd_matches.specs.Steps.{StepsTo, newly_failed}
+use Rattle.sd_matches.specs.Steps.{StepsTo, newly_struck}
 use Rattle.sd_matches.proofs.Bodies.{sent_taken, bodies_queued}
 use Rattle.sd_matches.proofs.Drives.{Settles, settles_same, settles_settled, settles_synced, settles_placed, drive_frame, drive_step, desk_step}
 use Rattle.sd_matches.proofs.DriveTurns.{may_miss, drive_turns}
@@ -39,13 +39,13 @@ use Rattle.sd_matches.proofs.Sessions.{all_same}
 
 -- a refusal for this reason, that leaves the world as it was
 refused : {D : Type 0} (meaning : D → Meaning) (old new : WorldView D) (m : Machine) (event : Event) (why reason : Refusal) → why ≡ reason → MayRefuse m event reason
-    → MayFail m event (Refused reason) [] → Matches meaning old m → new ≡ old → StepsTo meaning m old event (Refused why) new
+    → MayStrike m event (Refused reason) [] → Matches meaning old m → new ≡ old → StepsTo meaning m old event (Refused why) new
 refused meaning old new m event why reason is cause fail h same =
     subst (λ (x : Refusal). StepsTo meaning m old event (Refused x) new) (sym is) (stays meaning old new m event (Refused reason) (cause, refl) fail h same)
 
 -- the drive isn't there, or is offline for good
 missing : {D : Type 0} (meaning : D → Meaning) (old new : WorldView D) (m : Machine) (event : Event) (drive : ℕ) (why : Refusal) → DriveMissing old drive why
-    → ((r : Refusal) → NoDrive r → MayRefuse m event r) → MayFail m event (Refused NoSuchDrive) [] → MayFail m event (Refused DriveOffline) []
+    → ((r : Refusal) → NoDrive r → MayRefuse m event r) → MayStrike m event (Refused NoSuchDrive) [] → MayStrike m event (Refused DriveOffline) []
     → Matches meaning old m → new ≡ old → StepsTo meaning m old event (Refused why) new
 missing meaning old new m event drive why none may there offline h same = elim none.2 [
   | inl c ↦ refused meaning old new m event why NoSuchDrive c.1 (may NoSuchDrive (inl refl)) there h same
@@ -55,7 +55,7 @@ missing meaning old new m event drive why none may there offline h same = elim n
 -- Take.
 
 take_step : {D : Type 0} (meaning : D → Meaning) (old new : WorldView D) (m : Machine) (event : Event) (reply : Reply) (drive ticket seq : ℕ) → TakesIn old drive ticket seq new
-    → Turns m event reply m → MayFail m event reply [] → Matches meaning old m → StepsTo meaning m old event reply new
+    → Turns m event reply m → MayStrike m event reply [] → Matches meaning old m → StepsTo meaning m old event reply new
 take_step {D} meaning old new m event reply drive ticket seq t turns fail h =
     let d = t.d in
     let d' : DriveIs D = record d { hand = Some t.piece } in
@@ -81,7 +81,7 @@ take_step {D} meaning old new m event reply drive ticket seq t turns fail h =
           ∙ none))
       | inr unsynced ↦ inr unsynced
     ]) in
-    steps meaning old new m m event reply (ap (λ w. newly_failed old.sessions w.sessions) t.new_is ∙ none_fall_stay old.sessions) turns fail
+    steps meaning old new m m event reply (ap (λ w. newly_struck old.sessions w.sessions) t.new_is ∙ none_fall_stay old.sessions) turns fail
     (subst (λ w. Matches meaning w m) (sym t.new_is) (all_same meaning old w' m refl refl refl frames h))
 
 -- A sync that fails.
@@ -104,7 +104,7 @@ fall_exactly meaning w w' loses (e ∷ es) (e' ∷ es') runs frames h =
 
 -- the sessions that lose a block fail, and the machine's with them
 pub loses_step : {D : Type 0} (meaning : D → Meaning) (old new : WorldView D) (m : Machine) (event : Event) (drive : ℕ) → IsWorld old → LosesIn meaning old drive new
-    → MayRefuse m event DeviceFault → ((failing : List ℕ) → AreRunning m failing → MayFail m event (Refused DeviceFault) failing)
+    → MayRefuse m event DeviceFault → ((strikes : List Strike) → AreFailures m strikes → MayStrike m event (Refused DeviceFault) strikes)
     → Matches meaning old m → StepsTo meaning m old event (Refused DeviceFault) new
 loses_step {D} meaning old new m event drive rules l may fail h =
     let d = l.d in
@@ -117,33 +117,33 @@ loses_step {D} meaning old new m event drive rules l may fail h =
     (fails_step meaning old w' m event (Refused DeviceFault) refl refl rules.numbers
     (fall_exactly meaning old w' loses old.sessions l.sessions
     (λ e is. running_is e.session.status (and_parts _ _ (and_parts _ _ is).1).0) frames l.fail)
-    (may, refl) (fail (newly_failed old.sessions l.sessions) (failed_went_on meaning old m l.sessions rules.numbers h)) h)
+    (may, refl) (fail (newly_struck old.sessions l.sessions) (failed_went_on meaning old m l.sessions rules.numbers h)) h)
 
 -- Every event of a drive.
 
 -- no session may fail by it
-none_may_fail : (m : Machine) (event : Event) (own : ℕ) (reply : Reply) → IsOfDrive event own → MayFail m event reply []
-none_may_fail m (Sync drive) own (Refused DeviceFault) is = tt
-none_may_fail m (Mount drive name) own (Refused DeviceFault) is = tt
-none_may_fail m (Unmount drive) own (Refused DeviceFault) is = tt
-none_may_fail m (Seek drive) own (Refused DeviceFault) is = tt
-none_may_fail m (Sync drive) own reply is = refl
-none_may_fail m (Mount drive name) own reply is = refl
-none_may_fail m (Unmount drive) own reply is = refl
-none_may_fail m (Seek drive) own reply is = refl
-none_may_fail m (Take drive) own reply is = refl
-none_may_fail m (Place drive) own reply is = refl
-none_may_fail m (Label drive name pool media moment) own reply is = refl
-none_may_fail m (Adopt drive name) own reply is = refl
-none_may_fail m event own reply is = absurd is
+may_strike_none : (m : Machine) (event : Event) (own : ℕ) (reply : Reply) → IsOfDrive event own → MayStrike m event reply []
+may_strike_none m (Sync drive) own (Refused DeviceFault) is = tt
+may_strike_none m (Mount drive name) own (Refused DeviceFault) is = tt
+may_strike_none m (Unmount drive) own (Refused DeviceFault) is = tt
+may_strike_none m (Seek drive) own (Refused DeviceFault) is = tt
+may_strike_none m (Sync drive) own reply is = refl
+may_strike_none m (Mount drive name) own reply is = refl
+may_strike_none m (Unmount drive) own reply is = refl
+may_strike_none m (Seek drive) own reply is = refl
+may_strike_none m (Take drive) own reply is = refl
+may_strike_none m (Place drive) own reply is = refl
+may_strike_none m (Label drive name pool media moment) own reply is = refl
+may_strike_none m (Adopt drive name) own reply is = refl
+may_strike_none m event own reply is = absurd is
 
 -- or any that go on, where a sync failed
-sync_may_fail : (m : Machine) (event : Event) (own : ℕ) (failing : List ℕ) → IsOfSync event own → AreRunning m failing → MayFail m event (Refused DeviceFault) failing
-sync_may_fail m (Sync drive) own failing is are = are
-sync_may_fail m (Mount drive name) own failing is are = are
-sync_may_fail m (Unmount drive) own failing is are = are
-sync_may_fail m (Seek drive) own failing is are = are
-sync_may_fail m event own failing is are = absurd is
+sync_may_strike : (m : Machine) (event : Event) (own : ℕ) (strikes : List Strike) → IsOfSync event own → AreFailures m strikes → MayStrike m event (Refused DeviceFault) strikes
+sync_may_strike m (Sync drive) own strikes is are = are
+sync_may_strike m (Mount drive name) own strikes is are = are
+sync_may_strike m (Unmount drive) own strikes is are = are
+sync_may_strike m (Seek drive) own strikes is are = are
+sync_may_strike m event own strikes is are = absurd is
 
 -- what becomes of a journal and a hand settles what wasn't settled
 journal_settles : {D : Type 0} (d after : DriveIs D) → JournalGoes d after → Settles d after
@@ -153,7 +153,7 @@ journal_settles d after (inr (piece, p, in_hand, own, journal, none)) = settles_
 
 at_station : {D : Type 0} (meaning : D → Meaning) (old new : WorldView D) (drive : ℕ) (event : Event) (reply : Reply) (m : Machine) → IsWorld old
     → (a : AtDrive meaning old drive event reply new) → StationShape meaning drive event reply (station a) a.outcome
-    → Turns m event reply m → MayFail m event reply [] → Matches meaning old m → StepsTo meaning m old event reply new
+    → Turns m event reply m → MayStrike m event reply [] → Matches meaning old m → StepsTo meaning m old event reply new
 at_station meaning old new drive event reply m rules a (place.rests is) turns fail h = stays meaning old new m event reply turns fail h (stays_all a is)
 at_station meaning old new drive event reply m rules a (place.takes ticket seq t) turns fail h =
     take_step meaning old new m event reply drive ticket seq (takes_in a ticket seq t) turns fail h
@@ -164,7 +164,7 @@ at_station meaning old new drive event reply m rules a (place.gets g) turns fail
 at_station meaning old new drive event reply m rules a (place.loses of_sync fault l) turns fail h =
     let may = subst (λ r. Turns m event r m) fault turns in
     subst (λ r. StepsTo meaning m old event r new) (sym fault)
-    (loses_step meaning old new m event drive rules (loses_in a l) may.0 (λ failing are. sync_may_fail m event drive failing of_sync are) h)
+    (loses_step meaning old new m event drive rules (loses_in a l) may.0 (λ strikes are. sync_may_strike m event drive strikes of_sync are) h)
 at_station meaning old new drive event reply m rules a (place.knows claims is) turns fail h =
     desk_step meaning old new m event reply a.outcome.desk turns fail h (stays_knowing a is)
 
@@ -173,10 +173,10 @@ pub drive_steps : {D : Type 0} (meaning : D → Meaning) (old new : WorldView D)
 drive_steps meaning old new drive event reply m rules own (inl none) h =
     subst (λ r. StepsTo meaning m old event r new) (sym none.1)
     (missing meaning old new m event drive none.0 none.2 (λ r no. may_miss m event drive r own no)
-    (none_may_fail m event drive (Refused NoSuchDrive) own) (none_may_fail m event drive (Refused DriveOffline) own) h none.3)
+    (may_strike_none m event drive (Refused NoSuchDrive) own) (may_strike_none m event drive (Refused DriveOffline) own) h none.3)
 drive_steps meaning old new drive event reply m rules own (inr a) h =
     at_station meaning old new drive event reply m rules a (station_shape meaning drive event reply (station a) a.outcome own a.moves)
-    (drive_turns meaning m drive event reply (station a) a.outcome a.moves) (none_may_fail m event drive reply own) h
+    (drive_turns meaning m drive event reply (station a) a.outcome a.moves) (may_strike_none m event drive reply own) h
 
 -- Retire.
 
@@ -210,7 +210,7 @@ pub retire_steps : {D : Type 0} (meaning : D → Meaning) (old new : WorldView D
 retire_steps {D} meaning old new drive Retired m rules moves h =
     let gone : BayView D = record moves.bay { drive = None } in
     let w' = with_bay moves.at gone old in
-    steps meaning old new m m (Retire drive) Retired (ap (λ w. newly_failed old.sessions w.sessions) moves.new_is ∙ none_fall_stay old.sessions) refl refl
+    steps meaning old new m m (Retire drive) Retired (ap (λ w. newly_struck old.sessions w.sessions) moves.new_is ∙ none_fall_stay old.sessions) refl refl
     (subst (λ w. Matches meaning w m) (sym moves.new_is) (all_same meaning old w' m refl refl refl (retired_frame meaning old moves.at gone refl) h))
 retire_steps meaning old new drive (Refused why) m rules (same, inl none) h = missing meaning old new m (Retire drive) drive why none (λ r no. inl no) refl refl h same
 retire_steps meaning old new drive (Refused why) m rules (same, inr used) h = stays meaning old new m (Retire drive) (Refused why) (inr used.0, refl) refl h same

@@ -16,14 +16,14 @@ use Rattle.sd_journal.specs.declared.mark.Mark.TheVariants.{Unsynced, Synced, Lo
 use Rattle.sd_lane.specs.Queue.{LanesView}
 use Rattle.sd_lane.specs.declared.piece.Piece.{Piece}
 use Rattle.sd_machine.specs.Machine.{Machine}
-use Rattle.sd_machine.specs.Step.{Turns, MayFail}
+use Rattle.sd_machine.specs.Step.{Turns, MayStrike}
 use Rattle.sd_machine.specs.declared.event.Event.{Event}
 use Rattle.sd_machine.specs.declared.reply.Reply.{Reply}
 use Rattle.sd_span.specs.declared.placement.Placement.{Placement}
 use Rattle.sd_moves.specs.World.{WorldView, WorldSession, BayView, IsOnline}
 use Rattle.sd_moves.proofs.Framed.{with_desk}
 use Rattle.sd_matches.specs.Matches.{Matches, IsOnTheWay, IsUnsynced, body_of_piece, bodies_with, queued_bodies}
-use Rattle.sd_matches.specs.Steps.{StepsTo, newly_failed}
+use Rattle.sd_matches.specs.Steps.{StepsTo, newly_struck}
 use Rattle.sd_matches.proofs.Bodies.{given_kept}
 use Rattle.sd_matches.proofs.Failing.{steps, none_fall_stay}
 use Rattle.sd_matches.proofs.Frames.{Framed, frame_in_bay, frame_unmoved, IsUnsettled}
@@ -151,18 +151,18 @@ drive_frame {D} meaning w w' drive at bay d after on bays stores keeps settles x
 -- A drive changes, and perhaps the desk: the machine stays.
 pub drive_step : {D : Type 0} (meaning : D → Meaning) (old new : WorldView D) (m : Machine) (event : Event) (reply : Reply) (drive at : ℕ) (bay : BayView D) (d after : DriveIs D) (desk : _)
     → IsOnline old drive at bay d → KeepsPieces (meaning d.device) (meaning after.device) d.journal after.journal d.hand after.hand → Settles d after
-    → Turns m event reply m → MayFail m event reply [] → Matches meaning old m → new ≡ with_desk at bay after desk old → StepsTo meaning m old event reply new
+    → Turns m event reply m → MayStrike m event reply [] → Matches meaning old m → new ≡ with_desk at bay after desk old → StepsTo meaning m old event reply new
 drive_step meaning old new m event reply drive at bay d after desk on keeps settles turns fail h is =
-    steps meaning old new m m event reply (ap (λ w. newly_failed old.sessions w.sessions) is ∙ none_fall_stay old.sessions) turns fail
+    steps meaning old new m m event reply (ap (λ w. newly_struck old.sessions w.sessions) is ∙ none_fall_stay old.sessions) turns fail
     (subst (λ w. Matches meaning w m) (sym is)
     (all_same meaning old (with_desk at bay after desk old) m refl refl refl
     (drive_frame meaning old (with_desk at bay after desk old) drive at bay d after on refl (λ place honest. honest) keeps settles) h))
 
 -- Only the desk changes: the machine stays.
 pub desk_step : {D : Type 0} (meaning : D → Meaning) (old new : WorldView D) (m : Machine) (event : Event) (reply : Reply) (desk : _)
-    → Turns m event reply m → MayFail m event reply [] → Matches meaning old m → new ≡ record old { desk = desk } → StepsTo meaning m old event reply new
+    → Turns m event reply m → MayStrike m event reply [] → Matches meaning old m → new ≡ record old { desk = desk } → StepsTo meaning m old event reply new
 desk_step {D} meaning old new m event reply desk turns fail h is =
     let w' : WorldView D = record old { desk = desk } in
-    steps meaning old new m m event reply (ap (λ w. newly_failed old.sessions w.sessions) is ∙ none_fall_stay old.sessions) turns fail
+    steps meaning old new m m event reply (ap (λ w. newly_struck old.sessions w.sessions) is ∙ none_fall_stay old.sessions) turns fail
     (subst (λ w. Matches meaning w m) (sym is)
     (all_same meaning old w' m refl refl refl (λ x. frame_unmoved meaning old w' x refl (honest_back meaning old w' (λ place honest. honest))) h))

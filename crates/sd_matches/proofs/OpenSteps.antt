@@ -30,7 +30,7 @@ use Rattle.sd_moves.proofs.Items.{is_key_other, of_opened-front}
 use Rattle.sd_moves.proofs.Lookups.{session_at-front, session_at-behind, get_set-same, get_set-other}
 use Rattle.sd_moves.specs.Honest.{StoreIsTrue}
 use Rattle.sd_matches.specs.Matches.{Matches, SessionMatches, IsHonestAt, sent_bodies, sent_to, queued_bodies, bodies_with}
-use Rattle.sd_matches.specs.Steps.{StepsTo, newly_failed}
+use Rattle.sd_matches.specs.Steps.{StepsTo, newly_struck}
 use Rattle.sd_matches.proofs.Bodies.{bodies_with-append, bodies_queued}
 use Rattle.sd_matches.proofs.Failing.{steps, stays}
 use Rattle.sd_matches.proofs.Frames.{Framed, BayChange, online_after, frame_in_bay}
@@ -138,7 +138,7 @@ open_opened {D} meaning old new job pool media moment ticket drive m rules o h =
       closed = λ closed out. cc closed;
     } in
     steps meaning old new m (opened m) (Open job pool media moment) (Opened ticket drive)
-    (ap (λ w. newly_failed old.sessions w.sessions) o.new_is ∙ taken_none_fall o.lane old.sessions o.store o.sessions (f ∷ []) o.takes)
+    (ap (λ w. newly_struck old.sessions w.sessions) o.new_is ∙ taken_none_fall o.lane old.sessions o.store o.sessions (f ∷ []) o.takes)
     (subst (λ n. n ≤ most_number) (sym h.next_is) o.number_left, o.ticket_is ∙ sym h.next_is, refl) refl
     (subst (λ w. Matches meaning w (opened m)) (sym o.new_is) (record {
       time_is = h.time_is;
@@ -191,7 +191,7 @@ opens_not {D} meaning old new job pool media moment why m rules low o h =
       ]),
     ) in
     steps meaning old new m m (Open job pool media moment) (Refused why)
-    (ap (λ w. newly_failed old.sessions w.sessions) o.leaves.new_is ∙ ap (newly_failed old.sessions) (sym (append-nil es')) ∙ taken_none_fall o.lane old.sessions o.before es' [] takes)
+    (ap (λ w. newly_struck old.sessions w.sessions) o.leaves.new_is ∙ ap (newly_struck old.sessions) (sym (append-nil es')) ∙ taken_none_fall o.lane old.sessions o.before es' [] takes)
     (may, refl) refl
     (subst (λ w. Matches meaning w m) (sym o.leaves.new_is) (record {
       time_is = h.time_is;

@@ -7,8 +7,8 @@ use Rattle.sd_base.specs.declared.refusal.Refusal.{Refusal}
 use Rattle.sd_base.specs.declared.refusal.Refusal.TheVariants.{SessionNotOpen, SessionCancelled, SessionFailed, SpoolFault, Memory}
 use Rattle.sd_driver.specs.Meaning.{Meaning}
 use Rattle.sd_machine.proofs.Lookups.{chosen, not_closed}
-use Rattle.sd_machine.specs.Machine.{Machine, MachineSession, session_of, changed}
-use Rattle.sd_machine.specs.Step.{Turns, MayFail, MayRefuse, MayRefuseSpool, StatusRefused, HasSession}
+use Rattle.sd_machine.specs.Machine.{Machine, MachineSession, Strike, failure, session_of, changed}
+use Rattle.sd_machine.specs.Step.{Turns, MayStrike, MayRefuse, MayRefuseSpool, StatusRefused, HasSession}
 use Rattle.sd_machine.specs.declared.event.Event.{Event}
 use Rattle.sd_machine.specs.declared.event.Event.TheVariants.{Append, End, Cancel, Spool, Media}
 use Rattle.sd_machine.specs.declared.reply.Reply.{Reply}
@@ -26,7 +26,7 @@ use Rattle.sd_moves.specs.Sessions.{TicketRefused, ChangesSession, RefusedWith, 
 use Rattle.sd_moves.specs.World.{WorldView, WorldSession, HasTicket, session_at, with_session}
 use Rattle.sd_moves.specs.Honest.{StoreIsTrue}
 use Rattle.sd_matches.specs.Matches.{SessionMatches, Matches}
-use Rattle.sd_matches.specs.Steps.{StepsTo, is_failed, newly_failed}
+use Rattle.sd_matches.specs.Steps.{StepsTo, is_failed, newly_struck}
 use Rattle.sd_matches.proofs.Changes.{entry_with, session_world, session_step, machine_may_take, world_may_take, takes_record, ends_session, cancels_session, MovesBodies, parts_moved, spool_is_honest, running_unfailed}
 use Rattle.sd_matches.proofs.Failing.{drops_falls, stays, fails_step, Falls, FallOrStay, falls_is, fall_with, all_stay}
 use Rattle.sd_matches.proofs.Frames.{Framed, HonestBack, frame_unmoved}
@@ -188,7 +188,7 @@ media_steps meaning old new ticket reply m rules moves h = absurd moves
 pub parts_step : {D : Type 0} (meaning : D → Meaning) (old new : WorldView D) (m : Machine) (ticket : ℕ) (e : WorldSession) (v : SessionView) (event : Event) (reply : Reply)
     → IsWorld old → Matches meaning old m → HasTicket old ticket e → new ≡ session_world old e v → MovesBodies e.session v → IsRunning e.session.status
     → (StoreIsTrue (store_of v) → StoreIsTrue (store_of e.session)) → (StoreIsTrue (store_of e.session) → parts_of v ≡ parts_of e.session)
-    → ((s : MachineSession) → HasSession m ticket s → IsRunning s.status → Turns m event reply m) → MayFail m event reply [] → StepsTo meaning m old event reply new
+    → ((s : MachineSession) → HasSession m ticket s → IsRunning s.status → Turns m event reply m) → MayStrike m event reply [] → StepsTo meaning m old event reply new
 parts_step meaning old new m ticket e v event reply rules h there is moves running store parts turns fail =
     let f = found meaning old m ticket e h there in
     let s = f.session in
@@ -218,7 +218,7 @@ same_bodies old new is = subst (MovesBodies old) (sym is) (record { key_is = ref
 -- a session that goes on and stays
 pub session_stays : {D : Type 0} (meaning : D → Meaning) (old new : WorldView D) (m : Machine) (ticket : ℕ) (e : WorldSession) (v : SessionView) (event : Event) (reply : Reply)
     → IsWorld old → Matches meaning old m → HasTicket old ticket e → new ≡ session_world old e v → v ≡ e.session → IsRunning e.session.status
-    → ((s : MachineSession) → HasSession m ticket s → IsRunning s.status → Turns m event reply m) → MayFail m event reply [] → StepsTo meaning m old event reply new
+    → ((s : MachineSession) → HasSession m ticket s → IsRunning s.status → Turns m event reply m) → MayStrike m event reply [] → StepsTo meaning m old event reply new
 session_stays meaning old new m ticket e v event reply rules h there is same running turns fail =
     parts_step meaning old new m ticket e v event reply rules h there is (same_bodies e.session v same) running
     (subst StoreIsTrue (ap store_of same)) (λ honest. ap parts_of same) turns fail
@@ -235,7 +235,7 @@ spool_store old new job job' was is store =
 -- what one step of spooling does
 spool_moves : {D : Type 0} (meaning : D → Meaning) (old new : WorldView D) (m : Machine) (ticket : ℕ) (answer : Spooling) (event : Event) (reply : Reply)
     → IsWorld old → Matches meaning old m → ChangesSession old ticket new (Spools answer)
-    → ((s : MachineSession) → HasSession m ticket s → IsRunning s.status → Turns m event reply m) → MayFail m event reply [] → StepsTo meaning m old event reply new
+    → ((s : MachineSession) → HasSession m ticket s → IsRunning s.status → Turns m event reply m) → MayStrike m event reply [] → StepsTo meaning m old event reply new
 spool_moves meaning old new m ticket spooling.Spooled event reply rules h moves turns fail =
     let e = moves.0 in
     let v = moves.1 in
@@ -285,7 +285,7 @@ fall_with_one meaning w w' ticket time least next e f (x ∷ es) at id falls fra
 -- A fault of its spool fails the session.
 pub spool_fails : {D : Type 0} (meaning : D → Meaning) (old new : WorldView D) (m : Machine) (ticket : ℕ) (e : WorldSession) (v : SessionView) (job : JobView) (event : Event)
     → IsWorld old → Matches meaning old m → HasTicket old ticket e → new ≡ session_world old e v → e.session.spool ≡ Some job → FailsBySpool e.session job v
-    → (((s : MachineSession) → HasSession m ticket s → IsRunning s.status → MayRefuse m event SpoolFault)) → ((failing : List ℕ) → failing ≡ ticket ∷ [] → MayFail m event (Refused SpoolFault) failing)
+    → (((s : MachineSession) → HasSession m ticket s → IsRunning s.status → MayRefuse m event SpoolFault)) → ((strikes : List Strike) → strikes ≡ failure ticket ∷ [] → MayStrike m event (Refused SpoolFault) strikes)
     → StepsTo meaning m old event (Refused SpoolFault) new
 spool_fails {D} meaning old new m ticket e v job event rules h there is spool fails turns fail =
     let f = entry_with e v in
@@ -298,14 +298,14 @@ spool_fails {D} meaning old new m ticket e v job event rules h there is spool fa
     let now : IsTrue fails.state.honest = subst StoreIsTrue (ap store_of fails.drops.is) true_now in
     subst (λ o. StoreIsTrue (home_of e.session.store o)) (sym spool) (subst IsTrue fails.has_failed.honest now) in
     let back : HonestBack meaning old w' = honest_back meaning old w' (with_stores old.sessions ticket e f there id refl honest) in
-    let told : newly_failed old.sessions (with_session f old.sessions) ≡ ticket ∷ [] =
-    ap (newly_failed old.sessions) (sym (append-nil (with_session f old.sessions))) ∙ fall_with e f ticket old.sessions [] there id
-    ∙ ap (λ b. cond b (ticket ∷ []) []) (falls_is e f falls) in
+    let told : newly_struck old.sessions (with_session f old.sessions) ≡ failure ticket ∷ [] =
+    ap (newly_struck old.sessions) (sym (append-nil (with_session f old.sessions))) ∙ fall_with e f ticket old.sessions [] there id
+    ∙ ap (λ b. cond b (failure ticket ∷ []) []) (falls_is e f falls) in
     subst (λ w. StepsTo meaning m old event (Refused SpoolFault) w) (sym is)
     (fails_step meaning old w' m event (Refused SpoolFault) refl refl rules.numbers
     (fall_with_one meaning old w' ticket old.limits.time 1 old.next e f old.sessions there id falls (λ x. frame_unmoved meaning old w' x refl back) rules.numbers)
     (turns g.session g.there (subst IsRunning (sym g.matches.status_is) fails.drops.running), refl)
-    (fail (newly_failed old.sessions (with_session f old.sessions)) told) h)
+    (fail (newly_struck old.sessions (with_session f old.sessions)) told) h)
 
 -- why a step of spooling or of sending is refused: the status; a fault of the spool's store; want of memory
 abbrev pub SpoolCauses : Refusal → WorldSession → SessionView → Type 0
@@ -319,13 +319,13 @@ pub refused_with : {D : Type 0} (meaning : D → Meaning) (old new : WorldView D
     → IsWorld old → Matches meaning old m → RefusedWith old ticket why new change
     → ((e : WorldSession) (v : SessionView) → change e.session v → SpoolCauses why e v)
     → ((r : Refusal) → MayRefuseSpool m ticket r → MayRefuse m event r)
-    → ((failing : List ℕ) → failing ≡ ticket ∷ [] → MayFail m event (Refused SpoolFault) failing)
-    → MayFail m event (Refused SessionNotOpen) [] → MayFail m event (Refused SessionCancelled) [] → MayFail m event (Refused SessionFailed) [] → MayFail m event (Refused Memory) []
+    → ((strikes : List Strike) → strikes ≡ failure ticket ∷ [] → MayStrike m event (Refused SpoolFault) strikes)
+    → MayStrike m event (Refused SessionNotOpen) [] → MayStrike m event (Refused SessionCancelled) [] → MayStrike m event (Refused SessionFailed) [] → MayStrike m event (Refused Memory) []
     → StepsTo meaning m old event (Refused why) new
 refused_with meaning old new m ticket why event change rules h (inl r) cases may fault unopened cancelled failed memory =
     let refused = not_known meaning old m ticket why h r.0 r.1 in
     stays meaning old new m event (Refused why) (may why (inl refused), refl)
-    (by_status (λ x. MayFail m event (Refused x) []) m ticket why unopened cancelled failed refused) h r.2
+    (by_status (λ x. MayStrike m event (Refused x) []) m ticket why unopened cancelled failed refused) h r.2
 refused_with {D} meaning old new m ticket why event change rules h (inr r) cases may fault unopened cancelled failed memory =
     let e = r.0 in
     let v = r.1 in
@@ -334,7 +334,7 @@ refused_with {D} meaning old new m ticket why event change rules h (inr r) cases
       | inl c ↦
           let refused = not_running meaning old m ticket e why h r.2 c.0 in
           stays meaning old new m event (Refused why) (may why (inl refused), refl)
-          (by_status (λ x. MayFail m event (Refused x) []) m ticket why unopened cancelled failed refused) h (session_same old new ticket e v r.2 r.4 c.1)
+          (by_status (λ x. MayStrike m event (Refused x) []) m ticket why unopened cancelled failed refused) h (session_same old new ticket e v r.2 r.4 c.1)
       | inr (inl c) ↦
           subst (λ x. StepsTo meaning m old event (Refused x) new) (sym c.2)
           (spool_fails meaning old new m ticket e v c.0 event rules h r.2 r.4 c.1 c.3 (λ s there runs. may SpoolFault (inr (s, there, runs, inl refl))) fault)
@@ -358,5 +358,5 @@ spool_steps meaning old new ticket Nothing m rules moves h = spool_moves meaning
 spool_steps meaning old new ticket NoSpool m rules moves h = spool_moves meaning old new m ticket spooling.NoSpool (Spool ticket) NoSpool rules h moves (λ s there runs. (s, there, runs, refl)) refl
 spool_steps meaning old new ticket (Refused why) m rules moves h =
     refused_with meaning old new m ticket why (Spool ticket) (λ s t. SpoolRefused s why t) rules h moves (spool_causes why)
-    (λ r may. may) (λ failing is. is) refl refl refl refl
+    (λ r may. may) (λ strikes is. is) refl refl refl refl
 spool_steps meaning old new ticket reply m rules moves h = absurd moves

@@ -6,7 +6,7 @@ use Rattle.sd_base.specs.declared.number.SessionKey.{SessionKey}
 use Rattle.sd_driver.specs.Meaning.{Meaning, IsHonest}
 use Rattle.sd_drive.specs.View.{DriveIs}
 use Rattle.sd_label.specs.Cutting.{AtEnd}
-use Rattle.sd_machine.specs.Machine.{Machine, MachineSession, with_session as with_machine_session}
+use Rattle.sd_machine.specs.Machine.{Machine, MachineSession, failure, with_session as with_machine_session}
 use Rattle.sd_pack.specs.Body.{PackedBody}
 use Rattle.sd_pack.specs.Packing.{Packs, bodies_of}
 use Rattle.sd_session.specs.Session.{SessionView, IsRunning, GivesBack, parts_of, store_of, spooled_in}
@@ -21,7 +21,7 @@ use Rattle.sd_moves.proofs.Lookups.{one_or_two, session_id, session_at-other}
 use Rattle.sd_moves.proofs.Pairs.{is_numbered}
 use Rattle.sd_moves.specs.Honest.{StoreIsTrue}
 use Rattle.sd_matches.specs.Matches.{HasBodies, SessionMatches, SessionsMatch, Matches, IsHonestAt}
-use Rattle.sd_matches.specs.Steps.{is_failed, newly_failed}
+use Rattle.sd_matches.specs.Steps.{is_failed, newly_struck}
 use Rattle.sd_matches.proofs.Changes.{entry_with}
 use Rattle.sd_matches.proofs.Failing.{never_both, none_fall_same, fall_with}
 use Rattle.sd_matches.proofs.Frames.{Framed, same_session}
@@ -101,13 +101,13 @@ taken_match meaning old w' m lane store es' (inr t) rules frames h =
     (sessions_with meaning old w' ticket old.limits.time 1 old.next (entry_with e t.3) s old.sessions m.sessions id own (λ x n. frames x) rules.numbers h.sessions))
 
 -- none fails
-pub taken_none_fall : (lane : LaneView) (es : List WorldSession) (store : StoreState) (es' more : List WorldSession) → TakesStore lane es store es' → newly_failed es (es' ++ more) ≡ []
-taken_none_fall lane es store es' more (inl t) = ap (λ l. newly_failed es (l ++ more)) t.1 ∙ none_fall_same es more
+pub taken_none_fall : (lane : LaneView) (es : List WorldSession) (store : StoreState) (es' more : List WorldSession) → TakesStore lane es store es' → newly_struck es (es' ++ more) ≡ []
+taken_none_fall lane es store es' more (inl t) = ap (λ l. newly_struck es (l ++ more)) t.1 ∙ none_fall_same es more
 taken_none_fall lane es store es' more (inr t) =
     let e = t.2 in
     let id : t.3.key.id ≡ t.1 = ap (λ (x : SessionView). x.key.id) t.6.is ∙ session_id t.1 es e t.5 in
-    ap (λ l. newly_failed es (l ++ more)) t.7 ∙ fall_with e (entry_with e t.3) t.1 es more t.5 id
-    ∙ ap (λ b. cond b (t.1 ∷ []) []) (ap (λ (x : SessionView). is_running e.session.status && is_failed x.status) t.6.is ∙ never_both e.session.status)
+    ap (λ l. newly_struck es (l ++ more)) t.7 ∙ fall_with e (entry_with e t.3) t.1 es more t.5 id
+    ∙ ap (λ b. cond b (failure t.1 ∷ []) []) (ap (λ (x : SessionView). is_running e.session.status && is_failed x.status) t.6.is ∙ never_both e.session.status)
 
 -- no session has the next number
 none_next : (time least next : ℕ) (es : List WorldSession) → NumbersRise time least next es → session_at next es ≡ None

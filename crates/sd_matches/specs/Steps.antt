@@ -3,7 +3,7 @@ use Rattle.std.specs.Prelude.{◌≡◌, ℕ, ◌&&◌, if◌then◌else◌, Boo
 use Rattle.sd_driver.specs.Meaning.{Meaning}
 use Rattle.sd_drive.specs.Shelf.{KeepsPieces}
 use Rattle.sd_drive.specs.View.{DriveIs}
-use Rattle.sd_machine.specs.Machine.{Machine, empty_machine}
+use Rattle.sd_machine.specs.Machine.{Machine, Strike, failure, empty_machine}
 use Rattle.sd_machine.specs.Step.{Step}
 use Rattle.sd_machine.specs.declared.event.Event.{Event}
 use Rattle.sd_machine.specs.declared.reply.Reply.{Reply}
@@ -23,19 +23,19 @@ is_failed Closed = false
 is_failed Cancelled = false
 is_failed Failed = true
 
--- the tickets of the sessions that went on in the one list and have failed in the other
-abbrev pub newly_failed : List WorldSession → List WorldSession → List ℕ
-newly_failed [] es' = []
-newly_failed (e ∷ es) [] = []
-newly_failed (e ∷ es) (e' ∷ es') =
+-- how the sessions of the one list were struck that are those of the other now: who went on and has failed, with Failed
+abbrev pub newly_struck : List WorldSession → List WorldSession → List Strike
+newly_struck [] es' = []
+newly_struck (e ∷ es) [] = []
+newly_struck (e ∷ es) (e' ∷ es') =
     if is_running e.session.status && is_failed e'.session.status
-    then e.session.key.id ∷ newly_failed es es' else newly_failed es es'
+    then failure e.session.key.id ∷ newly_struck es es' else newly_struck es es'
 
--- from this machine the event and the reply lead, with just those sessions failing that do in the world, to one that the
+-- from this machine the event and the reply lead, with just those sessions struck that are in the world, to one that the
 -- new world matches
 abbrev pub StepsTo : {D : Type 0} → (D → Meaning) → Machine → WorldView D → Event → Reply → WorldView D → Type 0
 StepsTo meaning m old event reply new = (m' : Machine)
-    × Step (newly_failed old.sessions new.sessions) m event reply m' × Matches meaning new m'
+    × Step (newly_struck old.sessions new.sessions) m event reply m' × Matches meaning new m'
 
 -- Laws.
 
