@@ -1,22 +1,24 @@
 -- What is packed of a session stays packed, whatever its steps do.
-use Rattle.std.proofs.Common.{◌≡◌, ◌⊎◌, inl, inr, ℕ, ◌+◌, ◌^◌, ◌<◌, ◌≤◌, Bool, sym, ap, subst, ◌∙◌, arith, List, [], ◌∷◌, ◌++◌, length}
+use Rattle.std.proofs.Common.{◌≡◌, ◌⊎◌, inl, inr, refl, map, ℕ, ◌+◌, ◌^◌, ◌<◌, ◌≤◌, Bool, sym, ap, subst, ◌∙◌, arith, List, [], ◌∷◌, ◌++◌, length}
 use Rattle.std.specs.Prelude.{Option, Some, None}
 use Rattle.std.specs.Option.{option_to_list}
-use Rattle.std.proofs.lemmas.List.{append_assoc, length-append}
+use Rattle.std.proofs.lemmas.List.{append_assoc, append-nil, length-append}
 use Rattle.sd_base.specs.Record.{Record}
-use Rattle.sd_label.specs.Cutting.{Between, AtEnd}
-use Rattle.sd_pack.specs.Body.{PackedBody}
+use Rattle.sd_record.specs.Fragment.{Fragment}
+use Rattle.sd_label.specs.Cutting.{Standing, Between, AtEnd, joined}
+use Rattle.sd_pack.specs.Body.{PackedBody, body_of, empty_body}
 use Rattle.sd_pack.specs.Packing.{PackerView, Packs, bodies_of, unless_empty, PacksRecord}
 use Rattle.sd_spool.specs.Job.{JobView, shape_of}
 use Rattle.sd_session.specs.declared.answer.Spooling.{Spooling}
 use Rattle.sd_session.specs.declared.answer.Spooling.TheVariants.{Spooled, SpoolFull, Nothing, NoSpool}
 use Rattle.sd_session.specs.declared.status.Status.{Status}
 use Rattle.sd_session.specs.declared.status.Status.TheVariants.{Active}
-use Rattle.sd_session.specs.Session.{SessionView, IsRunning, IsPacked, standing_of, spooled_count}
+use Rattle.sd_session.specs.Session.{SessionView, IsRunning, IsPacked, HasNoneDue, standing_of, spooled_count}
 use Rattle.sd_session.specs.Spooling.{PutsWaiting}
 use Rattle.sd_session.specs.Sending.{Stations, stations_of, TakesNext}
 use Rattle.sd_session.proofs.PartLemmas.{none_ready}
 use Rattle.sd_session.proofs.CountLemmas.{bodies_counted, total_bytes-push}
+use Rattle.sd_session.proofs.SessionLemmas.{waiting_alone}
 
 pub packed_record : (old : SessionView) (r : Record) (n bytes last : ℕ) (p : PackerView) → IsPacked old → old.status ≡ Active
     → n ≡ old.count + 1 → bytes ≡ old.bytes + length r.bytes → PacksRecord old.packer p r → p.room ≡ old.packer.room
@@ -132,4 +134,29 @@ number_fits old body between takes running packed count bytes =
     next.room_least next.packs (subst (λ (k : ℕ). k < 2 ^ 64) (sym next.count_is) count) (subst (λ (k : ℕ). k < 2 ^ 64) (sym next.bytes_are) bytes) in
     let long = length-append next.left (bodies_of between.packer) in
     let left = next.left_are in
+    omega arith
+
+-- A body was sent.
+
+none_joined : (fragments : List (List Fragment)) → [] ≡ map body_of fragments → fragments ≡ []
+none_joined [] is = refl
+none_joined (fs ∷ fragments) is = cc
+
+-- no bodies hold no session, which has its start label at least
+some_bodies : (room : ℕ) (records : List Record) (standing : Standing) → Packs room [] records standing → ⊥
+some_bodies room records standing packs = cc (ap joined (sym (none_joined packs.fragments packs.bodies_are)) ∙ packs.holds_by.session_is.order)
+
+one_left : (room : ℕ) (left : List PackedBody) (records : List Record) (standing : Standing) → Packs room left records standing → 1 ≤ length left
+one_left room [] records standing packs = absurd (some_bodies room records standing packs)
+one_left room (body ∷ left) records standing packs = omega arith
+
+-- of a session that has no closed body left, and none open, one was sent
+pub some_sent : (s : SessionView) → IsPacked s → s.packer.open_body ≡ empty_body → HasNoneDue s → 1 ≤ s.sent
+some_sent s packed closed none =
+    let nothing : bodies_of s.packer ≡ [] = waiting_alone s.packer closed ∙ none.none_waits in
+    let one = one_left s.packer.room packed.left packed.records (standing_of s.status)
+    (subst (λ (l : List PackedBody). Packs s.packer.room l packed.records (standing_of s.status)) (ap (λ (l : List PackedBody). packed.left ++ l) nothing ∙ append-nil packed.left) packed.packs) in
+    let ready = ap (λ (o : Option PackedBody). length (option_to_list o)) none.none_ready in
+    let spooled = none.none_spooled in
+    let left = packed.left_are in
     omega arith

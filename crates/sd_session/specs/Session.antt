@@ -119,6 +119,12 @@ abbrev pub spooled_count : Option JobView → ℕ
 spooled_count None = 0
 spooled_count (Some j) = length j.shapes
 
+-- no closed body is left to the session: none is ready, in the spool, or waits
+pub record HasNoneDue (s : SessionView) : Type 0 where
+  pub none_ready : s.ready ≡ None
+  pub none_spooled : spooled_count s.spool ≡ 0
+  pub none_waits : s.packer.waiting ≡ []
+
 -- All that was packed, whatever a store makes of it: the bodies that left the packer, of which each was sent, is
 -- ready or is in the spool; then those in the packer. They hold as many records and data bytes as the session
 -- counted, so that there are fewer bodies than 64 bits can count.
@@ -252,11 +258,17 @@ FailsSession old new = (IsRunning old.status × DropsParts old Failed new) ⊎ (
 abbrev pub HasOutstanding : SessionView → Progress → Type 0
 HasOutstanding s progress = (parts_of s ≢ []) ⊎ (progress.synced ≢ s.sent)
 
--- the session is closed: it has its end label, it doesn't fail, and nothing of it is outstanding
-pub record ClosesSession (old : SessionView) (progress : Progress) (new : SessionView) : Type 0 where
-  pub ended : old.status ≡ Ended
+-- the session may be closed: it has its end label, it doesn't fail, and nothing of it is outstanding; so one body of it was
+-- sent at least
+pub record MayClose (s : SessionView) (progress : Progress) : Type 0 where
+  pub ended : s.status ≡ Ended
   pub sound : progress.failed ≡ false
-  pub none_outstanding : HasOutstanding old progress → ⊥
+  pub none_outstanding : HasOutstanding s progress → ⊥
+  pub some_sent : 1 ≤ s.sent
+
+-- the session is closed, which it may be
+pub record ClosesSession (old : SessionView) (progress : Progress) (new : SessionView) : Type 0 where
+  pub may : MayClose old progress
   pub is : new ≡ record old { status = Closed }
 
 -- why a session isn't closed: the status; its volume failed; something is outstanding

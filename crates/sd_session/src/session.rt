@@ -7,7 +7,7 @@ ghost use Rattle.sd_label.specs.Label.{IsSessionLabel, session_label_bytes};
 ghost use Rattle.sd_lane.specs.Queue.{WasFull};
 ghost use Rattle.sd_pack.specs.Packing.{HasOpen, Packs, bodies_of, all_bytes};
 ghost use Rattle.sd_spool.specs.Job.{state_of};
-ghost use Rattle.sd_session.specs.Session.{IsRunning, NotRunning, MayTake, status_refusal, start_label, due_of, spooled_in, store_refusal, spooled_count, IsWhole, IsSessionView, StartsSession, StartRefused, TakesRecord, AppendRefused, EndsSession, EndRefused, CancelsSession, FailsSession, HasOutstanding, ClosesSession, CloseRefused, GivesBack, KeepsStore};
+ghost use Rattle.sd_session.specs.Session.{IsRunning, NotRunning, MayTake, status_refusal, start_label, due_of, spooled_in, store_refusal, spooled_count, IsWhole, IsSessionView, StartsSession, StartRefused, TakesRecord, AppendRefused, EndsSession, EndRefused, CancelsSession, FailsSession, MayClose, ClosesSession, CloseRefused, GivesBack, KeepsStore, HasNoneDue};
 ghost use Rattle.sd_session.specs.Spooling.{Spools, SpoolRefused};
 ghost use Rattle.sd_session.specs.Sending.{queue_view, IsDueToSend, goes_on, Despools, DespoolRefused};
 
@@ -190,7 +190,8 @@ impl<S: SpoolStore + Drop> Session<S> {
 
     /// Whether it has a closed body that is not sent yet: one that waits, is in the spool or is ready.
     pub fn has_due(&self) -> bool
-        ensures { IsTrue result ↔ (due_of self.now ≢ []) }
+        ensures due { IsTrue result ↔ (due_of self.now ≢ []) }
+        ensures none { result ≡ false → HasNoneDue self.now }
     {
         if self.ready.is_some() {
             return true;
@@ -422,8 +423,7 @@ impl<S: SpoolStore + Drop> Session<S> {
     /// Whether the session may be closed: it has its end label, all that it packed is sent and synced, and its drive
     /// didn't lose any of it.
     pub fn may_close(&self, progress: &Progress) -> Result<(), Refusal>
-        ensures ok { OnOk result ((self.now.status ≡ Status.Ended) × (progress.now.failed ≡ false)
-            × (HasOutstanding self.now progress.now → ⊥)) }
+        ensures ok { OnOk result (MayClose self.now progress.now) }
         ensures why { IfErr result (λ why. CloseRefused self.now progress.now why) }
     {
         let Status::Ended = self.status else {
@@ -547,7 +547,8 @@ fn begin<S: SpoolStore>(
 
 // Whether a body is in the spool; where there is none there is no body.
 fn has_bodies<S: SpoolStore>(spool: &Option<JobSpool<S>>) -> bool
-    ensures { IsTrue result ↔ (spooled_in spool.now ≢ []) }
+    ensures bodies { IsTrue result ↔ (spooled_in spool.now ≢ []) }
+    ensures none { result ≡ false → spooled_count spool.now ≡ 0 }
 {
     match spool {
         None => false,
