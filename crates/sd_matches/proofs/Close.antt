@@ -116,7 +116,7 @@ synced_all synced sent h = elim (one_or_two synced sent) [
 none_outstanding : {D : Type 0} (old : WorldView D) (ticket : ℕ) (key : SessionKey) (spans : List Span) (new : WorldView D) → (c : ClosesAt old ticket key spans new) → IsWorld old
     → IsOutstanding (session_world old c.e c.session) (entry_with c.e c.session) → ⊥
 none_outstanding old ticket key spans new c rules (inl parts) =
-    c.closes.none_outstanding (inl (λ none. parts (ap parts_of c.closes.is ∙ none)))
+    c.closes.may.none_outstanding (inl (λ none. parts (ap parts_of c.closes.is ∙ none)))
 none_outstanding {D} old ticket key spans new c rules (inr out) =
     let e = c.e in
     let own = e.session.key in
@@ -127,7 +127,7 @@ none_outstanding {D} old ticket key spans new c rules (inr out) =
     let seated : seat.bay ≡ c.bay = same_bay old e.drive c.at seat.at c.bay seat.bay c.online.number c.online.there seat.drive_is seat.bay_there in
     let sent : e.session.sent ≡ length (items_with own (items_before c.d c.bay.queue)) =
     seat.sent_is c.d (ap (λ (b : BayView D). b.drive) seated ∙ c.online.online) ∙ ap (λ (b : BayView D). length (items_with own (items_before c.d b.queue))) seated in
-    let synced : synced_of own c.d.journal ≡ e.session.sent = synced_all (synced_of own c.d.journal) e.session.sent (λ apart. c.closes.none_outstanding (inr apart)) in
+    let synced : synced_of own c.d.journal ≡ e.session.sent = synced_all (synced_of own c.d.journal) e.session.sent (λ apart. c.closes.may.none_outstanding (inr apart)) in
     all_settled c.d c.bay.queue own (synced ∙ sent)
     (subst (λ k. IsUnsettled c.d c.bay.queue k) (ap (λ (x : SessionView). x.key) c.closes.is)
     (subst (λ (z : DriveIs D). IsUnsettled z c.bay.queue c.session.key) drive (subst (λ (b : BayView D). IsUnsettled out.2 b.queue c.session.key) bay out.4)))
@@ -148,10 +148,10 @@ close_closed meaning old new ticket key spans m rules c h =
     (status_changes meaning old e v s IsClosed (ap (λ (x : SessionView). x.key) is) (ap (λ (x : SessionView). x.status) is) (ap (λ (x : SessionView). x.count) is)
     (ap (λ (x : SessionView). x.bytes) is) (ap (λ (x : SessionView). x.last) is)
     (λ sent b. subst (λ (x : SessionView). HasBodies x.packer.room sent (sent ++ parts_of x) IsClosed s.records) (sym is)
-    (subst (λ status. HasBodies e.session.packer.room sent (sent ++ parts_of e.session) status s.records) (f.matches.status_is ∙ c.closes.ended) b))
+    (subst (λ status. HasBodies e.session.packer.room sent (sent ++ parts_of e.session) status s.records) (f.matches.status_is ∙ c.closes.may.ended) b))
     f.matches)
     (λ closed out. none_outstanding old ticket key spans new c rules out)
-    (s, f.there, f.matches.status_is ∙ c.closes.ended, c.key_is ∙ sym f.matches.key_is, refl)
+    (s, f.there, f.matches.status_is ∙ c.closes.may.ended, c.key_is ∙ sym f.matches.key_is, refl)
     refl
 
 close_refused : {D : Type 0} (meaning : D → Meaning) (old : WorldView D) (ticket : ℕ) (why : Refusal) (m : Machine)

@@ -87,7 +87,7 @@ closes {D} w w' ticket key spans c =
     let same : f.session.key ≡ c.e.session.key = ap (λ (s : SessionView). s.key) c.closes.is in
     let own : f.session.key ≡ key = same ∙ sym c.key_is in
     let id : f.session.key.id ≡ ticket = ap (λ (k : SessionKey). k.id) same ∙ session_id ticket w.sessions c.e c.has in
-    let kept = closed_stay w v (one_there w.sessions ticket c.e f c.has same (not_closed c.e.session.status (inr c.closes.ended))) (all_placed_there w v refl) in
+    let kept = closed_stay w v (one_there w.sessions ticket c.e f c.has same (not_closed c.e.session.status (inr c.closes.may.ended))) (all_placed_there w v refl) in
     subst (λ x. KeepsClosed w (Closed key spans) x) (sym c.new_is) (record {
       statuses = kept.statuses;
       spans = kept.spans;

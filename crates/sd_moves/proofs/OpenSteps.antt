@@ -128,12 +128,13 @@ opens_not {D} w w' pool media why h o =
               online = s.online;
               lost_none = s.lost_none;
               closed = s.closed;
+              some_sent = s.some_sent;
             },
           )
       | inr apart ↦ (
         lane,
         get_set-other o.bay.lanes o.place place lane' apart ∙ seat,
-        record { sent_is = s.sent_is; holds = s.holds; online = s.online; lost_none = s.lost_none; closed = s.closed },
+        record { sent_is = s.sent_is; holds = s.holds; online = s.online; lost_none = s.lost_none; closed = s.closed; some_sent = s.some_sent },
       )
     ])
     (λ b lane elsewhere sits. sits_session x y b lane p.2.stays sits))
@@ -239,6 +240,7 @@ opens {D} w w' job pool media moment ticket drive h o =
       online = λ r. refl;
       lost_none = λ r x is. let one : after ≡ x = cc is in subst (λ (y : DriveIs D). fails o.session.key y.journal ≡ false) one none_lost;
       closed = λ c. absurd (cc (sym fresh.active ∙ c));
+      some_sent = λ c. absurd (cc (sym fresh.active ∙ c));
     } in
     subst IsWorld (sym o.new_is)
     (world_with w v o.at bay' h stays (let left = o.number_left in omega (arith, left))
@@ -266,6 +268,7 @@ opens {D} w w' job pool media moment ticket drive h o =
                     online = λ r. refl;
                     lost_none = λ r. absurd (over r);
                     closed = λ c z is. let that : after ≡ z = cc is in subst (λ (a : DriveIs D). placed_of y.session.key a.journal ≡ y.session.sent) that (s.closed c o.d on);
+                    some_sent = s.some_sent;
                   },
                 )
             | inr apart ↦ (
@@ -278,6 +281,7 @@ opens {D} w w' job pool media moment ticket drive h o =
                 online = λ r. refl;
                 lost_none = λ r z is. let that : after ≡ z = cc is in subst (λ (a : DriveIs D). fails y.session.key a.journal ≡ false) that (s.lost_none r o.d on);
                 closed = λ c z is. let that : after ≡ z = cc is in subst (λ (a : DriveIs D). placed_of y.session.key a.journal ≡ y.session.sent) that (s.closed c o.d on);
+                some_sent = s.some_sent;
               },
             )
           ])

@@ -61,6 +61,7 @@ takes_piece {D} w w' drive ticket seq h t =
         online = λ r. refl;
         lost_none = λ r x is. let one : after ≡ x = cc is in subst (λ (y : DriveIs D). fails e.session.key y.journal ≡ false) one (sits.lost_none r t.d on);
         closed = λ c x is. let one : after ≡ x = cc is in subst (λ (y : DriveIs D). placed_of e.session.key y.journal ≡ e.session.sent) one (sits.closed c t.d on);
+        some_sent = sits.some_sent;
       },
     ))
     (λ b lane elsewhere sits. sits))
@@ -130,6 +131,7 @@ sits_sent e t bay queue' piece lane ln sends sits = record {
   online = λ r. sits.online sends.running;
   lost_none = λ r x is. ap (λ k. fails k x.journal) sends.key_is ∙ sits.lost_none sends.running x is;
   closed = λ c. absurd (not_closed e.session.status sends.running (sym sends.status_is ∙ c));
+  some_sent = λ c. absurd (not_closed e.session.status sends.running (sym sends.status_is ∙ c));
 }
 
 -- another sits as it did
@@ -145,6 +147,7 @@ sits_unsent x bay queue' piece lane ln other held sits = record {
   online = sits.online;
   lost_none = sits.lost_none;
   closed = sits.closed;
+  some_sent = sits.some_sent;
 }
 
 pub sends_world : {D : Type 0} (w : WorldView D) (ticket at : ℕ) (e : WorldSession) (bay : BayView D) (d : DriveIs D) (t : SessionView) (queue' : LanesView)
@@ -218,7 +221,7 @@ all_placed s t d queue closes sent =
     let least = within s.key d.journal in
     elim (one_or_two (synced_of s.key d.journal) s.sent) [
       | inl same ↦ omega (arith, most, least, same, sent)
-      | inr apart ↦ absurd (closes.none_outstanding (inr apart))
+      | inr apart ↦ absurd (closes.may.none_outstanding (inr apart))
     ]
 
 pub closes_world : {D : Type 0} (w w' : WorldView D) (ticket : ℕ) (key : SessionKey) (spans : _) → IsWorld w → ClosesAt w ticket key spans w' → IsWorld w'
@@ -246,6 +249,7 @@ closes_world {D} w w' ticket key spans h c =
       online = λ r. absurd (closed_not_running r);
       lost_none = λ r. absurd (closed_not_running r);
       closed = λ q x there. let one : c.d ≡ x = cc (sym on ∙ there) in subst (λ (y : DriveIs D). placed_of e.session.key y.journal ≡ e.session.sent) one placed;
+      some_sent = λ q. c.closes.may.some_sent;
     }) in
     let own : IsSeated v f = seated_on w v e f seat refl refl (ap (λ (s : SessionView). s.lane) is) sits in
     subst IsWorld (sym c.new_is) (record {
@@ -282,6 +286,7 @@ retires_world {D} w w' drive h t =
         online = λ r. absurd (t.unused (inl (running_busy w.sessions t.bay t.d number e place lane t.online.online found r stands (sits.holds r))));
         lost_none = λ r x is. absurd (cc is);
         closed = λ c x is. absurd (cc is);
+        some_sent = sits.some_sent;
       },
     ))
     (λ b lane elsewhere sits. sits))

@@ -31,9 +31,10 @@ pub record Sits {D : Type 0} (e : WorldSession) (bay : BayView D) (lane : LaneVi
   pub online : IsRunning e.session.status → IsSome bay.drive
   pub lost_none : IsRunning e.session.status → (d : DriveIs D) → bay.drive ≡ Some d → fails e.session.key d.journal ≡ false
   pub closed : e.session.status ≡ Closed → (d : DriveIs D) → bay.drive ≡ Some d → placed_of e.session.key d.journal ≡ e.session.sent
+  pub some_sent : e.session.status ≡ Closed → 1 ≤ e.session.sent
 
 pub sits_of : {D : Type 0} (w : WorldView D) (e : WorldSession) → (h : IsSeated w e) → Sits e h.bay h.lane
-sits_of w e h = record { sent_is = h.sent_is; holds = h.holds; online = h.online; lost_none = h.lost_none; closed = h.closed }
+sits_of w e h = record { sent_is = h.sent_is; holds = h.holds; online = h.online; lost_none = h.lost_none; closed = h.closed; some_sent = h.some_sent }
 
 -- no bay changes
 pub seated_on : {D : Type 0} (w w' : WorldView D) (e e' : WorldSession) → (h : IsSeated w e) → w'.bays ≡ w.bays
@@ -52,6 +53,7 @@ seated_on w w' e e' h bays drive lane sits = record {
   online = sits.online;
   lost_none = sits.lost_none;
   closed = sits.closed;
+  some_sent = sits.some_sent;
 }
 
 -- what becomes of a seat at the bay that changes
@@ -90,6 +92,7 @@ seated_with {D} w w' at bay bay' e e' h there bays drive lane here elsewhere =
             online = seat.2.online;
             lost_none = seat.2.lost_none;
             closed = seat.2.closed;
+            some_sent = seat.2.some_sent;
           }
       | inr apart ↦
           let sits = elsewhere h.bay h.lane (λ p. apart (omega (arith, p, h.drive_is))) (sits_of w e h) in
@@ -107,6 +110,7 @@ seated_with {D} w w' at bay bay' e e' h there bays drive lane here elsewhere =
             online = sits.online;
             lost_none = sits.lost_none;
             closed = sits.closed;
+            some_sent = sits.some_sent;
           }
     ]
 
@@ -118,6 +122,7 @@ sits_session e e' bay lane stays h = record {
   online = λ r. h.online (stays.running r);
   lost_none = λ r d on. ap (λ k. fails k d.journal) stays.key_is ∙ h.lost_none (stays.running r) d on;
   closed = λ c d on. ap (λ k. placed_of k d.journal) stays.key_is ∙ h.closed (stays.was_closed c) d on ∙ sym stays.sent_is;
+  some_sent = λ c. subst (λ (n : ℕ). 1 ≤ n) (sym stays.sent_is) (h.some_sent (stays.was_closed c));
 }
 
 -- Drives.
@@ -166,6 +171,7 @@ sits_drive {D} e bay d after lane on stays fail h =
       online = λ r. refl;
       lost_none = λ r x is. let same : after ≡ x = cc is in subst (λ (y : DriveIs D). fails key y.journal ≡ false) same (fail r (h.lost_none r d on));
       closed = λ c x is. let same : after ≡ x = cc is in subst (λ (y : DriveIs D). placed_of key y.journal ≡ e.session.sent) same (placed c);
+      some_sent = h.some_sent;
     }
 
 -- Lanes.

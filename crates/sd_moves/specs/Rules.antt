@@ -29,7 +29,7 @@ AreOfOpened time next (i ∷ is) = IsOfOpened time next i × AreOfOpened time ne
 
 -- The session's drive and lane are there. Where the drive is online: as many pieces were given to it or are before it as
 -- were sent of the session. A session that goes on has its lane, on a drive that is online and lost none of its blocks.
--- Each piece of a closed session is placed.
+-- Each piece of a closed session is placed, of which there is one at least.
 pub record IsSeated {D : Type 0} (w : WorldView D) (e : WorldSession) : Type 0 where
   pub at : ℕ
   pub place : ℕ
@@ -45,6 +45,7 @@ pub record IsSeated {D : Type 0} (w : WorldView D) (e : WorldSession) : Type 0 w
   pub online : IsRunning e.session.status → IsSome bay.drive
   pub lost_none : IsRunning e.session.status → (d : DriveIs D) → bay.drive ≡ Some d → fails e.session.key d.journal ≡ false
   pub closed : e.session.status ≡ Closed → (d : DriveIs D) → bay.drive ≡ Some d → placed_of e.session.key d.journal ≡ e.session.sent
+  pub some_sent : e.session.status ≡ Closed → 1 ≤ e.session.sent
 
 -- The lane's store lies in the lane, or the session that used the lane last has it; that session is of this lane.
 pub record IsLane (sessions : List WorldSession) (drive place : ℕ) (lane : LaneView) : Type 0 where
