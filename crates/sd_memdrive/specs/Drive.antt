@@ -1,16 +1,18 @@
 -- What a drive in memory is, as a device.
-use Rattle.std.specs.Prelude.{◌≡◌, ◌↔◌, ◌≤◌, ◌<◌, ◌+◌, ◌-◌, ◌^◌, ◌⊎◌, ℕ, true, false, List, length, None, Some, IsSome, Result, IsErrOf}
+use Rattle.std.specs.Prelude.{◌≡◌, ◌≤◌, ◌<◌, ◌+◌, ◌⊎◌, ℕ, true, List, length, None, Some, Result, IsErrOf}
 use Rattle.sd_driver.specs.Shelf.{Shelf, Held, SameShelf, Appends, stable_bytes}
 use Rattle.sd_driver.specs.Meaning.{Meaning, IsHonest}
 use Rattle.sd_memdrive.specs.ChangeLog.{shelf_of}
 use Rattle.sd_memdrive.specs.declared.store.Store.{Store}
 use Rattle.sd_memdrive.specs.declared.drive.MemDrive.{MemDrive}
-use Rattle.sd_memdrive.specs.declared.plan.Call.{Call}
-use Rattle.sd_memdrive.specs.declared.plan.Call.TheVariants.{Append}
-use Rattle.sd_memdrive.specs.declared.plan.Fail.{Fail}
+use Rattle.sd_memdrive.specs.declared.call.Call.{Call}
+use Rattle.sd_memdrive.specs.declared.call.Call.TheVariants.{Append}
 use Rattle.sd_driver.specs.declared.driver.DriverFault.{DriverFault}
 use Rattle.sd_driver.specs.declared.driver.DriverFault.TheVariants.{Device, Memory}
-use Rattle.sd_memdrive.specs.Plan.{counted, due_of, part_of, works, Strikes}
+use Rattle.sd_plan.specs.Plan.{Follows, due_of, entries_of, failures_of, part_of}
+use Rattle.sd_plan.specs.Plan as plans
+use Rattle.sd_plan.specs.declared.fail.Fail.{Fail}
+use Rattle.sd_memdrive.specs.Call.{drive_calls}
 
 -- the shelf of a store
 abbrev pub store_shelf : Store → Shelf
@@ -22,7 +24,7 @@ meaning_of drive = record {
   honest = true;
   shelf = store_shelf drive.store;
   loaded = drive.loaded;
-  failures = drive.failures;
+  failures = failures_of drive.plan;
   told = drive.told;
 }
 
@@ -36,12 +38,12 @@ pub record IsUnused (meaning : Meaning) : Type 0 where
   pub told : meaning.told ≡ 0
 
 -- the plan that a drive was made with
-abbrev pub plan_of : MemDrive → List Fail
-plan_of drive = drive.plan.fails.items
+abbrev pub plan_of : MemDrive → List (Fail Call)
+plan_of drive = entries_of drive.plan
 
 -- no call of any kind was counted in its plan yet
 abbrev pub NoneCounted : MemDrive → Type 0
-NoneCounted drive = (call : Call) → counted call drive.plan ≡ 0
+NoneCounted drive = plans.NoneCounted drive_calls drive.plan
 
 -- its plan, and what it has counted, are as they were
 abbrev pub KeepsPlan : MemDrive → MemDrive → Type 0
@@ -70,18 +72,13 @@ LacksRoom more drive =
 -- a call of that kind fails at once: the plan has it fail before its work, or no failure can be
 -- counted any more
 abbrev pub FailsAtOnce : Call → MemDrive → Type 0
-FailsAtOnce call drive =
-    (drive.failures ≡ 2 ^ 64 - 1) ⊎ (works call (due_of call drive.plan) ≡ false)
+FailsAtOnce call drive = plans.FailsAtOnce drive_calls call drive.plan
 
 -- a call counts once in the plan; it answers `Device` exactly where it fails at once, or where an entry
 -- is due for it and it is refused neither for its own cause nor for want of memory
-pub record FollowsPlan
-    {T : Type 0} (call : Call) (own_cause : Type 0) (result : Result T DriverFault) (old new : MemDrive)
-    : Type 0 where
-  pub strikes : Strikes call old.plan new.plan
-  pub device : IsErrOf result Device
-      ↔ FailsAtOnce call old
-      ⊎ (IsSome (due_of call old.plan) × ¬ own_cause × ¬ IsErrOf result Memory)
+abbrev pub FollowsPlan : {T : Type 0} → Call → Type 0 → Result T DriverFault → MemDrive → MemDrive → Type 0
+FollowsPlan call own_cause result old new =
+    Follows drive_calls call (IsErrOf result Device) ⊥ (own_cause ⊎ IsErrOf result Memory) old.plan new.plan
 
 -- What an append leaves that isn't refused for want of memory: the same where it fails at once, or where the volume lacks
 -- the room; else as much of its bytes at the end of the loaded volume as its entry says, all where none is due.
@@ -89,4 +86,4 @@ pub record AppendsPart (bytes : List ℕ) (old new : MemDrive) : Type 0 where
   pub at_once : FailsAtOnce Append old → SameShelf (store_shelf old.store) (store_shelf new.store)
   pub no_room : LacksRoom bytes old → SameShelf (store_shelf old.store) (store_shelf new.store)
   pub part : ¬ FailsAtOnce Append old → ¬ LacksRoom bytes old
-      → Appends (part_of (due_of Append old.plan) bytes) old.loaded (store_shelf old.store) (store_shelf new.store)
+      → Appends (part_of (due_of drive_calls Append old.plan) bytes) old.loaded (store_shelf old.store) (store_shelf new.store)

@@ -1,4 +1,4 @@
 pub mod Volumes
 pub mod ChangeLog
-pub mod Plan
+pub mod Call
 pub mod Drive

@@ -1,16 +1,15 @@
 // A drive in memory, as a device.
-ghost use Rattle.std.specs.Prelude.{◌≡◌, ◌≢◌, ◌↔◌, ◌≤◌, ◌<◌, ◌-◌, ◌^◌, ◌⊎◌, false, None, Some, IfOk, IfErr, OnOk, OnErr, IsOk, IsSome, IsTrue, IsErrOf, ◌+◌, length, [], vec_len};
+ghost use Rattle.std.specs.Prelude.{◌≡◌, ◌≢◌, ◌↔◌, ◌≤◌, ◌<◌, ◌⊎◌, None, Some, IfOk, IfErr, OnOk, OnErr, IsSome, IsTrue, IsErrOf, ◌+◌, length, [], vec_len};
 ghost use Rattle.std.specs.Option.{ForSome};
-ghost use Rattle.sd_base.specs.Count.{Rose};
-ghost use Rattle.sd_memdrive.specs.Plan.{part_of, works};
 ghost use Rattle.sd_memdrive.specs.Volumes.{volume_of, StandsFirstAt};
 
-use crate::plan::{Call, Fail, Plan, When};
+use crate::call::{Call, Fail};
 use crate::stop::left_all;
 use crate::store::Store;
 use crate::stored::Stored;
 use sd_base::VolName;
 use sd_driver::{Driver, DriverFault};
+use sd_plan::{Plan, part};
 use std::alloc::{AllocError, Global};
 
 /// A drive in memory. Each volume has room for `capacity` bytes; calls fail as the plan says. It is honest.
@@ -23,9 +22,8 @@ pub struct MemDrive {
     store: Store,
     capacity: u64,
     loaded: Option<VolName>,
-    failures: u64,
     told: u64,
-    plan: Plan,
+    plan: Plan<Call>,
     ghost there: { ForSome loaded (λ name. volume_of store.volumes.items name ≢ None) },
 }
 
@@ -48,9 +46,8 @@ impl MemDrive {
             store: Store::new(alloc),
             capacity,
             loaded: None,
-            failures: 0,
             told: 0,
-            plan: Plan::new(alloc, plan)?,
+            plan: Plan::new(plan.to_vec(alloc)?),
         })
     }
 
@@ -83,9 +80,8 @@ impl MemDrive {
             store: Store::of(alloc, volumes)?,
             capacity: self.capacity,
             loaded: None,
-            failures: 0,
             told: 0,
-            plan: Plan::new(alloc, &[])?,
+            plan: Plan::new(Vec::new(alloc)),
         })
     }
 
@@ -135,15 +131,14 @@ impl Driver for MemDrive {
             (IsSome ((meaning_of self.old).shelf.volume name.now)) result self.old self.new }
         ensures capacity { capacity_of self.new ≡ capacity_of self.old }
     {
-        let due = self.plan.strike(Call::Create);
-        begin(&mut self.failures, Call::Create, due)?;
+        let due = self.plan.begin(Call::Create, DriverFault::Device)?;
         let None = self.store.place_of(name) else {
             return Err(DriverFault::Exists);
         };
         let Ok(()) = self.store.create(name) else {
             return Err(DriverFault::Memory);
         };
-        finish(&mut self.failures, due)?;
+        self.plan.finish(due, DriverFault::Device)?;
         self.loaded = Some(name.copy());
         Ok(())
     }
@@ -172,12 +167,11 @@ impl Driver for MemDrive {
             result self.old self.new }
         ensures capacity { capacity_of self.new ≡ capacity_of self.old }
     {
-        let due = self.plan.strike(Call::Load);
-        begin(&mut self.failures, Call::Load, due)?;
+        let due = self.plan.begin(Call::Load, DriverFault::Device)?;
         let Some(_) = self.store.place_of(name) else {
             return Err(DriverFault::NotThere);
         };
-        finish(&mut self.failures, due)?;
+        self.plan.finish(due, DriverFault::Device)?;
         self.loaded = Some(name.copy());
         Ok(())
     }
@@ -218,12 +212,11 @@ impl Driver for MemDrive {
             result self.old self.new }
         ensures capacity { capacity_of self.new ≡ capacity_of self.old }
     {
-        let due = self.plan.strike(Call::Len);
-        begin(&mut self.failures, Call::Len, due)?;
+        let due = self.plan.begin(Call::Len, DriverFault::Device)?;
         let Some(place) = self.store.place_of(name) else {
             return Err(DriverFault::NotThere);
         };
-        finish(&mut self.failures, due)?;
+        self.plan.finish(due, DriverFault::Device)?;
         Ok(self.store.volumes[place].len() as u64)
     }
 
@@ -251,13 +244,12 @@ impl Driver for MemDrive {
             result self.old self.new }
         ensures capacity { capacity_of self.new ≡ capacity_of self.old }
     {
-        let due = self.plan.strike(Call::Read);
-        begin(&mut self.failures, Call::Read, due)?;
+        let due = self.plan.begin(Call::Read, DriverFault::Device)?;
         let Some(place) = self.store.place_of(name) else {
             return Err(DriverFault::NotThere);
         };
         let count = self.store.volumes[place].read(at as usize, into);
-        finish(&mut self.failures, due)?;
+        self.plan.finish(due, DriverFault::Device)?;
         Ok(count)
     }
 
@@ -289,8 +281,7 @@ impl Driver for MemDrive {
             → AppendsPart bytes.now self.old self.new }
         ensures capacity { capacity_of self.new ≡ capacity_of self.old }
     {
-        let due = self.plan.strike(Call::Append);
-        begin(&mut self.failures, Call::Append, due)?;
+        let due = self.plan.begin(Call::Append, DriverFault::Device)?;
         let (name, place) = self.loaded_place();
         if !has_room(&self.store.volumes[place], self.capacity, bytes) {
             self.told = self.told.saturating_add(1);
@@ -299,7 +290,7 @@ impl Driver for MemDrive {
         let Ok(()) = self.store.append(&name, place, part(due, bytes)) else {
             return Err(DriverFault::Memory);
         };
-        finish(&mut self.failures, due)
+        self.plan.finish(due, DriverFault::Device)
     }
 
     fn sync(&mut self) -> Result<(), DriverFault>
@@ -320,11 +311,10 @@ impl Driver for MemDrive {
         ensures plan { FollowsPlan Call.Sync ⊥ result self.old self.new }
         ensures capacity { capacity_of self.new ≡ capacity_of self.old }
     {
-        let due = self.plan.strike(Call::Sync);
-        begin(&mut self.failures, Call::Sync, due)?;
+        let due = self.plan.begin(Call::Sync, DriverFault::Device)?;
         let (name, place) = self.loaded_place();
         self.store.sync(&name, place);
-        finish(&mut self.failures, due)
+        self.plan.finish(due, DriverFault::Device)
     }
 
     #[tactic(auto, using(crate::proofs::Exits::may_cut_same, crate::proofs::Exits::may_cut_done, crate::proofs::Exits::keeps_to_same))]
@@ -350,73 +340,16 @@ impl Driver for MemDrive {
         ensures plan { FollowsPlan Call.Cut ⊥ result self.old self.new }
         ensures capacity { capacity_of self.new ≡ capacity_of self.old }
     {
-        let due = self.plan.strike(Call::Cut);
-        begin(&mut self.failures, Call::Cut, due)?;
+        let due = self.plan.begin(Call::Cut, DriverFault::Device)?;
         let (name, place) = self.loaded_place();
         let Ok(()) = self.store.cut(&name, place, to as usize) else {
             return Err(DriverFault::Memory);
         };
-        finish(&mut self.failures, due)
+        self.plan.finish(due, DriverFault::Device)
     }
 
     fn failures(&self) -> u64 {
-        self.failures
-    }
-}
-
-// A call that is to fail so begins: it fails at once where the plan has it fail before its work, and where no
-// failure can be counted any more.
-fn begin(failures: &mut u64, call: Call, due: Option<When>) -> Result<(), DriverFault>
-    ensures done { IsOk result ↔ ((failures.old ≢ 2 ^ 64 - 1) × IsTrue (works call due)) }
-    ensures at_once { OnErr result ((failures.old ≡ 2 ^ 64 - 1) ⊎ (works call due ≡ false)) }
-    ensures ok { OnOk result ((failures.new ≡ failures.old) × (failures.new < 2 ^ 64 - 1)) }
-    ensures err { IfErr result (λ fault. fault ≡ DriverFault.Device) }
-    ensures counted { OnErr result (Rose failures.old failures.new) }
-    ensures later { failures.old ≤ failures.new }
-{
-    let works = match due {
-        None | Some(When::After) => true,
-        Some(When::Half) => call == Call::Append,
-        Some(When::Before) => false,
-    };
-    if !works || *failures == u64::MAX {
-        return Err(fail(failures));
-    }
-    Ok(())
-}
-
-// The answer of a call that has done its work.
-fn finish(failures: &mut u64, due: Option<When>) -> Result<(), DriverFault>
-    requires { failures.old < 2 ^ 64 - 1 }
-    ensures done { IsOk result ↔ (due ≡ None) }
-    ensures ok { OnOk result (failures.new ≡ failures.old) }
-    ensures err { IfErr result (λ fault. fault ≡ DriverFault.Device) }
-    ensures counted { OnErr result (Rose failures.old failures.new) }
-    ensures later { failures.old ≤ failures.new }
-{
-    match due {
-        None => Ok(()),
-        Some(_) => Err(fail(failures)),
-    }
-}
-
-// Counts a failure.
-fn fail(failures: &mut u64) -> DriverFault
-    ensures fault { result ≡ DriverFault.Device }
-    ensures counted { Rose failures.old failures.new }
-    ensures later { failures.old ≤ failures.new }
-{
-    *failures = failures.saturating_add(1);
-    DriverFault::Device
-}
-
-// What of an append goes out, where it is to fail so.
-fn part(due: Option<When>, bytes: &[u8]) -> &[u8]
-    ensures { result.now ≡ part_of due bytes.now }
-{
-    match due {
-        Some(When::Half) => &bytes[..bytes.len() / 2],
-        _ => bytes,
+        self.plan.failures()
     }
 }
 

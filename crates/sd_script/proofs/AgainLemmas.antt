@@ -17,7 +17,8 @@ use Rattle.sd_script.specs.declared.line.Setting.TheVariants as setting
 use Rattle.sd_script.specs.declared.line.Line.{Line}
 use Rattle.sd_script.specs.declared.line.Line.TheVariants as line
 use Rattle.sd_base.specs.declared.number.SessionKey.{SessionKey}
-use Rattle.sd_memdrive.specs.declared.plan.Fail as plan
+use Rattle.sd_memdrive.specs.declared.call.Call.{Call}
+use Rattle.sd_plan.specs.declared.fail.Fail as plan
 use Rattle.sd_script.specs.declared.line.Part.{Part}
 use Rattle.sd_script.specs.declared.line.Tail.{Tail}
 use Rattle.sd_script.specs.Command.{command_text, stands}
@@ -118,7 +119,7 @@ unfolding capacity_shape
 capacity_again d n within high =
     rw (number_at_again 1 most_drives d (decimal n ∷ []) (lit< tt) within.0 within.1, only_number_again 0 most_capacity n (lit< tt) (omega arith) high) refl
 
-fail_again : (d : ℕ) (fail : plan.Fail) → IsWithin (line.Set (setting.Fail d fail))
+fail_again : (d : ℕ) (fail : plan.Fail Call) → IsWithin (line.Set (setting.Fail d fail))
     → fail_shape (decimal d ∷ call_text fail.call ∷ decimal fail.nth ∷ when_text fail.when ∷ []) ≡ Some (line.Set (setting.Fail d fail))
 unfolding fail_shape
 fail_again d fail within =

@@ -6,10 +6,10 @@ use Rattle.std.specs.List.{AllByRecursion}
 use Rattle.std.specs.Str.{bytes_eq}
 use Rattle.std.proofs.lemmas.List.Elements.{All-from_recursion}
 use Rattle.std.proofs.lemmas.Slice.Eq.{bytes_eq-Decides}
-use Rattle.sd_memdrive.specs.declared.plan.Call.{Call}
-use Rattle.sd_memdrive.specs.declared.plan.Call.TheVariants as call
-use Rattle.sd_memdrive.specs.declared.plan.When.{When}
-use Rattle.sd_memdrive.specs.declared.plan.When.TheVariants as «when»
+use Rattle.sd_memdrive.specs.declared.call.Call.{Call}
+use Rattle.sd_memdrive.specs.declared.call.Call.TheVariants as call
+use Rattle.sd_plan.specs.declared.fail.When.{When}
+use Rattle.sd_plan.specs.declared.fail.When.TheVariants as «when»
 use Rattle.sd_words.specs.Fields.{Fields, HasNoBlank}
 use Rattle.sd_words.specs.Reading.{◌>>=◌, only_number, word_at}
 use Rattle.sd_words.proofs.ReadingLemmas.{bind_some, some_is, TakesNumber, only_number_takes, only_number_again, word_at_takes, word_at_again}

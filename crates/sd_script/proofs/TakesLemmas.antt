@@ -16,8 +16,8 @@ use Rattle.sd_script.specs.declared.line.Line.{Line}
 use Rattle.sd_script.specs.declared.line.Line.TheVariants as line
 use Rattle.sd_script.specs.Command.{command_text}
 use Rattle.sd_words.specs.Fields.{HasNoBlank, joined, Fields, fields_of}
-use Rattle.sd_memdrive.specs.declared.plan.Call.{Call}
-use Rattle.sd_memdrive.specs.declared.plan.When.{When}
+use Rattle.sd_memdrive.specs.declared.call.Call.{Call}
+use Rattle.sd_plan.specs.declared.fail.When.{When}
 use Rattle.sd_script.specs.Grammar.{IsSpelled, IsWithin, IsNumber, AreWords, call_text, most_capacity, when_text}
 use Rattle.sd_words.specs.Reading.{◌>>=◌, number_at, word_at, all_read, only_number}
 use Rattle.sd_script.specs.Reading.{most_moment, most_wide, shape, one_number, label_shape, adopt_shape, mount_shape, open_shape, rec_shape, fill_shape, drive_shape, capacity_shape, call_at, when_at, fail_shape, again_shape, behind_shape, restart_behind, restart_shape}

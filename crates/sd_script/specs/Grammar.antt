@@ -8,10 +8,10 @@ use Rattle.sd_base.specs.Limits.{least_block_limit, most_block, most_data, most_
 use Rattle.sd_base.specs.declared.refusal.Refusal as base
 use Rattle.sd_base.specs.declared.refusal.Refusal.TheVariants as refusals
 use Rattle.sd_words.specs.Fields.{HasNoBlank, joined}
-use Rattle.sd_memdrive.specs.declared.plan.Call.{Call}
-use Rattle.sd_memdrive.specs.declared.plan.Call.TheVariants as call
-use Rattle.sd_memdrive.specs.declared.plan.When.{When}
-use Rattle.sd_memdrive.specs.declared.plan.When.TheVariants as «when»
+use Rattle.sd_memdrive.specs.declared.call.Call.{Call}
+use Rattle.sd_memdrive.specs.declared.call.Call.TheVariants as call
+use Rattle.sd_plan.specs.declared.fail.When.{When}
+use Rattle.sd_plan.specs.declared.fail.When.TheVariants as «when»
 use Rattle.sd_script.specs.declared.line.Part.{Part}
 use Rattle.sd_script.specs.declared.line.Part.TheVariants.{Head, Body}
 use Rattle.sd_script.specs.declared.line.Setting.{Setting}

@@ -4,7 +4,8 @@ use Rattle.std.specs.Prelude.{filter, IfNone}
 use Rattle.std.proofs.lemmas.List.{take_more, map-append}
 use Rattle.std.proofs.lemmas.List.Elements.{filter-append}
 use Rattle.sd_machine.proofs.Lookups.{chosen}
-use Rattle.sd_memdrive.specs.declared.plan.Fail.{Fail}
+use Rattle.sd_memdrive.specs.declared.call.Call.{Call}
+use Rattle.sd_plan.specs.declared.fail.Fail.{Fail}
 use Rattle.sd_script.specs.Grammar.{HasForm}
 use Rattle.sd_script.specs.declared.line.Line.TheVariants.{Set}
 use Rattle.sd_script.specs.declared.line.Setting.{Setting}
@@ -59,36 +60,36 @@ given_else drive before cs n bytes c is within told other =
 -- Calls that fail.
 
 -- the call, where it is of the drive
-abbrev pub one_fail : ℕ → ℕ × Fail → List Fail
+abbrev pub one_fail : ℕ → ℕ × Fail Call → List (Fail Call)
 one_fail drive f = if f.0 == drive then f.1 ∷ [] else []
 
-fails-cond : (b : Bool) (f : ℕ × Fail) → map (λ (x : ℕ × Fail). x.1) (cond b (f ∷ []) []) ≡ cond b (f.1 ∷ []) []
+fails-cond : (b : Bool) (f : ℕ × Fail Call) → map (λ (x : ℕ × Fail Call). x.1) (cond b (f ∷ []) []) ≡ cond b (f.1 ∷ []) []
 fails-cond true f = refl
 fails-cond false f = refl
 
-fails-one : (drive : ℕ) (f : ℕ × Fail) → fails_for drive (f ∷ []) ≡ one_fail drive f
+fails-one : (drive : ℕ) (f : ℕ × Fail Call) → fails_for drive (f ∷ []) ≡ one_fail drive f
 fails-one drive f = fails-cond (f.0 == drive) f
 
-fails-append : (drive : ℕ) (fs gs : List (ℕ × Fail)) → fails_for drive (fs ++ gs) ≡ fails_for drive fs ++ fails_for drive gs
+fails-append : (drive : ℕ) (fs gs : List (ℕ × Fail Call)) → fails_for drive (fs ++ gs) ≡ fails_for drive fs ++ fails_for drive gs
 fails-append drive fs gs =
-    ap (map (λ (f : ℕ × Fail). f.1)) (filter-append (λ (f : ℕ × Fail). f.0 == drive) fs gs)
-    ∙ map-append (λ (f : ℕ × Fail). f.1) (filter (λ (f : ℕ × Fail). f.0 == drive) fs) (filter (λ (f : ℕ × Fail). f.0 == drive) gs)
+    ap (map (λ (f : ℕ × Fail Call). f.1)) (filter-append (λ (f : ℕ × Fail Call). f.0 == drive) fs gs)
+    ∙ map-append (λ (f : ℕ × Fail Call). f.1) (filter (λ (f : ℕ × Fail Call). f.0 == drive) fs) (filter (λ (f : ℕ × Fail Call). f.0 == drive) gs)
 
 -- the plan by one line more
-fails_more : (drive : ℕ) (fs : List (ℕ × Fail)) (n : ℕ) (plan : List Fail) (f : ℕ × Fail) → f ≡ get_or fs n f → n < length fs → plan ≡ fails_for drive (take n fs)
+fails_more : (drive : ℕ) (fs : List (ℕ × Fail Call)) (n : ℕ) (plan : List (Fail Call)) (f : ℕ × Fail Call) → f ≡ get_or fs n f → n < length fs → plan ≡ fails_for drive (take n fs)
     → plan ++ one_fail drive f ≡ fails_for drive (take (n + 1) fs)
 fails_more drive fs n plan f is within told =
     ap (λ p. p ++ one_fail drive f) told ∙ ap (λ p. fails_for drive (take n fs) ++ p) (sym (fails-one drive f)) ∙ sym (fails-append drive (take n fs) (f ∷ []))
     ∙ sym (ap (fails_for drive) (take_more fs n f within ∙ ap (λ x. take n fs ++ x ∷ []) (sym is)))
 
 -- by a line of the drive
-pub fails_here : (drive : ℕ) (fs : List (ℕ × Fail)) (n : ℕ) (plan : List Fail) (f : ℕ × Fail) → f ≡ get_or fs n f → n < length fs → plan ≡ fails_for drive (take n fs)
+pub fails_here : (drive : ℕ) (fs : List (ℕ × Fail Call)) (n : ℕ) (plan : List (Fail Call)) (f : ℕ × Fail Call) → f ≡ get_or fs n f → n < length fs → plan ≡ fails_for drive (take n fs)
     → f.0 ≡ drive → plan ++ f.1 ∷ [] ≡ fails_for drive (take (n + 1) fs)
 fails_here drive fs n plan f is within told here =
     chosen (λ r. plan ++ f.1 ∷ [] ≡ plan ++ r) f.0 drive (f.1 ∷ []) [] (λ p. refl) (λ other. absurd (other here)) ∙ fails_more drive fs n plan f is within told
 
 -- by a line of another drive
-pub fails_else : (drive : ℕ) (fs : List (ℕ × Fail)) (n : ℕ) (plan : List Fail) (f : ℕ × Fail) → f ≡ get_or fs n f → n < length fs → plan ≡ fails_for drive (take n fs)
+pub fails_else : (drive : ℕ) (fs : List (ℕ × Fail Call)) (n : ℕ) (plan : List (Fail Call)) (f : ℕ × Fail Call) → f ≡ get_or fs n f → n < length fs → plan ≡ fails_for drive (take n fs)
     → f.0 ≢ drive → plan ≡ fails_for drive (take (n + 1) fs)
 fails_else drive fs n plan f is within told other =
     sym (append-nil plan) ∙ chosen (λ r. plan ++ [] ≡ plan ++ r) f.0 drive (f.1 ∷ []) [] (λ p. absurd (other p)) (λ q. refl) ∙ fails_more drive fs n plan f is within told

@@ -1,8 +1,9 @@
 -- What a script sets: its settings, folded in order, and what they come to.
 use Rattle.std.specs.Prelude.{ℕ, ◌*◌, ◌≤◌, ◌&&◌, ◌==◌, nat_lt, if◌then◌else◌, Bool, Option, None, Some, List, [], ◌∷◌, ◌++◌, length, map, filter, All, codes}
 use Rattle.std.specs.List.{list_any}
-use Rattle.sd_memdrive.specs.declared.plan.Fail.{Fail}
 use Rattle.sd_base.specs.Limits.{most_drives, most_lanes}
+use Rattle.sd_memdrive.specs.declared.call.Call.{Call}
+use Rattle.sd_plan.specs.declared.fail.Fail.{Fail}
 use Rattle.sd_script.specs.Grammar.{HasForm, IsSettingWithin}
 use Rattle.sd_script.specs.declared.line.Line.TheVariants.{Set}
 use Rattle.sd_script.specs.declared.line.Setting.{Setting}
@@ -20,7 +21,7 @@ pub record ValuesView : Type 0 where
   pub time : ℕ
   pub drives : List (List ℕ × ℕ)
   pub capacities : List (ℕ × ℕ)
-  pub fails : List (ℕ × Fail)
+  pub fails : List (ℕ × Fail Call)
 
 -- what a script sets that has no settings
 abbrev pub usual_values : ValuesView
@@ -117,11 +118,11 @@ abbrev pub capacity_for : ValuesView → ℕ → ℕ
 capacity_for v drive = given_capacity drive 1048576 v.capacities
 
 -- of these calls those of the drive
-abbrev pub fails_for : ℕ → List (ℕ × Fail) → List Fail
-fails_for drive fails = map (λ (f : ℕ × Fail). f.1) (filter (λ (f : ℕ × Fail). f.0 == drive) fails)
+abbrev pub fails_for : ℕ → List (ℕ × Fail Call) → List (Fail Call)
+fails_for drive fails = map (λ (f : ℕ × Fail Call). f.1) (filter (λ (f : ℕ × Fail Call). f.0 == drive) fails)
 
 -- the calls of the drive that fail
-abbrev pub plan_for : ValuesView → ℕ → List Fail
+abbrev pub plan_for : ValuesView → ℕ → List (Fail Call)
 plan_for v drive = fails_for drive v.fails
 
 -- the word that the setting begins with

@@ -1,5 +1,5 @@
 pub mod Meaning
-pub mod Plan
+pub mod Call
 pub mod MemSpool
 pub mod Job
 pub mod FileSpool

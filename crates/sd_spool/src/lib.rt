@@ -1,16 +1,17 @@
 //! The spool of a session: bodies go into a store of bytes and come back in order.
 #![tactic(auto)]
 
+mod call;
 mod entry;
 mod file;
 mod job;
 mod memory;
-mod plan;
 mod spool_file;
 mod store;
 
+pub use call::{SpoolCall, SpoolFail};
 pub use file::{FileSpool, lane_files_differ};
 pub use job::{JobSpool, NotCleared, PutFault};
 pub use memory::MemSpool;
-pub use plan::{SpoolCall, SpoolFail, SpoolWhen};
+pub use sd_plan::When;
 pub use store::{SpoolStore, SpoolStoreFault};

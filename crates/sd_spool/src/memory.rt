@@ -1,18 +1,16 @@
 // A spool in memory, as a store.
-ghost use Rattle.std.specs.Prelude.{◌≡◌, ◌≢◌, ◌↔◌, ◌≤◌, ◌<◌, ◌+◌, ◌-◌, ◌^◌, ◌⊎◌, ◌++◌, [], false, None, take, drop, length, IfErr, OnOk, OnErr, IsOk, IsTrue, IsErrOf};
-ghost use Rattle.sd_base.specs.Count.{Rose};
-ghost use Rattle.sd_spool.specs.Plan.{part_of, works};
+ghost use Rattle.std.specs.Prelude.{◌≡◌, ◌↔◌, ◌≤◌, ◌+◌, ◌++◌, [], take, drop, length, IfErr, OnOk, OnErr, IsTrue, IsErrOf};
 
-use crate::plan::{Plan, SpoolCall, SpoolFail, SpoolWhen};
+use crate::call::{SpoolCall, SpoolFail};
 use crate::store::{SpoolStore, SpoolStoreFault};
+use sd_plan::{Plan, part};
 use std::alloc::Global;
 
 /// A spool in memory, whose calls fail as its plan says. It is honest.
 #[derive(Drop)]
 pub struct MemSpool {
     bytes: Vec<u8>,
-    failures: u64,
-    plan: Plan,
+    plan: Plan<SpoolCall>,
 }
 
 impl MemSpool {
@@ -35,7 +33,6 @@ impl MemSpool {
     {
         MemSpool {
             bytes: Vec::new(alloc),
-            failures: 0,
             plan: Plan::new(plan),
         }
     }
@@ -60,12 +57,11 @@ impl SpoolStore for MemSpool {
         ensures part { ¬ IsErrOf result SpoolStoreFault.Memory
             → AppendsPart bytes.now self.old self.new }
     {
-        let due = self.plan.strike(SpoolCall::Append);
-        begin(&mut self.failures, SpoolCall::Append, due)?;
+        let due = self.plan.begin(SpoolCall::Append, SpoolStoreFault::Device)?;
         let Ok(()) = self.bytes.extend_from_slice(part(due, bytes)) else {
             return Err(SpoolStoreFault::Memory);
         };
-        finish(&mut self.failures, due)
+        self.plan.finish(due, SpoolStoreFault::Device)
     }
 
     fn read_at(&mut self, at: u64, into: &mut [u8]) -> Result<(), SpoolStoreFault>
@@ -81,14 +77,13 @@ impl SpoolStore for MemSpool {
         ensures plan { FollowsPlan SpoolCall.Read (IsShort at (length into.old) self.old)
             result self.old self.new }
     {
-        let due = self.plan.strike(SpoolCall::Read);
-        begin(&mut self.failures, SpoolCall::Read, due)?;
+        let due = self.plan.begin(SpoolCall::Read, SpoolStoreFault::Device)?;
         if !stands(&self.bytes, at, into.len()) {
-            return Err(fail(&mut self.failures));
+            return Err(self.plan.fail(SpoolStoreFault::Device));
         }
         let at = at as usize;
         into.copy_from_slice(&self.bytes[at..at + into.len()]);
-        finish(&mut self.failures, due)
+        self.plan.finish(due, SpoolStoreFault::Device)
     }
 
     fn clear(&mut self) -> Result<(), SpoolStoreFault>
@@ -104,70 +99,13 @@ impl SpoolStore for MemSpool {
         ensures plan { FollowsPlan SpoolCall.Clear ⊥ result self.old self.new }
         ensures clears { ClearsUnlessAtOnce self.old self.new }
     {
-        let due = self.plan.strike(SpoolCall::Clear);
-        begin(&mut self.failures, SpoolCall::Clear, due)?;
+        let due = self.plan.begin(SpoolCall::Clear, SpoolStoreFault::Device)?;
         self.bytes.clear();
-        finish(&mut self.failures, due)
+        self.plan.finish(due, SpoolStoreFault::Device)
     }
 
     fn failures(&self) -> u64 {
-        self.failures
-    }
-}
-
-// A call that is to fail so begins: it fails at once where the plan has it fail before its work, and where no
-// failure can be counted any more.
-fn begin(failures: &mut u64, call: SpoolCall, due: Option<SpoolWhen>) -> Result<(), SpoolStoreFault>
-    ensures done { IsOk result ↔ ((failures.old ≢ 2 ^ 64 - 1) × IsTrue (works call due)) }
-    ensures at_once { OnErr result ((failures.old ≡ 2 ^ 64 - 1) ⊎ (works call due ≡ false)) }
-    ensures ok { OnOk result ((failures.new ≡ failures.old) × (failures.new < 2 ^ 64 - 1)) }
-    ensures err { IfErr result (λ fault. fault ≡ SpoolStoreFault.Device) }
-    ensures counted { OnErr result (Rose failures.old failures.new) }
-    ensures later { failures.old ≤ failures.new }
-{
-    let works = match due {
-        None | Some(SpoolWhen::After) => true,
-        Some(SpoolWhen::Half) => call == SpoolCall::Append,
-        Some(SpoolWhen::Before) => false,
-    };
-    if !works || *failures == u64::MAX {
-        return Err(fail(failures));
-    }
-    Ok(())
-}
-
-// The answer of a call that has done its work.
-fn finish(failures: &mut u64, due: Option<SpoolWhen>) -> Result<(), SpoolStoreFault>
-    requires { failures.old < 2 ^ 64 - 1 }
-    ensures done { IsOk result ↔ (due ≡ None) }
-    ensures ok { OnOk result (failures.new ≡ failures.old) }
-    ensures err { IfErr result (λ fault. fault ≡ SpoolStoreFault.Device) }
-    ensures counted { OnErr result (Rose failures.old failures.new) }
-    ensures later { failures.old ≤ failures.new }
-{
-    match due {
-        None => Ok(()),
-        Some(_) => Err(fail(failures)),
-    }
-}
-
-// Counts a failure.
-fn fail(failures: &mut u64) -> SpoolStoreFault
-    ensures fault { result ≡ SpoolStoreFault.Device }
-    ensures counted { Rose failures.old failures.new }
-    ensures later { failures.old ≤ failures.new }
-{
-    *failures = failures.saturating_add(1);
-    SpoolStoreFault::Device
-}
-
-// What of an append goes in, where it is to fail so.
-fn part(due: Option<SpoolWhen>, bytes: &[u8]) -> &[u8]
-    ensures { result.now ≡ part_of due bytes.now }
-{
-    match due {
-        Some(SpoolWhen::Half) => &bytes[..bytes.len() / 2],
-        _ => bytes,
+        self.plan.failures()
     }
 }
 

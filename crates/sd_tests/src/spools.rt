@@ -1,7 +1,7 @@
 // Bodies through a spool in memory, with each call of its store failing in each way.
 use sd_base::{Bytes, LEAST_BODY, MOST_BODY};
 use sd_pack::Body;
-use sd_spool::{JobSpool, MemSpool, PutFault, SpoolCall, SpoolFail, SpoolStore, SpoolWhen};
+use sd_spool::{JobSpool, MemSpool, PutFault, SpoolCall, SpoolFail, SpoolStore, When};
 use std::alloc::{AllocError, Global};
 
 // The limit of the spools here.
@@ -19,7 +19,7 @@ static KINDS: [(SpoolCall, u64); 3] = [
     (SpoolCall::Clear, 3),
 ];
 
-static WAYS: [SpoolWhen; 3] = [SpoolWhen::Before, SpoolWhen::Half, SpoolWhen::After];
+static WAYS: [When; 3] = [When::Before, When::Half, When::After];
 
 // A body of that length, each byte of which is the number.
 fn body_of(alloc: Global, length: usize, number: u32) -> Result<Body, AllocError> {
@@ -94,7 +94,7 @@ fn failures_of(alloc: Global, plan: Vec<SpoolFail>) -> Option<u64> {
 }
 
 // The first call of the kind that can't fail in this way, once.
-fn first_otherwise(alloc: Global, call: SpoolCall, calls: u64, when: SpoolWhen) -> Option<u64> {
+fn first_otherwise(alloc: Global, call: SpoolCall, calls: u64, when: When) -> Option<u64> {
     for nth in 1..=calls {
         let Ok(plan) = vec![in alloc; SpoolFail { call, nth, when }; 1] else {
             return Some(nth);
