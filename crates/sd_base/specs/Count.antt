@@ -1,9 +1,14 @@
 -- How a count of failures tells of them. It stays at the greatest value of 64 bits.
-use Rattle.std.specs.Prelude.{◌≡◌, ℕ, ◌+◌, ◌<◌, ◌-◌, ◌^◌, ◌⊎◌, min}
+use Rattle.std.specs.Prelude.{◌≡◌, ◌↔◌, ℕ, ◌+◌, ◌<◌, ◌≤◌, ◌-◌, ◌^◌, ◌⊎◌, min}
 
 -- a count rose, or stands at the greatest value of 64 bits
 abbrev pub Rose : ℕ → ℕ → Type 0
 Rose old new = (old < new) ⊎ (new ≡ 2 ^ 64 - 1)
+
+-- the count doesn't fall; a call failed exactly where a failure was counted, or where the count can't rise any more
+pub record CountsUp (failed : Type 0) (old new : ℕ) : Type 0 where
+  pub later : old ≤ new
+  pub rose : failed ↔ Rose old new
 
 -- where a call failed the count rose by one, and where it didn't it is as it was
 pub record CountsOnce (failed : Type 0) (old new : ℕ) : Type 0 where

@@ -1,6 +1,6 @@
 -- What a device is to the daemon, and what every device tells by its answers.
-use Rattle.std.specs.Prelude.{◌≡◌, ◌↔◌, ℕ, Bool, ◌+◌, ◌-◌, ◌≤◌, ◌^◌, min, List, length, take, drop, Option, Some, Result, Ok, Err, IsTrue, IsErrOf}
-use Rattle.sd_base.specs.Count.{Rose}
+use Rattle.std.specs.Prelude.{◌≡◌, ℕ, Bool, ◌+◌, ◌-◌, ◌^◌, min, List, length, take, drop, Option, Some, Result, Ok, Err, IsTrue, IsErrOf}
+use Rattle.sd_base.specs.Count.{CountsUp}
 use Rattle.sd_driver.specs.declared.driver.DriverFault.{DriverFault}
 use Rattle.sd_driver.specs.declared.driver.DriverFault.TheVariants.{NotThere, Exists, NoRoom, Device, Memory}
 use Rattle.sd_driver.specs.Shelf.{Shelf, Held, SameShelf}
@@ -33,8 +33,7 @@ told_after (Err Memory) told = told
 -- where a failure was counted, or where the count can't rise any more
 pub record CountsFailures {T : Type 0} (result : Result T DriverFault) (old new : Meaning) : Type 0 where
   pub honest : new.honest ≡ old.honest
-  pub failures : old.failures ≤ new.failures
-  pub device : IsErrOf result Device ↔ Rose old.failures new.failures
+  pub failures : CountsUp (IsErrOf result Device) old.failures new.failures
   pub told : new.told ≡ told_after result old.told
 
 -- honesty and counts are as they were

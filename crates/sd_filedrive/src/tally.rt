@@ -1,6 +1,6 @@
 // How a device counts what it answers.
-ghost use Rattle.std.specs.Prelude.{◌≡◌, ◌↔◌, ◌≤◌, IsErrOf, IsTrue};
-ghost use Rattle.sd_base.specs.Count.{CountsOnce, IsSpent, Rose};
+ghost use Rattle.std.specs.Prelude.{◌≡◌, ◌↔◌, IsErrOf, IsTrue};
+ghost use Rattle.sd_base.specs.Count.{CountsOnce, CountsUp, IsSpent};
 ghost use Rattle.sd_driver.specs.Meaning.{told_after};
 
 use sd_driver::DriverFault;
@@ -43,11 +43,10 @@ impl Tally {
     pub(crate) fn answer<T>(&mut self, answer: Result<T, DriverFault>) -> Result<T, DriverFault>
         requires { ¬ IsSpent self.old.failures }
         ensures same { result ≡ answer }
-        ensures failures { CountsOnce (IsErrOf result DriverFault.Device)
+        ensures once { CountsOnce (IsErrOf result DriverFault.Device)
             self.old.failures self.new.failures }
-        ensures later { self.old.failures ≤ self.new.failures }
-        ensures device { IsErrOf result DriverFault.Device
-            ↔ Rose self.old.failures self.new.failures }
+        ensures failures { CountsUp (IsErrOf result DriverFault.Device)
+            self.old.failures self.new.failures }
         ensures told { self.new.told ≡ told_after result self.old.told }
     {
         match &answer {

@@ -1,6 +1,6 @@
 -- What a store of a spool is to the daemon, and what every store tells by its answers.
-use Rattle.std.specs.Prelude.{◌≡◌, ◌↔◌, ℕ, Bool, ◌≤◌, ◌⊎◌, List, [], ◌++◌, Result, IsTrue, IsErrOf}
-use Rattle.sd_base.specs.Count.{Rose}
+use Rattle.std.specs.Prelude.{◌≡◌, ℕ, Bool, ◌⊎◌, List, [], ◌++◌, Result, IsTrue, IsErrOf}
+use Rattle.sd_base.specs.Count.{CountsUp}
 use Rattle.sd_spool.specs.declared.store.SpoolStoreFault.{SpoolStoreFault}
 use Rattle.sd_spool.specs.declared.store.SpoolStoreFault.TheVariants.{Device}
 
@@ -20,8 +20,7 @@ IsHonest meaning = IsTrue meaning.honest
 -- answered exactly where a failure was counted, or where the count can't rise any more
 pub record CountsFailures {T : Type 0} (result : Result T SpoolStoreFault) (old new : Meaning) : Type 0 where
   pub honest : new.honest ≡ old.honest
-  pub failures : old.failures ≤ new.failures
-  pub device : IsErrOf result Device ↔ Rose old.failures new.failures
+  pub failures : CountsUp (IsErrOf result Device) old.failures new.failures
 
 -- the bytes are those that stood, and some behind them, or none
 abbrev pub MayAppend : List ℕ → List ℕ → Type 0

@@ -1,6 +1,6 @@
 // A spool in a file, as a store.
 ghost use Rattle.std.specs.Prelude.{◌≡◌, ◌≢◌, ◌↔◌, ◌≤◌, ◌+◌, ◌++◌, [], codes, length, IsOk, IfOk, IfErr, OnOk, OnErr, IsErrOf};
-ghost use Rattle.sd_base.specs.Count.{CountsOnce, IsSpent, Rose};
+ghost use Rattle.sd_base.specs.Count.{CountsOnce, CountsUp, IsSpent};
 ghost use Rattle.sd_spool.specs.Meaning.{CountsFailures};
 ghost use Rattle.sd_spool.specs.FileSpool.{meaning_of, unused, IsUntouched, LaneFilesDiffer, lane_file, path_of, written};
 
@@ -116,8 +116,7 @@ fn answer(failures: &mut u64, answer: io::Result<()>) -> Result<(), SpoolStoreFa
     requires { ¬ IsSpent failures.old }
     ensures ok { IsOk result ↔ IsOk answer }
     ensures once { CountsOnce (IsErrOf result SpoolStoreFault.Device) failures.old failures.new }
-    ensures later { failures.old ≤ failures.new }
-    ensures device { IsErrOf result SpoolStoreFault.Device ↔ Rose failures.old failures.new }
+    ensures failures { CountsUp (IsErrOf result SpoolStoreFault.Device) failures.old failures.new }
     ensures faults { IfErr result (λ fault. fault ≡ SpoolStoreFault.Device) }
 {
     match answer {

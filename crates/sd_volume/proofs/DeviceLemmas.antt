@@ -40,9 +40,9 @@ pub counted_call : {T : Type 0} (result : Result T DriverFault) (old new : Meani
 counted_call result old new counts passes = record {
   honest = counts.honest;
   moment = Passes-later old.shelf new.shelf passes;
-  failures = counts.failures;
-  failed = counts.device.0;
-  no_failure = λ none. not_rose old.failures new.failures counts.failures (λ rose. none (counts.device.1 rose));
+  failures = counts.failures.later;
+  failed = counts.failures.rose.0;
+  no_failure = λ none. not_rose old.failures new.failures counts.failures.later (λ rose. none (counts.failures.rose.1 rose));
   told = λ e. told_rose result old.told new.told e counts.told;
   not_told = λ none. counts.told ∙ told_same result old.told none;
 }
