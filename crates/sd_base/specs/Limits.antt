@@ -12,7 +12,7 @@ most_number = 2147483647
 
 -- the most data bytes of a record, and of the payload of a packet
 abbrev pub most_data : ℕ
-most_data = 1000000
+most_data = 4000000
 
 -- the bytes of a block's header
 abbrev pub block_header : ℕ

@@ -17,7 +17,7 @@ pub use limits::{
     BLOCK_HEADER, LEAST_BLOCK, LEAST_BLOCK_LIMIT, LEAST_BODY, MOST_BLOCK, MOST_BODY, MOST_DRIVES,
     MOST_LANES, MOST_QUEUE, MOST_VOLUME, block_limits, world_limits,
 };
-pub use name::{BadName, MediaName, NAME_LENGTH, Name, PoolName, VolName};
+pub use name::{BadName, HostName, MediaName, NAME_LENGTH, Name, PoolName, VolName};
 pub use number::{DriveNo, JobId, LaneNo, MOST_NUMBER, Number, SessionKey, Ticket, number_limits};
 pub use record::{MOST_DATA, Rec};
 pub use refusal::Refusal;

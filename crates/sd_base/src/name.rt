@@ -1,4 +1,4 @@
-// Names of volumes, pools and media types: one rule, three types that the compiler keeps apart.
+// Names of volumes, pools, media types and hosts: one rule, four types that the compiler keeps apart.
 ghost use Rattle.std.specs.Prelude.{◌≡◌, ◌↔◌, IfOk, IsOk, IsTrue};
 ghost use Rattle.sd_base.specs.Name.{IsName, is_name_char};
 
@@ -33,11 +33,18 @@ pub struct Pool;
 #[derive(Clone, Copy)]
 pub struct Media;
 
+/// What a `HostName` names.
+#[derive(Clone, Copy)]
+pub struct Host;
+
 pub type VolName = Name<Volume>;
 
 pub type PoolName = Name<Pool>;
 
 pub type MediaName = Name<Media>;
+
+/// The name of the machine whose daemon labels a volume.
+pub type HostName = Name<Host>;
 
 impl<K> Model for Name<K> {
     ghost use Rattle.std.specs.Prelude.{List, ℕ};
@@ -84,6 +91,14 @@ impl<K> Name<K> {
             text: held,
             kind: PhantomData,
         }
+    }
+
+    /// The same name, if there is one; takes no memory.
+    pub fn copy_of(name: &Option<Self>) -> Option<Self>
+        ensures { result ≡ name.now }
+    {
+        let name = name.as_ref()?;
+        Some(name.copy())
     }
 
     /// Whether two names are spelled alike.

@@ -7,7 +7,7 @@ use crate::number::MOST_NUMBER;
 use std::marker::Model;
 
 /// The most data bytes of a record, and of the payload of a packet.
-pub const MOST_DATA: usize = 1_000_000;
+pub const MOST_DATA: usize = 4_000_000;
 
 /// One record of a session (as: Bacula Developer's Guide, daemon protocol). FileIndex and Stream are
 /// 1 to 2,147,483,647, and there are at most `MOST_DATA` bytes of data; a value that breaks this can't

@@ -93,6 +93,7 @@ pub fn label() -> Option<VolumeLabel> {
         pool: PoolName::parse("Default").ok()?,
         media: MediaName::parse("File").ok()?,
         moment: 0,
+        host: None,
     })
 }
 

@@ -1,10 +1,10 @@
 -- The fields of labels: texts that a zero byte ends, and numbers.
-use Rattle.std.proofs.Common.{◌≡◌, ℕ, ◌+◌, ◌-◌, ◌^◌, ◌<◌, ◌≤◌, refl, sym, ap, ◌∙◌, arith, Bool, true, false, List, [], ◌∷◌, ◌++◌, take, drop, length, get_or, Some, None, set, ltb, cond, rules}
-use Rattle.std.specs.Prelude.{ℤ, FitsSigned, IsTrue, ◌==◌, position, codes}
+use Rattle.std.proofs.Common.{◌≡◌, ℕ, ◌+◌, ◌-◌, ◌^◌, ◌<◌, ◌≤◌, refl, sym, ap, ◌∙◌, arith, Bool, true, false, List, [], ◌∷◌, ◌++◌, take, drop, length, get_or, Some, None, set, ltb, cond, rules, Ok, Err, Result}
+use Rattle.std.specs.Prelude.{ℤ, FitsSigned, IsTrue, IfOk, ◌==◌, position, codes}
 use Rattle.std.specs.List.{position_or_len}
 use Rattle.std.specs.Str.{IsAscii}
 use Rattle.std.specs.Int.{w64}
-use Rattle.std.proofs.lemmas.List.{append_assoc, length-append, length-drop, length-take, take-append-drop, take_rest, drop_more, get_or-take, take_more_set, append_cancel_right}
+use Rattle.std.proofs.lemmas.List.{append_assoc, length-append, length-drop, length-take, take-append-drop, take_rest, drop_more, get_or-take, take_more_set, append_cancel_right, append_cancel_left}
 use Rattle.std.proofs.lemmas.Slice.{take-put_mid}
 use Rattle.std.proofs.lemmas.Option.{same_Some}
 use Rattle.std.proofs.lemmas.Bool.{lt-ltb}
@@ -134,6 +134,19 @@ pub front_whole : (version : ℕ) (xs rest more : List ℕ) → xs ≡ text_byte
 unfolding front_bytes
 front_whole version xs rest more text number =
     text ∙ ap (λ l. text_bytes profile_text ++ l) number ∙ sym (append_assoc (text_bytes profile_text) (u32_bytes version) more)
+
+-- a version that is read behind the text of the profile
+pub front_read : {E : Type 0} (read : Result ℕ E) (xs rest more : List ℕ) → xs ≡ text_bytes profile_text ++ rest
+    → IfOk read (λ version. rest ≡ u32_bytes version ++ more) → IfOk read (λ version. xs ≡ front_bytes version ++ more)
+front_read (Ok version) xs rest more text number = front_whole version xs rest more text number
+front_read (Err e) xs rest more text number = number
+
+-- two fronts that begin the same bytes are one
+pub front_apart : (version other : ℕ) (xs ys : List ℕ) → version < 2 ^ 32 → other < 2 ^ 32 → front_bytes version ++ xs ≡ front_bytes other ++ ys
+    → (version ≡ other) × (xs ≡ ys)
+front_apart version other xs ys fits other_fits e =
+    let behind = append_cancel_left (text_bytes profile_text) _ _ (sym (front_parts version _ xs refl) ∙ e ∙ front_parts other _ ys refl) in
+    u32_apart version other xs ys fits other_fits behind
 
 -- a text and its zero byte written at a place of an array
 pub text_put : (bytes text written : List ℕ) (at k : ℕ) → at + length text + 1 ≤ length bytes → written ≡ text → k ≡ length text

@@ -29,9 +29,10 @@ end_label_index = neg_ℤ (pos 5)
 abbrev pub volume_label_stream : ℤ
 volume_label_stream = pos 1
 
--- the version that a volume label says
-abbrev pub volume_label_version : ℕ
-volume_label_version = 1
+-- the version that a volume label says: 1 where it has no host, 2 where it has one
+abbrev pub volume_label_version : Option (List ℕ) → ℕ
+volume_label_version None = 1
+volume_label_version (Some host) = 2
 
 -- the version that a session label says
 abbrev pub session_label_version : ℕ
@@ -41,24 +42,25 @@ session_label_version = 1
 abbrev pub ended_status : ℕ
 ended_status = 84
 
--- the most data bytes of a label: those of a volume label with three names of 127 characters
+-- the most data bytes of a label: those of a volume label with its host, all four names of 127 characters
 abbrev pub most_label_data : ℕ
-most_label_data = 408
+most_label_data = 536
 
 -- the most bytes of a volume label's record
 abbrev pub most_volume_label : ℕ
-most_volume_label = 420
+most_volume_label = 548
 
 -- the most bytes of a session label's record
 abbrev pub most_session_label : ℕ
 most_session_label = 316
 
--- three names and a moment
+-- three names, a moment, and perhaps the name of a host
 pub record IsVolumeLabel (l : VolumeLabel) : Type 0 where
   pub name : IsName l.name
   pub pool : IsName l.pool
   pub media : IsName l.media
   pub moment : FitsSigned w64 l.moment
+  pub host : IfSome l.host IsName
 
 -- both counts fit their fields
 pub record AreTotals (t : Totals) : Type 0 where
@@ -86,11 +88,16 @@ text_bytes text = text ++ 0 ∷ []
 unfoldable pub front_bytes : ℕ → List ℕ
 front_bytes version = text_bytes (codes "sd-profile\n") ++ u32_bytes version
 
+-- the host that a volume label says last, if it has one
+abbrev pub host_bytes : Option (List ℕ) → List ℕ
+host_bytes None = []
+host_bytes (Some host) = text_bytes host
+
 -- the data of a volume label
 unfoldable pub volume_label_data : VolumeLabel → List ℕ
 volume_label_data l =
-    front_bytes volume_label_version ++ i64_bytes l.moment
-    ++ text_bytes l.name ++ text_bytes l.pool ++ text_bytes l.media
+    front_bytes (volume_label_version l.host) ++ i64_bytes l.moment
+    ++ text_bytes l.name ++ text_bytes l.pool ++ text_bytes l.media ++ host_bytes l.host
 
 -- a start label has no totals; an end label has them, and the status of a job that ended
 abbrev pub totals_bytes : Option Totals → List ℕ

@@ -3,14 +3,14 @@
 ghost use Rattle.std.specs.Prelude.{◌≡◌, ◌+◌, ◌≤◌, [], ◌++◌, length, IfSome};
 ghost use Rattle.sd_base.specs.Field.{u32_bytes, u64_bytes, i64_bytes};
 ghost use Rattle.sd_base.specs.Name.{IsName};
-ghost use Rattle.sd_label.specs.Label.{most_label_data, text_bytes, front_bytes, totals_bytes, AreTotals};
+ghost use Rattle.sd_label.specs.Label.{most_label_data, text_bytes, front_bytes, host_bytes, totals_bytes, AreTotals};
 
 use crate::label::{ENDED_STATUS, PROFILE, Totals};
-use sd_base::{put_i64, put_u32, put_u64};
+use sd_base::{HostName, put_i64, put_u32, put_u64};
 use std::marker::Model;
 
-/// The most data bytes of a label: a volume label with three names of 127 characters.
-pub const MOST_LABEL_DATA: usize = 408;
+/// The most data bytes of a label: a volume label with its host, all four names of 127 characters.
+pub const MOST_LABEL_DATA: usize = 536;
 
 /// The bytes of what every label begins with.
 pub const FRONT_LENGTH: usize = 16;
@@ -102,6 +102,17 @@ impl LabelData {
     {
         self.add_text(PROFILE);
         self.add_u32(version);
+    }
+
+    /// Adds what a volume label with a host has behind the fields that every volume label has.
+    pub fn add_host(&mut self, host: &Option<HostName>)
+        requires { length self.old + 128 ≤ most_label_data }
+        ensures host { IfSome host.now IsName }
+        ensures bytes { self.new ≡ self.old ++ host_bytes host.now }
+    {
+        if let Some(host) = host {
+            self.add_text(host.as_str());
+        }
     }
 
     /// Adds what an end label has behind the fields that every session label has.

@@ -5,11 +5,14 @@ ghost use Rattle.std.specs.Int.{w64};
 ghost use Rattle.sd_base.specs.Field.{u32_bytes, u64_bytes, i64_bytes};
 ghost use Rattle.sd_base.specs.Limits.{most_number};
 ghost use Rattle.sd_base.specs.Name.{IsName};
-ghost use Rattle.sd_label.specs.Label.{HasNoZero, text_bytes, front_bytes, totals_bytes, session_label_index, AreTotals};
+ghost use Rattle.sd_label.specs.Label.{HasNoZero, text_bytes, front_bytes, host_bytes, totals_bytes, session_label_index, volume_label_version, AreTotals};
 ghost use Rattle.sd_label.specs.declared.label.Totals.{Totals as SpecTotals};
 
-use crate::label::{END_LABEL, ENDED_STATUS, NotOurs, PROFILE, START_LABEL, Totals};
-use sd_base::{JobId, Name, get_i64, get_u32, get_u64};
+use crate::label::{
+    END_LABEL, ENDED_STATUS, HOST_LABEL_VERSION, NotOurs, PROFILE, START_LABEL, Totals,
+    VOLUME_LABEL_VERSION,
+};
+use sd_base::{HostName, JobId, Name, get_i64, get_u32, get_u64};
 use std::marker::Model;
 use std::str;
 
@@ -111,21 +114,34 @@ impl<'a> Fields<'a> {
         name_of(text)
     }
 
-    /// What every label begins with: the text of the profile, and this version.
-    pub fn take_front(&mut self, version: u32) -> Result<(), NotOurs>
-        ensures field { OnOk result (self.old ≡ front_bytes version ++ self.new) }
-        ensures read_back { (more : List ℕ) → self.old ≡ front_bytes version ++ more
-            → IsOk result × (self.new ≡ more) }
+    /// The version that a label says, behind the text of the profile: what every label begins with.
+    pub fn take_front(&mut self) -> Result<u32, NotOurs>
+        ensures field { IfOk result (λ version. self.old ≡ front_bytes version ++ self.new) }
+        ensures read_back { (version : ℕ) (more : List ℕ) → version < 2 ^ 32
+            → self.old ≡ front_bytes version ++ more
+            → (result ≡ Ok version) × (self.new ≡ more) }
     {
         let text = self.take_text()?;
         if !is_profile(text) {
             return Err(NotOurs);
         }
-        let said = self.take_u32()?;
-        if said != version {
-            return Err(NotOurs);
+        self.take_u32()
+    }
+
+    /// What a volume label has last, by its version: nothing, or its host.
+    pub fn take_host(&mut self, version: u32) -> Result<Option<HostName>, NotOurs>
+        ensures host { IfOk result (λ host. IfSome host IsName) }
+        ensures version { IfOk result (λ host. volume_label_version host ≡ version) }
+        ensures field { IfOk result (λ host. self.old ≡ host_bytes host ++ self.new) }
+        ensures read_back { (host : Option (List ℕ)) (more : List ℕ) → IfSome host IsName
+            → volume_label_version host ≡ version → self.old ≡ host_bytes host ++ more
+            → (result ≡ Ok host) × (self.new ≡ more) }
+    {
+        match version {
+            VOLUME_LABEL_VERSION => Ok(None),
+            HOST_LABEL_VERSION => Ok(Some(self.take_name()?)),
+            _ => Err(NotOurs),
         }
-        Ok(())
     }
 
     /// What an end label has last: the totals, and the status of a job that ended.

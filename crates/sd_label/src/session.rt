@@ -5,7 +5,9 @@ ghost use Rattle.sd_label.specs.declared.label.SessionLabel.{SessionLabel as Spe
 
 use crate::data::{FRONT_LENGTH, LabelData, MOMENT_LENGTH, TOTALS_LENGTH, text_length};
 use crate::fields::Fields;
-use crate::label::{END_LABEL, LABEL_VERSION, NotOurs, START_LABEL, SessionLabel, Totals};
+use crate::label::{
+    END_LABEL, NotOurs, SESSION_LABEL_VERSION, START_LABEL, SessionLabel, Totals,
+};
 use crate::record::whole_record;
 use sd_record::{Fragment, HEADER_LENGTH, put_fragment};
 use std::alloc::AllocError;
@@ -85,7 +87,7 @@ fn data_of(label: &SessionLabel) -> LabelData
     ensures bytes { result ≡ session_label_data label.now }
 {
     let mut data = LabelData::new();
-    data.add_front(LABEL_VERSION);
+    data.add_front(SESSION_LABEL_VERSION);
     data.add_u32(label.job.get());
     data.add_i64(label.moment);
     data.add_text(label.pool.as_str());
@@ -103,7 +105,10 @@ fn label_of(index: i32, bytes: &[u8]) -> Result<SessionLabel, NotOurs>
         → result ≡ Ok label }
 {
     let mut fields = Fields::new(bytes);
-    fields.take_front(LABEL_VERSION)?;
+    let version = fields.take_front()?;
+    if version != SESSION_LABEL_VERSION {
+        return Err(NotOurs);
+    }
     let job = fields.take_job()?;
     let moment = fields.take_i64()?;
     let pool = fields.take_name()?;

@@ -1,12 +1,15 @@
 // Volume labels, both ways: what is read is exactly what is written.
 ghost use Rattle.std.specs.Prelude.{◌≡◌, ◌↔◌, ◌≤◌, ◌++◌, length, IfOk, IsOk, OnOk, OnErr, Ok};
-ghost use Rattle.sd_label.specs.Label.{most_volume_label, IsVolumeLabel, volume_label_bytes, volume_label_data};
+ghost use Rattle.sd_label.specs.Label.{most_volume_label, IsVolumeLabel, host_bytes, volume_label_bytes, volume_label_data, volume_label_version};
 ghost use Rattle.sd_label.specs.declared.label.VolumeLabel.{VolumeLabel as SpecVolumeLabel};
 
 use crate::data::{FRONT_LENGTH, LabelData, MOMENT_LENGTH, text_length};
 use crate::fields::Fields;
-use crate::label::{LABEL_VERSION, NotOurs, VOLUME_LABEL, VOLUME_STREAM, VolumeLabel};
+use crate::label::{
+    HOST_LABEL_VERSION, NotOurs, VOLUME_LABEL, VOLUME_LABEL_VERSION, VOLUME_STREAM, VolumeLabel,
+};
 use crate::record::whole_record;
+use sd_base::HostName;
 use sd_record::{Fragment, HEADER_LENGTH, put_fragment};
 use std::alloc::AllocError;
 
@@ -41,6 +44,7 @@ pub fn volume_label_length(label: &VolumeLabel) -> usize
         + text_length(label.name.as_str())
         + text_length(label.pool.as_str())
         + text_length(label.media.as_str())
+        + host_length(&label.host)
 }
 
 /// The volume label whose record, header and data, is all of `bytes`
@@ -61,16 +65,36 @@ pub fn read_volume_label(bytes: &[u8]) -> Result<VolumeLabel, NotOurs>
     label_of(record.part)
 }
 
+fn host_length(host: &Option<HostName>) -> usize
+    ensures length { result ≡ length (host_bytes host.now) }
+    ensures most { result ≤ 128 }
+{
+    match host {
+        None => 0,
+        Some(host) => text_length(host.as_str()),
+    }
+}
+
+fn version_of(host: &Option<HostName>) -> u32
+    ensures { result ≡ volume_label_version host.now }
+{
+    match host {
+        None => VOLUME_LABEL_VERSION,
+        Some(_) => HOST_LABEL_VERSION,
+    }
+}
+
 fn data_of(label: &VolumeLabel) -> LabelData
     ensures label { IsVolumeLabel label.now }
     ensures bytes { result ≡ volume_label_data label.now }
 {
     let mut data = LabelData::new();
-    data.add_front(LABEL_VERSION);
+    data.add_front(version_of(&label.host));
     data.add_i64(label.moment);
     data.add_text(label.name.as_str());
     data.add_text(label.pool.as_str());
     data.add_text(label.media.as_str());
+    data.add_host(&label.host);
     data
 }
 
@@ -81,11 +105,12 @@ fn label_of(bytes: &[u8]) -> Result<VolumeLabel, NotOurs>
         → bytes.now ≡ volume_label_data label → result ≡ Ok label }
 {
     let mut fields = Fields::new(bytes);
-    fields.take_front(LABEL_VERSION)?;
+    let version = fields.take_front()?;
     let moment = fields.take_i64()?;
     let name = fields.take_name()?;
     let pool = fields.take_name()?;
     let media = fields.take_name()?;
+    let host = fields.take_host(version)?;
     if !fields.is_empty() {
         return Err(NotOurs);
     }
@@ -94,5 +119,6 @@ fn label_of(bytes: &[u8]) -> Result<VolumeLabel, NotOurs>
         pool,
         media,
         moment,
+        host,
     })
 }

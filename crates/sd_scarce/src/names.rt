@@ -53,6 +53,7 @@ impl Names {
             pool: self.pool.copy(),
             media: self.media.copy(),
             moment: 0,
+            host: None,
         }
     }
 }
