@@ -21,3 +21,7 @@ eqb_turned a b false apart = ne_eqb b a (λ e. eqb-false a b apart (sym e))
 -- either way round
 pub key_turned : (a b : SessionKey) → is_key b a ≡ is_key a b
 key_turned a b = ap₂ (λ x y. x && y) (eqb_turned a.time b.time (a.time == b.time) refl) (eqb_turned a.id b.id (a.id == b.id) refl)
+
+-- a key is itself
+pub key_same_self : (a : SessionKey) → is_key a a ≡ true
+key_same_self a = ap₂ (λ x y. x && y) (eq-eqb a.time a.time refl) (eq-eqb a.id a.id refl)

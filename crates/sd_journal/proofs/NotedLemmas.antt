@@ -1,11 +1,11 @@
 -- What holds of the entries that a journal keeps, as far as a loop has come.
 use Rattle.std.proofs.Common.{◌≡◌, ℕ, zero, suc, ◌+◌, ◌<◌, Bool, true, false, cond, List, [], ◌∷◌, ◌++◌, length, length-append, map, take, drop, get_or, slice_set, refl, ap, ap₂, sym, ◌∙◌, arith, subst, inl, inr}
-use Rattle.std.specs.Prelude.{◌||◌, ◌≤◌, All, filter, not, Some}
+use Rattle.std.specs.Prelude.{◌||◌, ◌&&◌, ◌≤◌, ◌^◌, All, filter, not, Option, Some, None}
 use Rattle.std.specs.List.{list_any}
-use Rattle.std.proofs.lemmas.Bool.{cond-true, cond-false, and_left, and_parts, or_cases, or_left, or_right, true≢false}
+use Rattle.std.proofs.lemmas.Bool.{cond-true, cond-false, and_left, or_cases, or_left, or_right, true≢false}
 use Rattle.std.proofs.lemmas.List.{map_more, map-append, append-nil, map-set, set-get_or, get_or-map, length-map, take-append-le, take_all, drop_all, take-map, take-append-drop}
 use Rattle.std.proofs.lemmas.List.Edits.{map_over_more}
-use Rattle.std.proofs.lemmas.List.Elements.{All-head, All-tail, All-push, All-more, All-weaker}
+use Rattle.std.proofs.lemmas.List.Elements.{All-nil, All-head, All-tail, All-push, All-more, All-weaker}
 use Rattle.std.proofs.lemmas.List.Filters.{length-filter_both}
 use Rattle.std.proofs.lemmas.List.Folds.{list_any-append, map_fixed}
 use Rattle.std.specs.Str.{bytes_eq}
@@ -15,14 +15,14 @@ use Rattle.sd_span.specs.Spans.{EndFits, placements_of}
 use Rattle.sd_span.specs.declared.placement.Placement.{Placement}
 use Rattle.sd_journal.specs.declared.mark.Mark.{Mark}
 use Rattle.sd_journal.specs.declared.noted.Noted.{Noted}
-use Rattle.sd_journal.specs.Journal.{Entry, JournalView, placements, noted, without_key, is_unsynced, awaits_sync, any_awaits_sync, settled}
-use Rattle.sd_journal.specs.Noted.{entry_of, entries_of, settled_noted, IsSettled}
+use Rattle.sd_journal.specs.Journal.{Entry, JournalView, placements, noted, without_key, is_unsynced, is_purged, any_awaits_sync}
+use Rattle.sd_journal.specs.Noted.{entry_of, entries_of, takes, marked_noted, marked, IsSettled}
 use Rattle.sd_journal.specs.declared.shares.Shares.{Shares}
 use Rattle.sd_journal.specs.ShareView.{ShareView}
-use Rattle.sd_journal.specs.Share.{share_of, ChangesAt, readied, with_placement, with_mark, HasRoom, AreSharesOf}
+use Rattle.sd_journal.specs.Share.{share_of, ChangesAt, readied, with_placement, with_mark, CanRemark, HasRoom, AreSharesOf}
 use Rattle.sd_journal.proofs.KeyLemmas.{key_same, key_turned}
-use Rattle.sd_journal.proofs.ShareLemmas.{room_readied, room_made, shares_marked, shares_noted, placed_fits, synced_fits}
-use Rattle.sd_journal.proofs.EntryLemmas.{placements_more, settled_placements, own_more, other_more}
+use Rattle.sd_journal.proofs.ShareLemmas.{room_readied, room_made, shares_marked, shares_noted, placed_fits, marks_fit}
+use Rattle.sd_journal.proofs.EntryLemmas.{placements_more, marked_placements, own_more, other_more}
 
 -- the entries up to one of them, and that one
 pub up_to : (ns : List Noted) (i : ℕ) (n : Noted) → n ≡ get_or ns i n → i < length ns → entries_of (take (i + 1) ns) ≡ entries_of (take i ns) ++ entry_of n ∷ []
@@ -63,40 +63,58 @@ own_no key ns i n is below other =
 
 -- Marks.
 
-settled_entry : (mark : Mark) (volume : List ℕ) (n : Noted) (b : Bool) → entry_of (cond b (record n { mark = mark }) n) ≡ cond b (record (entry_of n) { mark = mark }) (entry_of n)
-settled_entry mark volume n true = refl
-settled_entry mark volume n false = refl
+marked_entry : (mark : Mark) (volume : List ℕ) (n : Noted) (b : Bool) → entry_of (cond b (record n { mark = mark }) n) ≡ cond b (record (entry_of n) { mark = mark }) (entry_of n)
+marked_entry mark volume n true = refl
+marked_entry mark volume n false = refl
 
-pub settled_entries : (mark : Mark) (volume : List ℕ) (ns : List Noted) → entries_of (map (settled_noted mark volume) ns) ≡ settled mark volume (entries_of ns)
-settled_entries mark volume [] = refl
-settled_entries mark volume (n ∷ ns) = ap₂ (λ e es. e ∷ es) (settled_entry mark volume n (awaits_sync volume (entry_of n))) (settled_entries mark volume ns)
+pub marked_entries : (mark : Mark) (volume : List ℕ) (ns : List Noted) → entries_of (map (marked_noted mark volume) ns) ≡ marked mark volume (entries_of ns)
+marked_entries mark volume [] = refl
+marked_entries mark volume (n ∷ ns) = ap₂ (λ e es. e ∷ es) (marked_entry mark volume n (takes mark volume (entry_of n))) (marked_entries mark volume ns)
 
-pub settle_more : (mark : Mark) (volume : List ℕ) (xs ys : List Noted) (i : ℕ) (n n' : Noted) → i < length xs → ys ≡ map (settled_noted mark volume) (take i xs) ++ drop i xs
-    → n ≡ get_or ys i n → n' ≡ settled_noted mark volume n → slice_set ys i n' ≡ map (settled_noted mark volume) (take (i + 1) xs) ++ drop (i + 1) xs
-settle_more mark volume xs ys i n n' below before is new = ap (λ m. slice_set ys i m) new ∙ map_over_more (settled_noted mark volume) xs ys i n below before is
+pub mark_more : (mark : Mark) (volume : List ℕ) (xs ys : List Noted) (i : ℕ) (n n' : Noted) → i < length xs → ys ≡ map (marked_noted mark volume) (take i xs) ++ drop i xs
+    → n ≡ get_or ys i n → n' ≡ marked_noted mark volume n → slice_set ys i n' ≡ map (marked_noted mark volume) (take (i + 1) xs) ++ drop (i + 1) xs
+mark_more mark volume xs ys i n n' below before is new = ap (λ m. slice_set ys i m) new ∙ map_over_more (marked_noted mark volume) xs ys i n below before is
 
 -- the marks up to a place, once all are made
-pub settle_all : (mark : Mark) (volume : List ℕ) (xs ys : List Noted) (i : ℕ) → length xs ≤ i → ys ≡ map (settled_noted mark volume) (take i xs) ++ drop i xs
-    → ys ≡ map (settled_noted mark volume) xs
-settle_all mark volume xs ys i over e =
-    e ∙ ap₂ (λ a b. map (settled_noted mark volume) a ++ b) (take_all i xs over) (drop_all i xs over) ∙ append-nil (map (settled_noted mark volume) xs)
+pub mark_all : (mark : Mark) (volume : List ℕ) (xs ys : List Noted) (i : ℕ) → length xs ≤ i → ys ≡ map (marked_noted mark volume) (take i xs) ++ drop i xs
+    → ys ≡ map (marked_noted mark volume) xs
+mark_all mark volume xs ys i over e =
+    e ∙ ap₂ (λ a b. map (marked_noted mark volume) a ++ b) (take_all i xs over) (drop_all i xs over) ∙ append-nil (map (marked_noted mark volume) xs)
 
 -- Settled entries.
 
-settled_stays : (mark : Mark) (volume : List ℕ) (n : Noted) → IsSettled n → settled_noted mark volume n ≡ n
-settled_stays mark volume n still =
-    cond-false (awaits_sync volume (entry_of n)) (record n { mark = mark }) n (and_left (is_unsynced n.mark) (bytes_eq n.placement.volume volume) still)
+settled_stays : (mark : Mark) (volume : List ℕ) (n : Noted) → is_purged mark ≡ false → IsSettled n → marked_noted mark volume n ≡ n
+settled_stays mark volume n sync still =
+    cond-false (takes mark volume (entry_of n)) (record n { mark = mark }) n
+    (and_left (is_purged mark || is_unsynced n.mark) (bytes_eq n.placement.volume volume) (ap₂ (λ a b. a || b) sync still))
 
-pub settled_stay : (mark : Mark) (volume : List ℕ) (xs : List Noted) → All IsSettled xs → map (settled_noted mark volume) xs ≡ xs
-settled_stay mark volume xs all = map_fixed (settled_noted mark volume) xs (All-weaker IsSettled (λ n. settled_noted mark volume n ≡ n) (settled_stays mark volume) xs all)
+settled_stay : (mark : Mark) (volume : List ℕ) (xs : List Noted) → is_purged mark ≡ false → All IsSettled xs → map (marked_noted mark volume) xs ≡ xs
+settled_stay mark volume xs sync all = map_fixed (marked_noted mark volume) xs (All-weaker IsSettled (λ n. marked_noted mark volume n ≡ n) (λ n. settled_stays mark volume n sync) xs all)
+
+-- the entries before the place from which all are looked at stay
+before_stay : (mark : Mark) (volume : List ℕ) (xs : List Noted) (i : ℕ) → (is_purged mark ≡ true → i ≡ 0) → All IsSettled (take i xs) → map (marked_noted mark volume) (take i xs) ≡ take i xs
+before_stay mark volume xs i all_of all = from (is_purged mark) refl
+  where
+    from : (b : Bool) → is_purged mark ≡ b → map (marked_noted mark volume) (take i xs) ≡ take i xs
+    from true is = ap (λ n. map (marked_noted mark volume) (take n xs)) (all_of is) ∙ sym (ap (λ n. take n xs) (all_of is))
+    from false is = settled_stay mark volume (take i xs) is all
 
 -- up to a place before which all are settled
-pub settle_begin : (mark : Mark) (volume : List ℕ) (xs : List Noted) (i : ℕ) → All IsSettled (take i xs) → xs ≡ map (settled_noted mark volume) (take i xs) ++ drop i xs
-settle_begin mark volume xs i all = sym (ap (λ l. l ++ drop i xs) (settled_stay mark volume (take i xs) all) ∙ take-append-drop i xs)
+pub mark_begin : (mark : Mark) (volume : List ℕ) (xs : List Noted) (i : ℕ) → (is_purged mark ≡ true → i ≡ 0) → All IsSettled (take i xs) → xs ≡ map (marked_noted mark volume) (take i xs) ++ drop i xs
+mark_begin mark volume xs i all_of all = sym (ap (λ l. l ++ drop i xs) (before_stay mark volume xs i all_of all) ∙ take-append-drop i xs)
 
-pub settled_still : (mark : Mark) (volume : List ℕ) (xs ys : List Noted) (i : ℕ) → ys ≡ map (settled_noted mark volume) xs → All IsSettled (take i xs) → All IsSettled (take i ys)
-settled_still mark volume xs ys i e all =
-    rw (ap (take i) e ∙ take-map (settled_noted mark volume) i xs ∙ settled_stay mark volume (take i xs) all) all
+pub settled_still : (mark : Mark) (volume : List ℕ) (xs ys : List Noted) (i : ℕ) → (is_purged mark ≡ true → i ≡ 0) → ys ≡ map (marked_noted mark volume) xs → All IsSettled (take i xs) → All IsSettled (take i ys)
+settled_still mark volume xs ys i all_of e all =
+    rw (ap (take i) e ∙ take-map (marked_noted mark volume) i xs ∙ before_stay mark volume xs i all_of all) all
+
+-- all entries are looked at, or those that may still be synced
+pub settled_before : (xs : List Noted) (settled : ℕ) (b : Bool) → All IsSettled (take settled xs) → All IsSettled (take (cond b 0 settled) xs)
+settled_before xs settled true all = All-nil IsSettled
+settled_before xs settled false all = all
+
+pub first_is : (b : Bool) (i settled : ℕ) → i ≡ cond b 0 settled → b ≡ true → i ≡ 0
+first_is true i settled is purge = is
+first_is false i settled is purge = absurd (true≢false (sym purge))
 
 pub none_awaits : (volume : List ℕ) (xs : List Noted) → All IsSettled xs → any_awaits_sync volume (entries_of xs) ≡ false
 none_awaits volume [] all = refl
@@ -115,9 +133,9 @@ ends_more ns n ends fits =
     rw (map-append entry_of ns (n ∷ []), placements_more (entries_of ns) (entry_of n)) all
 
 -- marks leave the ends
-pub ends_settled : (mark : Mark) (volume : List ℕ) (xs ys : List Noted) → entries_of ys ≡ settled mark volume (entries_of xs)
+pub ends_marked : (mark : Mark) (volume : List ℕ) (xs ys : List Noted) → entries_of ys ≡ marked mark volume (entries_of xs)
     → All EndFits (placements (entries_of xs)) → All EndFits (placements (entries_of ys))
-ends_settled mark volume xs ys e ends = rw (e, settled_placements mark volume (entries_of xs)) ends
+ends_marked mark volume xs ys e ends = rw (e, marked_placements (takes mark volume) mark (entries_of xs)) ends
 
 -- a session that was ready is one less where it is not any more
 passes_front : {X : Type 0} (b : Bool) (x : X) (ys : List X) (rest : Bool) → (b || rest) ≡ true → (rest ≡ true → 1 ≤ length ys) → 1 ≤ length (cond b (x ∷ ys) ys)
@@ -160,7 +178,7 @@ without_other key q (k ∷ ks) among = without_front key q k ks (is_key key k) r
 pub settled_behind : (ns : List Noted) (n : Noted) (sure : ℕ) → sure ≤ length ns → All IsSettled (take sure ns) → All IsSettled (take sure (ns ++ n ∷ []))
 settled_behind ns n sure low all = rw (take-append-le sure ns (n ∷ []) low) all
 
--- A step of a sync that is over.
+-- A step of a call that marks.
 
 get_or_same : {X : Type 0} (xs : List X) (i : ℕ) (d e : X) → i < length xs → get_or xs i d ≡ get_or xs i e
 get_or_same [] i d e below = absurd (omega (arith, below))
@@ -168,30 +186,35 @@ get_or_same (x ∷ xs) zero d e below = refl
 get_or_same (x ∷ xs) (suc i) d e below = get_or_same xs i d e (omega (arith, below))
 
 -- read twice, it is one entry
-pub same_key : (ns : List Noted) (i : ℕ) (d n : Noted) → i < length ns → n ≡ get_or ns i n → (get_or ns i d).placement.key ≡ n.placement.key
-same_key ns i d n below is = ap (λ m. m.placement.key) (get_or_same ns i d n below ∙ sym is)
+pub same_entry : (ns : List Noted) (i : ℕ) (d n : Noted) → i < length ns → n ≡ get_or ns i n → get_or ns i d ≡ n
+same_entry ns i d n below is = get_or_same ns i d n below ∙ sym is
 
-pub step_marked : (mark : Mark) (volume : List ℕ) (ns : List Noted) (i : ℕ) (n m : Noted) (key : SessionKey) (s s' : Shares) → i < length ns → n ≡ get_or ns i n
-    → awaits_sync volume (entry_of n) ≡ true → m ≡ settled_noted mark volume n → key ≡ n.placement.key → ChangesAt key (with_mark mark) s s'
+entry_at : (ns : List Noted) (i : ℕ) (n : Noted) → i < length ns → n ≡ get_or ns i n → entry_of n ≡ get_or (entries_of ns) i (entry_of n)
+entry_at ns i n below is = ap entry_of is ∙ sym (get_or-map entry_of ns i n (entry_of n) below)
+
+pub step_marked : (mark : Mark) (volume : List ℕ) (ns : List Noted) (i : ℕ) (n m : Noted) (key : SessionKey) (was : Mark) (s s' : Shares) → i < length ns → n ≡ get_or ns i n
+    → takes mark volume (entry_of n) ≡ true → m ≡ marked_noted mark volume n → key ≡ n.placement.key → was ≡ n.mark → ChangesAt key (with_mark was mark) s s'
     → AreSharesOf (entries_of ns) s → AreSharesOf (entries_of (slice_set ns i m)) s'
-step_marked mark volume ns i n m key s s' below is awaits set own changes fits =
+step_marked mark volume ns i n m key was s s' below is takes_it set own had changes fits =
     let long : length (entries_of ns) ≡ length ns = length-map ns entry_of in
-    let at : entry_of n ≡ get_or (entries_of ns) i (entry_of n) = ap entry_of is ∙ sym (get_or-map entry_of ns i n (entry_of n) below) in
-    let marked : m ≡ record n { mark = mark } = set ∙ cond-true (awaits_sync volume (entry_of n)) (record n { mark = mark }) n awaits in
-    let changed : ChangesAt n.placement.key (with_mark mark) s s' = subst (λ k. ChangesAt k (with_mark mark) s s') own changes in
-    let unsynced : is_unsynced n.mark ≡ true = (and_parts (is_unsynced n.mark) (bytes_eq n.placement.volume volume) awaits).0 in
-    let all = shares_marked (entries_of ns) i (entry_of n) mark (omega (arith, long, below)) at unsynced s s' changed fits in
-    rw (map-set entry_of ns i m, ap entry_of marked) all
+    let marked_is : m ≡ record n { mark = mark } = set ∙ cond-true (takes mark volume (entry_of n)) (record n { mark = mark }) n takes_it in
+    let changed : ChangesAt n.placement.key (with_mark n.mark mark) s s' = subst (λ w. ChangesAt n.placement.key (with_mark w mark) s s') had (subst (λ k. ChangesAt k (with_mark was mark) s s') own changes) in
+    let all = shares_marked (entries_of ns) i (entry_of n) mark (omega (arith, long, below)) (entry_at ns i n below is) s s' changed fits in
+    rw (map-set entry_of ns i m, ap entry_of marked_is) all
 
 pub step_kept : (mark : Mark) (volume : List ℕ) (ns : List Noted) (i : ℕ) (n m : Noted) (s : Shares) → n ≡ get_or ns i n
-    → awaits_sync volume (entry_of n) ≡ false → m ≡ settled_noted mark volume n → AreSharesOf (entries_of ns) s → AreSharesOf (entries_of (slice_set ns i m)) s
-step_kept mark volume ns i n m s is awaits set fits =
-    let same : m ≡ n = set ∙ cond-false (awaits_sync volume (entry_of n)) (record n { mark = mark }) n awaits in
+    → takes mark volume (entry_of n) ≡ false → m ≡ marked_noted mark volume n → AreSharesOf (entries_of ns) s → AreSharesOf (entries_of (slice_set ns i m)) s
+step_kept mark volume ns i n m s is takes_it set fits =
+    let same : m ≡ n = set ∙ cond-false (takes mark volume (entry_of n)) (record n { mark = mark }) n takes_it in
     rw (ap (slice_set ns i) (same ∙ is) ∙ set-get_or ns i n) fits
 
--- the counts of a session are no more than the entries
-pub synced_below : (key : SessionKey) (ns : List Noted) (s : Shares) (x : ShareView) → AreSharesOf (entries_of ns) s → share_of s key ≡ Some x → x.counts.synced ≤ length ns
-synced_below key ns s x fits is = let most = synced_fits key (entries_of ns) s x fits is in let long : length (entries_of ns) ≡ length ns = length-map ns entry_of in omega (arith, most, long)
+-- the counts of a session are no more than the entries, and can be taken anew where an entry of it is marked
+pub step_counts : (mark : Mark) (ns : List Noted) (i : ℕ) (n : Noted) (key : SessionKey) (was : Mark) (s : Shares) (x : ShareView) → i < length ns → length ns + 1 < 2 ^ 64 → n ≡ get_or ns i n
+    → key ≡ n.placement.key → was ≡ n.mark → AreSharesOf (entries_of ns) s → share_of s key ≡ Some x → CanRemark was mark x
+step_counts mark ns i n key was s x below few is own had fits there =
+    let long : length (entries_of ns) ≡ length ns = length-map ns entry_of in
+    let counts = marks_fit (entries_of ns) i (entry_of n) mark (omega (arith, long, below)) (omega (arith, long, few)) (entry_at ns i n below is) s x fits (ap (share_of s) (sym own) ∙ there) in
+    subst (λ w. CanRemark w mark x) (sym had) counts
 
 pub placed_below : (key : SessionKey) (ns : List Noted) (s : Shares) (x : ShareView) → AreSharesOf (entries_of ns) s → share_of s key ≡ Some x → x.counts.placed ≤ length ns
 placed_below key ns s x fits is = let most = placed_fits key (entries_of ns) s x fits is in let long : length (entries_of ns) ≡ length ns = length-map ns entry_of in omega (arith, most, long)

@@ -9,7 +9,7 @@ use Rattle.sd_span.specs.declared.placement.Placement.{Placement}
 use Rattle.sd_span.specs.declared.progress.Progress.{Progress}
 use Rattle.sd_journal.specs.declared.counts.Counts.{Counts}
 use Rattle.sd_journal.specs.declared.mark.Mark.{Mark}
-use Rattle.sd_journal.specs.declared.mark.Mark.TheVariants.{Unsynced, Synced, Lost}
+use Rattle.sd_journal.specs.declared.mark.Mark.TheVariants.{Unsynced, Synced, Lost, Purged}
 
 -- a placement with its mark: whether its block is synced
 pub record Entry : Type 0 where
@@ -52,18 +52,21 @@ abbrev pub is_unsynced : Mark → Bool
 is_unsynced Unsynced = true
 is_unsynced Synced = false
 is_unsynced Lost = false
+is_unsynced Purged = false
 
 -- a block is synced
 abbrev pub is_synced : Mark → Bool
 is_synced Unsynced = false
 is_synced Synced = true
 is_synced Lost = false
+is_synced Purged = false
 
 -- a sync of its volume failed while the block wasn't synced
 abbrev pub is_lost : Mark → Bool
 is_lost Unsynced = false
 is_lost Synced = false
 is_lost Lost = true
+is_lost Purged = false
 
 -- the entry's block lies on the volume and isn't synced yet
 abbrev pub awaits_sync : List ℕ → Entry → Bool
@@ -81,6 +84,32 @@ settled_one mark volume e = if awaits_sync volume e then record e { mark = mark 
 abbrev pub settled : Mark → List ℕ → List Entry → List Entry
 settled mark volume entries = map (settled_one mark volume) entries
 
+-- Purges.
+
+-- the entry's volume was purged since: its block is gone
+abbrev pub is_purged : Mark → Bool
+is_purged Unsynced = false
+is_purged Synced = false
+is_purged Lost = false
+is_purged Purged = true
+
+-- the block of an entry on the volume is gone, and any other entry stays as it is
+abbrev pub purged_one : List ℕ → Entry → Entry
+purged_one volume e = if bytes_eq e.placement.volume volume then record e { mark = Purged } else e
+
+-- the entries once the volume was purged
+abbrev pub purged : List ℕ → List Entry → List Entry
+purged volume entries = map (purged_one volume) entries
+
+-- some entry's block is gone
+abbrev pub any_purged : List Entry → Bool
+any_purged entries = list_any (λ e. is_purged e.mark) entries
+
+-- the placements of the entries whose blocks are not gone, in order
+abbrev pub live : List Entry → List Placement
+live [] = []
+live (e ∷ es) = if is_purged e.mark then live es else e.placement ∷ live es
+
 -- What is asked of a session.
 
 -- the entry is the session's, and its block is synced
@@ -91,11 +120,16 @@ is_synced_of key e = is_key key e.placement.key && is_synced e.mark
 abbrev pub is_lost_of : SessionKey → Entry → Bool
 is_lost_of key e = is_key key e.placement.key && is_lost e.mark
 
+-- the entry is the session's, and its block is gone
+abbrev pub is_purged_of : SessionKey → Entry → Bool
+is_purged_of key e = is_key key e.placement.key && is_purged e.mark
+
 -- how many blocks of the session were placed
 abbrev pub placed_of : SessionKey → List Entry → ℕ
 placed_of key entries = length (placements_of key (placements entries))
 
--- how many of them are synced
+-- How many of them are synced. One that is gone isn't, whatever it was: so a session of which a block is gone has fewer
+-- synced than placed for good, and is never told complete.
 abbrev pub synced_of : SessionKey → List Entry → ℕ
 synced_of key entries = count_by (is_synced_of key) entries
 
@@ -106,6 +140,14 @@ counts_of key entries = record { placed = placed_of key entries; synced = synced
 -- the session fails: an entry of it is lost
 abbrev pub fails : SessionKey → List Entry → Bool
 fails key entries = list_any (is_lost_of key) entries
+
+-- a block of the session is gone
+abbrev pub has_purged : SessionKey → List Entry → Bool
+has_purged key entries = list_any (is_purged_of key) entries
+
+-- the session has an entry on the volume, gone or not
+abbrev pub has_on : SessionKey → List ℕ → List Entry → Bool
+has_on key volume entries = list_any (λ p. bytes_eq p.volume volume) (placements_of key (placements entries))
 
 -- how far the session's blocks are
 abbrev pub progress_of : SessionKey → List Entry → Progress

@@ -1,10 +1,11 @@
 -- What a journal keeps of an entry.
-use Rattle.std.specs.Prelude.{◌≡◌, ℕ, ◌+◌, ◌≤◌, List, length, map, take, All, false, IsTrue, if◌then◌else◌}
+use Rattle.std.specs.Prelude.{◌≡◌, ℕ, ◌+◌, ◌≤◌, List, length, map, take, All, Bool, false, ◌&&◌, ◌||◌, IsTrue, if◌then◌else◌}
+use Rattle.std.specs.Str.{bytes_eq}
 use Rattle.std.specs.List.{list_any}
 use Rattle.sd_base.specs.Key.{is_key}
 use Rattle.sd_base.specs.declared.number.SessionKey.{SessionKey}
 use Rattle.sd_span.specs.Spans.{EndFits}
-use Rattle.sd_journal.specs.Journal.{Entry, placements, is_unsynced, awaits_sync}
+use Rattle.sd_journal.specs.Journal.{Entry, placements, is_unsynced, is_purged}
 use Rattle.sd_journal.specs.declared.shares.Shares.{Shares}
 use Rattle.sd_journal.specs.Share.{share_of, HasRoom, AreSharesOf}
 use Rattle.sd_journal.specs.declared.mark.Mark.{Mark}
@@ -18,9 +19,18 @@ entry_of n = record { placement = n.placement; mark = n.mark }
 abbrev pub entries_of : List Noted → List Entry
 entries_of ns = map entry_of ns
 
--- what is kept of the entry once a sync of the volume is over
-abbrev pub settled_noted : Mark → List ℕ → Noted → Noted
-settled_noted mark volume n = if awaits_sync volume (entry_of n) then record n { mark = mark } else n
+-- the entry takes that mark by a call on the volume: that of a purge wherever it lies on the volume, another where it
+-- awaits a sync of it
+abbrev pub takes : Mark → List ℕ → Entry → Bool
+takes mark volume e = (is_purged mark || is_unsynced e.mark) && bytes_eq e.placement.volume volume
+
+-- what is kept of the entry after such a call
+abbrev pub marked_noted : Mark → List ℕ → Noted → Noted
+marked_noted mark volume n = if takes mark volume (entry_of n) then record n { mark = mark } else n
+
+-- the entries after it
+abbrev pub marked : Mark → List ℕ → List Entry → List Entry
+marked mark volume entries = map (λ e. if takes mark volume e then record e { mark = mark } else e) entries
 
 -- no sync marks its entry any more
 abbrev pub IsSettled : Noted → Type 0

@@ -1,5 +1,5 @@
 -- What contracts see of what a journal keeps of one session.
-use Rattle.std.specs.Prelude.{List, Bool}
+use Rattle.std.specs.Prelude.{ℕ, List, Bool}
 use Rattle.sd_span.specs.declared.span.Span.{Span}
 use Rattle.sd_journal.specs.declared.counts.Counts.{Counts}
 
@@ -8,7 +8,7 @@ pub record ShareView : Type 0 where
   -- its stretches, not numbered yet
   pub stretches : List Span
   pub counts : Counts
-  -- one of its entries is lost
-  pub fails : Bool
+  -- how many of its entries are lost
+  pub lost : ℕ
   -- there is room for one stretch more
   pub ready : Bool

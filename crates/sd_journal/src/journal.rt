@@ -1,13 +1,14 @@
 // The journal of a drive.
-ghost use Rattle.std.specs.Prelude.{◌≡◌, ◌++◌, ◌∷◌, [], false, IfOk, OnOk, OnErr};
+ghost use Rattle.std.specs.Prelude.{◌≡◌, ◌++◌, ◌∷◌, [], if◌then◌else◌, IfOk, OnOk, OnErr};
 ghost use Rattle.std.specs.List.{list_any};
 ghost use Rattle.sd_base.specs.Key.{is_key};
 ghost use Rattle.sd_span.specs.Spans.{EndFits, spans_of, placements_of};
-ghost use Rattle.sd_journal.specs.Journal.{placements, noted, is_unsynced, IsReady, with_key, without_key, any_awaits_sync, settled, counts_of, fails, progress_of};
+ghost use Rattle.sd_journal.specs.Noted.{marked};
+ghost use Rattle.sd_journal.specs.Journal.{placements, noted, is_purged, IsReady, with_key, without_key, any_awaits_sync, settled, purged, counts_of, fails, has_on, progress_of};
 
 use crate::counts::Counts;
 use crate::mark::Mark;
-use crate::noted::{Noted, any_awaits, first_unsynced, placements_in, settle};
+use crate::noted::{Noted, any_awaits, first_unsynced, placements_in, remark};
 use crate::shares::Shares;
 use sd_base::{Items, SessionKey, VolName};
 use sd_span::{Placement, Progress, Span};
@@ -20,13 +21,13 @@ use std::marker::Model;
 /// A session is found by its key's hash. What is asked of it looks at its own stretches and counts alone,
 /// but for `placements`; `note` costs the same however many entries there are. A sync that is over looks at what
 /// was noted since the oldest entry that may still be synced, and at no session besides: lost entries cost
-/// later syncs nothing.
+/// later syncs nothing. A purge looks at all entries.
 #[derive(Drop)]
 pub struct Journal {
     alloc: Global,
     // The entries, each with the session that placed it.
     noted: Vec<Noted>,
-    // The entries before this place are synced or lost.
+    // The entries before this place are synced, lost or gone.
     settled: usize,
     // Of each session its stretches and counts.
     shares: Shares,
@@ -107,7 +108,7 @@ impl Journal {
           entries = settled Mark.Synced volume.now self.old.entries;
         } }
     {
-        self.settle(volume, Mark::Synced);
+        self.remark(volume, Mark::Synced);
     }
 
     /// A sync of the volume failed: each entry on it that awaited it is lost, and the sessions of those
@@ -117,25 +118,35 @@ impl Journal {
           entries = settled Mark.Lost volume.now self.old.entries;
         } }
     {
-        self.settle(volume, Mark::Lost);
+        self.remark(volume, Mark::Lost);
     }
 
-    // A sync of the volume is over: each entry that awaited it gets this mark. Looks at what was noted since
-    // the oldest entry that may still be synced.
-    fn settle(&mut self, volume: &VolName, mark: Mark)
-        requires { is_unsynced mark ≡ false }
+    /// The volume was purged: the blocks of all entries on it are gone. The entries stay, and so do spans and
+    /// placements; but none of those blocks counts as synced any more, or lost. Takes no memory.
+    pub fn purged(&mut self, volume: &VolName)
         ensures { self.new ≡ record self.old {
-          entries = settled mark volume.now self.old.entries;
+          entries = purged volume.now self.old.entries;
         } }
     {
-        settle(
+        self.remark(volume, Mark::Purged);
+    }
+
+    // Each entry that takes it by a call on the volume gets this mark. Looks at what was noted since the oldest entry
+    // that may still be synced; where the volume was purged, at all entries.
+    fn remark(&mut self, volume: &VolName, mark: Mark)
+        ensures { self.new ≡ record self.old {
+          entries = marked mark volume.now self.old.entries;
+        } }
+    {
+        let from = first_marked(mark, self.settled);
+        remark(
             &mut self.noted,
             &mut self.shares,
-            self.settled,
+            from,
             volume,
             mark,
         );
-        self.settled = first_unsynced(&self.noted, self.settled);
+        self.settled = first_unsynced(&self.noted, from);
     }
 
     /// Whether an entry awaits a sync of the volume.
@@ -164,6 +175,16 @@ impl Journal {
     {
         match self.shares.get(key) {
             Some(share) => share.fails(),
+            None => false,
+        }
+    }
+
+    /// Whether an entry of the session is on the volume, be its block there or gone.
+    pub fn has_on(&self, key: SessionKey, volume: &VolName) -> bool
+        ensures { result ≡ has_on key volume.now self.now.entries }
+    {
+        match self.shares.get(key) {
+            Some(share) => share.is_on(volume),
             None => false,
         }
     }
@@ -197,6 +218,13 @@ impl Journal {
     {
         placements_in(self.alloc, &self.noted, key)
     }
+}
+
+// The place of the first entry that a call may mark so, where those before that place await no sync.
+fn first_marked(mark: Mark, settled: usize) -> usize
+    ensures { result ≡ (if is_purged mark then 0 else settled) }
+{
+    if mark.is_purged() { 0 } else { settled }
 }
 
 fn is_among(ready: &[SessionKey], key: SessionKey) -> bool

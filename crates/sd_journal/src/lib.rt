@@ -12,5 +12,5 @@ mod shares;
 
 pub use counts::Counts;
 pub use journal::Journal;
-pub use laws::{noting_appends, settling_marks, synced_within_placed, syncs_fail};
+pub use laws::{noting_appends, purging_marks, settling_marks, synced_within_placed, syncs_fail};
 pub use mark::Mark;

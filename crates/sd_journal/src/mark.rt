@@ -1,6 +1,6 @@
 // Whether a placed block is synced.
 ghost use Rattle.std.specs.Prelude.{◌≡◌};
-ghost use Rattle.sd_journal.specs.Journal.{is_unsynced, is_synced, is_lost};
+ghost use Rattle.sd_journal.specs.Journal.{is_unsynced, is_synced, is_lost, is_purged};
 
 /// Whether a placed block is synced.
 #[derive(Clone, Copy, Debug, PartialEq, Eq)]
@@ -10,6 +10,8 @@ pub enum Mark {
     Synced,
     /// A sync of its volume failed while it was not: it stays unsynced for good.
     Lost,
+    /// Its volume was purged: it is gone.
+    Purged,
 }
 
 impl Mark {
@@ -29,5 +31,11 @@ impl Mark {
         ensures { result ≡ is_lost self }
     {
         matches!(self, Mark::Lost)
+    }
+
+    pub(crate) fn is_purged(self) -> bool
+        ensures { result ≡ is_purged self }
+    {
+        matches!(self, Mark::Purged)
     }
 }

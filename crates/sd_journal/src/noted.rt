@@ -1,9 +1,9 @@
 // The entries that a journal keeps, and what is asked of them one after another.
-ghost use Rattle.std.specs.Prelude.{◌≡◌, ◌≤◌, All, false, length, take, IfOk};
+ghost use Rattle.std.specs.Prelude.{◌≡◌, ◌≤◌, All, true, false, length, take, IfOk};
 ghost use Rattle.std.specs.Vec.{vec_len, vec_capacity};
 ghost use Rattle.sd_span.specs.Spans.{placements_of};
-ghost use Rattle.sd_journal.specs.Journal.{placements, is_unsynced, awaits_sync, any_awaits_sync, settled};
-ghost use Rattle.sd_journal.specs.Noted.{entry_of, entries_of, settled_noted, IsSettled};
+ghost use Rattle.sd_journal.specs.Journal.{placements, is_purged, awaits_sync, any_awaits_sync};
+ghost use Rattle.sd_journal.specs.Noted.{entry_of, entries_of, takes, marked_noted, marked, IsSettled};
 ghost use Rattle.sd_journal.specs.Share.{share_of, HasRoom, AreSharesOf};
 
 use crate::mark::Mark;
@@ -26,12 +26,12 @@ impl Noted {
         self.mark.is_unsynced() && self.placement.volume.is_same(volume)
     }
 
-    /// Gives it that mark where it awaits a sync of the volume; tells whether it did.
-    fn settle(&mut self, volume: &VolName, mark: Mark) -> bool
-        ensures noted { self.new ≡ settled_noted mark volume.now self.old }
-        ensures awaited { result ≡ awaits_sync volume.now (entry_of self.old) }
+    /// Gives it that mark where it takes it by a call on the volume; tells whether it did.
+    fn remark(&mut self, volume: &VolName, mark: Mark) -> bool
+        ensures noted { self.new ≡ marked_noted mark volume.now self.old }
+        ensures taken { result ≡ takes mark volume.now (entry_of self.old) }
     {
-        if self.awaits_sync(volume) {
+        if (mark.is_purged() || self.mark.is_unsynced()) && self.placement.volume.is_same(volume) {
             self.mark = mark;
             return true;
         }
@@ -53,19 +53,19 @@ pub(crate) fn any_awaits(noted: &[Noted], from: usize, volume: &VolName) -> bool
     false
 }
 
-/// Gives each entry that awaits a sync of the volume that mark, and tells its session's share. Looks at the
-/// entries from `from` on: those before it await no sync.
-pub(crate) fn settle(
+/// Gives each entry that takes it by a call on the volume that mark, and tells its session's share. Looks at the
+/// entries from `from` on: those before it await no sync. A purge looks at all.
+pub(crate) fn remark(
     noted: &mut Vec<Noted>,
     shares: &mut Shares,
     from: usize,
     volume: &VolName,
     mark: Mark,
 )
-    requires mark { is_unsynced mark ≡ false }
+    requires from { is_purged mark ≡ true → from ≡ 0 }
     requires settled { All IsSettled (take from noted.old.items) }
     requires shares { AreSharesOf (entries_of noted.old.items) shares.old }
-    ensures entries { entries_of noted.new.items ≡ settled mark volume.now
+    ensures entries { entries_of noted.new.items ≡ marked mark volume.now
         (entries_of noted.old.items) }
     ensures settled { All IsSettled (take from noted.new.items) }
     ensures count { vec_len noted.new ≡ vec_len noted.old }
@@ -74,23 +74,25 @@ pub(crate) fn settle(
     ensures rooms { (key : _) → HasRoom (share_of shares.old key)
         → HasRoom (share_of shares.new key) }
 {
-    settle_each(noted, shares, from, volume, mark);
+    remark_each(noted, shares, from, volume, mark);
 }
 
-fn settle_each(noted: &mut [Noted], shares: &mut Shares, from: usize, volume: &VolName, mark: Mark)
-    requires mark { is_unsynced mark ≡ false }
+fn remark_each(noted: &mut [Noted], shares: &mut Shares, from: usize, volume: &VolName, mark: Mark)
+    requires from { is_purged mark ≡ true → from ≡ 0 }
     requires settled { All IsSettled (take from noted.old) }
     requires shares { AreSharesOf (entries_of noted.old) shares.old }
-    ensures entries { entries_of noted.new ≡ settled mark volume.now (entries_of noted.old) }
+    ensures entries { entries_of noted.new ≡ marked mark volume.now (entries_of noted.old) }
     ensures settled { All IsSettled (take from noted.new) }
     ensures shares { AreSharesOf (entries_of noted.new) shares.new }
     ensures rooms { (key : _) → HasRoom (share_of shares.old key)
         → HasRoom (share_of shares.new key) }
 {
     for place in from..noted.len() {
-        let key = noted[place].placement.key;
-        if noted[place].settle(volume, mark) {
-            shares.settle(key, mark);
+        let one = &noted[place];
+        let key = one.placement.key;
+        let was = one.mark;
+        if noted[place].remark(volume, mark) {
+            shares.remark(key, was, mark);
         }
     }
 }

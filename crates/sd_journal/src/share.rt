@@ -1,23 +1,26 @@
 // What a journal keeps of one session.
-ghost use Rattle.std.specs.Prelude.{◌≡◌, ◌+◌, ◌<◌, ◌^◌, ◌||◌, [], true, false, if◌then◌else◌, IfOk, OnOk, OnErr};
+ghost use Rattle.std.specs.Prelude.{◌≡◌, ◌↔◌, ◌+◌, ◌<◌, ◌≤◌, ◌^◌, [], true, false, if◌then◌else◌, IfOk, OnOk, OnErr, IsTrue};
+ghost use Rattle.std.specs.List.{list_any};
+ghost use Rattle.std.specs.Str.{bytes_eq};
 ghost use Rattle.std.specs.Vec.{vec_len, vec_capacity};
 ghost use Rattle.sd_span.specs.Spans.{EndFits, grown, numbered_from};
 ghost use Rattle.sd_journal.specs.Journal.{is_synced, is_lost};
+ghost use Rattle.sd_journal.specs.Share.{recounted};
 ghost use Rattle.sd_journal.specs.ShareView.{ShareView};
 
 use crate::counts::Counts;
 use crate::mark::Mark;
-use sd_base::Items;
+use sd_base::{Items, VolName};
 use sd_span::{Placement, Span, numbered};
 use std::alloc::{AllocError, Global};
 use std::marker::Model;
 
-/// What a journal keeps of one session: its stretches, its counts, and whether it fails.
+/// What a journal keeps of one session: its stretches, its counts, and how many of its entries are lost.
 #[derive(Drop)]
 pub(crate) struct Share {
     stretches: Vec<Span>,
     counts: Counts,
-    fails: bool,
+    lost: u64,
     // Whether there is room for one stretch more.
     ready: bool,
 }
@@ -32,7 +35,7 @@ impl Model for Share {
     ghost view = { λ s. record {
       stretches = s.stretches.items;
       counts = s.counts;
-      fails = s.fails;
+      lost = s.lost;
       ready = s.ready;
     } };
 
@@ -45,7 +48,7 @@ impl Share {
         ensures { IfOk result (λ share. share ≡ record {
           stretches = [];
           counts = record { placed = 0; synced = 0 };
-          fails = false;
+          lost = 0;
           ready = true;
         }) }
     {
@@ -57,7 +60,7 @@ impl Share {
                 placed: 0,
                 synced: 0,
             },
-            fails: false,
+            lost: 0,
             ready: true,
         })
     }
@@ -68,10 +71,18 @@ impl Share {
         self.counts
     }
 
+    /// Whether an entry of it is lost.
     pub(crate) fn fails(&self) -> bool
-        ensures { result ≡ self.now.fails }
+        ensures { IsTrue result ↔ (0 < self.now.lost) }
     {
-        self.fails
+        self.lost > 0
+    }
+
+    /// Whether one of its stretches is on the volume.
+    pub(crate) fn is_on(&self, volume: &VolName) -> bool
+        ensures { result ≡ list_any (λ s. bytes_eq s.volume volume.now) self.now.stretches }
+    {
+        self.stretches.iter().any(|one| one.volume.is_same(volume))
     }
 
     pub(crate) fn spans(&self, alloc: Global) -> Result<Items<Span>, AllocError>
@@ -99,7 +110,7 @@ impl Share {
         ensures { self.new ≡ record {
           stretches = grown self.old.stretches placement.now;
           counts = record { placed = self.old.counts.placed + 1; synced = self.old.counts.synced };
-          fails = self.old.fails;
+          lost = self.old.lost;
           ready = false;
         } }
     {
@@ -108,25 +119,39 @@ impl Share {
         self.ready = false;
     }
 
-    /// One entry of it that was not synced yet has this mark now.
-    pub(crate) fn settle(&mut self, mark: Mark)
-        requires { self.old.counts.synced + 1 < 2 ^ 64 }
+    /// One entry of it that had the one mark has the other now.
+    pub(crate) fn remark(&mut self, was: Mark, mark: Mark)
+        requires synced { self.old.counts.synced + 1 < 2 ^ 64 }
+        requires some_synced { (if is_synced was then 1 else 0)
+            ≤ self.old.counts.synced + (if is_synced mark then 1 else 0) }
+        requires lost { self.old.lost + 1 < 2 ^ 64 }
+        requires some_lost { (if is_lost was then 1 else 0)
+            ≤ self.old.lost + (if is_lost mark then 1 else 0) }
         ensures { self.new ≡ record {
           stretches = self.old.stretches;
           counts = record {
             placed = self.old.counts.placed;
-            synced = self.old.counts.synced + (if is_synced mark then 1 else 0);
+            synced = recounted (is_synced mark) (is_synced was) self.old.counts.synced;
           };
-          fails = self.old.fails || is_lost mark;
+          lost = recounted (is_lost mark) (is_lost was) self.old.lost;
           ready = self.old.ready;
         } }
     {
-        if mark.is_synced() {
-            self.counts.synced += 1;
-        }
-        self.fails = self.fails || mark.is_lost();
+        self.counts.synced = recounted(mark.is_synced(), was.is_synced(), self.counts.synced);
+        self.lost = recounted(mark.is_lost(), was.is_lost(), self.lost);
     }
 }
+
+// A count to which perhaps one came, and from which perhaps one went.
+fn recounted(came: bool, went: bool, count: u64) -> u64
+    requires fits { count + 1 < 2 ^ 64 }
+    requires some { (if went then 1 else 0) ≤ count + (if came then 1 else 0) }
+    ensures { result ≡ recounted came went count }
+{
+    let more = if came { count + 1 } else { count };
+    if went { more - 1 } else { more }
+}
+
 
 fn extend(stretches: &mut Vec<Span>, placement: &Placement)
     requires end { EndFits placement.now }

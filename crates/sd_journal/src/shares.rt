@@ -2,7 +2,7 @@
 ghost use Rattle.std.specs.Prelude.{◌≡◌, ◌+◌, ◌<◌, ◌^◌, None, OnOk, OnErr};
 ghost use Rattle.std.specs.Option.{option_copied, ForSome};
 ghost use Rattle.sd_span.specs.Spans.{EndFits};
-ghost use Rattle.sd_journal.specs.Share.{share_of, ChangesAt, SameShares, readied, with_placement, with_mark, HasRoom};
+ghost use Rattle.sd_journal.specs.Share.{share_of, ChangesAt, SameShares, readied, with_placement, with_mark, CanRemark, HasRoom};
 
 use crate::mark::Mark;
 use crate::share::Share;
@@ -61,13 +61,13 @@ impl Shares {
         }
     }
 
-    /// One entry of the session that was not synced yet has this mark now.
-    pub(crate) fn settle(&mut self, key: SessionKey, mark: Mark)
-        requires { ForSome (share_of self.old key) (λ s. s.counts.synced + 1 < 2 ^ 64) }
-        ensures { ChangesAt key (with_mark mark) self.old self.new }
+    /// One entry of the session that had the one mark has the other now.
+    pub(crate) fn remark(&mut self, key: SessionKey, was: Mark, mark: Mark)
+        requires { ForSome (share_of self.old key) (CanRemark was mark) }
+        ensures { ChangesAt key (with_mark was mark) self.old self.new }
     {
         if let Some(share) = self.sessions.get_mut(&key) {
-            share.settle(mark);
+            share.remark(was, mark);
         }
     }
 }
