@@ -4,6 +4,7 @@ pub mod Device
 pub mod Reader
 pub mod Fault
 pub mod Label
+pub mod Purge
 pub mod Append
 pub mod Adopt
 pub mod Laws

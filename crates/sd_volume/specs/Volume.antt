@@ -18,9 +18,10 @@ pub record VolumeView : Type 0 where
   pub next_number : ℕ
   pub first : ℕ
 
--- it is no longer than a volume may be, and has as many blocks as its numbers say, each of them at least the
--- least one; so the next number fits a header
+-- It is no longer than a volume may be, and has as many blocks as its numbers say, each of them at least the least one,
+-- its label block too. So the next number fits a header.
 pub record IsVolumeView (v : VolumeView) : Type 0 where
+  pub first_least : least_block ≤ v.first
   pub first_most : v.first ≤ v.end
   pub end_most : v.end ≤ most_volume
   pub next_least : 1 ≤ v.next_number

@@ -161,8 +161,8 @@ fn status_at(limit: u64, end: u64) -> VolumeStatus
     }
 }
 
-// Cuts a volume, and makes what is left last.
-fn cut_back<D: Driver>(driver: &mut D, name: &VolName, to: u64) -> Result<(), AdoptFault>
+/// Cuts a volume, and makes what is left last.
+pub(crate) fn cut_back<D: Driver>(driver: &mut D, name: &VolName, to: u64) -> Result<(), AdoptFault>
     requires { (D.meaning driver.old).loaded ≡ None }
     ensures unloaded { (D.meaning driver.new).loaded ≡ None }
     ensures counted { Counted (IsErrOf result AdoptFault.Device) ⊥

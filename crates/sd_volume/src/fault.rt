@@ -1,4 +1,4 @@
-// Why a volume was not labelled or adopted.
+// Why a volume was not labelled, adopted or purged.
 ghost use Rattle.std.specs.Prelude.{◌≡◌};
 ghost use Rattle.sd_volume.specs.Fault.{label_refusal, adopt_refusal};
 
@@ -19,7 +19,8 @@ pub enum LabelFault {
     Memory,
 }
 
-/// Why a volume was not adopted. The first that is due, in this order.
+/// Why a volume was not adopted: the first that is due, in this order. Or why it was not purged: the first, or the last
+/// two.
 #[derive(Clone, Copy, Debug, PartialEq, Eq)]
 pub enum AdoptFault {
     /// No volume of that name stands on the shelf.

@@ -7,6 +7,7 @@ mod block;
 mod fault;
 mod label;
 mod laws;
+mod purging;
 mod reader;
 mod survey;
 mod volume;
@@ -20,6 +21,7 @@ pub use laws::{
     kept_blocks_stand, one_block_more, one_whole_image, placed_block_stands, stands_by_its_bytes,
     whole_image_goes_on,
 };
+pub use purging::purge;
 pub use reader::VolumeReader;
 pub use survey::{Labelled, numbered_block, read_label};
 pub use volume::{Volume, VolumeStatus};

@@ -56,6 +56,7 @@ impl Model for Volume {
 impl Volume {
     ghost use Rattle.sd_base.specs.Limits.{most_volume};
     ghost use Rattle.sd_volume.specs.declared.volume.VolumeStatus.TheVariants.{Append, Error};
+    ghost use Rattle.sd_volume.specs.Purge.{emptied};
 
     pub fn name(&self) -> &VolName
         ensures { result.now ≡ self.now.name }
@@ -109,6 +110,15 @@ impl Volume {
         ensures { IsTrue result ↔ ((self.now.status ≡ Append) × (pool.now ≡ self.now.pool)) }
     {
         self.status == VolumeStatus::Append && self.pool.is_same(pool)
+    }
+
+    /// It has no block any more: its next one is the first, right behind its label block.
+    pub(crate) fn empty(&mut self, status: VolumeStatus)
+        ensures { self.new ≡ emptied status self.old }
+    {
+        self.status = status;
+        self.end = self.first;
+        self.next_number = 1;
     }
 
     /// No more blocks are added, since the device failed a write of it.

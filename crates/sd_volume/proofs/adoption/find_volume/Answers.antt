@@ -10,6 +10,17 @@ use Rattle.sd_volume.proofs.adoption.find_volume.Goals as goal
 pub find_end-requires-clause-least : goal.find_end-requires-clause-least
 find_end-requires-clause-least g c = omega (arith, rw c.in-Some.is at c.in_ok-found.ensures.first, label_block-least c.in-Some.found.label)
 
+pub invariant_of-result : goal.invariant_of-result
+invariant_of-result g c =
+    let e = c.in_ok-end.ensures in
+    record {
+      first_least = omega (arith, rw c.in-Some.is at c.in_ok-found.ensures.first, label_block-least c.in-Some.found.label);
+      first_most = e.first;
+      end_most = omega (arith, e.end, c.requires.most);
+      next_least = e.least;
+      next_most = e.next;
+    }
+
 pub returns-in_err-end-clause-device : goal.returns-in_err-end-clause-device
 returns-in_err-end-clause-device g c =
     let p = err_from_is_err_and c.from_residual-in_err-end.result c.from_residual-in_err-end.ensures.1 in

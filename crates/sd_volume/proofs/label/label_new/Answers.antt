@@ -7,6 +7,7 @@ invariant_of-result g c =
     let is = c.in_ok-image.ensures.image in
     let long = length-image c.in_ok-image.image.items _ _ _ is in
     record {
+      first_least = omega (arith, long, is.least);
       first_most = omega arith;
       end_most = omega (arith, long, is.most);
       next_least = omega arith;
