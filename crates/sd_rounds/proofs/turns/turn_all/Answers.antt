@@ -1,4 +1,5 @@
-use Rattle.std.proofs.Common.{◌≡◌, ℕ, subst, arith}
+use Rattle.std.proofs.Common.{◌≡◌, ◌+◌, ℕ, subst, arith}
+use Rattle.sd_base.specs.Limits.{most_drives}
 use Rattle.sd_rounds.specs.Rounds.{AreTurns, PlaysOn, online_flags, turn_kind}
 use Rattle.sd_rounds.proofs.RoundParts.{online_below, online_one, turned_more, turned_none}
 use Rattle.sd_rounds.proofs.turns.turn_all.Goals as goal
@@ -20,6 +21,6 @@ pub returns : goal.returns
 returns g c =
     let M = g.D.Driver.meaning in
     let old = c.args.world.now in
-    let all : c.loop-number.number ≡ 9 = omega arith in
+    let all : c.loop-number.number ≡ most_drives + 1 = omega arith in
     let Turned : ℕ → Type 0 = λ n. PlaysOn M (AreTurns (turn_kind c.args.syncs) (online_below (online_flags old) n)) old c.loop-number.turned c.loop-number.world in
     subst Turned all c.loop-number.invariant.plays
