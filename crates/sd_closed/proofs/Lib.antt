@@ -5,4 +5,5 @@ pub mod GrowLemmas
 pub mod ReadKeeps
 pub mod ReadLemmas
 pub mod SeatLemmas
+pub mod SpanLemmas
 pub mod StandLemmas

@@ -23,6 +23,7 @@ use Rattle.sd_closed.specs.Steps.{DrivesKeep}
 use Rattle.sd_closed.proofs.ClaimLemmas.{closed_is_found, placed_is_found}
 use Rattle.sd_closed.proofs.GrowLemmas.{journals_grow}
 use Rattle.sd_closed.proofs.SeatLemmas.{moves_keep_seats}
+use Rattle.sd_closed.proofs.SpanLemmas.{closed_has_span}
 
 -- the volumes of some spans stay claimed
 claimed_stay : {D : Type 0} (w w' : WorldView D) (drive : ℕ) (spans : List Span) → ClaimsLast w w' → AreClaimed w.desk drive spans → AreClaimed w'.desk drive spans
@@ -90,6 +91,7 @@ stands_on {D} w w' l key spans s =
       there = h.there;
       key_is = h.key_is;
       closed = h.closed;
+      some = s.some;
       claimed = subst (λ n. AreClaimed w'.desk n spans) (sym drive) (claimed_stay w w' s.e.drive spans l.claims s.claimed);
       spans_are = elim s.spans_are [
         | inl is ↦ elim (l.spans key spans (record { e = s.e; there = s.there; key_is = s.key_is; closed = s.closed; spans_are = is })) [
@@ -127,6 +129,7 @@ reply_stands meaning w (reply.Closed key spans) h c keep =
       there = c.there;
       key_is = c.key_is;
       closed = c.closed;
+      some = closed_has_span w key spans h c;
       claimed = closed_is_found meaning w key spans s.0 s.1 s.2 h c s.3 (keep s.0 s.1 s.2 s.3.there s.3.online);
       spans_are = inl s;
     }

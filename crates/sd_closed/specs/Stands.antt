@@ -1,5 +1,5 @@
 -- How closed sessions stand: their spans, whatever happens afterwards.
-use Rattle.std.specs.Prelude.{◌≡◌, ◌⊎◌, ℕ, ◌+◌, Some, None, List, slice_get}
+use Rattle.std.specs.Prelude.{◌≡◌, ◌≢◌, ◌⊎◌, ℕ, ◌+◌, Some, None, List, [], slice_get}
 use Rattle.sd_base.specs.declared.number.SessionKey.{SessionKey}
 use Rattle.sd_driver.specs.Meaning.{Meaning}
 use Rattle.sd_machine.specs.declared.event.Event.{Event}
@@ -17,13 +17,14 @@ use Rattle.sd_closed.specs.Steps.{IsSound, IsStep}
 abbrev pub IsRetired : {D : Type 0} → WorldView D → ℕ → Type 0
 IsRetired {D} w drive = (at : ℕ) × (bay : BayView D) × (drive ≡ at + 1) × (slice_get w.bays at ≡ Some bay) × (bay.drive ≡ None)
 
--- The session of this key is closed with these spans, whose volumes are claimed for its drive. Its drive's journal gives
--- them, or the drive was retired.
+-- The session of this key is closed with these spans, one at least, whose volumes are claimed for its drive. Its drive's
+-- journal gives them, or the drive was retired.
 pub record StandsClosed {D : Type 0} (w : WorldView D) (key : SessionKey) (spans : List Span) : Type 0 where
   pub e : WorldSession
   pub there : session_at key.id w.sessions ≡ Some e
   pub key_is : e.session.key ≡ key
   pub closed : e.session.status ≡ IsClosed
+  pub some : spans ≢ []
   pub claimed : AreClaimed w.desk e.drive spans
   pub spans_are : SpansAt w e spans ⊎ IsRetired w e.drive
 

@@ -18,6 +18,7 @@ use Rattle.sd_moves.specs.Honest.{AreHonest}
 use Rattle.sd_moves.specs.World.{WorldView, WorldSession, BayView, IsOnline, session_at}
 use Rattle.sd_matches.specs.Matches.{Matches, SessionsMatch}
 use Rattle.sd_matches.proofs.Sessions.{found_session}
+use Rattle.sd_closed.specs.Stands.{StandsClosed}
 use Rattle.sd_closed.specs.Deeds.{Deed, IsRead, LeadsTo}
 use Rattle.sd_closed.specs.Reads.{HasCancelled, ReadsToFront}
 use Rattle.sd_closed.specs.Stays.{AreClaimed}
@@ -30,15 +31,14 @@ use Rattle.sd_theorem.specs.Told.{WereAsked}
 use Rattle.sd_theorem.proofs.Deeds.{given_at}
 use Rattle.sd_theorem.proofs.Fresh.{made_honest}
 use Rattle.sd_theorem.proofs.Read.{world_gives, world_refuses, counts_small}
-use Rattle.sd_theorem.proofs.Stood.{Stood, honest_drive, is_then, told_of, told_stood}
+use Rattle.sd_theorem.proofs.Stood.{honest_drive, is_then, told_of, told_stood}
 
 module _ {D : Type 0} (meaning : D → Meaning) (w : WorldView D) (m : Machine) (sound : IsSound meaning w) (honest : AreHonest meaning w) (pairs : Matches meaning w m)
     (key : SessionKey) (spans : List Span) (after : WorldView D) (got got' : List Record) (result : Result ReadEnd Refusal) (read : IsRead meaning key spans got got' result w after) where
   -- Closed sessions.
 
-  pub reads_closed : Stood w key spans → ReadsClosed meaning w m key spans got got' result
-  reads_closed stood =
-      let s = stood.stands in
+  pub reads_closed : StandsClosed w key spans → ReadsClosed meaning w m key spans got got' result
+  reads_closed s =
       elim s.spans_are [
         | inl p ↦
             let here = honest_drive meaning w s.e.drive p.0 p.1 p.2 sound honest p.3 in
@@ -56,7 +56,7 @@ module _ {D : Type 0} (meaning : D → Meaning) (w : WorldView D) (m : Machine) 
               has = record { s = f.session; there = f.there; key_is = f.matches.key_is ∙ s.key_is; status_is = f.matches.status_is ∙ s.closed };
               e = s.e;
               there = s.there;
-              reads = inr (world_refuses meaning w after key spans got got' result s.e.drive retired s.claimed stood.some read.reads);
+              reads = inr (world_refuses meaning w after key spans got got' result s.e.drive retired s.claimed s.some read.reads);
             }
       ]
 

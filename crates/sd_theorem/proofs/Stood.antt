@@ -1,5 +1,5 @@
 -- How closed sessions stand whose spans were told, where all is honest.
-use Rattle.std.proofs.Common.{◌≡◌, ◌≢◌, ℕ, sym, subst, ◌∙◌, inl, inr, Some, List, []}
+use Rattle.std.proofs.Common.{◌≡◌, ℕ, sym, subst, ◌∙◌, inl, inr, Some, List}
 use Rattle.sd_base.specs.declared.number.SessionKey.{SessionKey}
 use Rattle.sd_driver.specs.Meaning.{Meaning}
 use Rattle.sd_drive.specs.View.{DriveIs}
@@ -13,7 +13,6 @@ use Rattle.sd_moves.specs.Honest.{AreHonest}
 use Rattle.sd_moves.specs.Kept.{IsClosedAt}
 use Rattle.sd_moves.specs.Sessions.{SpansAt}
 use Rattle.sd_moves.specs.World.{WorldView, WorldSession, BayView, HasTicket, IsOnline, session_at}
-use Rattle.sd_moves.proofs.Moves.{moves_keep_closed}
 use Rattle.sd_matches.specs.Matches.{Matches}
 use Rattle.sd_matches.proofs.MovesSteps.{moves_steps}
 use Rattle.sd_closed.specs.Deeds.{Deed, LeadsTo, StaysFrom}
@@ -22,7 +21,7 @@ use Rattle.sd_closed.specs.Stands.{StandsClosed}
 use Rattle.sd_closed.specs.Stays.{AreClaimed}
 use Rattle.sd_closed.specs.Steps.{IsSound, IsStep}
 use Rattle.sd_closed.proofs.DeedLemmas.{leads_keep, leads_run, step_keeps}
-use Rattle.sd_closed.proofs.ReadLemmas.{closed_reads}
+use Rattle.sd_closed.proofs.SpanLemmas.{closed_has_span}
 use Rattle.sd_closed.proofs.StandLemmas.{steps_keep_spans}
 use Rattle.sd_theorem.specs.Told.{WasClosedWith, WereAsked, WereToldClosed}
 use Rattle.sd_theorem.proofs.Deeds.{GivenAt, given_at, split_at}
@@ -62,35 +61,15 @@ is_then meaning old new event reply m sound honest pairs g =
       stays = (leads_keep meaning g.now new g.after g.step.sound g.goes_on).1;
     }
 
--- the session stands closed with these spans, of which there is one at least
-pub record Stood {D : Type 0} (w : WorldView D) (key : SessionKey) (spans : List Span) : Type 0 where
-  pub stands : StandsClosed w key spans
-  pub some : spans ≢ []
-
--- a closed session has a span
-some_span : {D : Type 0} (meaning : D → Meaning) (w : WorldView D) (m : Machine) (key : SessionKey) (spans : List Span) → IsSound meaning w → AreHonest meaning w → Matches meaning w m
-    → IsClosedAt w key spans → spans ≢ []
-some_span meaning w m key spans sound honest pairs c =
-    let p = c.spans_are in
-    (closed_reads meaning w m key spans p.0 p.1 p.2 pairs c (honest_drive meaning w c.e.drive p.0 p.1 p.2 sound honest p.3)).reads.some_span
-
--- it stood on
-stood_on : {D : Type 0} (meaning : D → Meaning) (old new : WorldView D) (key : SessionKey) (spans : List Span) → StaysFrom meaning old new → Stood old key spans → Stood new key spans
-stood_on meaning old new key spans stays s = record { stands = stays.closed key spans s.stands; some = s.some }
-
 -- by a close
 closed_stood : {D : Type 0} (meaning : D → Meaning) (old new : WorldView D) (m : Machine) (key : SessionKey) (spans : List Span) (deeds : List Deed) → IsSound meaning old → AreHonest meaning old
-    → Matches meaning old m → LeadsTo meaning old deeds new → WasClosedWith key spans deeds → Stood new key spans
+    → Matches meaning old m → LeadsTo meaning old deeds new → WasClosedWith key spans deeds → StandsClosed new key spans
 closed_stood meaning old new m key spans deeds sound honest pairs leads (ticket, given) =
     let event = Close ticket in
     let reply = Closed key spans in
     let g = given_at meaning old new event reply deeds leads given in
     let t = is_then meaning old new event reply m sound honest pairs g in
-    let c : IsClosedAt g.now key spans = (moves_keep_closed meaning g.asked g.now event reply t.sound.rules g.step.moves).stands in
-    stood_on meaning g.now new key spans t.stays (record {
-      stands = (steps_keep_spans meaning g.asked g.now event reply t.sound g.step).stands;
-      some = some_span meaning g.now t.m key spans g.step.sound t.honest t.matches c;
-    })
+    t.stays.closed key spans (steps_keep_spans meaning g.asked g.now event reply t.sound g.step).stands
 
 -- What was told when spans were asked for: the session, its spans, and that their volumes are claimed.
 pub record ToldOf {D : Type 0} (w : WorldView D) (key : SessionKey) (spans : List Span) : Type 0 where
@@ -113,26 +92,31 @@ told_of {D} meaning asked now key spans sound step =
 
 -- when spans were asked for after it was closed
 asked_stood : {D : Type 0} (meaning : D → Meaning) (old new : WorldView D) (m : Machine) (key : SessionKey) (spans others : List Span) (deeds : List Deed) → IsSound meaning old → AreHonest meaning old
-    → Matches meaning old m → Stood old key others → LeadsTo meaning old deeds new → WereAsked key spans deeds → Stood new key spans
+    → Matches meaning old m → StandsClosed old key others → LeadsTo meaning old deeds new → WereAsked key spans deeds → StandsClosed new key spans
 asked_stood {D} meaning old new m key spans others deeds sound honest pairs stood leads given =
     let event = Media key.id in
     let reply = Spans spans in
     let g = given_at meaning old new event reply deeds leads given in
     let t = is_then meaning old new event reply m sound honest pairs g in
     let told = told_of meaning g.asked g.now key spans t.sound g.step in
-    let before = (leads_keep meaning old g.asked g.before sound g.leads).1.closed key others stood.stands in
+    let before = (leads_keep meaning old g.asked g.before sound g.leads).1.closed key others stood in
     let s = (steps_keep_spans meaning g.asked g.now event reply t.sound g.step).closed_last key others before in
     let one : told.e ≡ s.e = cc (sym told.there ∙ s.there) in
     let spans_are : SpansAt g.now s.e spans = subst (λ x. SpansAt g.now x spans) one told.spans_are in
     let claimed : AreClaimed g.now.desk s.e.drive spans = subst (λ (x : WorldSession). AreClaimed g.now.desk x.drive spans) one told.claimed in
     let c : IsClosedAt g.now key spans = record { e = s.e; there = s.there; key_is = s.key_is; closed = s.closed; spans_are = spans_are } in
-    stood_on meaning g.now new key spans t.stays (record {
-      stands = record { e = s.e; there = s.there; key_is = s.key_is; closed = s.closed; claimed = claimed; spans_are = inl spans_are };
-      some = some_span meaning g.now t.m key spans g.step.sound t.honest t.matches c;
+    t.stays.closed key spans (record {
+      e = s.e;
+      there = s.there;
+      key_is = s.key_is;
+      closed = s.closed;
+      some = closed_has_span g.now key spans g.step.sound.rules c;
+      claimed = claimed;
+      spans_are = inl spans_are;
     })
 
 pub told_stood : {D : Type 0} (meaning : D → Meaning) (old new : WorldView D) (m : Machine) (key : SessionKey) (spans : List Span) (deeds : List Deed) → IsSound meaning old → AreHonest meaning old
-    → Matches meaning old m → LeadsTo meaning old deeds new → WereToldClosed key spans deeds → Stood new key spans
+    → Matches meaning old m → LeadsTo meaning old deeds new → WereToldClosed key spans deeds → StandsClosed new key spans
 told_stood meaning old new m key spans deeds sound honest pairs leads (inl closed) = closed_stood meaning old new m key spans deeds sound honest pairs leads closed
 told_stood {D} meaning old new m key spans deeds sound honest pairs leads (inr (first, later, others, split, closed, asked)) =
     let p = split_at meaning old new first later (subst (λ l. LeadsTo meaning old l new) split leads) in
