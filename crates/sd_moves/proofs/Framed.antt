@@ -54,7 +54,7 @@ pub record LosesIn {D : Type 0} (meaning : D → Meaning) (old : WorldView D) (d
 
 module _ {D : Type 0} {meaning : D → Meaning} {w w' : WorldView D} {drive : ℕ} {event : Event} {reply : Reply} (a : AtDrive meaning w drive event reply w') where
   -- where the event happens
-  pub station : Station D
+  abbrev pub station : Station D
   station = record { drive = a.d; queue = a.bay.queue; desk = w.desk }
 
   -- the world once that was left, and other sessions

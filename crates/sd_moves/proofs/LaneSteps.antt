@@ -40,12 +40,11 @@ some_busy sessions journal (l ∷ ls) (suc k) lane there busy =
 
 -- nor is its drive without a session
 pub running_busy : {D : Type 0} (sessions : List WorldSession) (bay : BayView D) (d : DriveIs D) (ticket : ℕ) (e : WorldSession) (place : ℕ) (lane : LaneView)
-    → bay.drive ≡ Some d → session_at ticket sessions ≡ Some e → IsRunning e.session.status
-    → slice_get bay.lanes place ≡ Some lane → lane.holder ≡ Some e.session.key.id → busy_lanes sessions bay.drive bay.lanes ≢ 0
-running_busy sessions bay d ticket e place lane on at runs there holds none =
+    → session_at ticket sessions ≡ Some e → IsRunning e.session.status
+    → slice_get bay.lanes place ≡ Some lane → lane.holder ≡ Some e.session.key.id → busy_lanes sessions (Some d) bay.lanes ≢ 0
+running_busy sessions bay d ticket e place lane at runs there holds none =
     let one = some_busy sessions d.journal bay.lanes place lane there (not_free sessions d.journal ticket e lane.holder at runs holds) in
-    let same = ap (λ x. busy_lanes sessions x bay.lanes) on in
-    absurd (omega (arith, one, same, none))
+    absurd (omega (arith, one, none))
 
 -- the session lodges where it did, with the lane's store if it had it
 abbrev pub Lodges : WorldSession → WorldSession → Type 0

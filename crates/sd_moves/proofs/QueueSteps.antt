@@ -283,7 +283,7 @@ retires_world {D} w w' drive h t =
       record {
         sent_is = λ x is. absurd (cc is);
         holds = sits.holds;
-        online = λ r. absurd (t.unused (inl (running_busy w.sessions t.bay t.d number e place lane t.online.online found r stands (sits.holds r))));
+        online = λ r. absurd (t.unused (inl (running_busy w.sessions t.bay t.d number e place lane found r stands (sits.holds r))));
         lost_none = λ r x is. absurd (cc is);
         closed = λ c x is. absurd (cc is);
         some_sent = sits.some_sent;

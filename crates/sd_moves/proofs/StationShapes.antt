@@ -1,12 +1,12 @@
 -- The shapes of what an event leaves where a drive is, whatever the event was.
-use Rattle.std.proofs.Common.{◌≡◌, ◌⊎◌, ℕ, ◌≤◌, refl, sym, ap, subst, ◌∙◌, inl, inr, Some, None, Result, Ok, Err, List, [], ◌∷◌, ◌++◌}
+use Rattle.std.proofs.Common.{◌≡◌, ◌⊎◌, ℕ, ◌≤◌, refl, sym, ap, subst, ◌∙◌, inl, inr, false, Some, None, Result, Ok, Err, List, [], ◌∷◌, ◌++◌}
 use Rattle.sd_base.specs.declared.number.SessionKey.{SessionKey}
 use Rattle.sd_base.specs.declared.refusal.Refusal.{Refusal}
 use Rattle.sd_base.specs.declared.refusal.Refusal.TheVariants.{DeviceFault}
 use Rattle.sd_desk.specs.Desk.{claimed_by}
-use Rattle.sd_driver.specs.Meaning.{Meaning, IsHonest}
+use Rattle.sd_driver.specs.Meaning.{Meaning, IsHonest, Unchanged}
 use Rattle.sd_driver.specs.Shelf.{StillLasts, StillLastsBelow}
-use Rattle.sd_drive.specs.Moves.{PlacesPiece, Syncs, Unmounts, AddsVolume, synced_journal}
+use Rattle.sd_drive.specs.Moves.{Places, PlacesPiece, Syncs, Unmounts, AddsVolume, awaits_sync, synced_journal}
 use Rattle.sd_drive.specs.Shelf.{KeepsPieces}
 use Rattle.sd_drive.specs.View.{DriveIs, items}
 use Rattle.sd_drive.specs.declared.place.Placed.{Placed as PlaceAnswer}
@@ -84,7 +84,7 @@ pub data StationShape {D : Type 0} (meaning : D → Meaning) (own : ℕ) (event 
   loses : IsOfSync event own → reply ≡ Refused DeviceFault → LosesBlocks meaning s o → StationShape meaning own event reply s o
   knows : ClaimsStay s.desk o.desk → o ≡ record (stays s) { desk = o.desk } → StationShape meaning own event reply s o
 
--- what the calls of a drive do to it
+-- Calls.
 
 places_piece : {D E : Type 0} (result : Result PlaceAnswer E) (d after : DriveIs D) → PlacesPiece result d after → JournalGoes d after
 places_piece {D} (Ok (place.At p)) d after c =
@@ -107,12 +107,16 @@ added {D} v d after is = unmarked d after (ap (λ (x : DriveIs D). x.hand) is) (
 unmounted : {D : Type 0} (d after : DriveIs D) → Unmounts d after → DriveGoesOn d after × JournalGoes d after
 unmounted {D} d after is = (unmounts d after is, synced d after (ap (λ (x : DriveIs D). x.hand) is) (ap (λ (x : DriveIs D). x.journal) is))
 
-syncs_on : {D : Type 0} (d after : DriveIs D) → Syncs d after → DriveGoesOn d after × JournalGoes d after
-syncs_on {D} d after is = (syncs d after is, synced d after (ap (λ (x : DriveIs D). x.hand) is) (ap (λ (x : DriveIs D). x.journal) is))
+syncs_on : {D : Type 0} (d after : DriveIs D) → Syncs d after × (awaits_sync d ≡ false → after ≡ d) → DriveGoesOn d after × JournalGoes d after
+syncs_on {D} d after c = (syncs d after c.0, synced d after (ap (λ (x : DriveIs D). x.hand) c.0) (ap (λ (x : DriveIs D). x.journal) c.0))
 
 placed : {D E : Type 0} (result : Result PlaceAnswer E) (d after : DriveIs D) → PlacesPiece result d after
     → items after.journal after.hand ≡ items d.journal d.hand → DriveGoesOn d after × JournalGoes d after
 placed result d after c items_are = (places result d after c items_are, places_piece result d after c)
+
+unplaced : {D : Type 0} (meaning : D → Meaning) (d after : DriveIs D) → Places {E = Unit {0}} (Err tt) d after × Unchanged (meaning d.device) (meaning after.device)
+    → items after.journal after.hand ≡ items d.journal d.hand → DriveGoesOn d after × JournalGoes d after
+unplaced meaning d after c items_are = placed {E = Unit {0}} (Err tt) d after c.0 items_are
 
 module _ {D : Type 0} {meaning : D → Meaning} {own : ℕ} {event : Event} {s : Station D} {o : Outcome D} where
   -- only the drive changes, by a call
@@ -202,8 +206,8 @@ station_shape meaning own (Place drive) VolumeError s o is m =
     calls_drive _ _ _ (λ d after c l. placed {E = Unit {0}} (Ok place.VolumeError) d after c l.keeps.items) m
 station_shape meaning own (Place drive) Idle s o is m = rests m.1
 station_shape meaning own (Place drive) (Refused why) s o is m =
-    calls_drive _ _ _ (λ d after c l. placed {E = Unit {0}} (Err tt) d after c.0 l.keeps.items) m.1
-station_shape meaning own (Sync drive) Synced s o is m = calls_drive _ _ _ (λ d after c l. syncs_on d after c.0) m
+    calls_drive _ _ _ (λ d after c l. unplaced meaning d after c l.keeps.items) m.1
+station_shape meaning own (Sync drive) Synced s o is m = calls_drive _ _ _ (λ d after c l. syncs_on d after c) m
 station_shape meaning own (Sync drive) (Refused why) s o is m = fails_to_sync why is m.0 m.1
 station_shape meaning own (Label drive name pool media moment) Labelled s o is m = gets (record {
   name = name;

@@ -11,7 +11,7 @@ use Rattle.sd_driver.specs.Meaning.{Meaning}
 use Rattle.sd_driver.specs.Shelf.{StillLasts}
 use Rattle.sd_volume.specs.Device.{Counted}
 use Rattle.sd_lane.specs.Queue.{LanesView}
-use Rattle.sd_moves.specs.Stations.{Outcome, Calls, CallsDrive, LosesBlocks}
+use Rattle.sd_moves.specs.Stations.{Outcome, Calls, LosesBlocks}
 
 -- what a call leaves of a device, by other words for what it answered
 pub recounted : {A B A' B' : Type 0} (m m' : Meaning) → (A' → A) → (A → A') → (B' → B) → (B → B') → Counted A B m m' → Counted A' B' m m'
@@ -41,17 +41,6 @@ counted_well m m' done c = recounted m m' (λ x. absurd x) (λ x. cc x) (λ x. x
 pub counted_refused : {T : Type 0} (m m' : Meaning) (why : Refusal) → Counted (IsErrOf {T = T} {E = Refusal} (Err why) DeviceFault) ⊥ m m' → Counted (why ≡ DeviceFault) ⊥ m m'
 counted_refused m m' why c = recounted m m' (λ x. ap Err x) (λ x. cc x) (λ x. x) (λ x. x) c
 
--- a call of a drive that changes it alone
-pub calls_drive : {D : Type 0} (meaning : D → Meaning) (fault no_room : Type 0) (d after : DriveIs D) (queue : LanesView) (desk : DeskView)
-    (change : DriveIs D → DriveIs D → Type 0) → change d after
-    → Counted fault no_room (meaning d.device) (meaning after.device)
-    → KeepsPieces (meaning d.device) (meaning after.device) d.journal after.journal d.hand after.hand
-    → StillLasts (meaning d.device).shelf (meaning after.device).shelf
-    → CallsDrive meaning fault no_room change (record { drive = d; queue = queue; desk = desk })
-    (record { drive = after; queue = queue; desk = desk; lost = None })
-calls_drive meaning fault no_room d after queue desk change changed counted keeps later =
-    (changed, record { counted = counted; keeps = keeps; later = later }, refl)
-
 -- a drive that is as it was, beside what is
 pub drive_rests : {D : Type 0} (d after : DriveIs D) (queue : LanesView) (desk : DeskView) → after ≡ d
     → ◌≡◌ {A = Outcome D} (record { drive = after; queue = queue; desk = desk; lost = None }) (record { drive = d; queue = queue; desk = desk; lost = None })
@@ -65,7 +54,7 @@ pub device_fails : {D T : Type 0} (meaning : D → Meaning) (d after : DriveIs D
     → StillLasts (meaning d.device).shelf (meaning after.device).shelf
     → LosesBlocks meaning (record { drive = d; queue = queue; desk = desk })
     (record { drive = after; queue = queue; desk = desk; lost = Some failed.volume.name })
-device_fails meaning d after queue desk why failed is counted keeps later = record {
+device_fails {D} {T} meaning d after queue desk why failed is counted keeps later = record {
   fails = failed;
   calls = record { counted = recounted _ _ (λ x. ap Err is) (λ x. tt) (λ x. x) (λ x. x) counted; keeps = keeps; later = later };
   is = refl;

@@ -1,6 +1,7 @@
 -- An event of a drive, in the world around it.
-use Rattle.std.proofs.Common.{◌≡◌, ◌≢◌, ℕ, ◌+◌, ◌≤◌, ◌&&◌, Option, Some, None, List, [], ◌∷◌, ◌++◌, map, slice_set, refl, sym, ap, ◌∙◌, subst, arith, inl, inr}
+use Rattle.std.proofs.Common.{◌≡◌, ◌≢◌, ℕ, ℤ, ◌+◌, ◌≤◌, ◌&&◌, Option, Some, None, List, [], ◌∷◌, ◌++◌, map, slice_set, refl, sym, ap, ◌∙◌, subst, arith, inl, inr}
 use Rattle.sd_base.specs.Limits.{most_volume}
+use Rattle.sd_base.specs.declared.refusal.Refusal.{Refusal}
 use Rattle.sd_base.specs.declared.refusal.Refusal.TheVariants.{DeviceFault}
 use Rattle.sd_desk.specs.Desk.{DeskView, claimed_by}
 use Rattle.sd_driver.specs.Meaning.{Meaning}
@@ -62,6 +63,35 @@ is_of_drive meaning w w' (Unmount own) drive reply is m = subst (λ n. MovesDriv
 is_of_drive meaning w w' (Seek own) drive reply is m = subst (λ n. MovesDrive meaning w n (Seek own) reply w') (sym is) m
 is_of_drive meaning w w' event drive reply is m = absurd is
 
+-- an event that is the drive's own, by its number
+pub of_drive : {D : Type 0} (meaning : D → Meaning) (drive number : ℕ) (named : ℕ → Event) (event : Event) {d after : DriveIs D} {queue queue' : LanesView}
+    {desk desk' : DeskView} {reply : Reply} → event ≡ named number → number ≡ drive
+    → MovesHere meaning drive (named drive) d queue desk reply after queue' desk' → MovesHere meaning drive event d queue desk reply after queue' desk'
+of_drive meaning drive number named event {d} {after} {queue} {queue'} {desk} {desk'} {reply} is own here =
+    subst (λ e. MovesHere meaning drive e d queue desk reply after queue' desk') (sym is)
+    (subst (λ n. MovesHere meaning drive (named n) d queue desk reply after queue' desk') (sym own) here)
+
+-- the moment of a label, written otherwise
+pub at_moment : {D : Type 0} (meaning : D → Meaning) (drive : ℕ) {name pool media : List ℕ} {z z' : ℤ} {d after : DriveIs D} {queue queue' : LanesView}
+    {desk desk' : DeskView} {reply : Reply} → z ≡ z' → MovesHere meaning drive (Label drive name pool media z) d queue desk reply after queue' desk'
+    → MovesHere meaning drive (Label drive name pool media z') d queue desk reply after queue' desk'
+at_moment meaning drive {name} {pool} {media} {z} {z'} {d} {after} {queue} {queue'} {desk} {desk'} {reply} same here =
+    subst (λ (x : ℤ). MovesHere meaning drive (Label drive name pool media x) d queue desk reply after queue' desk') same here
+
+-- there is no other event of a drive
+pub no_other : (event : Event) (drive : ℕ) → IsOfDrive event drive → ((n : ℕ) → event ≡ Take n → ⊥) → ((n : ℕ) → event ≡ Place n → ⊥) → ((n : ℕ) → event ≡ Sync n → ⊥)
+    → ((n : ℕ) (name pool media : List ℕ) (moment : ℤ) → event ≡ Label n name pool media moment → ⊥) → ((n : ℕ) (name : List ℕ) → event ≡ Adopt n name → ⊥)
+    → ((n : ℕ) (name : List ℕ) → event ≡ Mount n name → ⊥) → ((n : ℕ) → event ≡ Unmount n → ⊥) → ((n : ℕ) → event ≡ Seek n → ⊥) → ⊥
+no_other (Take n) drive own take place sync label adopt mount unmount seek = take n refl
+no_other (Place n) drive own take place sync label adopt mount unmount seek = place n refl
+no_other (Sync n) drive own take place sync label adopt mount unmount seek = sync n refl
+no_other (Label n name pool media moment) drive own take place sync label adopt mount unmount seek = label n name pool media moment refl
+no_other (Adopt n name) drive own take place sync label adopt mount unmount seek = adopt n name refl
+no_other (Mount n name) drive own take place sync label adopt mount unmount seek = mount n name refl
+no_other (Unmount n) drive own take place sync label adopt mount unmount seek = unmount n refl
+no_other (Seek n) drive own take place sync label adopt mount unmount seek = seek n refl
+no_other event drive own take place sync label adopt mount unmount seek = own
+
 module _ {D : Type 0} (meaning : D → Meaning) (w : WorldView D) (drive at : ℕ) (bay : BayView D) (d after : DriveIs D) (event : Event) (reply : Reply)
     (queue : LanesView) (desk : DeskView) (sessions : List WorldSession) (world : IsWorld w) (on : IsOnline w drive at bay d) (own : IsOfDrive event drive)
     (here : MovesHere meaning drive event d bay.queue w.desk reply after queue desk) where
@@ -69,10 +99,10 @@ module _ {D : Type 0} (meaning : D → Meaning) (w : WorldView D) (drive at : �
   abbrev becomes : WorldView D
   becomes = record w { sessions = sessions; bays = slice_set w.bays at (record bay { drive = Some after; queue = queue }); desk = desk }
 
-  station : Station D
+  abbrev station : Station D
   station = record { drive = d; queue = bay.queue; desk = w.desk }
 
-  outcome : Outcome D
+  abbrev outcome : Outcome D
   outcome = record { drive = after; queue = queue; desk = desk; lost = here.0 }
 
   moved : FailBy drive d.journal here.0 w.sessions sessions → Moves meaning w event reply becomes
@@ -111,6 +141,6 @@ module _ {D : Type 0} (meaning : D → Meaning) (w : WorldView D) (drive at : �
   moves_calmly well same = moved (calm well same)
 
 -- the drive isn't there
-pub missing : {D : Type 0} (meaning : D → Meaning) (w w' : WorldView D) (event : Event) (drive : ℕ) (why : _) → IsOfDrive event drive
+pub missing : {D : Type 0} (meaning : D → Meaning) (w w' : WorldView D) (event : Event) (drive : ℕ) (why : Refusal) → IsOfDrive event drive
     → DriveMissing w drive why → w' ≡ w → Moves meaning w event (Refused why) w'
 missing meaning w w' event drive why own none same = is_of_drive meaning w w' event drive (Refused why) own (inl (why, refl, none, same))

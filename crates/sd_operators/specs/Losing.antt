@@ -1,9 +1,18 @@
--- Which sessions lose a block at a drive: told from the lanes and the journal of that drive alone.
-use Rattle.std.specs.Prelude.{ℕ, Bool, false, ◌==◌, ◌&&◌, Option, Some, None, List}
+-- Whether a drive may have lost blocks, and which sessions lose one there: told from the reply, and from the lanes and the
+-- journal of that drive alone.
+use Rattle.std.specs.Prelude.{ℕ, Bool, true, false, ◌==◌, ◌&&◌, Option, Some, None, List}
 use Rattle.std.specs.List.{list_any}
+use Rattle.sd_base.specs.declared.refusal.Refusal.TheVariants.{DeviceFault}
 use Rattle.sd_journal.specs.Journal.{Entry, fails}
+use Rattle.sd_machine.specs.declared.reply.Reply.{Reply}
+use Rattle.sd_machine.specs.declared.reply.Reply.TheVariants.{Refused}
 use Rattle.sd_moves.specs.Drives.{is_running}
 use Rattle.sd_moves.specs.World.{WorldSession, LaneView}
+
+-- the event was refused with a fault of the device
+abbrev pub is_device_fault : Reply → Bool
+is_device_fault (Refused DeviceFault) = true
+is_device_fault reply = false
 
 -- the session has this ticket, if there is one
 abbrev pub is_holder : Option ℕ → WorldSession → Bool

@@ -35,7 +35,11 @@ pub(crate) fn mount_named<D: Driver>(
     ensures { MountsNamed (λ d. D.meaning d) drive name.now
         at.old desk.old result at.new desk.new }
 {
-    at.mount(name)?;
-    desk.answered(drive);
-    Ok(())
+    match at.mount(name) {
+        Ok(()) => {
+            desk.answered(drive);
+            Ok(())
+        }
+        Err(why) => Err(why),
+    }
 }

@@ -1,12 +1,11 @@
 // An event of a drive.
-ghost use Rattle.std.specs.Prelude.{◌≡◌, ◌↔◌, IsTrue};
-ghost use Rattle.sd_base.specs.declared.refusal.Refusal.TheVariants.{DeviceFault};
-ghost use Rattle.sd_machine.specs.declared.reply.Reply.TheVariants.{Refused};
+ghost use Rattle.std.specs.Prelude.{◌≡◌};
 ghost use Rattle.sd_moves.specs.Drives.{IsOfDrive};
 ghost use Rattle.sd_moves.specs.Moves.{Moves};
 ghost use Rattle.sd_moves.specs.Rules.{IsWorld};
 ghost use Rattle.sd_parts.specs.View.{world_of};
 ghost use Rattle.sd_operators.specs.AtStations.{MovesHere, IsStation};
+ghost use Rattle.sd_operators.specs.Losing.{is_device_fault};
 
 use crate::adopting::adopt;
 use crate::labelling::label;
@@ -45,15 +44,16 @@ pub fn operate<D: Driver, Q: Lanes, S: SpoolStore + Drop>(
         return Reply::Refused(Refusal::DriveOffline);
     };
     let reply = operate_on(at, &mut bay.queue, &mut parts.desk, drive, event);
-    if is_device_fault(&reply) {
-        fail_lost(&mut parts.sessions, &bay.lanes, at);
+    if !is_device_fault(&reply) {
+        return reply;
     }
+    fail_lost(&mut parts.sessions, &bay.lanes, at);
     reply
 }
 
 // Whether the event was refused with a fault of the device, as it is where a sync failed.
 fn is_device_fault(reply: &Reply) -> bool
-    ensures { IsTrue result ↔ (reply.now ≡ Refused DeviceFault) }
+    ensures { result ≡ is_device_fault reply.now }
 {
     matches!(reply, Reply::Refused(Refusal::DeviceFault))
 }

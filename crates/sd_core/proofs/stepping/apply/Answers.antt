@@ -1,24 +1,11 @@
 use Rattle.std.proofs.Common.{◌≡◌, ℤ, to_z, of_z, w64, rules, sym, subst}
 use Rattle.sd_machine.specs.declared.event.Event.{Event}
-use Rattle.sd_machine.specs.declared.event.Event.TheVariants.{Open, Label}
+use Rattle.sd_machine.specs.declared.event.Event.TheVariants.{Open}
 use Rattle.sd_moves.specs.Moves.{Moves}
 use Rattle.sd_parts.specs.View.{world_of}
 use Rattle.sd_core.proofs.stepping.apply.Goals as goal
 
 -- the moment is 64 bits wide
-pub returns-in-Label : goal.returns-in-Label
-returns-in-Label g c =
-    let wide : to_z w64 (of_z w64 c.in-Label.moment) ≡ c.in-Label.moment = search rules in
-    record {
-      moves = subst (λ (e : Event). Moves (λ d. g.D.Driver.meaning d) (world_of c.args.parts.now) e c.label.result (world_of c.label.new.parts))
-          (sym c.in-Label.is)
-          (subst
-          (λ (moment : ℤ). Moves (λ d. g.D.Driver.meaning d) (world_of c.args.parts.now)
-          (Label c.in-Label.drive c.in-Label.name c.in-Label.pool c.in-Label.media moment) c.label.result (world_of c.label.new.parts))
-          wide c.label.ensures.moves);
-    }
-
--- so is that of an open
 pub returns-in-Open : goal.returns-in-Open
 returns-in-Open g c =
     let wide : to_z w64 (of_z w64 c.in-Open.moment) ≡ c.in-Open.moment = search rules in

@@ -1,11 +1,11 @@
 use Rattle.std.proofs.Common.{◌≡◌, Some, None, refl, sym, ap, ◌∙◌, inl, inr}
 use Rattle.sd_drive.specs.Moves.{mount_due}
-use Rattle.sd_operators.proofs.CallLemmas.{counted_well, counted_refused, calls_are, calls_drive, drive_rests, device_fails}
+use Rattle.sd_operators.proofs.CallLemmas.{counted_well, counted_refused, calls_are, drive_rests, device_fails}
 use Rattle.sd_operators.proofs.MountLemmas.{due_or}
 use Rattle.sd_operators.proofs.mounting.mount_named.Goals as goal
 
-pub returns : goal.returns
-returns g c = λ queue.
+pub returns-in-Ok : goal.returns-in-Ok
+returns-in-Ok g c = λ queue.
     let e = c.in-Ok.ensures in
     let d = c.args.at.now in
     elim (due_or (mount_due d c.args.name.now)) [
@@ -31,7 +31,7 @@ returns-in-Err g c = λ queue.
     let d = c.args.at.now in
     let after = c.mount.new.self in
     let desk = c.args.desk.now in
-    let why = c.in-Err.error in
+    let why = c.in-Err.why in
     elim (due_or (mount_due d c.args.name.now)) [
       | inl none ↦
           elim (e.mounts none).2 [
@@ -41,7 +41,7 @@ returns-in-Err g c = λ queue.
                 due = none;
                 refuses = u.1;
                 on_shelf = λ honest. e.on_shelf honest none;
-                unmounts = calls_drive (λ x. g.D.Driver.meaning x) _ ⊥ d after queue desk _ u.0 (counted_refused _ _ why e.counted) e.keeps e.later;
+                unmounts = (u.0, calls_are (λ x. g.D.Driver.meaning x) _ ⊥ _ _ (counted_refused _ _ why e.counted) e.keeps e.later, refl);
               })),
             )
             | inr f ↦ (

@@ -1,6 +1,6 @@
 use Rattle.std.proofs.Common.{None, refl, ap, arith}
 use Rattle.sd_span.specs.declared.placement.Placement.{Placement}
-use Rattle.sd_operators.proofs.CallLemmas.{recounted, calls_drive, drive_rests}
+use Rattle.sd_operators.proofs.CallLemmas.{recounted, calls_are, drive_rests}
 use Rattle.sd_operators.proofs.placing.place.Goals as goal
 
 pub overflow_add-result : goal.overflow_add-result
@@ -21,8 +21,9 @@ returns-in-Ok-At g c = λ own queue desk.
       refl,
       refl,
       refl,
-      calls_drive (λ d. g.D.Driver.meaning d) ⊥ ⊥ _ c.place.new.self queue desk _ places
-          (recounted _ _ (λ x. absurd x) (λ x. cc x) (λ x. absurd x) (λ x. (let y = x.0 in cc y)) counted) c.in-Ok-At.ensures.keeps c.in-Ok-At.ensures.later,
+      places,
+      calls_are (λ d. g.D.Driver.meaning d) ⊥ ⊥ _ _ (recounted _ _ (λ x. absurd x) (λ x. cc x) (λ x. absurd x) (λ x. (let y = x.0 in cc y)) counted) c.in-Ok-At.ensures.keeps c.in-Ok-At.ensures.later,
+      refl,
     )
 
 pub returns-in-Ok-NeedVolume : goal.returns-in-Ok-NeedVolume
@@ -35,8 +36,9 @@ returns-in-Ok-VolumeFull g c = λ own queue desk.
     let places = rw c.in-Ok-VolumeFull.field-0-is at c.in-Ok-VolumeFull.ensures.places in
     let counted = rw c.in-Ok-VolumeFull.field-0-is at c.in-Ok-VolumeFull.ensures.counted in (
       None,
-      calls_drive (λ d. g.D.Driver.meaning d) ⊥ _ _ c.place.new.self queue desk _ places
-          (recounted _ _ (λ x. absurd x) (λ x. cc x) (λ x. (refl, x)) (λ x. x.1) counted) c.in-Ok-VolumeFull.ensures.keeps c.in-Ok-VolumeFull.ensures.later,
+      places,
+      calls_are (λ d. g.D.Driver.meaning d) ⊥ _ _ _ (recounted _ _ (λ x. absurd x) (λ x. cc x) (λ x. (refl, x)) (λ x. x.1) counted) c.in-Ok-VolumeFull.ensures.keeps c.in-Ok-VolumeFull.ensures.later,
+      refl,
     )
 
 pub returns-in-Ok-VolumeError : goal.returns-in-Ok-VolumeError
@@ -44,8 +46,9 @@ returns-in-Ok-VolumeError g c = λ own queue desk.
     let places = rw c.in-Ok-VolumeError.field-0-is at c.in-Ok-VolumeError.ensures.places in
     let counted = rw c.in-Ok-VolumeError.field-0-is at c.in-Ok-VolumeError.ensures.counted in (
       None,
-      calls_drive (λ d. g.D.Driver.meaning d) _ ⊥ _ c.place.new.self queue desk _ places
-          (recounted _ _ (λ x. refl) (λ x. tt) (λ x. absurd x) (λ x. (let y = x.0 in cc y)) counted) c.in-Ok-VolumeError.ensures.keeps c.in-Ok-VolumeError.ensures.later,
+      places,
+      calls_are (λ d. g.D.Driver.meaning d) _ ⊥ _ _ (recounted _ _ (λ x. refl) (λ x. tt) (λ x. absurd x) (λ x. (let y = x.0 in cc y)) counted) c.in-Ok-VolumeError.ensures.keeps c.in-Ok-VolumeError.ensures.later,
+      refl,
     )
 
 pub returns-in-Ok-Idle : goal.returns-in-Ok-Idle
@@ -58,7 +61,7 @@ returns-in-Err g c = λ own queue desk.
     let p = c.in-Err.ensures.places in (
       None,
       refl,
-      calls_drive (λ d. g.D.Driver.meaning d) ⊥ ⊥ _ c.place.new.self queue desk _
-          (record { piece = p.piece; at = p.at; volume = p.volume; after = p.after; ready = p.ready; on = p.on; becomes = p.becomes }, c.in-Err.ensures.unchanged)
-          (recounted _ _ (λ x. absurd x) (λ x. cc x) (λ x. absurd x) (λ x. (let y = x.0 in cc y)) c.in-Err.ensures.counted) c.in-Err.ensures.keeps c.in-Err.ensures.later,
+      (record { piece = p.piece; at = p.at; volume = p.volume; after = p.after; ready = p.ready; on = p.on; becomes = p.becomes }, c.in-Err.ensures.unchanged),
+      calls_are (λ d. g.D.Driver.meaning d) ⊥ ⊥ _ _ (recounted _ _ (λ x. absurd x) (λ x. cc x) (λ x. absurd x) (λ x. (let y = x.0 in cc y)) c.in-Err.ensures.counted) c.in-Err.ensures.keeps c.in-Err.ensures.later,
+      refl,
     )

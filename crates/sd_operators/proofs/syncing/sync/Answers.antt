@@ -1,11 +1,11 @@
-use Rattle.std.proofs.Common.{Some, None}
-use Rattle.sd_operators.proofs.CallLemmas.{counted_well, calls_drive, device_fails}
+use Rattle.std.proofs.Common.{Some, None, refl}
+use Rattle.sd_operators.proofs.CallLemmas.{counted_well, calls_are, device_fails}
 use Rattle.sd_operators.proofs.syncing.sync.Goals as goal
 
 pub returns-in-Ok : goal.returns-in-Ok
 returns-in-Ok g c = λ own queue desk.
     let e = c.in-Ok.ensures in
-    (None, calls_drive (λ d. g.D.Driver.meaning d) ⊥ ⊥ _ c.sync.new.self queue desk _ (e.ok, e.quiet) (counted_well _ _ _ e.counted) e.keeps e.later)
+    (None, (e.ok, e.quiet), calls_are (λ d. g.D.Driver.meaning d) ⊥ ⊥ _ _ (counted_well _ _ _ e.counted) e.keeps e.later, refl)
 
 pub returns-in-Err : goal.returns-in-Err
 returns-in-Err g c = λ own queue desk.

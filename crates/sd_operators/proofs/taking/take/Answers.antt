@@ -25,14 +25,6 @@ pub returns : goal.returns
 returns g c = λ own desk.
     let t = c.in-Some.ensures in (
       None,
-      record {
-        hand_empty = sym c.hand.ensures ∙ ap option_copied c.in-None.is;
-        lane = t.first.0;
-        piece = c.in-Some.piece;
-        rest = _;
-        held_is = t.first.1;
-        ticket_is = c.in-Some-new.ensures.value;
-        seq_is = refl;
-        is = took c.args.drive.now c.give.new.self _ _ desk c.in-Some.piece _ c.give.ensures (queue_same _ _ _ _ _ _ t.lanes t.capacity refl);
-      },
+      took c.args.drive.now c.give.new.self _ _ desk t.first.0 c.in-Some-new.ticket c.in-Some.piece _ (sym c.hand.ensures ∙ ap option_copied c.in-None.is)
+          t.first.1 c.in-Some-new.ensures.value c.give.ensures (queue_same _ _ _ _ _ _ t.lanes t.capacity refl),
     )
