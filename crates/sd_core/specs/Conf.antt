@@ -25,7 +25,7 @@ pub record IsConf (conf : WorldConf) : Type 0 where
 
 -- the limits of these settings, in the run of this time
 abbrev pub limits_of : WorldConf → ℕ → Limits
-limits_of conf time = record { block = conf.block; volume = conf.volume; spool = conf.spool; time = time }
+limits_of conf time = record { block = conf.block; volume = conf.volume; spool = conf.spool; time = time; host = conf.host }
 
 -- a queue of so many lanes that has room for so many pieces, and holds none
 abbrev pub empty_queue : ℕ → ℕ → LanesView

@@ -1,5 +1,5 @@
 // What a world is made with.
-use sd_base::MediaName;
+use sd_base::{HostName, MediaName};
 
 /// The settings of a world. What each may be stands in `IsConf`.
 #[derive(Drop)]
@@ -15,6 +15,8 @@ pub struct WorldConf {
     pub queue: usize,
     /// The media and the number of lanes of the drives 1, 2 and on: 1 to 8 drives, of 1 to 32 lanes each.
     pub drives: Vec<(MediaName, u32)>,
+    /// The host that the labels of new volumes say, if they say one.
+    pub host: Option<HostName>,
 }
 
 /// What no world was made of, for want of memory: the devices, queues and stores, each in their order.

@@ -82,18 +82,18 @@ pub(crate) fn make_bays<D: Driver, Q: Lanes, S: SpoolStore + Drop>(
 /// were, and the devices are there again.
 pub(crate) fn fill_bays<D: Driver + Drop, Q: Lanes + Drop, S: SpoolStore + Drop>(
     alloc: Global,
-    limits: Limits,
+    limits: &Limits,
     medias: &[(MediaName, u32)],
     drivers: &mut Vec<D>,
     queues: &mut Vec<Q>,
     spools: &mut Vec<Vec<S>>,
 ) -> Result<Vec<Bay<D, Q, S>>, AllocError>
-    requires limits { AreLimits limits }
+    requires limits { AreLimits limits.now }
     requires medias { vec_len drivers.old ≡ length medias.now }
     requires queues { vec_len queues.old ≡ length medias.now }
     requires spools { vec_len spools.old ≡ length medias.now }
     ensures made { IfOk result (λ bays. (drives : List (DriveIs D))
-        × AreNewDrives (λ d. D.meaning d) limits medias.now drivers.old.items drives
+        × AreNewDrives (λ d. D.meaning d) limits.now medias.now drivers.old.items drives
         × (bays.items ≡ new_bays
         (λ q. record {
           lanes = Q.lanes q;

@@ -54,16 +54,16 @@ pub(crate) fn make_lanes<S: SpoolStore>(stores: &mut Vec<S>, lanes: &mut Vec<Lan
 /// drivers are there again. Calls itself for the drivers before the last one.
 pub(crate) fn make_drives<D: Driver>(
     alloc: Global,
-    limits: Limits,
+    limits: &Limits,
     medias: &[(MediaName, u32)],
     drivers: &mut Vec<D>,
     drives: &mut Vec<Drive<D>>,
 ) -> Result<(), AllocError>
-    requires limits { AreLimits limits }
+    requires limits { AreLimits limits.now }
     requires medias { vec_len drivers.old ≤ length medias.now }
     requires none_made { drives.old.items ≡ [] }
     requires room { vec_len drivers.old ≤ vec_capacity drives.old }
-    ensures made { OnOk result (AreNewDrives (λ d. D.meaning d) limits medias.now
+    ensures made { OnOk result (AreNewDrives (λ d. D.meaning d) limits.now medias.now
         drivers.old.items drives.new.items) }
     ensures none_left { OnOk result (drivers.new.items ≡ []) }
     ensures len { OnOk result (vec_len drives.new ≡ vec_len drivers.old) }
@@ -82,7 +82,7 @@ pub(crate) fn make_drives<D: Driver>(
         drivers.push_reserved(driver);
         return Err(lacks);
     }
-    match Drive::new(alloc, driver, media, limits) {
+    match Drive::new(alloc, driver, media, limits.copy()) {
         Ok(drive) => {
             drives.push_reserved(drive);
             Ok(())

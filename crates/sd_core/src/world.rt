@@ -90,13 +90,14 @@ impl<D: Driver + Drop, Q: Lanes + Drop, S: SpoolStore + Drop> World<D, Q, S> {
             volume: conf.volume,
             spool: conf.spool,
             time,
+            host: conf.host,
         };
         let mut drivers = drivers;
         let mut lanes = lanes;
         let mut spools = spools;
         match fill_bays(
             alloc,
-            limits,
+            &limits,
             &conf.drives,
             &mut drivers,
             &mut lanes,

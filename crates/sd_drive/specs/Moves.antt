@@ -252,9 +252,9 @@ AddsVolume v old new = new ≡ record old { device = new.device; volumes = old.v
 abbrev pub AddsNone : {D : Type 0} → DriveIs D → DriveIs D → Type 0
 AddsNone old new = new ≡ record old { device = new.device }
 
--- the label of a new volume
-abbrev pub label_of : List ℕ → List ℕ → List ℕ → ℤ → VolumeLabel
-label_of name pool media moment = record { name = name; pool = pool; media = media; moment = moment }
+-- the label of a new volume at a drive of this host, if it has one
+abbrev pub label_of : Option (List ℕ) → List ℕ → List ℕ → List ℕ → ℤ → VolumeLabel
+label_of host name pool media moment = record { name = name; pool = pool; media = media; moment = moment; host = host }
 
 -- What an adoption that isn't refused at once adds: a volume of that name and of the drive's media, which is full where it
 -- ends at the limit or past it. With an honest device: the volume was there, and was cut where its blocks end.

@@ -157,10 +157,10 @@ impl<D: Driver> Drive<D> {
         &self.media
     }
 
-    pub fn limits(&self) -> Limits
-        ensures { result ≡ self.now.limits }
+    pub fn limits(&self) -> &Limits
+        ensures { result.now ≡ self.now.limits }
     {
-        self.limits
+        &self.limits
     }
 
     /// The drive's volumes, in the order in which they were labelled or adopted.

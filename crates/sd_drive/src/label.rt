@@ -13,13 +13,13 @@ ghost use Rattle.sd_drive.specs.Moves.{AddsVolume, AddsNone, label_due, label_of
 
 use crate::drive::Drive;
 use crate::mount::find;
-use sd_base::{MediaName, PoolName, Refusal, VolName};
+use sd_base::{HostName, MediaName, PoolName, Refusal, VolName};
 use sd_driver::Driver;
 use sd_label::VolumeLabel;
 use sd_volume::label_new;
 
 impl<D: Driver> Drive<D> {
-    /// Labels a new volume, which is not loaded. The refusals, in this order: other media than the drive's; in use,
+    /// Labels a new volume, which is not loaded; its label says the drive's host, if there is one. The refusals, in this order: other media than the drive's; in use,
     /// while a volume is loaded; already labelled, where the drive has a volume of that name. They change nothing. Then
     /// as `label_new`: already labelled, where the name stands on the shelf; no room; device fault. Takes the memory for
     /// its list of volumes before it calls the device.
@@ -34,13 +34,13 @@ impl<D: Driver> Drive<D> {
             → IsErrOf result fault }
         ensures unchanged { label_due self.old name.now media.now ≢ None → self.new ≡ self.old }
         ensures ok { OnOk result
-            (AddsVolume (new_volume (label_of name.now pool.now media.now moment)) self.old
+            (AddsVolume (new_volume (label_of self.old.limits.host name.now pool.now media.now moment)) self.old
             self.new) }
         ensures err { OnErr result (AddsNone self.old self.new) }
         ensures faults { label_due self.old name.now media.now ≡ None → IfErr result
             (λ fault. (cause : SpecFault) × (fault ≡ label_refusal cause)) }
         ensures labels { IsHonest (D.meaning self.old.device) → OnOk result
-            (Labels (label_of name.now pool.now media.now moment)
+            (Labels (label_of self.old.limits.host name.now pool.now media.now moment)
             (D.meaning self.old.device).shelf (D.meaning self.new.device).shelf) }
         ensures fails { IsHonest (D.meaning self.old.device) → OnErr result (MayCreate name.now
             (D.meaning self.old.device).shelf (D.meaning self.new.device).shelf) }
@@ -69,6 +69,7 @@ impl<D: Driver> Drive<D> {
             pool: pool.copy(),
             media: media.copy(),
             moment,
+            host: HostName::copy_of(&self.limits.host),
         })
     }
 

@@ -55,10 +55,10 @@ pub record LabelsVolume {D : Type 0} (meaning : D → Meaning) (own : ℕ) (name
   pub media_is : media ≡ s.drive.media
   pub none_loaded : s.drive.loaded ≡ None
   pub claims : ClaimsName name own s.desk o.desk
-  pub adds : AddsVolume (new_volume (label_of name pool media moment)) s.drive o.drive
+  pub adds : AddsVolume (new_volume (label_of s.drive.limits.host name pool media moment)) s.drive o.drive
   pub calls : Calls meaning ⊥ ⊥ s.drive o.drive
   pub labels : IsHonest (meaning s.drive.device)
-      → Labels (label_of name pool media moment) (meaning s.drive.device).shelf (meaning o.drive.device).shelf
+      → Labels (label_of s.drive.limits.host name pool media moment) (meaning s.drive.device).shelf (meaning o.drive.device).shelf
   pub is : o ≡ record (stays s) { drive = o.drive; desk = o.desk }
 
 -- A new volume isn't labelled: by what the device answered, or for want of memory. The name is in no table.

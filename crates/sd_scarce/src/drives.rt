@@ -55,6 +55,7 @@ fn make(
         volume: 2048,
         spool: 0,
         time: KEY.time,
+        host: None,
     };
     Drive::new(alloc, device, names.media.copy(), limits)
 }

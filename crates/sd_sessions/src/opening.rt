@@ -62,7 +62,7 @@ pub fn open<D: Driver, Q: Lanes, S: SpoolStore + Drop>(
     let slot = &mut bay.lanes[lane.get() as usize - 1];
     match open_at(
         parts.alloc,
-        parts.limits,
+        &parts.limits,
         &mut parts.sessions,
         at,
         slot,
@@ -81,7 +81,7 @@ pub fn open<D: Driver, Q: Lanes, S: SpoolStore + Drop>(
 // A session is opened on a drive, by a lane of it that is free. All room is made first.
 fn open_at<D: Driver, S: SpoolStore + Drop>(
     alloc: Global,
-    limits: Limits,
+    limits: &Limits,
     sessions: &mut Vec<Entry<S>>,
     at: &mut Drive<D>,
     lane: &mut LaneSlot<S>,
@@ -89,12 +89,12 @@ fn open_at<D: Driver, S: SpoolStore + Drop>(
     drive: DriveNo,
     opening: Opening,
 ) -> Result<(), Refusal>
-    requires limits { AreLimits limits }
+    requires limits { AreLimits limits.now }
     requires rise { (time : ℕ) × (next : ℕ) × NumbersRise time 1 next sessions.old.items }
     requires stored { CanTakeStore lane.old sessions.old.items }
-    ensures ok { OnOk result (OpensAt limits ticket drive opening lane.old sessions.old.items at.old
+    ensures ok { OnOk result (OpensAt limits.now ticket drive opening lane.old sessions.old.items at.old
         lane.new sessions.new.items at.new) }
-    ensures err { IfErr result (λ why. OpensNotAt limits lane.old sessions.old.items at.old why
+    ensures err { IfErr result (λ why. OpensNotAt limits.now lane.old sessions.old.items at.old why
         lane.new sessions.new.items at.new) }
 {
     if let Err(AllocError) = make_room(sessions, at, opening.key) {

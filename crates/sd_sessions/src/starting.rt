@@ -16,19 +16,19 @@ use std::alloc::Global;
 // A new session of this ticket on the store of its lane. Where none begins the store lies in the lane.
 pub fn start<S: SpoolStore + Drop>(
     alloc: Global,
-    limits: Limits,
+    limits: &Limits,
     sessions: &mut Vec<Entry<S>>,
     lane: &mut LaneSlot<S>,
     ticket: Ticket,
     opening: Opening,
 ) -> Result<Session<S>, Refusal>
-    requires limits { AreLimits limits }
+    requires limits { AreLimits limits.now }
     requires rise { (time : ℕ) × (next : ℕ) × NumbersRise time 1 next sessions.old.items }
     requires stored { CanTakeStore lane.old sessions.old.items }
-    ensures ok { IfOk result (λ session. StartsInLane limits ticket opening lane.old
+    ensures ok { IfOk result (λ session. StartsInLane limits.now ticket opening lane.old
         sessions.old.items
         session lane.new sessions.new.items) }
-    ensures err { IfErr result (λ why. StartsNot limits lane.old sessions.old.items why lane.new
+    ensures err { IfErr result (λ why. StartsNot limits.now lane.old sessions.old.items why lane.new
         sessions.new.items) }
     ensures len { vec_len sessions.new ≡ vec_len sessions.old }
     ensures capacity { vec_capacity sessions.new ≡ vec_capacity sessions.old }

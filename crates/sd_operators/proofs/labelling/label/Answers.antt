@@ -42,9 +42,9 @@ returns-in-Ok-label g c = λ queue.
           others = c.in-Ok.ensures.others;
           requests = c.claim.ensures.requests;
         };
-        adds = subst (λ (z : ℤ). AddsVolume (new_volume (label_of c.args.name.now c.args.pool.now c.args.media.now z)) c.args.at.now c.label.new.self) (to_z-of_z w64 c.args.moment c.ranges.moment) e.ok;
+        adds = subst (λ (z : ℤ). AddsVolume (new_volume (label_of c.args.at.now.limits.host c.args.name.now c.args.pool.now c.args.media.now z)) c.args.at.now c.label.new.self) (to_z-of_z w64 c.args.moment c.ranges.moment) e.ok;
         calls = calls_are (λ d. g.D.Driver.meaning d) ⊥ ⊥ _ _ (recounted _ _ (λ x. absurd x) (λ x. cc x) (λ x. absurd x) (λ x. cc x) e.counted) e.keeps e.later;
-        labels = λ honest. subst (λ (z : ℤ). Labels (label_of c.args.name.now c.args.pool.now c.args.media.now z) (g.D.Driver.meaning c.args.at.now.device).shelf (g.D.Driver.meaning c.label.new.self.device).shelf) (to_z-of_z w64 c.args.moment c.ranges.moment) (e.labels honest);
+        labels = λ honest. subst (λ (z : ℤ). Labels (label_of c.args.at.now.limits.host c.args.name.now c.args.pool.now c.args.media.now z) (g.D.Driver.meaning c.args.at.now.device).shelf (g.D.Driver.meaning c.label.new.self.device).shelf) (to_z-of_z w64 c.args.moment c.ranges.moment) (e.labels honest);
         is = refl;
       },
     )
