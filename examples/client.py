@@ -17,7 +17,7 @@ import time
 
 END_OF_DATA = -1
 TERMINATE = -4
-MOST_BYTES = 1_000_000
+MOST_BYTES = 4_000_000
 # How often a close is asked for while something of the session is on its way, and how long between.
 CLOSES, PAUSE = 600, 0.1
 

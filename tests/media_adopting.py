@@ -44,6 +44,7 @@ ADOPTED = [
     ("numbers that begin with 0", block(EARLIER, 0, TWELVE) + block(EARLIER, 1, TWELVE), "ok adopted 82 1"),
     ("numbers that begin with 2", block(EARLIER, 2, TWELVE) + block(EARLIER, 3, TWELVE), "ok adopted 82 1"),
     ("a label again", label(b"Vol-0001") + TWO, "ok adopted 82 1"),
+    ("a label again, with a host", label(b"Vol-0001", host=b"backup1") + TWO, "ok adopted 82 1"),
     # Blocks of this run or a later one.
     ("a block of this run", TWO + NOW, THIS_RUN),
     ("a block of a later run", TWO + LATER, THIS_RUN),
@@ -94,6 +95,8 @@ def adoptions(checks, room, other_system):
         for why, rest, answer in ADOPTED:
             name = adopter.next_name()
             adopter.same(why, name, label(name.encode()) + rest, answer)
+        name = adopter.next_name()
+        adopter.same("a host in the label", name, label(name.encode(), host=b"h") + TWO + b"x", "ok adopted 169 3")
         name = adopter.next_name()
         for why, bad in no_label_blocks(name.encode()):
             adopter.same(why, name, bad + TWO + b"x", NOT_OURS)
@@ -237,4 +240,28 @@ def faults(checks, daemon, text, records):
     checks.same("a span alone", read_over_the_socket(daemon, head + first)[1].endswith("Ended=0\n"), True)
 
 
-ADOPTING = (adoptions, cut_and_damaged, at_the_limits, order, gone_on)
+def continue_one(checks, room, other_system):
+    """A volume of version 1 is adopted by a daemon with a host: its label stays, what is appended stands behind its
+    blocks, and a new volume has that host in its label."""
+    one, another = "Vol-0001", "Vol-0002"
+    earlier, later = [(1, 2, b"hello")], [(1, 2, b"abc")]
+    shelf = Shelf(EARLIER[0])
+    shelf.add(one, label(one.encode()))
+    text = shelf.place(packed(1024, earlier))
+    shelf.time, shelf.sessions = TIME, 0
+    with Daemon(room, other_system, TIME, block=1024, host='"backup1"') as daemon:
+        (daemon.folders[0] / one).write_bytes(shelf.volumes[one])
+        checks.same("adopt", daemon.say(f"adopt 1 {one}"), "ok adopted 249 2\n")
+        checks.same("the session before", read_over_the_socket(daemon, text)[0], earlier)
+        added = session(daemon, later)
+        checks.same("the session", added, f"session {TIME} 1\nspan {one} 1 1 1 249 414\n")
+        checks.same("its place", added, shelf.place(packed(1024, later)))
+        checks.same("read", read_over_the_socket(daemon, added)[0], later)
+        checks.same("unmount", daemon.say("unmount 1"), "ok unmounted\n")
+        checks.same("label", daemon.label(another), "ok labelled\n")
+        checks.same("where it ends", daemon.say("status").split("\n")[2], f"volume {another} Default File append 90")
+        checks.same("the volume", daemon.bytes_of(one), bytes(shelf.volumes[one]))
+        checks.same("the new volume", daemon.bytes_of(another), label(another.encode(), host=b"backup1"))
+
+
+ADOPTING = (adoptions, cut_and_damaged, at_the_limits, order, gone_on, continue_one)

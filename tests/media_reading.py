@@ -112,9 +112,10 @@ def names(checks, room, other_system):
     bad = [chr(code) for code in range(1, 128) if code not in NAME_CHARACTERS and chr(code) != "/"]
     bad += [".", "..", "a b", "\u00e4", "a\n", "a,b", 128 * "n", "\u0661"]
     for name in good:
-        (room / name).write_bytes(label(name.encode(), name.encode(), name.encode(), -2))
-        checks.same(f"the name {name!r}", tool(room, "ls", f"./{name}"),
-                    (f"label {name} {name} {name}\ntail 0\n".encode(), 0))
+        for host in (None, name.encode()):
+            (room / name).write_bytes(label(name.encode(), name.encode(), name.encode(), -2, host))
+            words = (3 if host is None else 4) * f" {name}"
+            checks.same(f"the name {name!r}, {host}", tool(room, "ls", f"./{name}"), (f"label{words}\ntail 0\n".encode(), 0))
         (room / name).unlink()
     for name in bad:
         if name not in (".", ".."):

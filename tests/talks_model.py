@@ -20,7 +20,7 @@ MOST_NUMBER = 2_147_483_647
 VOLUME, TIME = "Vol-0001", 1000
 OPENS = "append open session JobId=7 Pool=Default Media=File"
 # Sizes in bytes: a block's header, a volume's label block, a record's header, and a session's two labels.
-BLOCK_HEADER, LABEL_BLOCK, RECORD_HEADER, START_LABEL, END_LABEL = 24, 82, 12, 53, 73
+BLOCK_HEADER, LABEL_BLOCK, RECORD_HEADER, START_LABEL, END_LABEL = 24, 92, 12, 53, 73
 # In fewer bytes of a span there can be no block.
 LEAST_BLOCK = 36
 
@@ -543,7 +543,7 @@ class Client:
     def span(self, _):
         """The span of the session that is read, as it is or with one number changed."""
         session = self.talk.world.session(self.talk.key[1])
-        words = list(*(session and self.talk.world.span(session.ticket) or [(VOLUME, 1, 1, 1, LABEL_BLOCK, 249)]))
+        words = list(*(session and self.talk.world.span(session.ticket) or [(VOLUME, 1, 1, 1, LABEL_BLOCK, 259)]))
         words[1] += len(self.talk.spans)
         if self.numbers.random() < 0.4:
             at = self.numbers.choice((1, 2, 3, 4, 5, 5))
@@ -559,8 +559,8 @@ TEXTS = {
                  "append open session JobId=7 Pool=a/b Media=File", "append open session JobId=7 Pool=Default Media=Tape",
                  "console", "read session Time=0 Id=1"],
     "header": ["0 1 0", "1 0 0", "1 1", "01 1 0", "1 1 -", "9999999 1 0", "hello", "2147483648 1 0", "1 1 " + "0" * 21],
-    "span": ["span Vol-0009 1 1 1 82 249", "span Vol-0001 1 1 1 82", "", "span . 1 1 1 82 249", "span Vol-0001 01 1 1 82 249",
-             "span Vol-0001 1 1 1 82 249\nspan Vol-0001 2 1 1 82 249", "span Vol-0001 1 1 1 82 68719476736"],
+    "span": ["span Vol-0009 1 1 1 92 259", "span Vol-0001 1 1 1 92", "", "span . 1 1 1 92 259", "span Vol-0001 01 1 1 92 259",
+             "span Vol-0001 1 1 1 92 259\nspan Vol-0001 2 1 1 92 259", "span Vol-0001 1 1 1 92 68719476736"],
 }
 OPEN, DATA, END, CLOSE = ("say", OPENS), ("own", "data"), ("own", "end session"), ("own", "close session")
 CANCEL, DONE, HEADER, RECORD, SPAN = ("any", "console cancel "), ("say", END_OF_DATA), ("header", "-7"), ("record", ""), ("span", "")

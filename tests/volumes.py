@@ -8,7 +8,7 @@ import zlib
 PROFILE = b"sd-profile\n\0"
 BLOCK_HEADER, RECORD_HEADER = 24, 12
 LEAST_BLOCK, MOST_BLOCK = 36, 1_048_576
-MOST_DATA, MOST_NUMBER, MOST_VOLUME = 1_000_000, 2_147_483_647, 68_719_476_736
+MOST_DATA, MOST_NUMBER, MOST_VOLUME = 4_000_000, 2_147_483_647, 68_719_476_736
 
 
 def fragment(index, stream, data, size=None):
@@ -32,14 +32,21 @@ def texts(*words):
     return b"".join(word + b"\0" for word in words)
 
 
-def volume_data(name, pool=b"Default", media=b"File", moment=0, version=1):
-    """The data of a volume's label."""
-    return PROFILE + struct.pack(">Iq", version, moment) + texts(name, pool, media)
+def volume_data(name, pool=b"Default", media=b"File", moment=0, host=None, version=None):
+    """The data of a volume's label: of version 2 with its host, and of version 1 without one, where none is said."""
+    hosts = [] if host is None else [host]
+    said = 1 + len(hosts) if version is None else version
+    return PROFILE + struct.pack(">Iq", said, moment) + texts(name, pool, media, *hosts)
 
 
-def label(name, pool=b"Default", media=b"File", moment=0):
+def label(name, pool=b"Default", media=b"File", moment=0, host=None):
     """The block of a volume's label."""
-    return block((0, 0), 0, fragment(-2, 1, volume_data(name, pool, media, moment)))
+    return block((0, 0), 0, fragment(-2, 1, volume_data(name, pool, media, moment, host)))
+
+
+def daemon_label(name, **words):
+    """The same as the daemon writes it where its configuration names no host."""
+    return label(name, host=b"localhost", **words)
 
 
 def session_data(job, pool=b"Default", media=b"File", moment=0, version=1):

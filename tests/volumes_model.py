@@ -13,9 +13,9 @@ BAD_SPAN, DAMAGED, ENDS_EARLY = "3950 Bad span", "3951 Damaged block", "3952 Spa
 NUMBER, NAME = rb"(0|[1-9][0-9]*)", rb"((?!\.{1,2}[ \0])[A-Za-z0-9_:.-]{1,127})"
 SESSION_LINE = re.compile(rb"session " + NUMBER + b" " + NUMBER)
 SPAN_LINE = re.compile(rb"span " + NAME + 5 * (b" " + NUMBER))
-LABEL_FRONT = rb"sd-profile\n\0\0\0\0\x01"
-VOLUME_LABEL = re.compile(LABEL_FRONT + rb".{8}" + 3 * (NAME + rb"\0"), re.DOTALL)
-SESSION_LABEL = re.compile(LABEL_FRONT + rb"(.{4}).{8}" + 2 * (NAME + rb"\0") + rb"(.{16}\0\0\0\x54)?", re.DOTALL)
+VOLUME_LABELS = [re.compile(rb"sd-profile\n\0\0\0\0" + version + rb".{8}" + count * (NAME + rb"\0"), re.DOTALL)
+                 for version, count in ((rb"\x01", 3), (rb"\x02", 4))]
+SESSION_LABEL = re.compile(rb"sd-profile\n\0\0\0\0\x01(.{4}).{8}" + 2 * (NAME + rb"\0") + rb"(.{16}\0\0\0\x54)?", re.DOTALL)
 
 
 class Refused(Exception):
@@ -174,7 +174,7 @@ def label_in(blocks, name):
     if not blocks or blocks[0][3] != (0, 0):
         return None
     body = blocks[0][4]
-    found = VOLUME_LABEL.fullmatch(body[12:])
+    found = next(filter(None, (form.fullmatch(body[12:]) for form in VOLUME_LABELS)), None)
     if struct.unpack_from(">iiI", body) != (-2, 1, len(body) - 12) or not found or found[1].decode() != name:
         return None
     return found[3].decode()

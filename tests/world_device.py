@@ -19,7 +19,7 @@ NOT_THERE, EXISTS, NO_ROOM, DEVICE_FAULT = 3930, 3935, 3939, 3940
 CALLS = ("create", "load", "len", "read", "append", "sync", "cut")
 WAYS = ("before", "half", "after")
 VOLUME_LABEL, START_LABEL, END_LABEL = -2, -4, -5
-VERSION, OK_STATUS = 1, 84
+VERSION, HOST_VERSION, OK_STATUS = 1, 2, 84
 
 
 class Refused(Exception):
@@ -150,7 +150,8 @@ def surveyed(device, name, media, time):
     if not body or (head.number, head.ident, head.time) != (0, 0, 0):
         raise Refused(3931)
     data = body[RECORD_HEADER:]
-    if struct.unpack_from(">i", body) != (VOLUME_LABEL,) or not data.startswith(PROFILE + struct.pack(">I", VERSION)):
+    versions = tuple(PROFILE + struct.pack(">I", version) for version in (VERSION, HOST_VERSION))
+    if struct.unpack_from(">i", body) != (VOLUME_LABEL,) or not data.startswith(versions):
         raise Refused(3931)
     written, pool, other_media = data[len(PROFILE) + 12:].decode().split("\0")[:3]
     if written != name:

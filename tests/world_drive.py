@@ -20,8 +20,8 @@ class Drive:
     """A drive of a run. Each lane has the session that used it last. The pool is that of the session opened last. For each
     block on the loaded volume that awaits a sync its session is kept."""
 
-    def __init__(self, number, media, lanes, device):
-        self.number, self.media, self.device = number, media, device
+    def __init__(self, number, media, lanes, device, host=None):
+        self.number, self.media, self.device, self.host = number, media, device, host
         self.lanes = [None] * lanes
         self.is_online, self.pool = True, None
         self.volumes, self.loaded = [], None
@@ -108,7 +108,8 @@ class Drive:
         self.loaded = volume
 
     def label(self, name, pool, moment):
-        image = label(name.encode(), pool.encode(), self.media.encode(), moment)
+        host = None if self.host is None else self.host.encode()
+        image = label(name.encode(), pool.encode(), self.media.encode(), moment, host)
         try:
             self.device.create(name)
             self.device.append(image)

@@ -60,7 +60,7 @@ DRIVE, COUNTED, SIZE = number(1, 8), number(1, MOST_NUMBER), number(0, MOST_DATA
 # The fields of a line behind its word.
 SETTINGS = {
     "block": [number(1024, 1_048_576)], "volume": [number(0, MOST_VOLUME)], "spool": [number(0, MOST_VOLUME)],
-    "queue": [number(1, 1024)], "time": [COUNTED], "drive": [name, number(1, 32)], "capacity": [DRIVE, number(0, 2**26)],
+    "queue": [number(1, 1024)], "time": [COUNTED], "host": [name], "drive": [name, number(1, 32)], "capacity": [DRIVE, number(0, 2**26)],
     "fail": [DRIVE, one_of(CALLS), number(1, MOST_64), one_of(WAYS)],
 }
 FORMS = {
@@ -94,7 +94,7 @@ class Settings:
 
     def __init__(self, **given):
         self.block, self.volume, self.spool, self.queue, self.time = 64_512, MOST_VOLUME, 0, 8, 1000
-        self.drives, self.capacity, self.plan = [], {}, {}
+        self.host, self.drives, self.capacity, self.plan = None, [], {}, {}
         vars(self).update(given)
 
     def set(self, word, fields):
@@ -125,6 +125,7 @@ class Settings:
         """The lines that set them."""
         return [
             *(f"{word} {getattr(self, word)}" for word in ("block", "volume", "spool", "queue", "time")),
+            *([] if self.host is None else [f"host {self.host}"]),
             *(f"drive {media} {lanes}" for media, lanes in self.drives),
             *(f"capacity {drive} {count}" for drive, count in self.capacity.items()),
             *("fail {} {} {} {}".format(*call, way) for call, way in self.plan.items()),
@@ -182,7 +183,7 @@ class World:
 
     def begin(self, time):
         self.time = time
-        self.drives = [Drive(at, media, lanes, device)
+        self.drives = [Drive(at, media, lanes, device, self.settings.host)
                        for at, ((media, lanes), device) in enumerate(zip(self.settings.drives, self.devices), 1)]
         # The drive of each name that is given; of each request its drive, pool and media.
         self.sessions, self.names, self.requests = [], {}, []

@@ -49,11 +49,13 @@ says_drive ds i n d a b c within is n_is p q =
     subst (λ (l : List ℕ). Says a c l) (sym (ap (drive_lines 1) front ∙ drives_more 1 (take i ds) d ∙ ap (λ m. drive_lines 1 (take i ds) ++ line (drive_text m d)) (sym count)))
     (says_then a b c (drive_lines 1 (take i ds)) (line (drive_text n d)) p q)
 
-pub says_conf : (conf : Conf) (drives : List DriveConf) (a b c d e f g : SaidView) → drives ≡ conf.drives
+pub says_conf : (conf : Conf) (drives : List DriveConf) (host : List ℕ) (a b c d e f g h : SaidView) → drives ≡ conf.drives → host ≡ conf.host
     → Says a b (line (codes "block " ++ decimal conf.block)) → Says b c (line (codes "volume " ++ decimal conf.volume)) → Says c d (line (codes "spool " ++ decimal conf.spool))
-    → Says d e (line (codes "queue " ++ decimal conf.queue)) → Says e f (line (codes "port " ++ decimal conf.port)) → Says f g (drive_lines 1 drives) → Says a g (conf_lines conf)
-says_conf conf drives a b c d e f g is p q r s t u =
-    says_then a b g _ _ p (says_then b c g _ _ q (says_then c d g _ _ r (says_then d e g _ _ s (says_then e f g _ _ t (subst (λ (ds : List DriveConf). Says f g (drive_lines 1 ds)) is u)))))
+    → Says d e (line (codes "queue " ++ decimal conf.queue)) → Says e f (line (codes "port " ++ decimal conf.port)) → Says f g (line (codes "host " ++ host))
+    → Says g h (drive_lines 1 drives) → Says a h (conf_lines conf)
+says_conf conf drives host a b c d e f g h is host_is p q r s t u v =
+    says_then a b h _ _ p (says_then b c h _ _ q (says_then c d h _ _ r (says_then d e h _ _ s (says_then e f h _ _ t
+    (says_then f g h _ _ (subst (λ (name : List ℕ). Says f g (line (codes "host " ++ name))) host_is u) (subst (λ (ds : List DriveConf). Says g h (drive_lines 1 ds)) is v))))))
 
 -- the pieces of a drive's line
 drive_pieces : (number media lanes folder : List ℕ)

@@ -42,6 +42,7 @@ line_text (says.Volume limit) = codes "volume " ++ decimal limit
 line_text (says.Spool limit) = codes "spool " ++ decimal limit
 line_text (says.Queue blocks) = codes "queue " ++ decimal blocks
 line_text (says.Port port) = codes "port " ++ decimal port
+line_text (says.Host host) = codes "host " ++ host
 line_text says.NoDocument = codes "fault text"
 line_text says.NoInput = codes "fault input"
 line_text (says.Refused why) = refusal_text why
@@ -55,7 +56,8 @@ drive_lines number (d ∷ ds) = line (drive_text number d) ++ drive_lines (numbe
 abbrev pub conf_lines : Conf → List ℕ
 conf_lines c =
     line (codes "block " ++ decimal c.block) ++ (line (codes "volume " ++ decimal c.volume) ++ (line (codes "spool " ++ decimal c.spool)
-    ++ (line (codes "queue " ++ decimal c.queue) ++ (line (codes "port " ++ decimal c.port) ++ drive_lines 1 c.drives))))
+    ++ (line (codes "queue " ++ decimal c.queue) ++ (line (codes "port " ++ decimal c.port) ++ (line (codes "host " ++ c.host)
+    ++ drive_lines 1 c.drives)))))
 
 -- the line of what is wrong with a configuration
 abbrev pub fault_line : ConfFault → List ℕ

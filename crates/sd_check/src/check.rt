@@ -115,6 +115,7 @@ fn print_conf<W: Write>(conf: &Conf, out: &mut Printer<W>)
     out.line(ConfLine::Spool(conf.spool));
     out.line(ConfLine::Queue(conf.queue));
     out.line(ConfLine::Port(conf.port));
+    out.line(ConfLine::Host(conf.host.copy()));
     print_drives(conf.drives.as_slice(), out);
 }
 

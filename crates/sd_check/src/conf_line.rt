@@ -1,5 +1,5 @@
 // The lines of a configuration that are short, whatever it says.
-use sd_base::Refusal;
+use sd_base::{HostName, Refusal};
 use std::fmt;
 
 /// A line about a configuration. Displays it without the newline.
@@ -10,6 +10,7 @@ pub enum ConfLine {
     Spool(u64),
     Queue(usize),
     Port(u16),
+    Host(HostName),
     /// The text is no TOML document.
     NoDocument,
     /// The input can't be read.
@@ -30,6 +31,10 @@ impl fmt::Display for ConfLine {
             ConfLine::Spool(limit) => write!(f, "spool {limit}"),
             ConfLine::Queue(blocks) => write!(f, "queue {blocks}"),
             ConfLine::Port(port) => write!(f, "port {port}"),
+            ConfLine::Host(host) => {
+                let host = host.as_str();
+                write!(f, "host {host}")
+            }
             ConfLine::NoDocument => write!(f, "fault text"),
             ConfLine::NoInput => write!(f, "fault input"),
             ConfLine::Refused(why) => write!(f, "{why}"),

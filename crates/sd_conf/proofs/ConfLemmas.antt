@@ -47,8 +47,8 @@ folder_beside table spool result same told =
     subst P same told
 
 -- what was read at each key is what the table says
-pub conf_read : (table : Members) (block volume spool queue port : ℕ) (spool_folder : Option (List ℕ)) (drives : List DriveConf)
+pub conf_read : (table : Members) (block volume spool queue port : ℕ) (host : List ℕ) (spool_folder : Option (List ℕ)) (drives : List DriveConf)
     → block ≡ (conf_of table).block → volume ≡ (conf_of table).volume → spool ≡ (conf_of table).spool → queue ≡ (conf_of table).queue
-    → port ≡ (conf_of table).port → spool_folder ≡ (conf_of table).spool_folder → drives ≡ (conf_of table).drives
-    → let conf : Conf = record { block = block; volume = volume; spool = spool; queue = queue; port = port; spool_folder = spool_folder; drives = drives } in conf ≡ conf_of table
-conf_read table block volume spool queue port spool_folder drives b v s q p f d = rw (b, v, s, q, p, f, d) refl
+    → port ≡ (conf_of table).port → host ≡ (conf_of table).host → spool_folder ≡ (conf_of table).spool_folder → drives ≡ (conf_of table).drives
+    → let conf : Conf = record { block = block; volume = volume; spool = spool; queue = queue; port = port; host = host; spool_folder = spool_folder; drives = drives } in conf ≡ conf_of table
+conf_read table block volume spool queue port host spool_folder drives b v s q p h f d = rw (b, v, s, q, p, h, f, d) refl

@@ -1,5 +1,5 @@
 -- A table with no fault says a configuration within the limits.
-use Rattle.std.proofs.Common.{◌≡◌, ◌≢◌, ◌⊎◌, inl, inr, ℕ, ◌*◌, ◌≤◌, ◌==◌, nat_le, leb-true, lit≤, true, false, ℤ, pos, negsuc, if◌then◌else◌, List, [], ◌∷◌, length, map, All, IsSome, Option, Some, None, unwrap_or, codes, refl, arith}
+use Rattle.std.proofs.Common.{◌≡◌, ◌≢◌, ◌⊎◌, inl, inr, ℕ, ◌*◌, ◌≤◌, ◌==◌, nat_le, leb-true, lit≤, true, false, ℤ, pos, negsuc, if◌then◌else◌, List, [], ◌∷◌, length, map, All, IsSome, Option, Some, None, unwrap_or, codes, refl, arith, rules}
 use Rattle.std.proofs.lemmas.Bool.{cases_Bool, and_parts}
 use Rattle.std.proofs.lemmas.Bool.Decides.{nat_tests}
 use Rattle.std.proofs.lemmas.List.{length-map}
@@ -8,8 +8,8 @@ use Rattle.toml.specs.Data.{Data, Members, get_member, as_integer, as_str}
 use Rattle.sd_base.specs.Limits.{least_block_limit, most_block, most_volume, most_drives, most_lanes, most_queue}
 use Rattle.sd_base.specs.Name.{IsName}
 use Rattle.sd_conf.specs.Conf.{IsWithinLimits, IsDriveWithinLimits, conf_of, drive_of}
-use Rattle.sd_conf.specs.FirstFault.{Fault, ◌then◌, UnknownKey, FirstFault, At, MediaName, MediaTest, FolderTest, LanesTest, BlockTest, VolumeTest, SpoolTest, QueueTest, PortTest, SpoolFolderTest, DriveTest, DriveFault, TablesFault, block_of, spool_of}
-use Rattle.sd_conf.specs.Limits.{default_block, default_queue, default_port, default_lanes, most_port}
+use Rattle.sd_conf.specs.FirstFault.{Fault, ◌then◌, UnknownKey, FirstFault, At, NameTest, HostTest, MediaTest, FolderTest, LanesTest, BlockTest, VolumeTest, SpoolTest, QueueTest, PortTest, SpoolFolderTest, DriveTest, DriveFault, TablesFault, block_of, spool_of}
+use Rattle.sd_conf.specs.Limits.{default_block, default_queue, default_port, default_host, default_lanes, most_port}
 use Rattle.sd_conf.specs.Values.{required, optional, is_within, is_spool_limit, integer_fault, number_fault, natural_or, number_or, text_fault, kind_unless, text_at, drives_fault, count_fault, tables_in, tables_at}
 use Rattle.sd_conf.specs.declared.fault.FaultKind.{FaultKind}
 use Rattle.sd_conf.specs.declared.keys.Level.TheVariants.{Daemon, Drive}
@@ -76,14 +76,18 @@ folder_there spool d none spools =
     let past : (spool == 0) ≡ false = grind (arith, nat_tests) in
     required_there d (rw past at none)
 
-name_there : (t : Option (List ℕ)) → MediaName t None → IsName (unwrap_or t [])
-name_there None is = absurd cc
-name_there (Some text) (inl (name, is)) = name
-name_there (Some text) (inr (never, is)) = absurd cc
+name_there : (key default : List ℕ) (t : Option (List ℕ)) → NameTest key t None → IsName (unwrap_or t default)
+name_there key default None is = absurd cc
+name_there key default (Some text) (inl (name, is)) = name
+name_there key default (Some text) (inr (never, is)) = absurd cc
 
 media_there : (d : Option Data) → MediaTest d None → IsName (unwrap_or (text_at d) [])
 media_there None is = absurd cc
-media_there (Some value) is = name_there (as_str value) is
+media_there (Some value) is = name_there (codes "media") [] (as_str value) is
+
+host_there : (d : Option Data) → HostTest d None → IsName (unwrap_or (text_at d) default_host)
+host_there None is = search rules
+host_there (Some value) is = name_there (codes "host") default_host (as_str value) is
 
 -- Drives.
 
@@ -118,20 +122,21 @@ tables_within (table ∷ more) none =
 pub conf_within : (table : Members) → FirstFault table None → IsWithinLimits (conf_of table)
 conf_within table none =
     let drives = TablesFault (tables_at (get_member (codes "drive") table)) in
-    let p0 = passes (UnknownKey Daemon table) (BlockTest table then VolumeTest table then SpoolTest table then QueueTest table then PortTest table then SpoolFolderTest table then DriveTest table then drives) none in
-    let p1 = passes (BlockTest table) (VolumeTest table then SpoolTest table then QueueTest table then PortTest table then SpoolFolderTest table then DriveTest table then drives) p0.1 in
-    let p2 = passes (VolumeTest table) (SpoolTest table then QueueTest table then PortTest table then SpoolFolderTest table then DriveTest table then drives) p1.1 in
-    let p3 = passes (SpoolTest table) (QueueTest table then PortTest table then SpoolFolderTest table then DriveTest table then drives) p2.1 in
-    let p4 = passes (QueueTest table) (PortTest table then SpoolFolderTest table then DriveTest table then drives) p3.1 in
-    let p5 = passes (PortTest table) (SpoolFolderTest table then DriveTest table then drives) p4.1 in
-    let p6 = passes (SpoolFolderTest table) (DriveTest table then drives) p5.1 in
-    let p7 = passes (DriveTest table) drives p6.1 in
+    let p0 = passes (UnknownKey Daemon table) (BlockTest table then VolumeTest table then SpoolTest table then QueueTest table then PortTest table then HostTest (get_member (codes "host") table) then SpoolFolderTest table then DriveTest table then drives) none in
+    let p1 = passes (BlockTest table) (VolumeTest table then SpoolTest table then QueueTest table then PortTest table then HostTest (get_member (codes "host") table) then SpoolFolderTest table then DriveTest table then drives) p0.1 in
+    let p2 = passes (VolumeTest table) (SpoolTest table then QueueTest table then PortTest table then HostTest (get_member (codes "host") table) then SpoolFolderTest table then DriveTest table then drives) p1.1 in
+    let p3 = passes (SpoolTest table) (QueueTest table then PortTest table then HostTest (get_member (codes "host") table) then SpoolFolderTest table then DriveTest table then drives) p2.1 in
+    let p4 = passes (QueueTest table) (PortTest table then HostTest (get_member (codes "host") table) then SpoolFolderTest table then DriveTest table then drives) p3.1 in
+    let p5 = passes (PortTest table) (HostTest (get_member (codes "host") table) then SpoolFolderTest table then DriveTest table then drives) p4.1 in
+    let p6 = passes (HostTest (get_member (codes "host") table)) (SpoolFolderTest table then DriveTest table then drives) p5.1 in
+    let p7 = passes (SpoolFolderTest table) (DriveTest table then drives) p6.1 in
+    let p8 = passes (DriveTest table) drives p7.1 in
     let block = number_in least_block_limit most_block default_block (get_member (codes "block") table) (lit≤ tt, lit≤ tt) (good _ _ p1.0) in
     let room : 2 * block_of table ≤ most_volume = omega (arith, block.1) in
     let volume = number_in (2 * block_of table) most_volume most_volume (get_member (codes "volume") table) (room, omega arith) (good _ _ p2.0) in
     let queue = number_in 1 most_queue default_queue (get_member (codes "queue") table) (lit≤ tt, lit≤ tt) (good _ _ p4.0) in
     let port = number_in 1 most_port default_port (get_member (codes "port") table) (lit≤ tt, lit≤ tt) (good _ _ p5.0) in
-    let count = drives_in (get_member (codes "drive") table) (good _ _ p7.0) in
+    let count = drives_in (get_member (codes "drive") table) (good _ _ p8.0) in
     let same = length-map (tables_at (get_member (codes "drive") table)) drive_of in
     record {
       block_least = block.0;
@@ -143,8 +148,9 @@ conf_within table none =
       queue_most = queue.1;
       port_least = port.0;
       port_most = port.1;
-      folder_with_spooling = folder_there (spool_of table) (get_member (codes "spool_folder") table) (good _ _ p6.0);
+      host_is = host_there (get_member (codes "host") table) p6.0;
+      folder_with_spooling = folder_there (spool_of table) (get_member (codes "spool_folder") table) (good _ _ p7.0);
       drives_least = rw same count.0;
       drives_most = rw same count.1;
-      drives_within = tables_within (tables_at (get_member (codes "drive") table)) p7.1;
+      drives_within = tables_within (tables_at (get_member (codes "drive") table)) p8.1;
     }

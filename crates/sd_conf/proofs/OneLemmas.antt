@@ -5,7 +5,7 @@ use Rattle.std.specs.Cmp.Lexicographic.{slice_cmp}
 use Rattle.std.specs.Ordering.{is_lt, ordering_reverse}
 use Rattle.toml.specs.Data.{Data, Members, get_member, as_str}
 use Rattle.sd_conf.specs.Conf.{FirstFaultIsOne}
-use Rattle.sd_conf.specs.FirstFault.{Fault, ◌then◌, At, UnknownKey, MediaName, MediaTest, FolderTest, LanesTest, DriveFault, TablesFault, BlockTest, VolumeTest, SpoolTest, QueueTest, PortTest, SpoolFolderTest, DriveTest}
+use Rattle.sd_conf.specs.FirstFault.{Fault, ◌then◌, At, UnknownKey, NameTest, HostTest, MediaTest, FolderTest, LanesTest, DriveFault, TablesFault, BlockTest, VolumeTest, SpoolTest, QueueTest, PortTest, SpoolFolderTest, DriveTest}
 use Rattle.sd_conf.specs.Values.{tables_at}
 use Rattle.sd_conf.specs.declared.fault.FaultKind.{FaultKind}
 use Rattle.sd_conf.specs.declared.keys.Level.{Level}
@@ -43,16 +43,20 @@ unknown_one level table (Some (key, wrong)) (Some (key', wrong')) (least, is) (l
     let same : key ≡ key' = same_key key key' (neither_before (slice_cmp nat_cmp key key') before behind) in
     ap (λ k. Some (k, wrong)) same ∙ ap (λ w. Some (key', w)) (is ∙ sym is')
 
-name_one : (text : Option (List ℕ)) → IsOne (MediaName text)
-name_one None found other is is' = is ∙ sym is'
-name_one (Some text) found other (inl (name, is)) (inl (name', is')) = is ∙ sym is'
-name_one (Some text) found other (inl (name, is)) (inr (never, is')) = absurd (never name)
-name_one (Some text) found other (inr (never, is)) (inl (name, is')) = absurd (never name)
-name_one (Some text) found other (inr (never, is)) (inr (never', is')) = is ∙ sym is'
+name_one : (key : List ℕ) (text : Option (List ℕ)) → IsOne (NameTest key text)
+name_one key None found other is is' = is ∙ sym is'
+name_one key (Some text) found other (inl (name, is)) (inl (name', is')) = is ∙ sym is'
+name_one key (Some text) found other (inl (name, is)) (inr (never, is')) = absurd (never name)
+name_one key (Some text) found other (inr (never, is)) (inl (name, is')) = absurd (never name)
+name_one key (Some text) found other (inr (never, is)) (inr (never', is')) = is ∙ sym is'
 
 media_one : (value : Option Data) → IsOne (MediaTest value)
 media_one None found other is is' = is ∙ sym is'
-media_one (Some value) found other is is' = name_one (as_str value) found other is is'
+media_one (Some value) found other is is' = name_one (codes "media") (as_str value) found other is is'
+
+host_one : (value : Option Data) → IsOne (HostTest value)
+host_one None found other is is' = is ∙ sym is'
+host_one (Some value) found other is is' = name_one (codes "host") (as_str value) found other is is'
 
 drive_one : (table : Members) → IsOne (DriveFault table)
 drive_one table =
@@ -67,11 +71,12 @@ tables_one (table ∷ more) = then_one (DriveFault table) (TablesFault more) (dr
 pub first_fault_one : FirstFaultIsOne
 first_fault_one table =
     let drives = TablesFault (tables_at (get_member (codes "drive") table)) in
-    then_one (UnknownKey Daemon table) (BlockTest table then VolumeTest table then SpoolTest table then QueueTest table then PortTest table then SpoolFolderTest table then DriveTest table then drives) (unknown_one Daemon table)
-    (then_one (BlockTest table) (VolumeTest table then SpoolTest table then QueueTest table then PortTest table then SpoolFolderTest table then DriveTest table then drives) (at_one _ _)
-    (then_one (VolumeTest table) (SpoolTest table then QueueTest table then PortTest table then SpoolFolderTest table then DriveTest table then drives) (at_one _ _)
-    (then_one (SpoolTest table) (QueueTest table then PortTest table then SpoolFolderTest table then DriveTest table then drives) (at_one _ _)
-    (then_one (QueueTest table) (PortTest table then SpoolFolderTest table then DriveTest table then drives) (at_one _ _)
-    (then_one (PortTest table) (SpoolFolderTest table then DriveTest table then drives) (at_one _ _)
+    then_one (UnknownKey Daemon table) (BlockTest table then VolumeTest table then SpoolTest table then QueueTest table then PortTest table then HostTest (get_member (codes "host") table) then SpoolFolderTest table then DriveTest table then drives) (unknown_one Daemon table)
+    (then_one (BlockTest table) (VolumeTest table then SpoolTest table then QueueTest table then PortTest table then HostTest (get_member (codes "host") table) then SpoolFolderTest table then DriveTest table then drives) (at_one _ _)
+    (then_one (VolumeTest table) (SpoolTest table then QueueTest table then PortTest table then HostTest (get_member (codes "host") table) then SpoolFolderTest table then DriveTest table then drives) (at_one _ _)
+    (then_one (SpoolTest table) (QueueTest table then PortTest table then HostTest (get_member (codes "host") table) then SpoolFolderTest table then DriveTest table then drives) (at_one _ _)
+    (then_one (QueueTest table) (PortTest table then HostTest (get_member (codes "host") table) then SpoolFolderTest table then DriveTest table then drives) (at_one _ _)
+    (then_one (PortTest table) (HostTest (get_member (codes "host") table) then SpoolFolderTest table then DriveTest table then drives) (at_one _ _)
+    (then_one (HostTest (get_member (codes "host") table)) (SpoolFolderTest table then DriveTest table then drives) (host_one _)
     (then_one (SpoolFolderTest table) (DriveTest table then drives) (at_one _ _)
-    (then_one (DriveTest table) drives (at_one _ _) (tables_one _))))))))
+    (then_one (DriveTest table) drives (at_one _ _) (tables_one _)))))))))

@@ -1,5 +1,5 @@
 -- The values at keys, as they are read.
-use Rattle.std.proofs.Common.{◌≡◌, ◌⊎◌, inl, inr, ℕ, ◌≤◌, ℤ, pos, Bool, true, ◌||◌, le-leb, List, [], Option, Some, None, option_map, unwrap_or, Bor, string_bytes, nat_cmp, codes, refl, subst, arith}
+use Rattle.std.proofs.Common.{◌≡◌, ◌⊎◌, inl, inr, ℕ, ◌≤◌, ℤ, pos, Bool, true, ◌||◌, le-leb, List, [], Option, Some, None, Result, Ok, Err, option_map, unwrap_or, Bor, string_bytes, nat_cmp, codes, refl, subst, arith}
 use Rattle.std.proofs.lemmas.Bool.Decides.{nat_tests}
 use Rattle.std.specs.BTreeMap.{is_at}
 use Rattle.std.specs.Cmp.Lexicographic.{slice_cmp}
@@ -10,10 +10,14 @@ use Rattle.toml.specs.declared.value.Value.{Value}
 use Rattle.toml.proofs.Views.{Entry, table_get}
 use Rattle.sd_base.specs.Limits.{most_volume}
 use Rattle.sd_base.specs.Name.{IsName}
-use Rattle.sd_conf.specs.FirstFault.{At, MediaTest}
+use Rattle.sd_conf.specs.FirstFault.{At, HostTest, MediaTest, NameTest}
+use Rattle.sd_conf.specs.Limits.{default_host}
+use Rattle.sd_conf.specs.Told.{Tells}
 use Rattle.sd_conf.specs.Values.{optional, is_within, is_spool_limit, number_fault, number_or, text_at, text_fault}
+use Rattle.sd_conf.specs.declared.fault.ConfFault.{ConfFault}
 use Rattle.sd_conf.specs.declared.fault.FaultKind.{FaultKind}
 use Rattle.sd_conf.specs.declared.fault.FaultKind.TheVariants.{Missing, Kind, Range}
+use Rattle.sd_conf.proofs.ToldLemmas.{fault_tells}
 
 -- what is found at a key is the member
 pub at_key : (r : Option (Bor Value)) (key : List ℕ) (es : List Entry) → option_map (λ x. x.now) r ≡ lookup (is_at (λ x. slice_cmp nat_cmp key (string_bytes x))) es
@@ -60,18 +64,36 @@ pub text_misfits : (key : List ℕ) (v : Data) (d : Option Data) → Some v ≡ 
     → At key (optional text_fault d) (Some (key, Kind))
 text_misfits key v d e is = subst (λ q. At key (optional text_fault q) (Some (key, Kind))) e (rw (← is) refl)
 
--- Media.
+-- Names.
+
+pub name_misfits : (key : List ℕ) (text : Option (List ℕ)) → None ≡ text → NameTest key text (Some (key, Kind))
+name_misfits key text e = subst (λ q. NameTest key q (Some (key, Kind))) e refl
+
+pub name_read : (key t : List ℕ) (text : Option (List ℕ)) → Some t ≡ text → IsName t → NameTest key text None × (t ≡ unwrap_or text [])
+name_read key t text e name = subst (λ q. NameTest key q None × (t ≡ unwrap_or q [])) e (inl (name, refl), refl)
+
+pub name_refused : (key t : List ℕ) (text : Option (List ℕ)) → Some t ≡ text → (IsName t → ⊥) → NameTest key text (Some (key, Range))
+name_refused key t text e never = subst (λ q. NameTest key q (Some (key, Range))) e (inr (never, refl))
+
+-- a text that was read as a name is there, so what stands for it where it lacks is the same to it
+name_or : (key : List ℕ) (text : Option (List ℕ)) (default : List ℕ) (result : Result (List ℕ) ConfFault)
+    → Tells (NameTest key text) (unwrap_or text []) result → Tells (NameTest key text) (unwrap_or text default) result
+name_or key None default (Ok told) (none, says) = absurd (cc none)
+name_or key (Some text) default (Ok told) read = read
+name_or key text default (Err fault) found =
+    fault_tells (λ told. told) (λ told. told) (NameTest key text) (unwrap_or text []) (unwrap_or text default) fault found
 
 pub media_lacks : (d : Option Data) → None ≡ d → MediaTest d (Some (codes "media", Missing))
 media_lacks d e = subst (λ q. MediaTest q (Some (codes "media", Missing))) e refl
 
-pub media_misfits : (v : Data) (d : Option Data) → Some v ≡ d → None ≡ as_str v → MediaTest d (Some (codes "media", Kind))
-media_misfits v d e is = subst (λ q. MediaTest q (Some (codes "media", Kind))) e (rw (← is) refl)
+pub media_there : (v : Data) (d : Option Data) (result : Result (List ℕ) ConfFault) → Some v ≡ d
+    → Tells (NameTest (codes "media") (as_str v)) (unwrap_or (as_str v) []) result → Tells (MediaTest d) (unwrap_or (text_at d) []) result
+media_there v d result e told = subst (λ q. Tells (MediaTest q) (unwrap_or (text_at q) []) result) e told
 
-pub media_read : (t : List ℕ) (v : Data) (d : Option Data) → Some v ≡ d → Some t ≡ as_str v → IsName t
-    → MediaTest d None × (t ≡ unwrap_or (text_at d) [])
-media_read t v d e is name = subst (λ q. MediaTest q None × (t ≡ unwrap_or (text_at q) [])) e (rw (← is) (inl (name, refl), refl))
+pub host_lacks : (host : List ℕ) (d : Option Data) → None ≡ d → host ≡ default_host → HostTest d None × (host ≡ unwrap_or (text_at d) default_host)
+host_lacks host d e same = subst (λ q. HostTest q None × (host ≡ unwrap_or (text_at q) default_host)) e (refl, same)
 
-pub media_refused : (t : List ℕ) (v : Data) (d : Option Data) → Some v ≡ d → Some t ≡ as_str v → (IsName t → ⊥)
-    → MediaTest d (Some (codes "media", Range))
-media_refused t v d e is never = subst (λ q. MediaTest q (Some (codes "media", Range))) e (rw (← is) (inr (never, refl)))
+pub host_there : (v : Data) (d : Option Data) (result : Result (List ℕ) ConfFault) → Some v ≡ d
+    → Tells (NameTest (codes "host") (as_str v)) (unwrap_or (as_str v) []) result → Tells (HostTest d) (unwrap_or (text_at d) default_host) result
+host_there v d result e told =
+    subst (λ q. Tells (HostTest q) (unwrap_or (text_at q) default_host) result) e (name_or (codes "host") (as_str v) default_host result told)

@@ -5,7 +5,7 @@ use Rattle.toml.specs.Parse.{parse_document}
 use Rattle.sd_base.specs.Limits.{least_block_limit, most_block, most_volume, most_drives, most_lanes, most_queue}
 use Rattle.sd_base.specs.Name.{IsName}
 use Rattle.sd_conf.specs.FirstFault.{Fault, FirstFault, block_of, spool_of}
-use Rattle.sd_conf.specs.Limits.{default_queue, default_port, most_port, default_lanes}
+use Rattle.sd_conf.specs.Limits.{default_queue, default_port, most_port, default_host, default_lanes}
 use Rattle.sd_conf.specs.Values.{number_or, text_at, tables_at}
 use Rattle.sd_conf.specs.declared.conf.Conf.{Conf}
 use Rattle.sd_conf.specs.declared.conf.DriveConf.{DriveConf}
@@ -27,6 +27,7 @@ conf_of table = record {
   spool = spool_of table;
   queue = number_or default_queue (get_member (codes "queue") table);
   port = number_or default_port (get_member (codes "port") table);
+  host = unwrap_or (text_at (get_member (codes "host") table)) default_host;
   spool_folder = text_at (get_member (codes "spool_folder") table);
   drives = map drive_of (tables_at (get_member (codes "drive") table));
 }
@@ -62,6 +63,7 @@ pub record IsWithinLimits (conf : Conf) : Type 0 where
   pub queue_most : conf.queue ≤ most_queue
   pub port_least : 1 ≤ conf.port
   pub port_most : conf.port ≤ most_port
+  pub host_is : IsName conf.host
   pub folder_with_spooling : conf.spool ≢ 0 → IsSome conf.spool_folder
   pub drives_least : 1 ≤ length conf.drives
   pub drives_most : length conf.drives ≤ most_drives

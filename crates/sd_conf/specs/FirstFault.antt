@@ -41,18 +41,18 @@ abbrev pub NumberTest : List ℕ → ℕ → ℕ → Members → Option Fault �
 NumberTest key least most table =
     At key (optional (number_fault (is_within least most)) (get_member key table))
 
--- The tests of the keys in the table of a drive.
+-- what is said of the text at a key, which is to be a name
+abbrev pub NameTest : List ℕ → Option (List ℕ) → Option Fault → Type 0
+NameTest key None found = found ≡ Some (key, Kind)
+NameTest key (Some text) found =
+    (IsName text × (found ≡ None)) ⊎ ((IsName text → ⊥) × (found ≡ Some (key, Range)))
 
--- what is said of the text of a media, which is to be a name
-abbrev pub MediaName : Option (List ℕ) → Option Fault → Type 0
-MediaName None found = found ≡ Some (codes "media", Kind)
-MediaName (Some text) found =
-    (IsName text × (found ≡ None)) ⊎ ((IsName text → ⊥) × (found ≡ Some (codes "media", Range)))
+-- The tests of the keys in the table of a drive.
 
 -- the media is required, a name
 abbrev pub MediaTest : Option Data → Option Fault → Type 0
 MediaTest None found = found ≡ Some (codes "media", Missing)
-MediaTest (Some value) found = MediaName (as_str value) found
+MediaTest (Some value) found = NameTest (codes "media") (as_str value) found
 
 -- the folder is required, a text
 abbrev pub FolderTest : Members → Option Fault → Type 0
@@ -112,6 +112,11 @@ abbrev pub PortTest : Members → Option Fault → Type 0
 PortTest table =
     NumberTest (codes "port") 1 most_port table
 
+-- the host may lack; else it is a name
+abbrev pub HostTest : Option Data → Option Fault → Type 0
+HostTest None found = found ≡ None
+HostTest (Some value) found = NameTest (codes "host") (as_str value) found
+
 -- a folder for the spools is required with spooling
 abbrev pub SpoolFolderTest : Members → Option Fault → Type 0
 SpoolFolderTest table =
@@ -133,6 +138,7 @@ FirstFault table =
     then SpoolTest table
     then QueueTest table
     then PortTest table
+    then HostTest (get_member (codes "host") table)
     then SpoolFolderTest table
     then DriveTest table
     then TablesFault (tables_at (get_member (codes "drive") table))

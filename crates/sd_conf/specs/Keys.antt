@@ -12,7 +12,7 @@ use Rattle.sd_conf.specs.declared.keys.Level.TheVariants.{Daemon, Drive}
 abbrev pub known_keys : Level → List (List ℕ)
 known_keys Daemon =
     codes "block" ∷ codes "volume" ∷ codes "spool" ∷ codes "queue" ∷ codes "port"
-    ∷ codes "spool_folder" ∷ codes "drive" ∷ []
+    ∷ codes "host" ∷ codes "spool_folder" ∷ codes "drive" ∷ []
 known_keys Drive = codes "media" ∷ codes "folder" ∷ codes "lanes" ∷ []
 
 -- the key is one of those that are known there

@@ -1,5 +1,5 @@
 -- The limits and the defaults of a configuration that are no limits of the formats.
-use Rattle.std.specs.Prelude.{ℕ}
+use Rattle.std.specs.Prelude.{ℕ, List, codes}
 
 -- the block limit where none is given
 abbrev pub default_block : ℕ
@@ -16,6 +16,10 @@ most_port = 65535
 -- the port where none is given
 abbrev pub default_port : ℕ
 default_port = 9103
+
+-- the host where none is given
+abbrev pub default_host : List ℕ
+default_host = codes "localhost"
 
 -- the lanes of a drive where none are given
 abbrev pub default_lanes : ℕ

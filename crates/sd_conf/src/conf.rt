@@ -1,6 +1,6 @@
 // What a configuration says.
 use crate::text::Text;
-use sd_base::{Items, MediaName};
+use sd_base::{HostName, Items, MediaName};
 
 /// The configuration of a daemon, each number within its limits.
 #[derive(Drop)]
@@ -15,6 +15,8 @@ pub struct Conf {
     pub queue: usize,
     /// The port to listen on, 1 to 65,535.
     pub port: u16,
+    /// The host that the labels of new volumes say.
+    pub host: HostName,
     /// The folder of the spools: there with spooling, else it may lack.
     pub spool_folder: Option<Text>,
     /// The drives 1, 2 and so on, 1 to 8 of them.

@@ -29,6 +29,7 @@ impl Level {
                     || key == "spool"
                     || key == "queue"
                     || key == "port"
+                    || key == "host"
                     || key == "spool_folder"
                     || key == "drive"
             }

@@ -13,7 +13,7 @@ use crate::conf::Conf;
 use crate::drives::drives;
 use crate::fault::ConfFault;
 use crate::keys::{Level, only_known};
-use crate::values::{number_at, spool_at, spool_folder};
+use crate::values::{host, number_at, spool_at, spool_folder};
 use sd_base::{LEAST_BLOCK_LIMIT, MOST_BLOCK, MOST_QUEUE, MOST_VOLUME};
 use std::alloc::Global;
 use toml::Table;
@@ -70,6 +70,7 @@ fn conf(alloc: Global, table: &Table) -> Result<Conf, ConfFault>
     let spool = spool_at(alloc, table, block)?;
     let queue = number_at(alloc, table, "queue", (1, MOST_QUEUE as u64), DEFAULT_QUEUE)?;
     let port = number_at(alloc, table, "port", (1, u16::MAX as u64), DEFAULT_PORT)?;
+    let host = host(alloc, table)?;
     let spool_folder = spool_folder(alloc, table, spool)?;
     let drives = drives(alloc, table)?;
     Ok(Conf {
@@ -78,6 +79,7 @@ fn conf(alloc: Global, table: &Table) -> Result<Conf, ConfFault>
         spool,
         queue: queue as usize,
         port: port as u16,
+        host,
         spool_folder,
         drives,
     })

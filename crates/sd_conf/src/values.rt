@@ -1,17 +1,21 @@
 // The numbers and texts at keys.
 ghost use Rattle.std.specs.Prelude.{◌≡◌, ◌≤◌, ◌==◌, ◌⊎◌, if◌then◌else◌, Some, pos, [], codes, unwrap_or, MatchResult, IfOk};
 ghost use Rattle.sd_base.specs.Limits.{most_volume};
-ghost use Rattle.toml.specs.Data.{as_integer, get_member};
+ghost use Rattle.toml.specs.Data.{as_integer, as_str, get_member};
 ghost use Rattle.toml.specs.View.{table_view, view};
-ghost use Rattle.sd_conf.specs.FirstFault.{At, MediaTest, NumberTest};
+ghost use Rattle.sd_conf.specs.FirstFault.{At, HostTest, MediaTest, NameTest, NumberTest};
+ghost use Rattle.sd_conf.specs.Limits.{default_host};
 ghost use Rattle.sd_conf.specs.Told.{Names, Tells};
 ghost use Rattle.sd_conf.specs.Values.{required, optional, is_within, is_spool_limit, number_fault, number_or, text_at, text_fault};
 
 use crate::fault::{ConfFault, FaultKind};
 use crate::text::Text;
-use sd_base::{MOST_VOLUME, MediaName};
+use sd_base::{HostName, MOST_VOLUME, MediaName, Name};
 use std::alloc::Global;
 use toml::{Table, Value};
+
+/// The host where none is given.
+const DEFAULT_HOST: &str = "localhost";
 
 /// The fault of a key, or `Memory` where none is left for its name.
 pub fn fault_at(alloc: Global, key: &str, kind: FaultKind) -> ConfFault
@@ -136,7 +140,7 @@ pub fn spool_folder(alloc: Global, table: &Table, spool: u64) -> Result<Option<T
     Ok(folder)
 }
 
-/// The media of a drive.
+/// The media of a drive, which is required.
 pub fn media(alloc: Global, table: &Table) -> Result<MediaName, ConfFault>
     ensures { let value = get_member (codes "media") (table_view table.now) in
         Tells (MediaTest value) (unwrap_or (text_at value) []) result }
@@ -144,11 +148,30 @@ pub fn media(alloc: Global, table: &Table) -> Result<MediaName, ConfFault>
     let Some(value) = table.get("media") else {
         return Err(fault_at(alloc, "media", FaultKind::Missing));
     };
-    let Some(text) = value.as_str() else {
-        return Err(fault_at(alloc, "media", FaultKind::Kind));
+    name(alloc, "media", value)
+}
+
+/// The host, or the default where the key lacks.
+pub fn host(alloc: Global, table: &Table) -> Result<HostName, ConfFault>
+    ensures { let value = get_member (codes "host") (table_view table.now) in
+        Tells (HostTest value) (unwrap_or (text_at value) default_host) result }
+{
+    let Some(value) = table.get("host") else {
+        return Ok(HostName::parse(DEFAULT_HOST).unwrap());
     };
-    match MediaName::parse(text) {
-        Ok(media) => Ok(media),
-        Err(_) => Err(fault_at(alloc, "media", FaultKind::Range)),
+    name(alloc, "host", value)
+}
+
+// The name that the value at a key is.
+fn name<K>(alloc: Global, key: &str, value: &Value) -> Result<Name<K>, ConfFault>
+    ensures { let text = as_str (view value.now) in
+        Tells (NameTest key.now text) (unwrap_or text []) result }
+{
+    let Some(text) = value.as_str() else {
+        return Err(fault_at(alloc, key, FaultKind::Kind));
+    };
+    match Name::parse(text) {
+        Ok(name) => Ok(name),
+        Err(_) => Err(fault_at(alloc, key, FaultKind::Range)),
     }
 }

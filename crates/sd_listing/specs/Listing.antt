@@ -21,9 +21,14 @@ use Rattle.sd_listing.specs.declared.listing.ListFault.TheVariants.{NotOnShelf, 
 
 -- The texts of lines, without their newline.
 
+-- the host of a label as its last word, if it has one
+abbrev pub host_text : Option (List ℕ) → List ℕ
+host_text None = []
+host_text (Some host) = codes " " ++ host
+
 -- the names of a label
 abbrev pub label_text : VolumeLabel → List ℕ
-label_text l = codes "label " ++ l.name ++ codes " " ++ l.pool ++ codes " " ++ l.media
+label_text l = codes "label " ++ l.name ++ codes " " ++ l.pool ++ codes " " ++ l.media ++ host_text l.host
 
 -- a block: its number, where it starts, how long it is, and its session
 abbrev pub head_text : ℕ → Head → List ℕ

@@ -29,7 +29,13 @@ impl fmt::Display for ListLine {
                 let name = label.name.as_str();
                 let pool = label.pool.as_str();
                 let media = label.media.as_str();
-                write!(f, "label {name} {pool} {media}")
+                match &label.host {
+                    None => write!(f, "label {name} {pool} {media}"),
+                    Some(host) => {
+                        let host = host.as_str();
+                        write!(f, "label {name} {pool} {media} {host}")
+                    }
+                }
             }
             ListLine::Block { start, head } => {
                 let number = head.number;

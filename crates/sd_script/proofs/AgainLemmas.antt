@@ -11,7 +11,7 @@ use Rattle.std.proofs.lemmas.Fmt.{digits_decimal}
 use Rattle.std.proofs.lemmas.Str.Parse.{digit_at}
 use Rattle.sd_base.specs.Limits.{least_block_limit, most_block, most_data, most_drives, most_lanes, most_number, most_queue, most_volume}
 use Rattle.sd_script.specs.declared.command.Command.{Command}
-use Rattle.sd_script.specs.declared.command.Command.TheVariants.{Block, Volume, SpoolLimit, Queue, Time, Drive, Capacity, Fail, At, Label, Adopt, Mount, Unmount, Seek, Retire, Open, Rec, Fill, End, Cancel, Spool, Despool, Take, Place, Sync, Close, JobMedia, Read, Again, Drain, Status, Requests, Restart}
+use Rattle.sd_script.specs.declared.command.Command.TheVariants.{Block, Volume, SpoolLimit, Queue, Time, Host, Drive, Capacity, Fail, At, Label, Adopt, Mount, Unmount, Seek, Retire, Open, Rec, Fill, End, Cancel, Spool, Despool, Take, Place, Sync, Close, JobMedia, Read, Again, Drain, Status, Requests, Restart}
 use Rattle.sd_script.specs.declared.console.ConsoleCmd.TheVariants as console
 use Rattle.sd_script.specs.declared.line.Setting.TheVariants as setting
 use Rattle.sd_script.specs.declared.line.Line.{Line}
@@ -25,7 +25,7 @@ use Rattle.sd_script.specs.Command.{command_text, stands}
 use Rattle.sd_words.specs.Fields.{HasNoBlank, joined, Fields, fields_of}
 use Rattle.sd_script.specs.Grammar.{IsWord, IsSpelled, IsWithin, AreWords, IsNumber, IsDrive, call_text, most_capacity, when_text}
 use Rattle.sd_words.specs.Reading.{word_at}
-use Rattle.sd_script.specs.Reading.{most_moment, most_wide, shape, one_number, label_shape, adopt_shape, mount_shape, open_shape, rec_shape, fill_shape, drive_shape, capacity_shape, fail_shape, again_shape, behind_shape, restart_shape}
+use Rattle.sd_script.specs.Reading.{most_moment, most_wide, shape, one_number, label_shape, adopt_shape, mount_shape, open_shape, rec_shape, fill_shape, host_shape, drive_shape, capacity_shape, fail_shape, again_shape, behind_shape, restart_shape}
 use Rattle.sd_words.proofs.NumberLemmas.{own}
 use Rattle.sd_words.proofs.FieldLemmas.{fields_of-joined, fields_of-behind, joined-fields_of}
 use Rattle.sd_words.proofs.ReadingLemmas.{number_at_again, word_at_again, word_at_takes, only_number_again}
@@ -109,6 +109,10 @@ fill_again t i s n within =
       number_at_again 1 most_number s (decimal n ∷ []) (lit< tt) within.2.0 within.2.1,
       only_number_again 0 most_data n (lit< tt) (omega arith) within.3,
     ) refl
+
+host_again : (host : List ℕ) → IsWord host → host_shape (host ∷ []) ≡ Some (line.Set (setting.Host host))
+unfolding host_shape
+host_again host host_word = rw (word_at_again host [] host_word.0) refl
 
 drive_again : (media : List ℕ) (n : ℕ) → IsWord media → 1 ≤ n → n ≤ most_lanes → drive_shape (media ∷ decimal n ∷ []) ≡ Some (line.Set (setting.Drive media n))
 unfolding drive_shape
@@ -199,6 +203,11 @@ parts_of bytes (line.Set (setting.Queue n)) some_there spelled within words =
     elim spelled [ inl e ↦ one_parts bytes Queue 1 most_queue n (λ m. line.Set (setting.Queue m)) refl (lit< tt) within refl e | inr short ↦ absurd short ]
 parts_of bytes (line.Set (setting.Time n)) some_there spelled within words =
     elim spelled [ inl e ↦ one_parts bytes Time 1 most_number n (λ m. line.Set (setting.Time m)) refl (lit< tt) within refl e | inr short ↦ absurd short ]
+parts_of bytes (line.Set (setting.Host host)) some_there spelled within words =
+    elim spelled [
+      | inl e ↦ plain_parts bytes Host (host ∷ []) (line.Set (setting.Host host)) refl (words.0.1, tt) e (host_again host words.0)
+      | inr short ↦ absurd short
+    ]
 parts_of bytes (line.Set (setting.Drive media n)) some_there spelled within words =
     elim spelled [
       | inl e ↦

@@ -5,7 +5,7 @@ use Rattle.std.specs.List.{AllByRecursion}
 use Rattle.std.specs.Str.{bytes_eq}
 use Rattle.std.proofs.lemmas.List.Elements.{All-from_recursion}
 use Rattle.sd_script.specs.declared.command.Command.{Command}
-use Rattle.sd_script.specs.declared.command.Command.TheVariants.{Block, Volume, SpoolLimit, Queue, Time, Drive, Capacity, Fail, At, Label, Adopt, Mount, Unmount, Seek, Retire, Open, Rec, Fill, End, Cancel, Spool, Despool, Take, Place, Sync, Close, JobMedia, Read, Again, Drain, Status, Requests, Restart}
+use Rattle.sd_script.specs.declared.command.Command.TheVariants.{Block, Volume, SpoolLimit, Queue, Time, Host, Drive, Capacity, Fail, At, Label, Adopt, Mount, Unmount, Seek, Retire, Open, Rec, Fill, End, Cancel, Spool, Despool, Take, Place, Sync, Close, JobMedia, Read, Again, Drain, Status, Requests, Restart}
 use Rattle.sd_script.specs.declared.line.Part.{Part}
 use Rattle.sd_script.specs.declared.line.Part.TheVariants.{Head, Body}
 use Rattle.sd_script.specs.declared.line.Line.{Line}
@@ -22,9 +22,10 @@ setting_at word other =
     cond (bytes_eq word (command_text SpoolLimit)) (Some SpoolLimit) (
     cond (bytes_eq word (command_text Queue)) (Some Queue) (
     cond (bytes_eq word (command_text Time)) (Some Time) (
+    cond (bytes_eq word (command_text Host)) (Some Host) (
     cond (bytes_eq word (command_text Drive)) (Some Drive) (
     cond (bytes_eq word (command_text Capacity)) (Some Capacity) (
-    cond (bytes_eq word (command_text Fail)) (Some Fail) other)))))))
+    cond (bytes_eq word (command_text Fail)) (Some Fail) other))))))))
 
 -- the command of a word that is no setting
 abbrev other_at : List ℕ → Option Command
@@ -68,6 +69,7 @@ command_found Body Volume e = absurd (cc e)
 command_found Body SpoolLimit e = absurd (cc e)
 command_found Body Queue e = absurd (cc e)
 command_found Body Time e = absurd (cc e)
+command_found Body Host e = absurd (cc e)
 command_found Body Drive e = absurd (cc e)
 command_found Body Capacity e = absurd (cc e)
 command_found Body Fail e = absurd (cc e)
@@ -99,6 +101,7 @@ plain_command Volume = search rules
 plain_command SpoolLimit = search rules
 plain_command Queue = search rules
 plain_command Time = search rules
+plain_command Host = search rules
 plain_command Drive = search rules
 plain_command Capacity = search rules
 plain_command Fail = search rules
@@ -137,6 +140,7 @@ command-some Volume = lit< tt
 command-some SpoolLimit = lit< tt
 command-some Queue = lit< tt
 command-some Time = lit< tt
+command-some Host = lit< tt
 command-some Drive = lit< tt
 command-some Capacity = lit< tt
 command-some Fail = lit< tt

@@ -50,6 +50,7 @@ empty_only (line.Set (setting.Volume n)) spelled = elim spelled [ inl e ↦ absu
 empty_only (line.Set (setting.Spool n)) spelled = elim spelled [ inl e ↦ absurd (cc e) | inr short ↦ absurd short ]
 empty_only (line.Set (setting.Queue n)) spelled = elim spelled [ inl e ↦ absurd (cc e) | inr short ↦ absurd short ]
 empty_only (line.Set (setting.Time n)) spelled = elim spelled [ inl e ↦ absurd (cc e) | inr short ↦ absurd short ]
+empty_only (line.Set (setting.Host host)) spelled = elim spelled [ inl e ↦ absurd (cc e) | inr short ↦ absurd short ]
 empty_only (line.Set (setting.Drive media n)) spelled = elim spelled [ inl e ↦ absurd (cc e) | inr short ↦ absurd short ]
 empty_only (line.Set (setting.Capacity d n)) spelled = elim spelled [ inl e ↦ absurd (cc e) | inr short ↦ absurd short ]
 empty_only (line.Set (setting.Fail d fail)) spelled = elim spelled [ inl e ↦ absurd (cc e) | inr short ↦ absurd short ]

@@ -9,7 +9,7 @@ use Rattle.std.proofs.lemmas.Int.{ints}
 use Rattle.std.proofs.lemmas.Option.{cond_some}
 use Rattle.sd_base.specs.Limits.{least_block_limit, most_block, most_data, most_drives, most_lanes, most_number, most_queue, most_volume}
 use Rattle.sd_script.specs.declared.command.Command.{Command}
-use Rattle.sd_script.specs.declared.command.Command.TheVariants.{Block, Volume, SpoolLimit, Queue, Time, Drive, Capacity, Fail, At, Label, Adopt, Mount, Unmount, Seek, Retire, Open, Rec, Fill, End, Cancel, Spool, Despool, Take, Place, Sync, Close, JobMedia, Read, Again, Drain, Status, Requests, Restart}
+use Rattle.sd_script.specs.declared.command.Command.TheVariants.{Block, Volume, SpoolLimit, Queue, Time, Host, Drive, Capacity, Fail, At, Label, Adopt, Mount, Unmount, Seek, Retire, Open, Rec, Fill, End, Cancel, Spool, Despool, Take, Place, Sync, Close, JobMedia, Read, Again, Drain, Status, Requests, Restart}
 use Rattle.sd_script.specs.declared.console.ConsoleCmd.TheVariants as console
 use Rattle.sd_script.specs.declared.line.Setting.TheVariants as setting
 use Rattle.sd_script.specs.declared.line.Line.{Line}
@@ -20,7 +20,7 @@ use Rattle.sd_memdrive.specs.declared.call.Call.{Call}
 use Rattle.sd_plan.specs.declared.fail.When.{When}
 use Rattle.sd_script.specs.Grammar.{IsSpelled, IsWithin, IsNumber, AreWords, call_text, most_capacity, when_text}
 use Rattle.sd_words.specs.Reading.{◌>>=◌, number_at, word_at, all_read, only_number}
-use Rattle.sd_script.specs.Reading.{most_moment, most_wide, shape, one_number, label_shape, adopt_shape, mount_shape, open_shape, rec_shape, fill_shape, drive_shape, capacity_shape, call_at, when_at, fail_shape, again_shape, behind_shape, restart_behind, restart_shape}
+use Rattle.sd_script.specs.Reading.{most_moment, most_wide, shape, one_number, label_shape, adopt_shape, mount_shape, open_shape, rec_shape, fill_shape, host_shape, drive_shape, capacity_shape, call_at, when_at, fail_shape, again_shape, behind_shape, restart_behind, restart_shape}
 use Rattle.sd_words.proofs.FieldLemmas.{joined-fields_of, fields_of-plain}
 use Rattle.sd_words.proofs.ReadingLemmas.{bind_some, some_is, TakesNumber, number_at_takes, word_at_takes, all_read_takes, only_number_takes}
 use Rattle.sd_script.proofs.ReadingLemmas.{one_number_takes, call_at_takes, when_at_takes}
@@ -189,6 +189,21 @@ spelled_so k bytes l spelled within words same = record { spelled = spelled; wit
 moment_fits : (n : ℕ) → n ≤ most_moment → FitsSigned w64 (pos n)
 moment_fits n most = record { sfits = omega arith }
 
+host_takes : (bytes : List ℕ) (fs : Fields) (l : Line) → HasFields bytes (command_text Host) fs → host_shape fs ≡ Some l → Spells Host bytes l
+unfolding host_shape
+host_takes bytes fs l has e =
+    let a = bind_some (word_at fs) (λ host. all_read (line.Set (setting.Host host.0)) host.1) l e in
+    let all = all_read_takes (line.Set (setting.Host a.0.0)) l a.0.1 a.2 in
+    let host = word_at_takes fs a.0 a.1 in
+    let fields : fs ≡ a.0.0 ∷ [] = host.0 ∙ ap (λ (gs : Fields). a.0.0 ∷ gs) all.0 in
+    let plain = subst (λ (gs : Fields). AllByRecursion HasNoBlank gs) fields has.plain in
+    subst (λ (x : Line). Spells Host bytes x) all.1 (record {
+      spelled = inl (has.text ∙ ap (λ (gs : Fields). joined (command_text Host ∷ gs)) fields);
+      within = tt;
+      words = ((host.1, plain.0), tt);
+      kinds_are = refl;
+    })
+
 drive_takes : (bytes : List ℕ) (fs : Fields) (l : Line) → HasFields bytes (command_text Drive) fs → drive_shape fs ≡ Some l → Spells Drive bytes l
 unfolding drive_shape
 drive_takes bytes fs l has e =
@@ -307,6 +322,7 @@ fields_take Queue bytes fs l has e =
     one_takes bytes Queue fs 1 most_queue (λ n. line.Set (setting.Queue n)) l (λ n low high text. spelled_so Queue bytes (line.Set (setting.Queue n)) (inl text) (low, high) tt refl) has e
 fields_take Time bytes fs l has e =
     one_takes bytes Time fs 1 most_number (λ n. line.Set (setting.Time n)) l (λ n low high text. spelled_so Time bytes (line.Set (setting.Time n)) (inl text) (low, high) tt refl) has e
+fields_take Host bytes fs l has e = host_takes bytes fs l has e
 fields_take Drive bytes fs l has e = drive_takes bytes fs l has e
 fields_take Capacity bytes fs l has e = capacity_takes bytes fs l has e
 fields_take Fail bytes fs l has e = fail_takes bytes fs l has e

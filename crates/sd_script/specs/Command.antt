@@ -1,7 +1,7 @@
 -- The words that lines begin with, and where in a script lines of each stand.
 use Rattle.std.specs.Prelude.{ℕ, ◌&&◌, Bool, true, false, not, if◌then◌else◌, List, codes}
 use Rattle.sd_script.specs.declared.command.Command.{Command}
-use Rattle.sd_script.specs.declared.command.Command.TheVariants.{Block, Volume, SpoolLimit, Queue, Time, Drive, Capacity, Fail, At, Label, Adopt, Mount, Unmount, Seek, Retire, Open, Rec, Fill, End, Cancel, Spool, Despool, Take, Place, Sync, Close, JobMedia, Read, Again, Drain, Status, Requests, Restart}
+use Rattle.sd_script.specs.declared.command.Command.TheVariants.{Block, Volume, SpoolLimit, Queue, Time, Host, Drive, Capacity, Fail, At, Label, Adopt, Mount, Unmount, Seek, Retire, Open, Rec, Fill, End, Cancel, Spool, Despool, Take, Place, Sync, Close, JobMedia, Read, Again, Drain, Status, Requests, Restart}
 use Rattle.sd_script.specs.declared.line.Part.{Part}
 use Rattle.sd_script.specs.declared.line.Part.TheVariants.{Head, Body}
 
@@ -12,6 +12,7 @@ command_text Volume = codes "volume"
 command_text SpoolLimit = codes "spool"
 command_text Queue = codes "queue"
 command_text Time = codes "time"
+command_text Host = codes "host"
 command_text Drive = codes "drive"
 command_text Capacity = codes "capacity"
 command_text Fail = codes "fail"
@@ -48,6 +49,7 @@ is_setting Volume = true
 is_setting SpoolLimit = true
 is_setting Queue = true
 is_setting Time = true
+is_setting Host = true
 is_setting Drive = true
 is_setting Capacity = true
 is_setting Fail = true

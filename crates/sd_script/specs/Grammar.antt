@@ -59,6 +59,7 @@ setting_fields (setting.Volume bytes) = codes "volume" ∷ decimal bytes ∷ []
 setting_fields (setting.Spool bytes) = codes "spool" ∷ decimal bytes ∷ []
 setting_fields (setting.Queue blocks) = codes "queue" ∷ decimal blocks ∷ []
 setting_fields (setting.Time time) = codes "time" ∷ decimal time ∷ []
+setting_fields (setting.Host host) = codes "host" ∷ host ∷ []
 setting_fields (setting.Drive media lanes) = codes "drive" ∷ media ∷ decimal lanes ∷ []
 setting_fields (setting.Capacity drive bytes) =
     codes "capacity" ∷ decimal drive ∷ decimal bytes ∷ []
@@ -136,6 +137,7 @@ IsSettingWithin (setting.Volume bytes) = bytes ≤ most_volume
 IsSettingWithin (setting.Spool bytes) = bytes ≤ most_volume
 IsSettingWithin (setting.Queue blocks) = (1 ≤ blocks) × (blocks ≤ most_queue)
 IsSettingWithin (setting.Time time) = IsNumber time
+IsSettingWithin (setting.Host host) = Unit {0}
 IsSettingWithin (setting.Drive media lanes) = (1 ≤ lanes) × (lanes ≤ most_lanes)
 IsSettingWithin (setting.Capacity drive bytes) = IsDrive drive × (bytes ≤ most_capacity)
 IsSettingWithin (setting.Fail drive fail) = IsDrive drive × (1 ≤ fail.nth) × (fail.nth < 2 ^ 64)
@@ -176,6 +178,7 @@ console_names command = []
 -- the fields of a line that stand in the place of a name
 abbrev pub names : Line → List (List ℕ)
 names (Console command) = console_names command
+names (Set (setting.Host host)) = host ∷ []
 names (Set (setting.Drive media lanes)) = media ∷ []
 names (Open job pool media) = pool ∷ media ∷ []
 names (Restart time (Some tail)) = tail.volume ∷ []

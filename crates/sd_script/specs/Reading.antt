@@ -13,7 +13,7 @@ use Rattle.sd_script.specs.declared.console.ConsoleCmd.TheVariants as console
 use Rattle.sd_script.specs.declared.line.LineFault.{LineFault}
 use Rattle.sd_script.specs.declared.line.LineFault.TheVariants.{BadCommand, BadName}
 use Rattle.sd_script.specs.declared.command.Command.{Command}
-use Rattle.sd_script.specs.declared.command.Command.TheVariants.{Block, Volume, SpoolLimit, Queue, Time, Drive, Capacity, Fail, At, Label, Adopt, Mount, Unmount, Seek, Retire, Open, Rec, Fill, End, Cancel, Spool, Despool, Take, Place, Sync, Close, JobMedia, Read, Again, Drain, Status, Requests, Restart}
+use Rattle.sd_script.specs.declared.command.Command.TheVariants.{Block, Volume, SpoolLimit, Queue, Time, Host, Drive, Capacity, Fail, At, Label, Adopt, Mount, Unmount, Seek, Retire, Open, Rec, Fill, End, Cancel, Spool, Despool, Take, Place, Sync, Close, JobMedia, Read, Again, Drain, Status, Requests, Restart}
 use Rattle.sd_script.specs.Grammar.{AreNames, call_text, most_capacity, when_text}
 use Rattle.sd_words.specs.Fields.{Fields, joined}
 use Rattle.sd_words.specs.Reading.{◌>>=◌, number_at, word_at, all_read, only_number}
@@ -82,6 +82,12 @@ fill_shape fs = do
   stream ← number_at 1 most_number index.1
   count ← only_number 0 most_data stream.1
   Some (line.Fill ticket.0 index.0 stream.0 count)
+
+-- the same of `host`
+unfoldable pub host_shape : Fields → Option Line
+host_shape fs = do
+  host ← word_at fs
+  all_read (line.Set (setting.Host host.0)) host.1
 
 -- the same of `drive`
 unfoldable pub drive_shape : Fields → Option Line
@@ -177,6 +183,7 @@ shape Volume fs = one_number 0 most_volume (λ n. line.Set (setting.Volume n)) f
 shape SpoolLimit fs = one_number 0 most_volume (λ n. line.Set (setting.Spool n)) fs
 shape Queue fs = one_number 1 most_queue (λ n. line.Set (setting.Queue n)) fs
 shape Time fs = one_number 1 most_number (λ n. line.Set (setting.Time n)) fs
+shape Host fs = host_shape fs
 shape Drive fs = drive_shape fs
 shape Capacity fs = capacity_shape fs
 shape Fail fs = fail_shape fs

@@ -4,7 +4,9 @@ ghost use Rattle.sd_script.specs.Grammar.{line_refusal};
 ghost use Rattle.sd_script.specs.declared.line.LineFault.TheVariants.{BadCommand, BadName};
 
 use crate::console::ConsoleCmd;
-use sd_base::{BadName, DriveNo, JobId, MediaName, PoolName, Refusal, SessionKey, Ticket, VolName};
+use sd_base::{
+    BadName, DriveNo, HostName, JobId, MediaName, PoolName, Refusal, SessionKey, Ticket, VolName,
+};
 use sd_memdrive::Fail;
 use sd_words::BadField;
 use std::marker::Model;
@@ -71,6 +73,8 @@ pub enum Setting {
     Queue(usize),
     /// The time of the run, in seconds.
     Time(u32),
+    /// The host that the labels of new volumes say.
+    Host(HostName),
     /// One more drive, with so many lanes.
     Drive { media: MediaName, lanes: u32 },
     /// How many bytes each volume of a drive has room for.

@@ -15,7 +15,7 @@ use crate::forms::{
     adopt, again, at, drain, fill, label, mount, open, rec, requests, restart, status,
 };
 use crate::line::{Line, LineFault, Part};
-use crate::settings::{block, capacity, drive, fail, queue, spool_limit, time, volume};
+use crate::settings::{block, capacity, drive, fail, host, queue, spool_limit, time, volume};
 use sd_words::Words;
 use std::str;
 
@@ -134,6 +134,7 @@ fn line_of(command: Command, words: Words<'_>) -> Result<Line<'_>, LineFault>
         Command::SpoolLimit => spool_limit(words),
         Command::Queue => queue(words),
         Command::Time => time(words),
+        Command::Host => host(words),
         Command::Drive => drive(words),
         Command::Capacity => capacity(words),
         Command::Fail => fail(words),

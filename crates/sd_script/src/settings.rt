@@ -47,6 +47,15 @@ pub fn time(words: Words<'_>) -> Result<Line<'_>, LineFault>
     Ok(Line::Set(Setting::Time(time as u32)))
 }
 
+#[tactic(auto, unfolding(crate::specs::Reading::host_shape))]
+pub fn host(mut words: Words<'_>) -> Result<Line<'_>, LineFault>
+    ensures { Gives result (shape commands.Host words.entry) }
+{
+    let host = words.word()?;
+    words.end()?;
+    Ok(Line::Set(Setting::Host(Name::parse(host)?)))
+}
+
 #[tactic(auto, unfolding(crate::specs::Reading::drive_shape))]
 pub fn drive(mut words: Words<'_>) -> Result<Line<'_>, LineFault>
     ensures { Gives result (shape commands.Drive words.entry) }

@@ -16,7 +16,7 @@ came_with other lines line = lines
 
 -- the length of the longest line that has a form
 abbrev pub longest_line : ℕ
-longest_line = 1000037
+longest_line = 4000037
 
 -- the bytes up to the next newline, or as many as the longest line has with its own
 abbrev pub next_bytes : List ℕ → List ℕ

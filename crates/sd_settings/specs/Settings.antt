@@ -12,13 +12,15 @@ use Rattle.sd_settings.specs.declared.fits.Misfit.{Misfit}
 use Rattle.sd_settings.specs.declared.fits.Misfit.TheVariants as misfit
 
 -- What is set: the limit of a block, of a volume and of a spool, in bytes; how many blocks wait before a drive; the time
--- of the run; the media and lanes of each drive; the capacities that were given to drives; the calls of drives that fail.
+-- of the run; the host, if there is one; the media and lanes of each drive; the capacities that were given to drives; the
+-- calls of drives that fail.
 pub record ValuesView : Type 0 where
   pub block : ℕ
   pub volume : ℕ
   pub spool : ℕ
   pub queue : ℕ
   pub time : ℕ
+  pub host : Option (List ℕ)
   pub drives : List (List ℕ × ℕ)
   pub capacities : List (ℕ × ℕ)
   pub fails : List (ℕ × Fail Call)
@@ -31,6 +33,7 @@ usual_values = record {
   spool = 0;
   queue = 8;
   time = 1000;
+  host = None;
   drives = [];
   capacities = [];
   fails = [];
@@ -43,6 +46,7 @@ values_with v (setting.Volume bytes) = record v { volume = bytes }
 values_with v (setting.Spool bytes) = record v { spool = bytes }
 values_with v (setting.Queue blocks) = record v { queue = blocks }
 values_with v (setting.Time time) = record v { time = time }
+values_with v (setting.Host host) = record v { host = Some host }
 values_with v (setting.Drive media lanes) = record v { drives = v.drives ++ (media, lanes) ∷ [] }
 values_with v (setting.Capacity drive bytes) = record v { capacities = v.capacities ++ (drive, bytes) ∷ [] }
 values_with v (setting.Fail drive fail) = record v { fails = v.fails ++ (drive, fail) ∷ [] }

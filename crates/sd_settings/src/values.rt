@@ -3,7 +3,7 @@ ghost use Rattle.std.specs.Prelude.{◌≡◌, OnOk, OnErr};
 ghost use Rattle.sd_script.specs.Grammar.{IsSettingWithin};
 ghost use Rattle.sd_settings.specs.Settings.{usual_values, values_with};
 
-use sd_base::{DriveNo, MOST_VOLUME, MediaName};
+use sd_base::{DriveNo, HostName, MOST_VOLUME, MediaName};
 use sd_script::{Fail, Setting};
 use std::alloc::{AllocError, Global};
 use std::marker::Model;
@@ -31,6 +31,8 @@ pub struct Values {
     pub queue: usize,
     /// The time of the run, in seconds.
     pub time: u32,
+    /// The host that the labels of new volumes say, where one is set.
+    pub host: Option<HostName>,
     /// The media and the number of lanes of each drive, as they were given.
     pub drives: Vec<(MediaName, u32)>,
     /// For how many bytes each volume of a drive has room, as it was given.
@@ -50,6 +52,7 @@ impl Model for Values {
       spool = v.spool;
       queue = v.queue;
       time = v.time;
+      host = v.host;
       drives = v.drives.items;
       capacities = v.capacities.items;
       fails = v.fails.items;
@@ -61,6 +64,7 @@ impl Model for Values {
       spool = v.spool;
       queue = v.queue;
       time = v.time;
+      host = v.host;
       drives = v.drives.items;
       capacities = v.capacities.items;
       fails = v.fails.items;
@@ -78,6 +82,7 @@ impl Values {
             spool: 0,
             queue: USUAL_QUEUE,
             time: USUAL_TIME,
+            host: None,
             drives: Vec::new(alloc),
             capacities: Vec::new(alloc),
             fails: Vec::new(alloc),
@@ -96,6 +101,7 @@ impl Values {
             Setting::Spool(spool) => self.spool = spool,
             Setting::Queue(queue) => self.queue = queue,
             Setting::Time(time) => self.time = time,
+            Setting::Host(host) => self.host = Some(host),
             Setting::Drive { media, lanes } => self.drives.push((media, lanes))?,
             Setting::Capacity { drive, bytes } => self.capacities.push((drive, bytes))?,
             Setting::Fail { drive, fail } => self.fails.push((drive, fail))?,

@@ -1,5 +1,5 @@
 -- Which world is made of a configuration.
-use Rattle.std.specs.Prelude.{◌≡◌, ℕ, ◌+◌, suc, zero, List, [], ◌∷◌, ◌++◌, map, length, Vec, unwrap_or, codes}
+use Rattle.std.specs.Prelude.{◌≡◌, ℕ, ◌+◌, suc, zero, Some, List, [], ◌∷◌, ◌++◌, map, length, Vec, unwrap_or, codes}
 use Rattle.std.specs.Global.{Global}
 use Rattle.std.specs.List.{AllZip}
 use Rattle.sd_conf.specs.declared.conf.Conf.{Conf}
@@ -22,13 +22,15 @@ use Rattle.sd_spool.specs.declared.file.FileSpool.{FileSpool}
 abbrev pub media_of : DriveConf → List ℕ × ℕ
 media_of d = (d.media, d.lanes)
 
--- the settings of a world are those of a configuration, and its drives have their media and lanes, in the same order
+-- the settings of a world are those of a configuration, with its host, and its drives have their media and lanes, in the
+-- same order
 pub record AreSettingsOf (conf : Conf) (settings : WorldConf) : Type 0 where
   pub block_is : settings.block ≡ conf.block
   pub volume_is : settings.volume ≡ conf.volume
   pub spool_is : settings.spool ≡ conf.spool
   pub queue_is : settings.queue ≡ conf.queue
   pub drives_are : settings.drives.items ≡ map media_of conf.drives
+  pub host_is : settings.host ≡ Some conf.host
 
 -- the folder of the spools: the current one where none is named
 abbrev pub spool_folder_of : Conf → List ℕ

@@ -57,6 +57,7 @@ fn settings_of(conf: &Conf, medias: Vec<(MediaName, u32)>) -> WorldConf
         spool: conf.spool,
         queue: conf.queue,
         drives: medias,
+        host: Some(conf.host.copy()),
     }
 }
 

@@ -18,6 +18,7 @@ pub record IsRoomOf (v : ValuesView) (room : Room) : Type 0 where
   pub spool_is : room.conf.spool ≡ v.spool
   pub queue_is : room.conf.queue ≡ v.queue
   pub drives_are : room.conf.drives.items ≡ drives_of v
+  pub host_is : room.conf.host ≡ v.host
   pub queues : AreQueues (λ q. lanes_view q) room.conf.queue room.conf.drives.items room.queues.items
   pub stores : AreStores room.conf.drives.items room.stores.items
 
@@ -28,6 +29,7 @@ pub record StartsAs {D : Type 0} (meaning : D → Meaning) (v : ValuesView) (tim
   pub volume_is : w.limits.volume ≡ v.volume
   pub spool_is : w.limits.spool ≡ v.spool
   pub time_is : w.limits.time ≡ time
+  pub host_is : w.limits.host ≡ v.host
   pub queue_is : w.queue ≡ v.queue
   pub no_session : w.sessions ≡ []
   pub online : online_flags w ≡ replicate (drive_count v) true

@@ -6,7 +6,7 @@ ghost use Rattle.sd_core.specs.Conf.{AreQueues, AreStores};
 ghost use Rattle.sd_tool.specs.Making.{IsRoomOf, StartsAs};
 ghost use Rattle.sd_settings.specs.Settings.{drive_count, drives_of, misfit_of};
 
-use sd_base::{MediaName, Name};
+use sd_base::{HostName, MediaName, Name};
 use sd_core::{World, WorldConf};
 use sd_driver::Driver;
 use sd_lane::PlainLanes;
@@ -46,6 +46,7 @@ impl Room {
             spool: values.spool,
             queue: values.queue,
             drives,
+            host: HostName::copy_of(&values.host),
         };
         Ok(Room {
             conf,

@@ -27,7 +27,7 @@ static FRONT: &[u8] = b"\x00\x00\x00\x0cok labelled\n\
 \x00\x00\x00\x1a3000 OK close Status = 84\n";
 
 /// What is heard behind it: the span, and the answer to the poll.
-static BACK: &[u8] = b"\x00\x00\x00\x1bspan Vol-0001 1 1 1 82 249\n\
+static BACK: &[u8] = b"\x00\x00\x00\x1bspan Vol-0001 1 1 1 92 259\n\
 \xff\xff\xff\xff\
 \xff\xff\xff\xf9";
 

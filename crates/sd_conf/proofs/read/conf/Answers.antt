@@ -1,8 +1,9 @@
-use Rattle.std.proofs.Common.{inr, inl, refl, Ok, map, Err, codes}
+use Rattle.std.proofs.Common.{inr, inl, refl, Ok, map, Err, codes, unwrap_or}
 use Rattle.toml.specs.Data.{get_member}
 use Rattle.toml.specs.View.{table_view}
 use Rattle.sd_conf.specs.Conf.{conf_of, drive_of}
-use Rattle.sd_conf.specs.FirstFault.{FirstFault, SpoolTest, QueueTest, PortTest, SpoolFolderTest, DriveTest, TablesFault, ◌then◌, spool_of}
+use Rattle.sd_conf.specs.FirstFault.{FirstFault, SpoolTest, QueueTest, PortTest, HostTest, SpoolFolderTest, DriveTest, TablesFault, ◌then◌, spool_of}
+use Rattle.sd_conf.specs.Limits.{default_host}
 use Rattle.sd_conf.specs.Values.{number_or, text_at, tables_at}
 use Rattle.sd_conf.specs.declared.conf.Conf.{Conf}
 use Rattle.sd_conf.proofs.ConfLemmas.{first_fails, volume_beside, spool_beside, folder_beside, conf_read}
@@ -36,13 +37,22 @@ returns-in_err-port c =
     (λ found here. inr (c.in_ok-only_known.ensures.0, inr (c.in_ok-block.ensures.told.0, inr ((volume_beside table c.in_ok-block.block (Ok c.in_ok-volume.volume) c.in_ok-block.ensures.told.1 c.in_ok-volume.ensures.told).0, inr ((spool_beside table c.in_ok-block.block (Ok c.in_ok-spool.spool) c.in_ok-block.ensures.told.1 c.in_ok-spool.ensures.told).0, inr (c.in_ok-queue.ensures.told.0, inl (found, here, refl)))))))
     c.in_err-port.ensures.told)
 
+pub returns-in_err-host : goal.returns-in_err-host
+returns-in_err-host c =
+    let table = table_view c.args.table.now in
+    let fault = c.in_err-host.field-0.0 in
+    passed (λ (k : Conf). k) (FirstFault table) (conf_of table) fault c.from_residual-in_err-host.result c.from_residual-in_err-host.ensures
+    (first_fails (HostTest (get_member (codes "host") table)) (FirstFault table) (unwrap_or (text_at (get_member (codes "host") table)) default_host) (conf_of table) fault
+    (λ found here. inr (c.in_ok-only_known.ensures.0, inr (c.in_ok-block.ensures.told.0, inr ((volume_beside table c.in_ok-block.block (Ok c.in_ok-volume.volume) c.in_ok-block.ensures.told.1 c.in_ok-volume.ensures.told).0, inr ((spool_beside table c.in_ok-block.block (Ok c.in_ok-spool.spool) c.in_ok-block.ensures.told.1 c.in_ok-spool.ensures.told).0, inr (c.in_ok-queue.ensures.told.0, inr (c.in_ok-port.ensures.told.0, inl (found, here, refl))))))))
+    c.in_err-host.ensures)
+
 pub returns-in_err-spool_folder : goal.returns-in_err-spool_folder
 returns-in_err-spool_folder c =
     let table = table_view c.args.table.now in
     let fault = c.in_err-spool_folder.field-0.0 in
     passed (λ (k : Conf). k) (FirstFault table) (conf_of table) fault c.from_residual-in_err-spool_folder.result c.from_residual-in_err-spool_folder.ensures
     (first_fails (SpoolFolderTest table) (FirstFault table) (text_at (get_member (codes "spool_folder") table)) (conf_of table) fault
-    (λ found here. inr (c.in_ok-only_known.ensures.0, inr (c.in_ok-block.ensures.told.0, inr ((volume_beside table c.in_ok-block.block (Ok c.in_ok-volume.volume) c.in_ok-block.ensures.told.1 c.in_ok-volume.ensures.told).0, inr ((spool_beside table c.in_ok-block.block (Ok c.in_ok-spool.spool) c.in_ok-block.ensures.told.1 c.in_ok-spool.ensures.told).0, inr (c.in_ok-queue.ensures.told.0, inr (c.in_ok-port.ensures.told.0, inl (found, here, refl))))))))
+    (λ found here. inr (c.in_ok-only_known.ensures.0, inr (c.in_ok-block.ensures.told.0, inr ((volume_beside table c.in_ok-block.block (Ok c.in_ok-volume.volume) c.in_ok-block.ensures.told.1 c.in_ok-volume.ensures.told).0, inr ((spool_beside table c.in_ok-block.block (Ok c.in_ok-spool.spool) c.in_ok-block.ensures.told.1 c.in_ok-spool.ensures.told).0, inr (c.in_ok-queue.ensures.told.0, inr (c.in_ok-port.ensures.told.0, inr (c.in_ok-host.ensures.0, inl (found, here, refl)))))))))
     (folder_beside table c.in_ok-spool.spool (Err fault) c.in_ok-spool.ensures.told.1 c.in_err-spool_folder.ensures))
 
 pub returns-in_err-drives : goal.returns-in_err-drives
@@ -51,13 +61,13 @@ returns-in_err-drives c =
     let fault = c.in_err-drives.field-0.0 in
     passed (λ (k : Conf). k) (FirstFault table) (conf_of table) fault c.from_residual-in_err-drives.result c.from_residual-in_err-drives.ensures
     (first_fails (DriveTest table then TablesFault (tables_at (get_member (codes "drive") table))) (FirstFault table) (map drive_of (tables_at (get_member (codes "drive") table))) (conf_of table) fault
-    (λ found here. inr (c.in_ok-only_known.ensures.0, inr (c.in_ok-block.ensures.told.0, inr ((volume_beside table c.in_ok-block.block (Ok c.in_ok-volume.volume) c.in_ok-block.ensures.told.1 c.in_ok-volume.ensures.told).0, inr ((spool_beside table c.in_ok-block.block (Ok c.in_ok-spool.spool) c.in_ok-block.ensures.told.1 c.in_ok-spool.ensures.told).0, inr (c.in_ok-queue.ensures.told.0, inr (c.in_ok-port.ensures.told.0, inr ((folder_beside table c.in_ok-spool.spool (Ok c.in_ok-spool_folder.spool_folder) c.in_ok-spool.ensures.told.1 c.in_ok-spool_folder.ensures).0, here))))))))
+    (λ found here. inr (c.in_ok-only_known.ensures.0, inr (c.in_ok-block.ensures.told.0, inr ((volume_beside table c.in_ok-block.block (Ok c.in_ok-volume.volume) c.in_ok-block.ensures.told.1 c.in_ok-volume.ensures.told).0, inr ((spool_beside table c.in_ok-block.block (Ok c.in_ok-spool.spool) c.in_ok-block.ensures.told.1 c.in_ok-spool.ensures.told).0, inr (c.in_ok-queue.ensures.told.0, inr (c.in_ok-port.ensures.told.0, inr (c.in_ok-host.ensures.0, inr ((folder_beside table c.in_ok-spool.spool (Ok c.in_ok-spool_folder.spool_folder) c.in_ok-spool.ensures.told.1 c.in_ok-spool_folder.ensures).0, here)))))))))
     c.in_err-drives.ensures)
 
 pub returns : goal.returns
 returns c =
     let table = table_view c.args.table.now in (
-      inr (c.in_ok-only_known.ensures.0, inr (c.in_ok-block.ensures.told.0, inr ((volume_beside table c.in_ok-block.block (Ok c.in_ok-volume.volume) c.in_ok-block.ensures.told.1 c.in_ok-volume.ensures.told).0, inr ((spool_beside table c.in_ok-block.block (Ok c.in_ok-spool.spool) c.in_ok-block.ensures.told.1 c.in_ok-spool.ensures.told).0, inr (c.in_ok-queue.ensures.told.0, inr (c.in_ok-port.ensures.told.0, inr ((folder_beside table c.in_ok-spool.spool (Ok c.in_ok-spool_folder.spool_folder) c.in_ok-spool.ensures.told.1 c.in_ok-spool_folder.ensures).0, c.in_ok-drives.ensures.0))))))),
-      conf_read table c.in_ok-block.block c.in_ok-volume.volume c.in_ok-spool.spool c.in_ok-queue.queue c.in_ok-port.port c.in_ok-spool_folder.spool_folder c.in_ok-drives.drives
-          c.in_ok-block.ensures.told.1 c.in_ok-volume.ensures.told.1 c.in_ok-spool.ensures.told.1 c.in_ok-queue.ensures.told.1 c.in_ok-port.ensures.told.1 c.in_ok-spool_folder.ensures.1 c.in_ok-drives.ensures.1,
+      inr (c.in_ok-only_known.ensures.0, inr (c.in_ok-block.ensures.told.0, inr ((volume_beside table c.in_ok-block.block (Ok c.in_ok-volume.volume) c.in_ok-block.ensures.told.1 c.in_ok-volume.ensures.told).0, inr ((spool_beside table c.in_ok-block.block (Ok c.in_ok-spool.spool) c.in_ok-block.ensures.told.1 c.in_ok-spool.ensures.told).0, inr (c.in_ok-queue.ensures.told.0, inr (c.in_ok-port.ensures.told.0, inr (c.in_ok-host.ensures.0, inr ((folder_beside table c.in_ok-spool.spool (Ok c.in_ok-spool_folder.spool_folder) c.in_ok-spool.ensures.told.1 c.in_ok-spool_folder.ensures).0, c.in_ok-drives.ensures.0)))))))),
+      conf_read table c.in_ok-block.block c.in_ok-volume.volume c.in_ok-spool.spool c.in_ok-queue.queue c.in_ok-port.port c.in_ok-host.host c.in_ok-spool_folder.spool_folder c.in_ok-drives.drives
+          c.in_ok-block.ensures.told.1 c.in_ok-volume.ensures.told.1 c.in_ok-spool.ensures.told.1 c.in_ok-queue.ensures.told.1 c.in_ok-port.ensures.told.1 c.in_ok-host.ensures.1 c.in_ok-spool_folder.ensures.1 c.in_ok-drives.ensures.1,
     )

@@ -12,7 +12,7 @@ returns-in-Ok-eq0-clause-first g c =
     let same : g.R.Read.remaining limited.inner.now ≡ g.R.Read.remaining c.args.reader.now =
     ap (λ (r : MutBor g.row.R.Denot). g.R.Read.remaining r.now) c.take-limited.ensures.inner in
     let Ends : Option (List ℕ) → Type 0 = λ o. IsAtEnd (option_map (take limited.limit) o) in
-    at_end (g.R.Read.remaining c.args.reader.now) limited.limit 1000037 c.take-limited.ensures.limit (subst Ends same ((rw c.in-Ok-eq0.is at c.read_until.ensures.end) c.in-Ok-eq0.field-0-test))
+    at_end (g.R.Read.remaining c.args.reader.now) limited.limit 4000037 c.take-limited.ensures.limit (subst Ends same ((rw c.in-Ok-eq0.is at c.read_until.ensures.end) c.in-Ok-eq0.field-0-test))
 
 pub returns-in-Ok-clause-first : goal.returns-in-Ok-clause-first
 returns-in-Ok-clause-first g c =

@@ -26,6 +26,7 @@ returns-in-Ok g c =
       volume_is = ap (λ l. l.volume) f.limits_are ∙ r.volume_is;
       spool_is = ap (λ l. l.spool) f.limits_are ∙ r.spool_is;
       time_is = ap (λ l. l.time) f.limits_are;
+      host_is = ap (λ l. l.host) f.limits_are ∙ r.host_is;
       queue_is = f.queue_is ∙ r.queue_is;
       no_session = f.no_session;
       drives = f.drives;
