@@ -45,7 +45,8 @@ def drawn_settings(numbers):
         block=block, queue=numbers.randint(1, 8), time=1000,
         volume=numbers.choice((2 * block, 2 * block + numbers.randrange(4000), LABEL + numbers.randint(2, 4) * block,
                                12 * block, MOST_VOLUME)),
-        spool=numbers.choice((0, block + numbers.randrange(5000))), host=numbers.choice((None, "backup1", 20 * "h")))
+        spool=numbers.choice((0, block + numbers.randrange(5000))))
+    settings.host = (None, "backup1", 20 * "h")[settings.queue % 3]
     for drive in range(1, numbers.randint(1, 3) + 1):
         settings.drives.append((numbers.choice(MEDIA), numbers.randint(1, 4)))
         settings.capacity[drive] = drawn_capacity(numbers)
