@@ -64,18 +64,18 @@ is_of_drive meaning w w' (Seek own) drive reply is m = subst (λ n. MovesDrive m
 is_of_drive meaning w w' event drive reply is m = absurd is
 
 -- an event that is the drive's own, by its number
-pub of_drive : {D : Type 0} (meaning : D → Meaning) (drive number : ℕ) (named : ℕ → Event) (event : Event) {d after : DriveIs D} {queue queue' : LanesView}
-    {desk desk' : DeskView} {reply : Reply} → event ≡ named number → number ≡ drive
+pub of_drive : {D : Type 0} (meaning : D → Meaning) (drive number : ℕ) (named : ℕ → Event) (event : Event) (d after : DriveIs D) (queue queue' : LanesView)
+    (desk desk' : DeskView) (reply : Reply) → event ≡ named number → number ≡ drive
     → MovesHere meaning drive (named drive) d queue desk reply after queue' desk' → MovesHere meaning drive event d queue desk reply after queue' desk'
-of_drive meaning drive number named event {d} {after} {queue} {queue'} {desk} {desk'} {reply} is own here =
+of_drive meaning drive number named event d after queue queue' desk desk' reply is own here =
     subst (λ e. MovesHere meaning drive e d queue desk reply after queue' desk') (sym is)
     (subst (λ n. MovesHere meaning drive (named n) d queue desk reply after queue' desk') (sym own) here)
 
 -- the moment of a label, written otherwise
-pub at_moment : {D : Type 0} (meaning : D → Meaning) (drive : ℕ) {name pool media : List ℕ} {z z' : ℤ} {d after : DriveIs D} {queue queue' : LanesView}
-    {desk desk' : DeskView} {reply : Reply} → z ≡ z' → MovesHere meaning drive (Label drive name pool media z) d queue desk reply after queue' desk'
+pub at_moment : {D : Type 0} (meaning : D → Meaning) (drive : ℕ) (name pool media : List ℕ) (z z' : ℤ) (d after : DriveIs D) (queue queue' : LanesView)
+    (desk desk' : DeskView) (reply : Reply) → z ≡ z' → MovesHere meaning drive (Label drive name pool media z) d queue desk reply after queue' desk'
     → MovesHere meaning drive (Label drive name pool media z') d queue desk reply after queue' desk'
-at_moment meaning drive {name} {pool} {media} {z} {z'} {d} {after} {queue} {queue'} {desk} {desk'} {reply} same here =
+at_moment meaning drive name pool media z z' d after queue queue' desk desk' reply same here =
     subst (λ (x : ℤ). MovesHere meaning drive (Label drive name pool media x) d queue desk reply after queue' desk') same here
 
 -- there is no other event of a drive

@@ -1,5 +1,5 @@
 -- A drive that seeks a volume.
-use Rattle.std.proofs.Common.{◌≡◌, ℕ, true, false, not, Option, Some, None, List, refl, ap, ◌∙◌, inl, inr, slice_get, map}
+use Rattle.std.proofs.Common.{◌≡◌, ℕ, true, false, not, Option, Some, None, List, refl, sym, ap, ◌∙◌, inl, inr, slice_get, map}
 use Rattle.std.specs.Str.{bytes_eq}
 use Rattle.std.proofs.lemmas.Bool.Decides.{eqb_tells}
 use Rattle.std.proofs.lemmas.Slice.Eq.{bytes_eq-Decides}

@@ -4,7 +4,6 @@ use Rattle.std.specs.Prelude.{not}
 use Rattle.std.specs.List.{count_by, list_any}
 use Rattle.std.proofs.lemmas.List.Sums.{sum_by-cons}
 use Rattle.sd_drive.specs.View.{DriveIs}
-use Rattle.sd_lane.specs.declared.piece.Queued.{Queued}
 use Rattle.sd_moves.specs.World.{WorldView, WorldSession, BayView, LaneView, IsOnline, with_bay}
 use Rattle.sd_moves.specs.Drives.{IsInUse, RetiresDrive}
 use Rattle.sd_moves.proofs.Bays.{IsBayAt, bay_stays}
@@ -37,11 +36,17 @@ only_first (inr (inl x)) b c e = absurd (b x)
 only_first (inr (inr (inl x))) b c e = absurd (c x)
 only_first (inr (inr (inr x))) b c e = absurd (e x)
 
--- what is said of a drive's lanes and sessions where they were read
-pub used_as_read : {D : Type 0} (d : DriveIs D) (held : List Queued) (sessions read : List WorldSession) (lanes seen : List LaneView)
-    → read ≡ sessions → seen ≡ lanes → IsInUse read d seen held → IsInUse sessions d lanes held
-used_as_read d held sessions read lanes seen had laned used =
-    subst (λ (es : List WorldSession). IsInUse es d lanes held) had (subst (λ (ls : List LaneView). IsInUse read d ls held) laned used)
+-- a drive is in use in its world exactly as it was read
+pub used_there : {D : Type 0} (w : WorldView D) (drive at : ℕ) (bay : BayView D) (d : DriveIs D) (sessions : List WorldSession) (lanes : List LaneView)
+    → IsOnline w drive at bay d → sessions ≡ w.sessions → lanes ≡ bay.lanes → IsInUse sessions d lanes bay.queue.held → IsInUse w.sessions d bay.lanes bay.queue.held
+used_there w drive at bay d sessions lanes on had laned used =
+    subst (λ (es : List WorldSession). IsInUse es d bay.lanes bay.queue.held) had (subst (λ (ls : List LaneView). IsInUse sessions d ls bay.queue.held) laned used)
+
+pub used_here : {D : Type 0} (w : WorldView D) (drive at : ℕ) (bay : BayView D) (d : DriveIs D) (sessions : List WorldSession) (lanes : List LaneView)
+    → IsOnline w drive at bay d → sessions ≡ w.sessions → lanes ≡ bay.lanes → IsInUse w.sessions d bay.lanes bay.queue.held → IsInUse sessions d lanes bay.queue.held
+used_here w drive at bay d sessions lanes on had laned used =
+    subst (λ (es : List WorldSession). IsInUse es d lanes bay.queue.held) (sym had)
+    (subst (λ (ls : List LaneView). IsInUse w.sessions d ls bay.queue.held) (sym laned) used)
 
 -- a bay that was read and is left alone
 pub left_alone : {D : Type 0} (w : WorldView D) (drive at : ℕ) (bay now : BayView D) → IsBayAt w drive at bay → bay ≡ now → with_bay at now w ≡ w

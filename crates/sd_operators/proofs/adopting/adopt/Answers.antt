@@ -15,7 +15,7 @@ pub returns-in_default-claim : goal.returns-in_default-claim
 returns-in_default-claim g c = λ queue.
     let unclaimed = sym c.drive_of.ensures ∙ c.in-None.is in
     let loaded = sym c.loaded.ensures ∙ c.in-None-loaded.is in
-    (None, inr (inr (inl (unclaimed, loaded, refl, record { claims = c.in_default-claim.ensures.err; requests = c.claim.ensures.requests }, refl))))
+    (None, inr (inr (inl (unclaimed, loaded, refl, (record { claims = c.in_default-claim.ensures.err; requests = c.claim.ensures.requests }, refl)))))
 
 pub returns-in-Ok-adopt : goal.returns-in-Ok-adopt
 returns-in-Ok-adopt g c = λ queue.

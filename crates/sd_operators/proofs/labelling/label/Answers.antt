@@ -27,7 +27,7 @@ returns-in_default-claim g c = λ queue.
     let media = c.is_same.ensures.0 c.if-not-is_same.false ∙ c.media.ensures in
     let loaded = sym c.loaded.ensures ∙ c.in-None.is in
     let unclaimed = sym c.drive_of.ensures ∙ c.in-None-drive_of.is in
-    (None, inr (inr (inr (inl (media, loaded, unclaimed, refl, record { claims = c.in_default-claim.ensures.err; requests = c.claim.ensures.requests }, refl)))))
+    (None, inr (inr (inr (inl (media, loaded, unclaimed, refl, (record { claims = c.in_default-claim.ensures.err; requests = c.claim.ensures.requests }, refl))))))
 
 pub returns-in-Ok-label : goal.returns-in-Ok-label
 returns-in-Ok-label g c = λ queue.

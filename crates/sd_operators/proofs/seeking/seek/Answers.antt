@@ -3,14 +3,14 @@ use Rattle.sd_operators.proofs.SeekLemmas.{next_free, fails_later}
 use Rattle.sd_operators.proofs.seeking.seek.Goals as goal
 
 pub returns-in_default : goal.returns-in_default
-returns-in_default g c = λ queue. (None, c.in_default.ensures, refl)
+returns-in_default g c = λ queue. (None, (c.in_default.ensures, refl))
 
 pub returns-in-Ok : goal.returns-in-Ok
 returns-in-Ok g c = λ queue.
     let wants = c.in-Some.ensures in
     let next = rw c.volumes.ensures at c.in-Some-next_volume.ensures in
     let m = c.in-Ok.ensures queue in
-    (m.0, (wants.0, c.in-Some.pool, wants.1, next.0, next.1, next.2), m.1)
+    (m.0, ((wants.0, c.in-Some.pool, wants.1, next.0, next.1, next.2), m.1))
 
 pub returns-in-Err : goal.returns-in-Err
 returns-in-Err g c = λ queue.
@@ -53,7 +53,6 @@ returns-in-Err-ask g c = λ queue.
         (c.in-Some.pool, (wants.0, wants.1, none)),
         (λ at r within same. (let never = e.again_ok (λ asked. asked at r within same) in cc never)),
         refl,
-        record { claims = e.claims; requests = e.err },
-        refl,
+        (record { claims = e.claims; requests = e.err }, refl),
       ),
     )

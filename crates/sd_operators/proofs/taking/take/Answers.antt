@@ -7,13 +7,13 @@ use Rattle.sd_operators.proofs.taking.take.Goals as goal
 pub returns-in_default : goal.returns-in_default
 returns-in_default g c = λ own desk.
     let full : Some c.in_default.field-0.now ≡ c.args.drive.now.hand = sym (ap option_copied c.in_default.is) ∙ c.hand.ensures in
-    (None, subst (λ (h : Option Piece). IsSome h) full refl, refl)
+    (None, (subst (λ (h : Option Piece). IsSome h) full refl, refl))
 
 pub returns-in_default-try_take : goal.returns-in_default-try_take
 returns-in_default-try_take g c = λ own desk.
     let t = c.in_default-try_take.ensures in
     let hand = sym c.hand.ensures ∙ ap option_copied c.in-None.is in
-    (None, hand, t.empty.0, queue_rests c.args.drive.now _ _ desk (queue_same _ _ _ _ _ _ t.lanes t.capacity (t.empty.1 ∙ sym t.empty.0)))
+    (None, (hand, t.empty.0, queue_rests c.args.drive.now _ _ desk (queue_same _ _ _ _ _ _ t.lanes t.capacity (t.empty.1 ∙ sym t.empty.0))))
 
 pub returns-in_default-new : goal.returns-in_default-new
 returns-in_default-new g c = λ own desk.
