@@ -19,10 +19,10 @@ use sd_label::VolumeLabel;
 use sd_volume::label_new;
 
 impl<D: Driver> Drive<D> {
-    /// Labels a new volume, which is not loaded; its label says the drive's host, if there is one. The refusals, in this order: other media than the drive's; in use,
-    /// while a volume is loaded; already labelled, where the drive has a volume of that name. They change nothing. Then
-    /// as `label_new`: already labelled, where the name stands on the shelf; no room; device fault. Takes the memory for
-    /// its list of volumes before it calls the device.
+    /// Labels a new volume, which is not loaded; its label says the drive's host, if there is one. The refusals, in this
+    /// order: other media than the drive's; in use, while a volume is loaded; already labelled, where the drive has a
+    /// volume of that name. They change nothing. Then as `label_new`: already labelled, where the name stands on the
+    /// shelf; no room; device fault. Takes the memory for its list of volumes before it calls the device.
     pub fn label(
         &mut self,
         name: &VolName,
@@ -64,12 +64,13 @@ impl<D: Driver> Drive<D> {
             (D.meaning self.new.device).shelf }
     {
         self.may_label(name, media)?;
+        let host = HostName::copy_of(&self.limits.host);
         self.add_new(&VolumeLabel {
             name: name.copy(),
             pool: pool.copy(),
             media: media.copy(),
             moment,
-            host: HostName::copy_of(&self.limits.host),
+            host,
         })
     }
 
