@@ -1,5 +1,5 @@
 -- A sink of records that puts their packets.
-use Rattle.std.specs.Prelude.{List, [], Option, Some, None}
+use Rattle.std.specs.Prelude.{List}
 use Rattle.sd_base.specs.Record.{Record}
 use Rattle.sd_append.specs.declared.outbox.Outbox.{Outbox}
 
@@ -7,8 +7,3 @@ use Rattle.sd_append.specs.declared.outbox.Outbox.{Outbox}
 pub record SinkIs (W : Type 0) : Type 0 where
   pub outbox : Outbox W
   pub got : List Record
-
--- the records that were handed over, if any
-abbrev pub records_of : Option (List Record) → List Record
-records_of None = []
-records_of (Some handed) = handed

@@ -40,17 +40,18 @@ pub(crate) struct RecordPackets<K: Before, W: Write> {
 
 impl<K: Before, W: Write> Model for RecordPackets<K, W> {
     ghost use Rattle.std.specs.List.{flat_map};
+    ghost use Rattle.sd_base.specs.Seen.{seen_of};
     ghost use Rattle.sd_bnet.specs.Stream.{stream_of};
     ghost use Rattle.sd_append.specs.Out.{PutsOut, out_view};
-    ghost use Rattle.sd_append.specs.Reader.{SinkIs, records_of};
+    ghost use Rattle.sd_append.specs.Reader.{SinkIs};
     ghost use Rattle.sd_append.specs.Talk.{record_said};
 
     ghost Value = { SinkIs W };
 
-    ghost view = { λ s. record { outbox = s.outbox; got = records_of s.handed } };
+    ghost view = { λ s. record { outbox = s.outbox; got = seen_of s.handed } };
 
     ghost invariant = { λ s. PutsOut K.before (out_view W.contents s.outbox)
-        (stream_of (flat_map record_said (records_of s.handed))) };
+        (stream_of (flat_map record_said (seen_of s.handed))) };
 }
 
 impl<K: Before, W: Write> Sink for RecordPackets<K, W> {

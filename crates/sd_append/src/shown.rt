@@ -11,11 +11,12 @@ pub struct Shown<T> {
 }
 
 impl<T> Model for Shown<T> {
-    ghost use Rattle.std.specs.Prelude.{List, [], None, Some};
+    ghost use Rattle.std.specs.Prelude.{List};
+    ghost use Rattle.sd_base.specs.Seen.{seen_of};
 
     ghost Value = { List T };
 
-    ghost view = { λ s. elim s.seen as (λ _. List T) [ None ↦ [] | Some l ↦ l ] };
+    ghost view = { λ s. seen_of s.seen };
 }
 
 impl<T> Shown<T> {

@@ -7,3 +7,4 @@ pub mod Limits
 pub mod Name
 pub mod Record
 pub mod Refusal
+pub mod Seen

@@ -1,6 +1,7 @@
 // Values that were seen one after another, as contracts see them. Nothing of them is held: so a sink that lets
 // its records go can still say which it got.
-ghost use Rattle.std.specs.Prelude.{◌≡◌, ◌++◌, ◌∷◌, [], List, None, Some};
+ghost use Rattle.std.specs.Prelude.{◌≡◌, ◌++◌, ◌∷◌, []};
+ghost use Rattle.sd_base.specs.Seen.{seen_of};
 
 use std::marker::Model;
 use std::snapshot::Snapshot;
@@ -27,8 +28,7 @@ impl<T> Model for Seen<T> {
 impl<T> Seen<T> {
     /// What was seen before, and this.
     pub fn with(before: &Option<Seen<T>>, value: &T) -> Self
-        ensures { result ≡ (elim before.now as (λ _. List T) [ None ↦ [] | Some b ↦ b ])
-            ++ value.now ∷ [] }
+        ensures { result ≡ seen_of before.now ++ value.now ∷ [] }
     {
         let before = match before {
             None => None,

@@ -223,10 +223,9 @@ impl Target for Passed {
 }
 
 impl Sink for Passed {
-    ghost use Rattle.std.specs.Prelude.{List, [], None, Some};
-    ghost use Rattle.sd_base.specs.Record.{Record};
+    ghost use Rattle.sd_base.specs.Seen.{seen_of};
 
-    ghost got = { λ s. elim s.handed as (λ _. List Record) [ None ↦ [] | Some h ↦ h ] };
+    ghost got = { λ s. seen_of s.handed };
 
     fn put(&mut self, rec: Rec) -> Result<(), AllocError> {
         self.handed = Some(Seen::with(&self.handed, &rec));

@@ -20,9 +20,9 @@ pub struct PlainLanes {
 }
 
 impl Model for PlainLanes {
-    ghost use Rattle.std.specs.Prelude.{◌≤◌, List, [], None, Some};
+    ghost use Rattle.std.specs.Prelude.{◌≤◌};
     ghost use Rattle.std.specs.VecDeque.{deque_len, deque_capacity};
-    ghost use Rattle.sd_lane.specs.declared.piece.Queued.{Queued};
+    ghost use Rattle.sd_base.specs.Seen.{seen_of};
     ghost use Rattle.sd_lane.specs.Queue.{PlainView, AreOfLanes};
 
     ghost Value = { PlainView };
@@ -30,7 +30,7 @@ impl Model for PlainLanes {
     ghost view = { λ q. record {
       lanes = q.lanes;
       capacity = q.capacity;
-      taken = elim q.taken as (λ _. List Queued) [ None ↦ [] | Some s ↦ s ];
+      taken = seen_of q.taken;
       held = q.pieces.items;
     } };
 

@@ -1,5 +1,5 @@
 -- A sink of records that prints them.
-use Rattle.std.specs.Prelude.{List, [], Option, Some, None}
+use Rattle.std.specs.Prelude.{List}
 use Rattle.sd_base.specs.Record.{Record}
 use Rattle.sd_printer.specs.declared.printer.Printer.{Printer}
 
@@ -7,8 +7,3 @@ use Rattle.sd_printer.specs.declared.printer.Printer.{Printer}
 pub record SinkIs (W : Type 0) : Type 0 where
   pub out : Printer W
   pub got : List Record
-
--- the records that were handed over, if any
-abbrev pub records_of : Option (List Record) → List Record
-records_of None = []
-records_of (Some handed) = handed

@@ -42,15 +42,16 @@ pub struct RecordPrinter<K: Before, P: PrintRecord, W: Write> {
 
 impl<K: Before, P: PrintRecord, W: Write> Model for RecordPrinter<K, P, W> {
     ghost use Rattle.std.specs.List.{flat_map};
+    ghost use Rattle.sd_base.specs.Seen.{seen_of};
     ghost use Rattle.sd_printer.specs.Says.{Says, said_view};
-    ghost use Rattle.sd_records.specs.Sink.{SinkIs, records_of};
+    ghost use Rattle.sd_records.specs.Sink.{SinkIs};
 
     ghost Value = { SinkIs W };
 
-    ghost view = { λ s. record { out = s.out; got = records_of s.handed } };
+    ghost view = { λ s. record { out = s.out; got = seen_of s.handed } };
 
     ghost invariant = { λ s. Says K.before (said_view W.contents s.out)
-        (flat_map P.lines (records_of s.handed)) };
+        (flat_map P.lines (seen_of s.handed)) };
 }
 
 impl<K: Before, P: PrintRecord, W: Write> RecordPrinter<K, P, W> {

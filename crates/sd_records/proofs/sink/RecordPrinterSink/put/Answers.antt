@@ -2,9 +2,9 @@ use Rattle.std.proofs.Common.{◌≡◌, ℕ, List, [], ◌∷◌, ◌++◌, sym
 use Rattle.std.proofs.lemmas.List.{flat_map_more}
 use Rattle.std.specs.List.{flat_map}
 use Rattle.sd_base.specs.Record.{Record}
+use Rattle.sd_base.specs.Seen.{seen_of}
 use Rattle.sd_printer.specs.Says.{SaidView, Says, said_view}
 use Rattle.sd_printer.proofs.SaysLemmas.{says_then}
-use Rattle.sd_records.specs.Sink.{records_of}
 use Rattle.sd_records.proofs.sink.RecordPrinterSink.put.Goals as goal
 
 -- the lines of one record more
@@ -14,5 +14,5 @@ one_more lines a b c rs all r is p q =
 
 pub invariant_of-self : goal.invariant_of-self
 invariant_of-self g c =
-    one_more g.P.PrintRecord.lines g.K.Before.before (said_view g.W.Write.contents c.self.inside.out) (said_view g.W.Write.contents c.print.new.out) (records_of c.self.inside.handed) c.with-handed.result c.args.rec
+    one_more g.P.PrintRecord.lines g.K.Before.before (said_view g.W.Write.contents c.self.inside.out) (said_view g.W.Write.contents c.print.new.out) (seen_of c.self.inside.handed) c.with-handed.result c.args.rec
     c.with-handed.ensures c.self.invariant c.print.ensures
