@@ -3,3 +3,4 @@ pub mod MakingLemmas
 pub mod PrintedLemmas
 pub mod RunLemmas
 pub mod StageLemmas
+pub mod TailLemmas

@@ -1,6 +1,7 @@
 -- The drives of a script's world: online while none was retired.
 use Rattle.std.proofs.Common.{cond, ◌≡◌, ℕ, zero, suc, Bool, true, false, Option, None, Some, List, [], ◌∷◌, Vec, map, replicate, length, refl, sym, ap, subst, inl, inr, arith}
 use Rattle.std.specs.Prelude.{is_some, nat_lt, Result, Ok, Err, IfOk, OnErr}
+use Rattle.std.proofs.lemmas.Bool.{cases_lt, lt-ltb}
 use Rattle.std.proofs.lemmas.List.{length-append}
 use Rattle.sd_base.specs.declared.refusal.Refusal.{Refusal}
 use Rattle.sd_base.specs.declared.refusal.Refusal.TheVariants.{DriveOffline, NoSuchDrive}
@@ -23,8 +24,8 @@ use Rattle.sd_core.specs.Fresh.{AreNewDrives, new_bays}
 use Rattle.sd_closed.specs.Deeds.{IsRead}
 use Rattle.sd_closed.specs.Reading.{ReadsWorld}
 use Rattle.sd_core.specs.View.{device_of, devices_of}
-use Rattle.sd_tool.specs.Restart.{HandsOn, RestartsAs, RestartsBy, StartsAnew, TellsTail, unfit}
-use Rattle.sd_settings.specs.Settings.{drive_count}
+use Rattle.sd_tool.specs.Restart.{HandsOn, IsThere, RestartsAs, RestartsBy, StartsAnew, unfit}
+use Rattle.sd_settings.specs.Settings.{ValuesView, capacity_for, drive_count}
 use Rattle.sd_tool.specs.Stage.{StageView, retired_after}
 use Rattle.sd_tool.specs.declared.restart.Restart.{Restart}
 use Rattle.sd_tool.specs.declared.restart.Restarted.{Restarted}
@@ -130,11 +131,26 @@ drives_long meaning limits [] (x ∷ xs) (d ∷ ds) made = absurd made
 drives_long meaning limits (m ∷ ms) (x ∷ xs) (d ∷ ds) made = ap suc (drives_long meaning limits ms xs ds made.1)
 
 -- as many devices are handed on
-pub hands_on_long : {D : Type 0} (tail : Option Tail) (old new : List D) → HandsOn tail old new → length new ≡ length old
-hands_on_long None old new handed = ap length handed
-hands_on_long (Some tail) old new handed = handed.0
+pub hands_on_long : {D : Type 0} (meaning : D → Meaning) (room : ℕ → ℕ) (tail : Option Tail) (refused : Option Refusal) (old new : List D) → HandsOn meaning room tail refused old new → length new ≡ length old
+hands_on_long meaning room None refused old new handed = ap length handed.0
+hands_on_long meaning room (Some tail) refused old new handed = handed.length_is
+
+-- they are the devices of that world, and the settings those
+pub handed_as : {D : Type 0} (meaning : D → Meaning) (v w : ValuesView) (tail : Option Tail) (refused : Option Refusal) (old mid new : List D) → v ≡ w → mid ≡ old
+    → HandsOn meaning (capacity_for v) tail refused mid new → HandsOn meaning (capacity_for w) tail refused old new
+handed_as {D} meaning v w tail refused old mid new values devices handed =
+    subst (λ (ds : List D). HandsOn meaning (capacity_for w) tail refused ds new) devices
+    (subst (λ (x : ValuesView). HandsOn meaning (capacity_for x) tail refused mid new) values handed)
+
+-- where nothing forbids a new world the drive of the tail is there
+pub tail_there : (count : ℕ) (retired : Bool) (tail : Option Tail) → unfit count retired tail ≡ None → IsThere count tail
+tail_there count retired None none = tt
+tail_there count retired (Some tail) none = elim (cases_lt count tail.drive) [
+  | inl past ↦ absurd (let e : nat_lt count tail.drive ≡ true = lt-ltb count tail.drive past in let other = rw e at none in cc)
+  | inr there ↦ there
+]
 
 -- nothing forbids a new run
 pub restarts_anew : {D : Type 0} (meaning : D → Meaning) (old : StageView D) (restart : Restart) (new : Restarted D) → unfit (drive_count old.values) old.retired restart.tail ≡ None
-    → StartsAnew meaning restart.tail old restart.time new.stage → TellsTail restart.tail new.refused → RestartsAs meaning old restart new
-restarts_anew meaning old restart new none anew told = subst (λ o. RestartsBy meaning o restart.tail old restart.time new.stage new.refused) (sym none) (inr (anew, told))
+    → StartsAnew meaning restart.tail new.refused old restart.time new.stage → RestartsAs meaning old restart new
+restarts_anew meaning old restart new none anew = subst (λ o. RestartsBy meaning o restart.tail old restart.time new.stage new.refused) (sym none) (inr anew)

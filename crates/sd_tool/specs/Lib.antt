@@ -6,4 +6,5 @@ pub mod Restart
 pub mod Run
 pub mod Script
 pub mod Stage
+pub mod Tail
 pub mod Told

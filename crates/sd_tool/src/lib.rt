@@ -11,6 +11,7 @@ mod reading;
 mod restart;
 mod run;
 mod stage;
+mod tail;
 mod told;
 
 pub use run::{Ran, run_lines, run_script};

@@ -1,13 +1,14 @@
 // A new run over the drives of the last one.
-ghost use Rattle.std.specs.Prelude.{◌≡◌, ◌≤◌, IfOk, Some};
+ghost use Rattle.std.specs.Prelude.{◌≡◌, ◌≤◌, IfOk, Some, length};
 ghost use Rattle.sd_base.specs.Limits.{most_number};
-ghost use Rattle.sd_tool.specs.Restart.{HandsOn, RestartsAs, TellsTail, unfit};
-ghost use Rattle.sd_settings.specs.Settings.{drive_count};
+ghost use Rattle.sd_tool.specs.Restart.{HandsOn, IsThere, RestartsAs, unfit};
+ghost use Rattle.sd_settings.specs.Settings.{capacity_for, drive_count};
 
 use crate::making::Room;
 use crate::stage::Stage;
-use sd_base::{Refusal, VolName};
-use sd_driver::{Driver, DriverFault};
+use crate::tail::put_tail;
+use sd_base::Refusal;
+use sd_driver::Driver;
 use sd_script::Tail;
 use sd_settings::Values;
 use std::alloc::{AllocError, Global};
@@ -98,64 +99,18 @@ impl<D: Driver + Drop> Stage<D> {
     }
 }
 
-// Appends the bytes of a tail to its volume, and says why not where that is refused.
+// Hands the devices on, with the bytes of the tail, and says why not where these are refused.
 fn append_tail<D: Driver>(
     alloc: Global,
     values: &Values,
     drivers: &mut Vec<D>,
     tail: Option<Tail>,
 ) -> Option<Refusal>
-    ensures handed_on { HandsOn tail drivers.old.items drivers.new.items }
-    ensures told { TellsTail tail result }
+    requires { IsThere (length drivers.old.items) tail }
+    ensures { HandsOn (λ d. D.meaning d) (capacity_for values.now) tail result
+        drivers.old.items drivers.new.items }
 {
-    let Tail {
-        drive,
-        volume,
-        count,
-    } = tail?;
-    let at = drive.get() as usize - 1;
-    if at >= drivers.len() {
-        return Some(Refusal::NoSuchDrive);
-    }
-    append_zeros(
-        alloc,
-        &mut drivers[at],
-        &volume,
-        values.capacity(drive),
-        count,
-    )
-}
-
-// Appends so many zero bytes to a volume, and says why not where that is refused. Of more bytes than a volume may have
-// one byte more than that is asked: the device refuses it as it would refuse all, and it takes no more memory.
-fn append_zeros<D: Driver>(
-    alloc: Global,
-    driver: &mut D,
-    volume: &VolName,
-    capacity: u64,
-    count: u64,
-) -> Option<Refusal> {
-    driver.unload();
-    if let Err(fault) = driver.load(volume) {
-        return Some(refusal_of(fault));
-    }
-    let asked = count.min(capacity.saturating_add(1));
-    let Ok(zeros) = vec![in alloc; 0u8; asked as usize] else {
-        return Some(Refusal::Memory);
-    };
-    match driver.append(&zeros) {
-        Ok(()) if asked < count => Some(Refusal::NoRoom),
-        Ok(()) => None,
-        Err(fault) => Some(refusal_of(fault)),
-    }
-}
-
-// What is printed for the fault of a device.
-fn refusal_of(fault: DriverFault) -> Refusal {
-    match fault {
-        DriverFault::NotThere => Refusal::VolumeNotOnShelf,
-        DriverFault::NoRoom => Refusal::NoRoom,
-        DriverFault::Device | DriverFault::Exists => Refusal::DeviceFault,
-        DriverFault::Memory => Refusal::Memory,
-    }
+    let tail = tail?;
+    let at = tail.drive.get() as usize - 1;
+    put_tail(alloc, &mut drivers[at], values.capacity(tail.drive), &tail)
 }
