@@ -9,7 +9,7 @@ use Rattle.sd_driver.specs.Shelf.{Shelf}
 use Rattle.sd_drive.specs.Shelf.{block_at}
 use Rattle.sd_journal.specs.Journal.{Entry, item_of, placed_of, synced_of, is_synced}
 use Rattle.sd_journal.specs.declared.mark.Mark.{Mark}
-use Rattle.sd_journal.specs.declared.mark.Mark.TheVariants.{Unsynced, Synced, Lost}
+use Rattle.sd_journal.specs.declared.mark.Mark.TheVariants.{Unsynced, Synced, Lost, Purged}
 use Rattle.sd_journal.proofs.EntryLemmas.{counting}
 use Rattle.sd_pack.specs.Packing.{bytes_of}
 use Rattle.sd_readback.specs.Reading.{blocks_of}
@@ -58,6 +58,7 @@ synced_here : (own : Bool) (mark : Mark) (rest : Bool) → (((own && not (is_syn
 synced_here true Unsynced rest none is = absurd (none refl)
 synced_here true Synced rest none is = refl
 synced_here true Lost rest none is = absurd (none refl)
+synced_here true Purged rest none is = absurd (none refl)
 synced_here false mark rest none is = absurd (true≢false (sym is))
 
 none_behind : (here rest : Bool) → ((here || rest) ≡ true → ⊥) → rest ≡ true → ⊥

@@ -12,7 +12,7 @@ use Rattle.sd_drive.specs.Shelf.{KeepsPieces}
 use Rattle.sd_drive.specs.View.{DriveIs, name_loaded}
 use Rattle.sd_journal.specs.Journal.{Entry, noted, settled, settled_one, awaits_sync as awaits, is_unsynced, is_synced}
 use Rattle.sd_journal.specs.declared.mark.Mark.{Mark}
-use Rattle.sd_journal.specs.declared.mark.Mark.TheVariants.{Unsynced, Synced, Lost}
+use Rattle.sd_journal.specs.declared.mark.Mark.TheVariants.{Unsynced, Synced, Lost, Purged}
 use Rattle.sd_lane.specs.Queue.{LanesView}
 use Rattle.sd_lane.specs.declared.piece.Piece.{Piece}
 use Rattle.sd_machine.specs.Machine.{Machine}
@@ -49,6 +49,7 @@ not_synced : (m : Mark) → is_unsynced m ≡ true → not (is_synced m) ≡ tru
 not_synced Unsynced is = refl
 not_synced Synced is = absurd (cc is)
 not_synced Lost is = refl
+not_synced Purged is = refl
 
 or_then : (a b a' b' : Bool) → (a ≡ true → a' ≡ true) → (b ≡ true → b' ≡ true) → (a || b) ≡ true → (a' || b') ≡ true
 or_then true b true b' f g h = refl
