@@ -23,17 +23,17 @@ returns-in-Sync g c =
 pub returns-in-Label : goal.returns-in-Label
 returns-in-Label g c =
     let wide : to_z w64 (of_z w64 c.in-Label.moment) ≡ c.in-Label.moment = search rules in
-    of_drive (λ d. g.D.Driver.meaning d) c.args.drive _ (λ n. Label n _ _ _ _) c.args.event.now _ _ _ _ _ _ _ c.in-Label.is
+    of_drive (λ d. g.D.Driver.meaning d) c.args.drive _ (λ n. Label n c.in-Label.name c.in-Label.pool c.in-Label.media c.in-Label.moment) c.args.event.now _ _ _ _ _ _ _ c.in-Label.is
     (subst (λ (e : Event). IsOfDrive e c.args.drive) c.in-Label.is c.requires.own) (at_moment (λ d. g.D.Driver.meaning d) c.args.drive _ _ _ _ _ _ _ _ _ _ _ _ wide (c.label.ensures _))
 
 pub returns-in-Adopt : goal.returns-in-Adopt
 returns-in-Adopt g c =
-    of_drive (λ d. g.D.Driver.meaning d) c.args.drive _ (λ n. Adopt n _) c.args.event.now _ _ _ _ _ _ _ c.in-Adopt.is
+    of_drive (λ d. g.D.Driver.meaning d) c.args.drive _ (λ n. Adopt n c.in-Adopt.name) c.args.event.now _ _ _ _ _ _ _ c.in-Adopt.is
     (subst (λ (e : Event). IsOfDrive e c.args.drive) c.in-Adopt.is c.requires.own) (c.adopt.ensures _)
 
 pub returns-in-Mount : goal.returns-in-Mount
 returns-in-Mount g c =
-    of_drive (λ d. g.D.Driver.meaning d) c.args.drive _ (λ n. Mount n _) c.args.event.now _ _ _ _ _ _ _ c.in-Mount.is
+    of_drive (λ d. g.D.Driver.meaning d) c.args.drive _ (λ n. Mount n c.in-Mount.name) c.args.event.now _ _ _ _ _ _ _ c.in-Mount.is
     (subst (λ (e : Event). IsOfDrive e c.args.drive) c.in-Mount.is c.requires.own) (c.mount.ensures _)
 
 pub returns-in-Unmount : goal.returns-in-Unmount
