@@ -1,5 +1,5 @@
 -- What a close does to a world.
-use Rattle.std.proofs.Common.{◌≡◌, ℕ, refl, sym, ap, subst, ◌∙◌, inl, inr, false, Option, Some, None, List, slice_set, Bor}
+use Rattle.std.proofs.Common.{◌≡◌, ℕ, refl, sym, ap, subst, ◌∙◌, inl, inr, Option, Some, None, List, slice_set, Bor}
 use Rattle.std.specs.Prelude.{IsSome, IsTrue}
 use Rattle.std.specs.Option.{option_copied}
 use Rattle.sd_base.specs.declared.number.SessionKey.{SessionKey}
@@ -10,8 +10,8 @@ use Rattle.sd_journal.specs.Journal.{progress_of, placements}
 use Rattle.sd_span.specs.Spans.{spans_of}
 use Rattle.sd_span.specs.declared.progress.Progress.{Progress}
 use Rattle.sd_span.specs.declared.span.Span.{Span}
-use Rattle.sd_session.specs.declared.status.Status.TheVariants.{Ended, Closed}
-use Rattle.sd_session.specs.Session.{SessionView, HasOutstanding, ClosesSession, CloseRefused}
+use Rattle.sd_session.specs.declared.status.Status.TheVariants.{Closed}
+use Rattle.sd_session.specs.Session.{SessionView, HasOutstanding, MayClose, ClosesSession, CloseRefused}
 use Rattle.sd_moves.specs.World.{WorldView, WorldSession, BayView, IsOnline}
 use Rattle.sd_moves.specs.Sessions.{CloseCauses, ClosesAt}
 use Rattle.sd_parts.proofs.Found.{IsReadAt}
@@ -46,10 +46,10 @@ close_causes {e = e} {place = place} {bay = bay} {d = d} why a (inr (inr r)) =
 
 -- want of memory, where it may be closed
 pub close_memory : {D : Type 0} {w : WorldView D} {e : WorldSession} {place : ℕ} {bay : BayView D} {d : DriveIs D} {progress : Progress}
-    → IsAsked w e place bay d progress → e.session.status ≡ Ended → progress.failed ≡ false → (HasOutstanding e.session progress → ⊥) → CloseCauses w Memory e
-close_memory {e = e} {place = place} {bay = bay} {d = d} a ended sound none =
+    → IsAsked w e place bay d progress → MayClose e.session progress → CloseCauses w Memory e
+close_memory {e = e} {place = place} {bay = bay} {d = d} a may =
     inr (
-      ended,
+      may.ended,
       place,
       bay,
       d,
@@ -57,12 +57,7 @@ close_memory {e = e} {place = place} {bay = bay} {d = d} a ended sound none =
       inr (
         (
           record e.session { status = Closed },
-          record {
-            ended = ended;
-            sound = ap (λ (p : Progress). p.failed) (sym a.far) ∙ sound;
-            none_outstanding = subst (λ (p : Progress). HasOutstanding e.session p → ⊥) a.far none;
-            is = refl;
-          },
+          record { may = subst (MayClose e.session) a.far may; is = refl },
         ),
         refl,
       ),

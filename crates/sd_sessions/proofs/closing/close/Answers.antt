@@ -42,8 +42,7 @@ returns-in_default-spans g c =
     let w = world_of c.args.parts.now in
     let s = seated (world_of c.args.parts.now) c.args.ticket _ _ _ _ _ _ _ c.requires.world c.in-Some.ensures.found c.deref.ensures.value c.index_mut-entry.ensures.value c.entry.view_is c.place_of-place.ensures c.index-bay.ensures c.bay.view_is in
     let a = asked c.as_ref.result c.unwrap-drive.result c.key-key.result c.progress-progress.result s c.as_ref.ensures.value c.unwrap-drive.ensures c.progress-progress.ensures c.key-key.ensures in
-    let may = c.in_default-may_close.ensures.ok in
-    record { moves = refuses_read w c.args.ticket _ _ _ Memory (CloseCauses w Memory) s.read c.entry.view_is (close_memory a may.0 may.1 may.2) }
+    record { moves = refuses_read w c.args.ticket _ _ _ Memory (CloseCauses w Memory) s.read c.entry.view_is (close_memory a c.in_default-may_close.ensures.ok) }
 
 pub returns-in-Ok-close : goal.returns-in-Ok-close
 returns-in-Ok-close g c =
