@@ -8,7 +8,7 @@ pub returns-clause-ok : goal.returns-clause-ok
 returns-clause-ok g c = record {
   session = c.in_ok-session.session;
   sessions = c.start.new.sessions.items;
-  starts = subst (λ (es : List WorldSession). StartsInLane c.args.limits c.args.ticket c.args.opening c.args.lane.now es c.in_ok-session.session c.start.new.lane c.start.new.sessions.items)
+  starts = subst (λ (es : List WorldSession). StartsInLane c.args.limits.now c.args.ticket c.args.opening c.args.lane.now es c.in_ok-session.session c.start.new.lane c.start.new.sessions.items)
       c.make_room.ensures.items c.in_ok-session.ensures.ok;
   new_is = c.push_reserved.ensures.items;
   drive_is = c.set_pool.ensures ∙ ap (λ (x : DriveIs _). record x { pool = Some c.copy-pool.result }) c.make_room.ensures.drive
