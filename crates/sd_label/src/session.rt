@@ -5,9 +5,7 @@ ghost use Rattle.sd_label.specs.declared.label.SessionLabel.{SessionLabel as Spe
 
 use crate::data::{FRONT_LENGTH, LabelData, MOMENT_LENGTH, TOTALS_LENGTH, text_length};
 use crate::fields::Fields;
-use crate::label::{
-    END_LABEL, NotOurs, SESSION_LABEL_VERSION, START_LABEL, SessionLabel, Totals,
-};
+use crate::label::{END_LABEL, NotOurs, SESSION_LABEL_VERSION, START_LABEL, SessionLabel, Totals};
 use crate::record::whole_record;
 use sd_record::{Fragment, HEADER_LENGTH, put_fragment};
 use std::alloc::AllocError;
