@@ -52,9 +52,10 @@ def texts(*words):
     return b"".join(word.encode() + b"\0" for word in words)
 
 
-def label_block(name, pool, media, moment=0):
-    """The label block of a volume that is labelled at that moment."""
-    data = PROFILE + struct.pack(">Iq", 1, moment) + texts(name, pool, media)
+def label_block(name, pool, media, moment=0, host=None):
+    """The label block of a volume that is labelled at that moment, with the host that labels it, where one is said."""
+    hosts = [] if host is None else [host]
+    data = PROFILE + struct.pack(">Iq", 1 + len(hosts), moment) + texts(name, pool, media, *hosts)
     return seal((0, 0), 0, fragment(VOLUME_LABEL, 1, data))
 
 

@@ -19,6 +19,8 @@ LABEL_SIZE = len(volume_of("Vol-0001", []))
 # The time of the run in which they are labelled, in seconds, and that moment in microseconds.
 TIME = 1000
 MOMENT = TIME * 1_000_000
+# The host of a daemon whose configuration names none.
+HOST = "localhost"
 
 # The calls that operations make, in their order. A file is opened once for many calls, and the folder is synced once for
 # each create or load.
@@ -124,7 +126,7 @@ def calls_made(site):
 def bytes_written(site):
     """The bytes of a volume: its label, and a block for each job."""
     site.say("label 1 Vol-Bytes Calls File")
-    wanted = label_block("Vol-Bytes", "Calls", "File", MOMENT)
+    wanted = label_block("Vol-Bytes", "Calls", "File", MOMENT, HOST)
     for number, records in enumerate(([b"hello"], [], [b"", b"last"]), 1):
         lines = site.job(records, "Calls")
         key = (TIME, int(lines[0].split(" ")[2]))
@@ -140,7 +142,7 @@ def labels(site):
         yield from differs(f"label, {said(*call)}", site.say(f"label 1 {name} Labels File"), answer)
         site.well()
         yield from differs(f"label behind {said(*call)}", site.say(f"label 1 {name} Labels File"), again)
-        label = label_block(name, "Labels", "File", MOMENT)
+        label = label_block(name, "Labels", "File", MOMENT, HOST)
         wanted = {"nothing": b"", "half": label[:len(label) // 2 + len(label) % 2], "whole": label}[size]
         yield from differs(f"the file behind {said(*call)}", (site.volumes / name).read_bytes(), wanted)
     for at, (*call, answer) in enumerate(STANDING):
