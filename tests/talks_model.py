@@ -580,7 +580,7 @@ ACTS = {
     "more_spans": {SPAN: 1, ("one_of", "span"): 1, DONE: 8},
     "bad_spans": {SPAN: 1, DONE: 2},
 }
-TOO_LONG = b"\x00\x0f\x42\x41"
+TOO_LONG = b"\x00\x3d\x09\x01"
 # What stands behind the acts of a talk: nothing, a -4, a packet that is cut off, a length that is cut off or too long.
 ENDINGS = [b"", b"", signal(TERMINATE), packet(b"hello")[:-2], b"\0", TOO_LONG]
 
