@@ -1,0 +1,4 @@
+pub mod Passes
+pub mod Rule
+pub mod Seats
+pub mod Steps

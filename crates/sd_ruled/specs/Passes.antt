@@ -1,0 +1,62 @@
+-- What the passes of a ruled queue know. A pass has no bytes: all this stands in proofs alone.
+use Rattle.std.specs.Prelude.{ℕ, suc, ◌-◌, Bool, true, false, List, [], ◌∷◌, ◌++◌, map, ◌==◌, if◌then◌else◌}
+use Rattle.sd_lane.specs.declared.piece.Piece.{Piece}
+use Rattle.sd_lane.specs.declared.piece.Queued.{Queued}
+use Rattle.sd_lane.specs.Queue.{queued, pieces_of}
+
+-- A pass is a lane's, which sends, or the drive's, which takes, or neither. Each of those knows how many lanes the
+-- queue has. A lane's knows its number and all that it sent. The drive's knows all that was taken; that the lanes 1
+-- to `away` have passes of their own; what those had sent when they got them, and all that the others sent (`before`);
+-- and, where it is sure, what the queue holds.
+pub record PassView : Type 0 where
+  pub lanes : ℕ
+  pub sends : Bool
+  pub lane : ℕ
+  pub sent : List Piece
+  pub takes : Bool
+  pub taken : List Queued
+  pub away : ℕ
+  pub before : List Queued
+  pub sure : Bool
+  pub held : List Queued
+
+-- a pass that is nobody's
+abbrev pub of_nobody : PassView
+of_nobody = record { lanes = 0; sends = false; lane = 0; sent = []; takes = false; taken = []; away = 0; before = []; sure = false; held = [] }
+
+-- a lane's, of so many lanes
+abbrev pub of_lane : ℕ → ℕ → List Piece → PassView
+of_lane lanes lane sent = record { lanes = lanes; sends = true; lane = lane; sent = sent; takes = false; taken = []; away = 0; before = []; sure = false; held = [] }
+
+-- the drive's, of so many lanes, with some of them away
+abbrev pub of_drive : ℕ → ℕ → List Queued → List Queued → PassView
+of_drive lanes away before taken = record { lanes = lanes; sends = false; lane = 0; sent = []; takes = true; taken = taken; away = away; before = before; sure = false; held = [] }
+
+-- the only pass: it is that of the drive and of all lanes, and knows what the queue holds
+abbrev pub of_owner : ℕ → List Queued → List Queued → PassView
+of_owner lanes taken held = record { lanes = lanes; sends = false; lane = 0; sent = []; takes = true; taken = taken; away = 0; before = taken ++ held; sure = true; held = held }
+
+-- what came by the other lanes
+abbrev pub of_others : ℕ → List Queued → List Queued
+of_others lane [] = []
+of_others lane (q ∷ qs) = if q.lane == lane then of_others lane qs else q ∷ of_others lane qs
+
+-- the only pass, with one lane more
+abbrev pub one_lane_more : PassView → PassView
+one_lane_more v = of_owner (suc v.lanes) v.taken v.held
+
+-- the drive's, where one lane more is away
+abbrev pub without_lane : PassView → PassView
+without_lane v = of_drive v.lanes (suc v.away) v.before v.taken
+
+-- that lane's
+abbrev pub only_lane : PassView → PassView
+only_lane v = of_lane v.lanes (suc v.away) (pieces_of (suc v.away) v.before)
+
+-- the drive's, to which the last lane that was away has come back
+abbrev pub with_lane : PassView → PassView → PassView
+with_lane v u = of_drive v.lanes (v.away - 1) (of_others u.lane v.before ++ map (queued u.lane) u.sent) v.taken
+
+-- the only pass, where the queue holds nothing
+abbrev pub at_rest : PassView → PassView
+at_rest v = of_owner v.lanes v.taken []

@@ -1,0 +1,15 @@
+//! The queue before a drive, shared by threads without a lock: each lane pushes by a seat of its own, and the drive
+//! takes by its seat.
+#![tactic(auto)]
+
+mod lane_ref;
+mod ruled;
+mod rule;
+mod seats;
+mod split;
+
+pub use lane_ref::LaneRef;
+pub use ruled::RuledLanes;
+pub use seats::{DriveSeat, LaneQueue, LaneSeat};
+pub use split::{NotSplit, Split};
+
