@@ -32,11 +32,11 @@ less_of k [] p rest e = absurd (cc e)
 less_of k (q ∷ qs) p rest e = elim (ℕ_discrete q.lane k) as (λ _. (pieces_of k (less k (q ∷ qs)) ≡ rest) × (length (q ∷ qs) ≡ suc (length (less k (q ∷ qs))))) [
   | yes y ↦ (ap (pieces_of k) (less_here q k qs y) ∙ cc (sym (of_here q k qs y) ∙ e), ap suc (ap length (sym (less_here q k qs y))))
   | no n ↦ (
-    let r = less_of k qs p rest (sym (of_other q k qs n) ∙ e) in (
-      ap (pieces_of k) (less_other q k qs n) ∙ (of_other q k (less k qs) n ∙ r.0),
-      ap suc r.1 ∙ ap (λ l. suc (length l)) (sym (less_other q k qs n)),
-    )
-  )
+      let r = less_of k qs p rest (sym (of_other q k qs n) ∙ e) in (
+        ap (pieces_of k) (less_other q k qs n) ∙ (of_other q k (less k qs) n ∙ r.0),
+        ap suc r.1 ∙ ap (λ l. suc (length l)) (sym (less_other q k qs n)),
+      )
+      )
 ]
 
 less_else : (j k : ℕ) (qs : List Queued) → j ≢ k → pieces_of k (less j qs) ≡ pieces_of k qs
@@ -107,10 +107,10 @@ pub went_round : (v0 v w p z : PassView) (q : Queued) (m n : ℕ) → v ≡ v0 �
 went_round v0 v w p z q m n same lifted p_is m_is n_is z_is =
     let back : of_owner w.lanes w.taken (q ∷ w.held) ≡ of_owner v0.lanes v0.taken (q ∷ w.held) = ap (λ (u : PassView). of_owner u.lanes u.taken (q ∷ w.held)) lifted.now ∙ ap (λ (u : PassView). of_owner u.lanes u.taken (q ∷ w.held)) same in
     let e : z ≡ of_owner v0.lanes v0.taken (q ∷ w.held) =
-        z_is
-        ∙ (ap (λ (u : PassView). of_owner u.lanes u.taken (drop m u.held ++ take m u.held)) p_is
-        ∙ (ap (λ k. of_owner w.lanes w.taken (drop k (w.held ++ q ∷ []) ++ take k (w.held ++ q ∷ []))) m_is
-        ∙ (ap (of_owner w.lanes w.taken) (all_round w.held q) ∙ back))) in
+    z_is
+    ∙ (ap (λ (u : PassView). of_owner u.lanes u.taken (drop m u.held ++ take m u.held)) p_is
+    ∙ (ap (λ k. of_owner w.lanes w.taken (drop k (w.held ++ q ∷ []) ++ take k (w.held ++ q ∷ []))) m_is
+    ∙ (ap (of_owner w.lanes w.taken) (all_round w.held q) ∙ back))) in
     let held : z.held ≡ q ∷ w.held = ap (λ (u : PassView). u.held) e in
     record {
       is = e ∙ ap (of_owner v0.lanes v0.taken) (sym held);

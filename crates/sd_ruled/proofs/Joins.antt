@@ -64,10 +64,10 @@ pub gathered : (seats rest : List LaneSeatIs) (seat : LaneSeatIs) (old met new :
 gathered seats rest seat old met new all lane met_is h theirs k s e =
     ⊎_elim (theirs k s)
     (λ (t : (k ≡ length rest) × (seat ≡ s)).
-      h (suc k) (omega (arith, t.0))
-      ∙ (ap (pieces_of (suc k)) met_is
-      ∙ (ap (λ j. pieces_of j (of_others seat.lane old ++ map (queued seat.lane) seat.sent)) (ap suc t.0 ∙ sym lane)
-      ∙ (own_is seat.lane old seat.sent ∙ ap (λ (y : LaneSeatIs). y.sent) t.1))))
+    h (suc k) (omega (arith, t.0))
+    ∙ (ap (pieces_of (suc k)) met_is
+    ∙ (ap (λ j. pieces_of j (of_others seat.lane old ++ map (queued seat.lane) seat.sent)) (ap suc t.0 ∙ sym lane)
+    ∙ (own_is seat.lane old seat.sent ∙ ap (λ (y : LaneSeatIs). y.sent) t.1))))
     (get_snoc rest seat s k (ap (λ l. slice_get l k) (sym all) ∙ e))
 
 -- of the lanes behind these seats it is as before

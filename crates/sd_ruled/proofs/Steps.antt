@@ -327,7 +327,7 @@ rests pass v takes none_away are done held views h at =
     let mine = f.drives takes in
     let all = λ (j : ℕ). f.mine takes j (omega (arith, none_away)) in
     let same = from_1 h.lanes v.lanes (v.taken ++ held) v.taken (subst (λ l. AreOfLanes h.lanes (l ++ held)) (sym mine.2) h.of_lanes) are
-        (λ j. ap (λ l. pieces_of (suc j) (l ++ held)) mine.2 ∙ (sym (h.follows (suc j)) ∙ (sym (all j).1 ∙ sym (done j)))) in
+    (λ j. ap (λ l. pieces_of (suc j) (l ++ held)) mine.2 ∙ (sym (h.follows (suc j)) ∙ (sym (all j).1 ∙ sym (done j)))) in
     let empty = none_left v.taken held same in
     let sent_is = λ (k : ℕ). h.follows k ∙ (ap (λ l. pieces_of k (l ++ held)) (sym mine.2) ∙ ap (λ l. pieces_of k (v.taken ++ l)) empty) in
     let w = at_rest v in
@@ -430,11 +430,11 @@ meets pass v other u takes speaks last held views h at two at' =
     let here = λ (j : ℕ) (m : v.away - 1 ≤ j). elim (ℕ_discrete l (suc j)) as (λ _. (owner (suc j) ≡ pass) × (pieces_of (suc j) w.before ≡ h.sent (suc j))) [
       | yes e ↦ (given_here h.owner l pass (suc j) e, ap (λ x. pieces_of x w.before) (sym e) ∙ (own_is l v.before u.sent ∙ (theirs.4 ∙ ap h.sent e)))
       | no n ↦ (
-        let r = f.mine takes j (behind v.away l j last m n) in (
-          given_else h.owner l pass (suc j) n ∙ r.0,
-          others_as l (suc j) v.before u.sent n ∙ r.1,
-        )
-      )
+          let r = f.mine takes j (behind v.away l j last m n) in (
+            given_else h.owner l pass (suc j) n ∙ r.0,
+            others_as l (suc j) v.before u.sent n ∙ r.1,
+          )
+          )
     ] in
     record {
       lanes = h.lanes;

@@ -23,6 +23,7 @@ all_round rest q = ap (λ l. l ++ take (length rest) (rest ++ q ∷ [])) (droppe
     dropped : (xs : List Queued) → drop (length xs) (xs ++ q ∷ []) ≡ q ∷ []
     dropped [] = refl
     dropped (x ∷ xs) = dropped xs
+
     kept : (xs : List Queued) → take (length xs) (xs ++ q ∷ []) ≡ xs
     kept [] = refl
     kept (x ∷ xs) = ap (λ l. x ∷ l) (kept xs)

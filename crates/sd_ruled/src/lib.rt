@@ -3,8 +3,8 @@
 #![tactic(auto)]
 
 mod lane_ref;
-mod ruled;
 mod rule;
+mod ruled;
 mod seats;
 mod split;
 
@@ -12,4 +12,3 @@ pub use lane_ref::LaneRef;
 pub use ruled::RuledLanes;
 pub use seats::{DriveSeat, LaneQueue, LaneSeat};
 pub use split::{NotSplit, Split};
-

@@ -124,9 +124,7 @@ impl DriveSeat {
         ensures none { IfNone result (self.new ≡ self.old) }
         ensures was_empty { IfNone result (WasEmpty self.old.before self.old.taken) }
     {
-        let Queued { lane: _, piece } = queue
-            .ring
-            .pop_as::<Takes, R>(&queue.rt, &mut self.pass)?;
+        let Queued { lane: _, piece } = queue.ring.pop_as::<Takes, R>(&queue.rt, &mut self.pass)?;
         Some(piece)
     }
 }

@@ -10,7 +10,7 @@ use Rattle.sd_ruled.proofs.ruled.RuledLanes.push.Goals as goal
 pub push_as-requires-clause-rule : goal.push_as-requires-clause-rule
 push_as-requires-clause-rule g c = (
   puts _ _ _ c.self.inside.lanes _ c.self.invariant.alone c.requires.least
-  (subst (λ (v : RuledView). c.args.lane ≤ v.lanes) (sym c.self.view_is) c.requires.most),
+      (subst (λ (v : RuledView). c.args.lane ≤ v.lanes) (sym c.self.view_is) c.requires.most),
   learns _ _,
 )
 
