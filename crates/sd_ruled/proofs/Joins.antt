@@ -1,9 +1,8 @@
 -- Seats that are cut off and come back.
-use Rattle.std.proofs.Common.{◌≡◌, ◌≢◌, ◌⊎◌, ◌≤◌, ◌<◌, ℕ, zero, suc, ◌==◌, eq-eqb, ne_eqb, List, [], ◌∷◌, ◌++◌, ◌+◌, map, length, Some, sym, refl, ap, ◌∙◌, ⊎_elim, inl, inr, length-append, arith}
+use Rattle.std.proofs.Common.{◌≡◌, ◌≢◌, ◌⊎◌, ◌≤◌, ◌<◌, ℕ, zero, suc, eq-eqb, ne_eqb, List, [], ◌∷◌, ◌++◌, ◌+◌, map, length, Some, sym, refl, ap, ◌∙◌, ⊎_elim, inl, inr, length-append, arith}
 use Rattle.std.specs.Prelude.{slice_get, if◌then◌else◌}
 use native.Mathlib.Decide.{ℕ_discrete}
 use Rattle.atomic_table.specs.Seated.{TableId}
-use Rattle.sd_lane.specs.declared.piece.Piece.{Piece}
 use Rattle.sd_lane.specs.declared.piece.Queued.{Queued}
 use Rattle.sd_lane.specs.Queue.{queued, pieces_of, LanesFollow, AreOfLanes}
 use Rattle.sd_ruled.specs.Passes.{of_others}

@@ -1,5 +1,5 @@
 -- Each step on the queue keeps its rule.
-use Rattle.std.proofs.Common.{◌≡◌, ◌≢◌, ◌⊎◌, ◌≤◌, ◌<◌, ℕ, zero, suc, ◌==◌, ◌-◌, eq-eqb, ne_eqb, true, false, true≢false, List, [], ◌∷◌, ◌++◌, map, length, set, sym, refl, ap, ◌∙◌, subst, ⊎_elim, inl, inr, append_assoc, arith}
+use Rattle.std.proofs.Common.{◌≡◌, ◌≢◌, ◌⊎◌, ◌≤◌, ◌<◌, ℕ, zero, suc, ◌==◌, ◌-◌, eq-eqb, ne_eqb, true, false, true≢false, List, [], ◌∷◌, ◌++◌, length, set, sym, refl, ap, ◌∙◌, subst, ⊎_elim, inl, inr, append_assoc, arith}
 use Rattle.std.proofs.lemmas.List.{append-nil}
 use Rattle.std.specs.Prelude.{if◌then◌else◌}
 use native.Mathlib.Decide.{ℕ_discrete}
@@ -11,7 +11,7 @@ use Rattle.sd_lane.specs.declared.piece.Piece.{Piece}
 use Rattle.sd_lane.specs.declared.piece.Queued.{Queued}
 use Rattle.sd_lane.specs.Queue.{queued, pieces_of, LanesFollow, AreOfLanes}
 use Rattle.sd_lane.proofs.QueueLemmas.{pieces_of-append}
-use Rattle.sd_ruled.specs.Passes.{PassView, of_nobody, of_lane, of_drive, of_owner, of_others, one_lane_more, without_lane, only_lane, with_lane, at_rest}
+use Rattle.sd_ruled.specs.Passes.{PassView, of_nobody, of_lane, of_drive, of_owner, one_lane_more, without_lane, only_lane, with_lane, at_rest}
 use Rattle.sd_ruled.specs.Rule.{Fits, Keeps}
 use Rattle.sd_ruled.specs.Seats.{StartsWith}
 use Rattle.sd_ruled.specs.Steps.{Tells, Sent, Took, Put, Got, Lifted}

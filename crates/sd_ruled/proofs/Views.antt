@@ -5,7 +5,7 @@ use Rattle.atomic_table.specs.Seated.{TableId}
 use Rattle.sd_lane.specs.declared.piece.Piece.{Piece}
 use Rattle.sd_lane.specs.declared.piece.Queued.{Queued}
 use Rattle.sd_lane.specs.Queue.{queued, pieces_of, Sends, WasFull}
-use Rattle.sd_ruled.specs.Passes.{PassView, of_drive, of_owner}
+use Rattle.sd_ruled.specs.Passes.{PassView, of_drive}
 use Rattle.sd_ruled.specs.Seats.{RuledView, LaneSeatIs, DriveSeatIs}
 
 pub if_none : {P : Type 0} (r : Option Piece) → P → IfNone r P

@@ -1,5 +1,5 @@
 -- The rule of a ruled queue: of each lane, what was taken and then what is held is what it sent.
-use Rattle.std.specs.Prelude.{◌≡◌, ◌≤◌, ℕ, suc, true, List, ◌∷◌, ◌++◌}
+use Rattle.std.specs.Prelude.{◌≡◌, ◌≤◌, ℕ, suc, true, List, ◌++◌}
 use mathlib.Core.Option.{some}
 use lib.ListN.{get_elem?}
 use Rattle.sd_lane.specs.declared.piece.Piece.{Piece}

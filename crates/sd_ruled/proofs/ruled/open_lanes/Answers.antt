@@ -1,6 +1,5 @@
-use Rattle.std.proofs.Common.{ap, sym, ◌∙◌, [], suc}
-use Rattle.crossbeam_queue.specs.Passes.{view}
-use Rattle.sd_ruled.specs.Passes.{PassView, of_owner, one_lane_more}
+use Rattle.std.proofs.Common.{ap, sym, ◌∙◌, []}
+use Rattle.sd_ruled.specs.Passes.{PassView, of_owner}
 use Rattle.sd_ruled.proofs.Steps.{opens}
 use Rattle.sd_ruled.proofs.ruled.open_lanes.Goals as goal
 

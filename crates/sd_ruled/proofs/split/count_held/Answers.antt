@@ -1,4 +1,4 @@
-use Rattle.std.proofs.Common.{ap, sym, ◌∙◌, ◌-◌, arith}
+use Rattle.std.proofs.Common.{ap, ◌∙◌, ◌-◌, arith}
 use Rattle.crossbeam_queue.specs.Passes.{view}
 use Rattle.sd_ruled.specs.Passes.{PassView}
 use Rattle.sd_ruled.proofs.Counts.{found_at_rest, lifted_lane, lifted_count, one_back, went_round}

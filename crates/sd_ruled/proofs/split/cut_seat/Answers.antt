@@ -1,4 +1,4 @@
-use Rattle.std.proofs.Common.{sym, subst, ◌<◌, arith}
+use Rattle.std.proofs.Common.{arith}
 use Rattle.sd_ruled.proofs.Steps.{cuts}
 use Rattle.sd_ruled.proofs.split.cut_seat.Goals as goal
 

@@ -1,4 +1,4 @@
-use Rattle.std.proofs.Common.{◌≡◌, ◌≤◌, length, true, vec_len}
+use Rattle.std.proofs.Common.{◌≡◌, ◌≤◌, true, vec_len}
 use Rattle.std.specs.Vec.{vec_capacity}
 use Rattle.crossbeam_queue.specs.Passes.{view, IsPassOf}
 use Rattle.sd_base.specs.Limits.{most_lanes}

@@ -1,4 +1,4 @@
-use Rattle.std.proofs.Common.{ap, ◌∙◌, sym, subst, arith}
+use Rattle.std.proofs.Common.{ap, subst, arith}
 use Rattle.sd_ruled.specs.Seats.{DriveSeatIs, WasEmpty}
 use Rattle.sd_ruled.proofs.Counts.{was_empty}
 use Rattle.sd_ruled.proofs.Steps.{takes, learns}

@@ -1,4 +1,3 @@
-use Rattle.std.proofs.Common.{ap, ◌∙◌, sym}
 use Rattle.sd_ruled.proofs.Steps.{sends, learns}
 use Rattle.sd_ruled.proofs.seats.LaneSeat.push.Goals as goal
 
