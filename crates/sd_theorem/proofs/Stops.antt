@@ -2,6 +2,7 @@
 use Rattle.std.proofs.Common.{◌≡◌, ◌≤◌, ◌+◌, ℕ, sym, ap, subst, ◌∙◌, inl, inr, arith, true, Some, List, ◌∷◌, get_or, slice_get}
 use Rattle.sd_base.specs.declared.number.SessionKey.{SessionKey}
 use Rattle.sd_desk.specs.Desk.{claimed_by}
+use Rattle.sd_driver.specs.Meaning.{Meaning}
 use Rattle.sd_driver.specs.Shelf.{Shelf, AfterStop}
 use Rattle.sd_drive.specs.View.{DriveIs}
 use Rattle.sd_machine.specs.Machine.{Machine, empty_machine}
@@ -15,6 +16,7 @@ use Rattle.sd_restore.proofs.LastLemmas.{lasting_spans_stay, lasting_spans_mark,
 use Rattle.sd_moves.specs.Honest.{AreHonest}
 use Rattle.sd_moves.specs.Kept.{IsClosedAt}
 use Rattle.sd_moves.specs.Sessions.{SpansAt}
+use Rattle.sd_moves.specs.Drives.{MovesDrive}
 use Rattle.sd_moves.specs.World.{WorldView, WorldSession, BayView, IsOnline}
 use Rattle.sd_moves.proofs.Moves.{moves_keep_closed}
 use Rattle.sd_matches.specs.Matches.{Matches}
@@ -37,6 +39,12 @@ use Rattle.sd_theorem.proofs.Read.{world_gives}
 use Rattle.sd_theorem.proofs.Runs.{Survive, run_keeps, run_honest, found_stable, survive_stop, survive_runs}
 use Rattle.sd_theorem.proofs.Stood.{honest_drive}
 
+-- a volume that a drive adopts is claimed for it
+adopted_by : {D : Type 0} (meaning : D → Meaning) (w w' : WorldView D) (drive : ℕ) (name : List ℕ) (end next : ℕ)
+    → MovesDrive meaning w drive (Adopt drive name) (Adopted end next) w' → claimed_by w'.desk name ≡ Some drive
+adopted_by meaning w w' drive name end next (inl m) = absurd (cc m.1)
+adopted_by {D} meaning w w' drive name end next (inr a) = ap (λ (x : WorldView D). claimed_by x.desk name) a.new_is ∙ a.moves.claims.claimed
+
 -- volumes that a run adopted are claimed for the drive
 adopted_claimed : {D Q S : Type 0} (Z : Type 0) (is : Meanings D Q S) (found : Shelf) (w : WorldView D) (r : RunsOn Z is found w) (drive : ℕ) (spans : List Span)
     → WereAdopted drive spans r.deeds → AreClaimed w.desk drive spans
@@ -44,7 +52,7 @@ adopted_claimed {D} Z is found w r drive spans adopted at s within =
     let name = (get_or spans at s).volume in
     let a = adopted at s within in
     let g = given_at is.device r.first w (Adopt drive name) (Adopted a.0 a.1) r.deeds r.leads a.2 in
-    let now : claimed_by g.now.desk name ≡ Some drive = ap (λ (x : WorldView D). claimed_by x.desk name) g.step.moves.new_is ∙ g.step.moves.claims.claimed in
+    let now : claimed_by g.now.desk name ≡ Some drive = adopted_by is.device g.asked g.now drive name a.0 a.1 g.step.moves in
     (leads_keep is.device g.now w g.after g.step.sound g.goes_on).1.claims name drive now
 
 module _ {D Q S Z : Type 0} (is : Meanings D Q S) (start : Start D Q S Z) (key : SessionKey) (spans : List Span) (w : WorldView D) (c : WasClosed is start key spans w) where
