@@ -1,6 +1,4 @@
-use Rattle.std.proofs.Common.{ap, refl, subst}
-use Rattle.sd_lane.specs.Queue.{lanes_view}
-use Rattle.sd_core.specs.Conf.{AreQueues, AreStores}
+use Rattle.std.proofs.Common.{ap, subst, ◌∙◌}
 use Rattle.sd_settings.specs.Settings.{AreSettable, ValuesView}
 use Rattle.sd_tool.proofs.MakingLemmas.{settings_fit}
 use Rattle.sd_tool.proofs.making.Room.new.Goals as goal
@@ -19,6 +17,7 @@ returns c =
       spool_is = spool;
       queue_is = queue;
       drives_are = c.in_ok-drives.ensures;
+      host_is = c.copy_of.ensures ∙ ap (λ (v : ValuesView). v.host) is;
       queues = c.in_ok-queues.ensures;
       stores = c.in_ok-stores.ensures;
     }
