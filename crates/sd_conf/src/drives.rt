@@ -94,7 +94,13 @@ fn drive(alloc: Global, table: &Table) -> Result<DriveConf, ConfFault>
     only_known(alloc, table, Level::Drive)?;
     let media = media(alloc, table)?;
     let folder = required_text(alloc, table, "folder")?;
-    let lanes = number_at(alloc, table, "lanes", (1, u64::from(MOST_LANES)), DEFAULT_LANES)?;
+    let lanes = number_at(
+        alloc,
+        table,
+        "lanes",
+        (1, u64::from(MOST_LANES)),
+        DEFAULT_LANES,
+    )?;
     Ok(DriveConf {
         media,
         folder,

@@ -139,13 +139,7 @@ impl Journal {
         } }
     {
         let from = first_marked(mark, self.settled);
-        remark(
-            &mut self.noted,
-            &mut self.shares,
-            from,
-            volume,
-            mark,
-        );
+        remark(&mut self.noted, &mut self.shares, from, volume, mark);
         self.settled = first_unsynced(&self.noted, from);
     }
 

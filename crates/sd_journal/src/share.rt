@@ -152,7 +152,6 @@ fn recounted(came: bool, went: bool, count: u64) -> u64
     if went { more - 1 } else { more }
 }
 
-
 fn extend(stretches: &mut Vec<Span>, placement: &Placement)
     requires end { EndFits placement.now }
     requires room { vec_len stretches.old < vec_capacity stretches.old }

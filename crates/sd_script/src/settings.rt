@@ -5,7 +5,9 @@ ghost use Rattle.sd_script.specs.Reading.{Gives, call_at, shape, when_at};
 ghost use Rattle.sd_script.specs.declared.command.Command.TheVariants as commands;
 
 use crate::line::{Line, LineFault, Setting};
-use sd_base::{LEAST_BLOCK_LIMIT, MOST_BLOCK, MOST_LANES, MOST_NUMBER, MOST_QUEUE, MOST_VOLUME, Name};
+use sd_base::{
+    LEAST_BLOCK_LIMIT, MOST_BLOCK, MOST_LANES, MOST_NUMBER, MOST_QUEUE, MOST_VOLUME, Name,
+};
 use sd_memdrive::{Call, Fail, When};
 use sd_words::{BadField, Words};
 
