@@ -41,6 +41,7 @@ impl Run for Brand {
       spool = 0;
       queue = 0;
       port = 0;
+      host = [];
       spool_folder = None;
       drives = [];
     } };
