@@ -10,6 +10,8 @@ KEY, OTHER_SESSION, OTHER_RUN = (1000, 1), (1000, 2), (1001, 1)
 
 # The parts of small sessions. The totals of END are one record and five bytes.
 START, END = start(7), end(7, 1, 5)
+# The data of the longest record stand in four bodies at least.
+MILLION = 1_000_000
 HELLO, EMPTY = fragment(1, 2, b"hello"), fragment(2, 2, b"")
 # The same record as HELLO in two parts.
 HEL, LO = fragment(1, 2, b"hel", 5), fragment(1, -2, b"lo")
@@ -147,16 +149,20 @@ SESSIONS = [
                               fragment(MOST_NUMBER, -MOST_NUMBER, b"y") + end(MOST_NUMBER, 1, 2)],
      [(MOST_NUMBER, MOST_NUMBER, b"xy")], "ok read 1 2 ended\n"),
     ("the least numbers", [start(1) + fragment(1, 1, b"") + end(1, 1, 0)], [(1, 1, b"")], "ok read 1 0 ended\n"),
-    ("the longest data", [START + fragment(1, 2, MOST_DATA * b"m") + end(7, 1, MOST_DATA)],
+    ("the longest data", [START + fragment(1, 2, MILLION * b"m", MOST_DATA), fragment(1, -2, MILLION * b"m", 3 * MILLION),
+                          fragment(1, -2, MILLION * b"m", 2 * MILLION),
+                          fragment(1, -2, MILLION * b"m") + end(7, 1, MOST_DATA)],
      [(1, 2, MOST_DATA * b"m")], f"ok read 1 {MOST_DATA} ended\n"),
-    ("the longest data in parts", [START + fragment(1, 2, 999_999 * b"m", MOST_DATA), fragment(1, -2, b"n")],
-     [(1, 2, 999_999 * b"m" + b"n")], f"ok read 1 {MOST_DATA} cut\n"),
+    ("the longest data with a last byte of its own",
+     [START + fragment(1, 2, (MILLION - 1) * b"m", MOST_DATA), fragment(1, -2, MILLION * b"m", 3 * MILLION + 1),
+      fragment(1, -2, MILLION * b"m", 2 * MILLION + 1), fragment(1, -2, MILLION * b"m", MILLION + 1), fragment(1, -2, b"n")],
+     [(1, 2, (MOST_DATA - 1) * b"m" + b"n")], f"ok read 1 {MOST_DATA} cut\n"),
     ("indexes in no order", [START + fragment(9, 2, b"") + fragment(3, 2, b"") + fragment(3, 5, b"")],
      [(9, 2, b""), (3, 2, b""), (3, 5, b"")], "ok read 3 0 cut\n"),
     ("labels of other jobs, pools and moments",
      [start(7, moment=-2) + HELLO + end(8, 1, 5, pool=127 * b"p", media=b"x_y:z.9", moment=2**63 - 1)], [RECORD],
      "ok read 1 5 ended\n"),
-    ("the greatest block", [START + fragment(1, 2, 1000 * b"a", MOST_DATA),
+    ("the greatest block", [START + fragment(1, 2, 1000 * b"a", MILLION),
                             fragment(1, -2, 999_000 * b"b") + 4127 * EMPTY + fragment(3, 2, b"ends")],
      [(1, 2, 1000 * b"a" + 999_000 * b"b"), *(4127 * [NOTHING]), (3, 2, b"ends")], "ok read 4129 1000004 cut\n"),
 ]
