@@ -3,12 +3,14 @@
 //! Without an argument each job runs once, on little, and says what it made; so the gate sees that
 //! the jobs work. With the argument `times` they run long enough to be timed, and say their rates. With
 //! `files FOLDER COUNT` it only writes so many blocks to a file in the folder, and with `spool FOLDER COUNT` so
-//! many bodies to a spool there and back, to be timed from outside.
+//! many bodies to a spool there and back, to be timed from outside. With `queues` it times a million pieces that 32
+//! threads push and one takes.
 #![tactic(auto)]
 
 mod blocks;
 mod checksum;
 mod packing;
+mod queues;
 mod rate;
 mod readback;
 mod spools;
@@ -30,10 +32,24 @@ fn main(rt: HostRuntime) -> Result<()> {
     let first = arguments.next();
     let folder = arguments.next();
     let count = arguments.next();
-    if !run(rt, word(&first), word(&folder), word(&count)) {
+    let first = word(&first);
+    if first != "queues" && !run(rt, first, word(&folder), word(&count)) {
         bail!("a job isn't done");
     }
+    // Here alone, since this handle may wait in `main` and nowhere else.
+    if (first == "queues" || first.is_empty())
+        && !queues::run(&rt, rt.alloc(), queues_length(first))
+    {
+        bail!("a queue isn't as it was to be");
+    }
     Ok(())
+}
+
+fn queues_length(first: &str) -> Length {
+    match first {
+        "queues" => Length::Timed,
+        _ => Length::Once,
+    }
 }
 
 fn word(argument: &Option<String>) -> &str {

@@ -1,5 +1,5 @@
 // The seats of a queue, in threads of their own.
-ghost use Rattle.std.specs.Prelude.{◌≡◌, ◌≤◌, length};
+ghost use Rattle.std.specs.Prelude.{◌≡◌, length};
 ghost use Rattle.sd_ruled.specs.Seats.{AreSeats};
 
 use crate::pieces::{Came, Counts, make_piece};
