@@ -13,7 +13,7 @@ REFUSALS = {
     3920: "Spool fault", 3930: "Volume not on the shelf", 3931: "Not a volume of this profile",
     3932: "Other pool or media", 3933: "In use", 3934: "Volume not appendable", 3935: "Volume already labelled",
     3936: "Volume has blocks of this run", 3938: "No such drive", 3939: "No room on the device", 3940: "Device fault",
-    3950: "Bad span", 3951: "Damaged block", 3952: "Span ends early",
+    3950: "Bad span", 3951: "Damaged block", 3952: "Span ends early", 3953: "Volume purged", 3954: "Volume not full",
 }
 CALLS = ("create", "load", "len", "read", "append", "sync", "cut")
 WAYS = ("before", "half", "after")
@@ -175,10 +175,10 @@ class Reader:
 
 
 class Volume:
-    """What a drive knows of a volume."""
+    """What a drive knows of a volume: also where its label block ends."""
 
-    def __init__(self, name, pool, end, number, status="append"):
-        self.name, self.pool, self.end, self.number, self.status = name, pool, end, number, status
+    def __init__(self, name, pool, first, end, number, status="append"):
+        self.name, self.pool, self.first, self.end, self.number, self.status = name, pool, first, end, number, status
 
 
 class Placement:
@@ -218,7 +218,7 @@ class Drive:
             raise Refused({"there": 3935, "no room": 3939}.get(fault.word, 3940)) from fault
         finally:
             self.device.unload()
-        self.volumes.append(Volume(name, pool, len(image), 1))
+        self.volumes.append(Volume(name, pool, len(image), len(image), 1))
 
     def adopt(self, name):
         """Asks for the length, reads, then loads, cuts, syncs and unloads. Gives where the blocks end, and the number of
@@ -251,7 +251,25 @@ class Drive:
             if block.key[0] >= self.time:
                 raise Refused(3936)
             end, number = end + block.size, number + 1
-        return Volume(name, pool, end, number, "full" if end >= self.limit else "append")
+        return Volume(name, pool, label.size, end, number, "full" if end >= self.limit else "append")
+
+    def purge(self, volume):
+        """Loads, cuts behind the label block, syncs and unloads. Where that fails there is no block either, and none is
+        added."""
+        try:
+            self.device.load(volume.name)
+            self.device.cut(volume.first)
+            self.device.sync()
+            volume.status = "append"
+        except Fault as fault:
+            if fault.word == "not there":
+                raise Refused(3930) from fault
+            volume.status = "error"
+            raise Refused(3940) from fault
+        finally:
+            self.device.unload()
+            if volume.status != "full":
+                volume.end, volume.number = volume.first, 1
 
     def mount(self, name):
         volume = self.named(name)
@@ -325,6 +343,10 @@ class Drive:
     def placed(self, ticket):
         return [one for one in self.journal if one.ticket == ticket]
 
+    def has_on(self, ticket, name):
+        """Whether a block of a session was ever placed on a volume."""
+        return any(one.volume == name for one in self.placed(ticket))
+
     def spans(self, ticket):
         """The longest runs of a session's blocks on one volume, as the fields of their lines."""
         runs = []
@@ -351,36 +373,72 @@ class Drive:
                 yield from read_span(Reader(self.device, volume), key, start, end, unpacker)
         except Fault as fault:
             raise Refused({"not there": 3930}.get(fault.word, 3940)) from fault
+        if not unpacker.started:
+            raise Refused(3950)
         yield unpacker.ended
 
 
 def read_span(reader, key, at, end, unpacker):
+    """The records of the blocks that make up a span; a span that they don't make up is bad, and a place where none stands
+    is damaged."""
+    due = None
     while at < end:
+        if end - at < LEAST_BLOCK:
+            raise Refused(3950)
+        if not (size := reader.size_at(at)):
+            raise Refused(3951)
+        if at + size > end:
+            raise Refused(3950)
         block = reader.block(at)
-        if not block:
+        if not block or due not in (None, block.number):
             raise Refused(3951)
         if block.key == key:
             yield from unpacker.add(block.body)
-        at += block.size
+        at, due = at + size, block.number + 1
 
 
 class Unpacker:
-    """Bodies of one session in, its records out, as (index, stream, data)."""
+    """Bodies of one session in, its records out, as (index, stream, data). What can't be the session's next body is a
+    damaged block, of which no record comes."""
 
     def __init__(self):
-        self.ended, self.begun = False, None
+        self.started = self.ended = False
+        # Of the record that goes on, its index, its stream and its data, and how many bytes are due.
+        self.begun, self.due = None, 0
+        self.records = self.bytes = 0
 
     def add(self, body):
-        at = 0
+        at, whole = 0, []
         while at < len(body):
-            index, stream, size = struct.unpack_from(">iiI", body, at)
-            part = body[at + RECORD_HEADER:at + RECORD_HEADER + size]
+            if len(body) - at < RECORD_HEADER:
+                raise Refused(3951)
+            header = struct.unpack_from(">iiI", body, at)
+            part = body[at + RECORD_HEADER:at + RECORD_HEADER + header[2]]
             at += RECORD_HEADER + len(part)
-            if index < 0:
-                self.ended = self.ended or index == END_LABEL
-                continue
-            if stream > 0:
-                self.begun = index, stream, bytearray()
-            self.begun[2].extend(part)
-            if len(part) == size:
-                yield self.begun
+            if not self.takes(*header, part):
+                raise Refused(3951)
+            if header[0] > 0 and not self.due:
+                whole.append(self.begun)
+        return whole
+
+    def takes(self, index, stream, size, part):
+        """Takes a label, a record or a part of one, where that is due."""
+        if self.due:
+            is_next = (index, stream, size) == (self.begun[0], -self.begun[1], self.due) and part != b""
+            return is_next and self.put(part)
+        if self.ended or self.started == (index == START_LABEL):
+            return False
+        if index in (START_LABEL, END_LABEL):
+            self.started, self.ended = True, index == END_LABEL
+            totals = struct.pack(">QQI", self.records, self.bytes, 84) if self.ended else b""
+            return len(part) == size and part.endswith(totals)
+        self.begun, self.due = (index, stream, b""), size
+        return index > 0 and stream > 0 and self.put(part)
+
+    def put(self, part):
+        """Takes data of the record that goes on."""
+        index, stream, data = self.begun
+        self.begun, self.due = (index, stream, data + part), self.due - len(part)
+        if not self.due:
+            self.records, self.bytes = self.records + 1, self.bytes + len(data + part)
+        return True

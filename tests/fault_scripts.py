@@ -15,7 +15,8 @@ from script_model import Settings, World
 ROOT = pathlib.Path(__file__).resolve().parent.parent
 SDTOOL = ROOT / "crates" / "sdtool" / "out" / "sdtool"
 
-# Scripts without a fault. Another session is at work beside each drain. The last one goes on in a second run.
+# Scripts without a fault. Another session is at work beside each drain. The last two go on in a second run, or purge a
+# volume of two sessions and use it anew.
 SCENARIOS = {
     "two volumes": (Settings(volume=2200), [
         "label 1 Vol-0001 Default File", "label 1 Vol-0002 Default File", "open 7 Default File", "fill 1 1 2 2000",
@@ -40,6 +41,12 @@ SCENARIOS = {
         "close 1", "restart 1500 1 Vol-0001 500", "adopt 1 Vol-0001", "adopt 1 Vol-0001", "again 1000 1",
         "open 8 Default File", "rec 1 1 2 abc", "end 1", "drain", "close 1",
     ]),
+    "purged": (Settings(volume=2200), [
+        "label 1 Vol-0001 Default File", "label 1 Vol-0002 Default File", "open 7 Default File", "open 8 Default File",
+        "open 9 Default File", "fill 1 1 2 2000", "end 1", "drain", "close 1", "rec 2 1 2 hello", "end 2", "drain",
+        "close 2", "unmount 1", "purge 1 Vol-0001", "purge 1 Vol-0001", "jobmedia 1", "close 1", "read 2", "rec 3 1 2 abc",
+        "end 3", "drain", "close 3",
+    ]),
 }
 # The volumes of the scenarios, and what they are closed by.
 VOLUMES = ("Vol-0001", "Vol-0002")
@@ -51,19 +58,30 @@ ALLOWED = {
     "restart": {3930, 3939, 3940}, "fill": {3905}, "rec": {3905}, "end": {3905}, "cancel": {3905}, "spool": {3905},
     "despool": {3905},
 }
+# The same where a volume is purged. Then a session whose volume it was may be gone, also where the purge met the fault.
+ALLOWED_PURGED = {**ALLOWED, "purge": {3930, 3933, 3940, 3954}, "close": {3902, 3905, 3907}, "end": {3902, 3905},
+                  "cancel": {3902, 3905}, "read": {3905, 3907, 3940, 3950, 3953},
+                  "again": {3902, 3930, 3940, 3950, 3951, 3952, 3953}}
 # Of the kinds of answers to the lines of a word, how many there must be in all where a call fails.
 PLAN_FLOORS = {
     "label: 3940": 50, "mount: 3940": 2, "unmount: 3940": 1, "sync: 3940": 2, "adopt: 3940": 50, "adopt: 3930": 5,
     "adopt: 3931": 10, "read: 3940": 20, "again: 3940": 20, "restart: 3940": 5, "close: 3905": 10, "close: 3907": 20,
     "end: 3905": 10, "cancel: 3905": 10, "read: 3905": 20, "place: ok volume error": 3, "read: ok read ended": 1000,
-    "again: ok read ended": 1000, "end: ok ended": 1000, "cancel: ok cancelled": 500,
+    "again: ok read ended": 1000, "end: ok ended": 1000, "cancel: ok cancelled": 500, "purge: ok purged": 100,
+    "purge: 3940": 9, "purge: 3954": 100, "purge: 3930": 10, "purge: 3933": 20, "read: 3953": 200, "again: 3952": 400,
+}
+# And how many where a purge is stopped.
+STOP_FLOORS = {
+    "purge: 3940": 100, "purge: ok purged": 1200, "purge: 3930": 200, "purge: 3933": 300, "purge: 3954": 500,
+    "adopt: 3940": 150, "adopt: ok adopted": 2000, "again: 3950": 2000, "again: 3952": 2000, "again: 3953": 1200,
+    "again: ok read ended": 8000, "restart: 3940": 60, "restart: ok restarted": 1000,
 }
 # What an end and a cancel answer to a session of each status.
 STEADY = {
     "end": {"active": "ok ended", "ended": "3902 Session not open", "closed": "3902 Session not open",
-            "cancelled": "3906 Session cancelled", "failed": "3905 Session failed"},
+            "cancelled": "3906 Session cancelled", "failed": "3905 Session failed", "purged": "3902 Session not open"},
     "cancel": {"active": "ok cancelled", "ended": "ok cancelled", "closed": "3902 Session not open",
-               "cancelled": "3906 Session cancelled", "failed": "3905 Session failed"},
+               "cancelled": "3906 Session cancelled", "failed": "3905 Session failed", "purged": "3902 Session not open"},
 }
 
 
@@ -206,9 +224,10 @@ def unsteady(lines, got, without):
 
 def not_allowed(lines, got, without):
     """A refusal is one that the line may have."""
+    allowed = ALLOWED_PURGED if any(line.startswith("purge") for line in lines) else ALLOWED
     for line, answer, plain in zip(lines, got, without):
         number = int(answer[-1].split(" ")[0]) if answer[-1:] and answer[-1].startswith("39") else 0
-        if number and answer != plain and number not in ALLOWED.get(line.split(" ")[0], ()):
+        if number and answer != plain and number not in allowed.get(line.split(" ")[0], ()):
             yield f"{line!r}: {answer[-1]}"
 
 
@@ -225,24 +244,41 @@ def taken(lines, got):
             + [f"ok read {len(one)} {sum(len(data) for *_, data in one)} ended"] for key, one in records.items()}
 
 
+def is_purging(answer):
+    """Whether a purge took the blocks of its volume away."""
+    return answer in (["ok purged"], ["3940 Device fault"])
+
+
 def not_read(lines, got):
-    """What was closed reads whole, at another time where one reading met the fault; also behind the restart."""
-    time, closed, wanted = 1000, set(), taken(lines, got)
-    tries = {}
+    """What was closed reads whole, at another time where one reading met the fault; also behind the restart. What was
+    purged isn't read in that run, and in another one never as something else."""
+    time, closed, wanted = 1000, {}, taken(lines, got)
+    # The time of the run in which each session was purged.
+    tries, gone = {}, {}
     for line, answer in zip(lines, got):
         word, *rest = line.split(" ")
         time = int(rest[0]) if word == "restart" else time
         if word == "close" and answer[0].startswith("ok closed"):
-            closed.add((time, int(rest[0])))
+            closed[time, int(rest[0])] = {span.split(" ")[1] for span in answer[2:]}
+        if word == "purge" and is_purging(answer):
+            gone.update((key, time) for key, volumes in closed.items() if rest[1] in volumes)
         key = (int(rest[0]), int(rest[1])) if word == "again" else (time, int(rest[0])) if word == "read" else None
-        if key not in closed:
-            continue
-        tries.setdefault((word, key), []).append(answer)
+        if key in gone:
+            yield from unlike_purged(line, answer, wanted[key], gone[key] == time)
+        elif key in closed:
+            tries.setdefault((word, key), []).append(answer)
     for (word, key), readings in tries.items():
         met = [one for one in readings if one != wanted[key]]
         fronts = all(one[-1] == "3940 Device fault" and one[:-1] == wanted[key][:len(one) - 1] for one in met)
         if len(met) > 1 or not fronts:
             yield f"{word} of {key}: {readings} in place of {wanted[key]}"
+
+
+def unlike_purged(line, answer, whole, is_this_run):
+    """A session that was purged in this run is read no more. In another run it is read as it was, as far as it is there."""
+    front = not answer[-1].endswith(" ended") and answer[:-1] == whole[:len(answer) - 1]
+    if answer != ["3953 Volume purged"] if is_this_run else answer != whole and not front:
+        yield f"{line!r} of what was purged: {answer}, and it was {whole}"
 
 
 def kind(line, answer):
@@ -427,12 +463,98 @@ drain
 close 1
 status
 """.split("\n")[1:-1]
+# Volumes that are purged in one run after another: one that was filled there, one that was adopted, and that once more;
+# beside them what may not be purged.
+PURGES = """
+label 1 Vol-0001 Default File
+label 1 Vol-0002 Default File
+label 1 Vol-0003 Other File
+open 7 Default File
+fill 1 1 2 1850
+end 1
+drain
+purge 1 Vol-0001
+close 1
+open 8 Default File
+fill 2 1 2 1900
+fill 2 1 2 100
+despool 2
+take 1
+place 1
+cancel 2
+purge 1 Vol-0001
+unmount 1
+purge 1 Vol-0001
+purge 1 Vol-0002
+status
+close 1
+read 1
+jobmedia 1
+seek 1
+place 1
+sync 1
+status
+open 9 Default File
+fill 3 1 2 700
+end 3
+drain
+close 3
+read 2
+read 3
+unmount 1
+purge 1 Vol-0001
+purge 1 Vol-0003
+status
+restart 1000 1 Vol-0001 700
+adopt 1 Vol-0001
+restart 1500 1 Vol-0001 30
+adopt 1 Vol-0001
+adopt 1 Vol-0001
+adopt 1 Vol-0002
+again 1000 1
+again 1000 3
+open 7 Default File
+fill 1 1 2 1000
+end 1
+drain
+close 1
+open 8 Default File
+fill 2 1 2 1500
+end 2
+drain
+close 2
+unmount 1
+status
+purge 1 Vol-0001
+purge 1 Vol-0001
+again 1000 1
+again 1000 3
+again 1500 1
+read 2
+mount 1 Vol-0001
+open 9 Default File
+fill 3 1 2 800
+end 3
+drain
+close 3
+status
+restart 1800
+adopt 1 Vol-0001
+adopt 1 Vol-0002
+again 1000 1
+again 1000 3
+again 1500 1
+again 1500 2
+again 1500 3
+status
+""".split("\n")[1:-1]
 # The histories, with a volume's limit that the third block of the first one just meets, and one below that; and with
 # little room on the device.
 HISTORIES = {
     "history": (Settings(volume=2314, capacity=4096), HISTORY),
     "less history": (Settings(volume=2313, capacity=4096), HISTORY),
     "left over": (Settings(capacity=1500, volume=2048), LEFT_OVER),
+    "purges": (Settings(capacity=4096, volume=2130), PURGES),
 }
 
 
@@ -460,6 +582,59 @@ def beside_model(name, settings, lines):
     lines = [*lines, *measured(settings, lines)]
     got, wanted, _ = played(settings, lines)
     yield from differing(f"{name}, {settings.plan}", lines, got, wanted)
+
+
+# Two sessions on two volumes, of which one is purged and used anew, and one that begins behind that.
+STOPPED = """
+label 1 Vol-0001 Default File
+label 1 Vol-0002 Default File
+open 7 Default File
+fill 1 1 2 1850
+end 1
+drain
+close 1
+open 8 Default File
+fill 2 1 2 900
+end 2
+drain
+close 2
+unmount 1
+purge 1 Vol-0001
+""".split("\n")[1:-1]
+# What the run goes on with behind the purge: nothing, another session, or one that fills the volume as the first one did.
+BEHIND = ([], ["open 9 Default File", "rec 3 1 2 abc", "end 3", "drain", "close 3"],
+          ["open 9 Default File", "fill 3 1 2 1850", "end 3", "drain", "close 3"])
+# Bytes that a stop leaves on a volume: fewer than a block may have, just below that, and more.
+TAILS = (1, 35, 500)
+
+
+def purge_stops():
+    """A purge that is stopped: each call of the run fails in each way, and the run ends there, with a tail on either volume.
+    A later run adopts both, at a second time where that met the fault, and reads: the session of the other volume whole,
+    and what was purged never as something else. Then it goes on."""
+    settings, seen = Settings(volume=2130), []
+    cases = []
+    for behind in BEHIND:
+        for plan, _ in plans_of(settings, [*STOPPED, *behind]):
+            for volume, tail in [(None, 0), *itertools.product(VOLUMES, TAILS)]:
+                left_there = f" 1 {volume} {tail}" if volume else ""
+                lines = [*STOPPED, *behind, f"restart {LATER}{left_there}"]
+                for _ in range(2):
+                    lines += [f"adopt 1 {name}" for name in VOLUMES]
+                reading = [f"again 1000 {ticket}" for ticket in range(1, 4) for _ in range(2)]
+                lines += [*reading, "status", "open 7 Default File", "fill 1 1 2 1850", "end 1", "drain", "close 1", "read 1",
+                          "read 1", *reading, "unmount 1", "purge 1 Vol-0001", *reading, "status"]
+                cases.append((settings.failing(plan), lines, seen))
+    yield from each(stopped_purge, cases)
+    yield from lacking(collections.Counter(itertools.chain.from_iterable(seen)), STOP_FLOORS)
+
+
+def stopped_purge(settings, lines, seen):
+    got, wanted, _ = played(settings, lines)
+    seen.append(list(map(kind, lines, got)))
+    yield from differing(f"a stop, {settings.plan}", lines, got, wanted)
+    for fault in not_read(lines, got):
+        yield f"a stop, {settings.plan}: {fault}"
 
 
 def several_faults():

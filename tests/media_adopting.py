@@ -264,4 +264,43 @@ def continue_one(checks, room, other_system):
         checks.same("the new volume", daemon.bytes_of(another), label(another.encode(), host=b"backup1"))
 
 
-ADOPTING = (adoptions, cut_and_damaged, at_the_limits, order, gone_on, continue_one)
+def purged_before(checks, room, other_system):
+    """A volume that an earlier run purged and used anew, with what a stop may leave behind that, is adopted up to the end of
+    its new blocks. The session there is read, and none that stood there before; the next one stands behind it. The daemon
+    itself purges no volume, also none that is full, and does nothing to it."""
+    one, another, limit = "Vol-0001", "Vol-0002", 2130
+    before, anew, later = [(1, 2, 1850 * b"x")], [(1, 2, b"hello")], [(1, 2, b"abc")]
+    old, shelf, full = Shelf(EARLIER[0]), Shelf(EARLIER[0]), Shelf(EARLIER[0])
+    old.add(one, label(one.encode()))
+    gone = old.place(packed(1024, before))
+    shelf.sessions, full.sessions = 1, 2
+    shelf.add(one, label(one.encode()))
+    text = shelf.place(packed(1024, anew))
+    full.add(another, label(another.encode()))
+    kept = full.place(packed(1024, before))
+    shelf.time, shelf.sessions = TIME, 0
+    with Daemon(room, other_system, TIME, block=1024, volume=limit) as daemon:
+        (daemon.folders[0] / one).write_bytes(shelf.volumes[one] + old.volumes[one][249:])
+        (daemon.folders[0] / another).write_bytes(full.volumes[another])
+        checks.same("the ends", (len(old.volumes[one]), len(shelf.volumes[one]), len(full.volumes[another])), (2130, 249, 2130))
+        checks.same("adopt", daemon.say(f"adopt 1 {one}"), "ok adopted 249 2\n")
+        checks.same("the volume", daemon.bytes_of(one), bytes(shelf.volumes[one]))
+        checks.same("what stood there", read_over_the_socket(daemon, gone), ([], f"{ENDS_EARLY}\n"))
+        checks.same("what stands there", read_over_the_socket(daemon, text)[0], anew)
+        added = session(daemon, later)
+        checks.same("the next session", added, f"session {TIME} 1\nspan {one} 1 1 1 249 414\n")
+        checks.same("its place", added, shelf.place(packed(1024, later)))
+        checks.same("unmount", daemon.say("unmount 1"), "ok unmounted\n")
+        checks.same("adopt a full one", daemon.say(f"adopt 1 {another}"), "ok adopted 2130 3\n")
+        status = daemon.say("status")
+        checks.same("full", f"volume {another} Default File full 2130\n" in status, True)
+        for name in (another, one, "Vol-0009"):
+            checks.same(f"purge {name}", daemon.say(f"purge 1 {name}"), "3933 In use\n")
+        checks.same("purge at another drive", daemon.say(f"purge 2 {another}"), "3938 No such drive\n")
+        checks.same("the status stays", daemon.say("status"), status)
+        checks.same("its session", read_over_the_socket(daemon, kept)[0], before)
+        for name, image in (*shelf.volumes.items(), *full.volumes.items()):
+            checks.same(name, daemon.bytes_of(name), bytes(image))
+
+
+ADOPTING = (adoptions, cut_and_damaged, at_the_limits, order, gone_on, continue_one, purged_before)

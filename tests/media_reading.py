@@ -292,6 +292,68 @@ def every_place(checks, room, other_system):
     compare(checks, room, cases)
 
 
+# A session that stood on two volumes before one of them was purged, one that stood on the first of them alone, and where.
+TWO_RECORDS = [(1, 2, 500 * b"a"), (2, 2, 1500 * b"b")]
+BEFORE, ONE_BEFORE = [("Vol-0001", 1, 82, 2130), ("Vol-0002", 2, 82, 280)], [("Vol-0001", 1, 82, 249)]
+# How a volume was used anew, by the sizes of the records of the sessions there, each with one: the sizes of their blocks;
+# and what is said of the two sessions that stood there before.
+ANEW = [
+    ([], [], ENDS_EARLY, ENDS_EARLY),
+    ([3], [165], ENDS_EARLY, ENDS_EARLY),
+    ([5], [167], ENDS_EARLY, BAD_SPAN),
+    ([1849], [1024, 1023], ENDS_EARLY, BAD_SPAN),
+    # The blocks have the same places, but the other volume's block is no beginning.
+    ([1850], [1024, 1024], DAMAGED, BAD_SPAN),
+    # A block lies over the end of the first span.
+    ([1851], [1024, 952, 97], BAD_SPAN, BAD_SPAN),
+    ([5, 5000], [167, 1024, 1024, 1024, 1024, 1024, 222], BAD_SPAN, BAD_SPAN),
+]
+
+
+def purged(checks, room, other_system):
+    """A volume that was purged and used anew is its label and blocks from number 1 on. So it is listed, and the sessions
+    there are read; none that stood there before is read as something else, but for the first of its records."""
+    bodies = [body.data for body in packed(1024, TWO_RECORDS)]
+    first, second = LABEL + blocks_of(*bodies[:2]), label(b"Vol-0002") + blocks_of(*bodies[2:])
+    put(room, {"Vol-0001": first, "Vol-0002": second})
+    checks.same("before", read_by(room, asked(BEFORE)), printed(TWO_RECORDS, "ok read 2 2000 ended\n"))
+    for sizes, lengths, last, last_of_one in ANEW:
+        image, lines, sessions = used_anew(LABEL, sizes)
+        put(room, {"Vol-0001": image})
+        checks.same(f"{sizes}, the blocks", [int(line.split()[3]) for line in lines], lengths)
+        listed = LISTED + "".join(lines).encode() + b"tail 0\n"
+        checks.same(f"{sizes}, ls", tool(room, "ls", "Vol-0001"), (listed, 0))
+        checks.same(f"{sizes}, before", read_by(room, asked(BEFORE)), refusal(last))
+        checks.same(f"{sizes}, one before", read_by(room, asked(ONE_BEFORE, (KEY[0], 3))), refusal(last_of_one))
+        for key, spans, record in sessions:
+            checks.same(f"{sizes}, session {key}", read_by(room, asked(spans, key)),
+                        printed([record], f"ok read 1 {len(record[2])} ended\n"))
+    # The second volume is purged in place of the first.
+    put(room, {"Vol-0001": first})
+    for sizes, count, last in (([], 1, ENDS_EARLY), ([35], 1, ENDS_EARLY), ([36], 1, "ok read 1 500 cut"), ([37], 1, BAD_SPAN)):
+        put(room, {"Vol-0002": used_anew(label(b"Vol-0002"), sizes)[0]})
+        checks.same(f"{sizes} on the second", read_by(room, asked(BEFORE)), printed(TWO_RECORDS[:count], f"{last}\n"))
+    # What a stop left behind the first block anew may be what stood there.
+    put(room, {"Vol-0001": used_anew(LABEL, [1850])[0][:1106] + first[1106:], "Vol-0002": second})
+    checks.same("a block of before behind, ls", tool(room, "ls", "Vol-0001"),
+                (LISTED + b"block 1 82 1024 1000 2\nblock 2 1106 1024 1000 1\ntail 0\n", 0))
+    checks.same("a block of before behind", read_by(room, asked(BEFORE)), refusal(DAMAGED))
+
+
+def used_anew(image, sizes):
+    """The bytes of a volume with sessions of one record each behind its label, what `ls` says of their blocks, and of each
+    session its key, its spans and its record. The sessions are those behind the first one of the run."""
+    name, lines, sessions, number = image[60:68].decode(), [], [], 0
+    for ident, size in enumerate(sizes, OTHER_SESSION[1]):
+        key, record, start = (KEY[0], ident), (1, 2, size * b"n"), len(image)
+        for body in packed(1024, [record]):
+            number += 1
+            lines.append(f"block {number} {len(image)} {BLOCK_HEADER + len(body.data)} {key[0]} {key[1]}\n")
+            image += block(key, number, body.data)
+        sessions.append((key, [(name, 1, start, len(image))], record))
+    return image, lines, sessions
+
+
 def texts(checks, room, other_system):
     """JobMedia texts that are read, others that are none, and each character of one in turn left out, doubled or
     changed."""
@@ -389,4 +451,4 @@ def lengths(checks, room, other_system):
                     printed(before, DAMAGE))
 
 
-READING = (listings, names, checksums, sessions, spans, blocks, every_byte, every_place, texts, far_away, devices, lengths)
+READING = (listings, names, checksums, sessions, spans, blocks, every_byte, every_place, purged, texts, far_away, devices, lengths)

@@ -44,8 +44,9 @@ class World:
         self.time = time
         self.drives = [Drive(device, media, lanes, self.settings.volume, time)
                        for device, (media, lanes) in zip(self.devices, self.settings.drives)]
-        # The drive's number of each name that is given, and of each request its drive's number, its pool and media.
-        self.sessions, self.names, self.requests = [], {}, []
+        # The drive's number of each name that is given, and of each request its drive's number, its pool and media; the
+        # volumes that were purged.
+        self.sessions, self.names, self.requests, self.purged = [], {}, [], set()
 
     def answer(self, line):
         """The lines that a line prints."""
@@ -78,7 +79,7 @@ class World:
         session = self.sessions[ticket - 1]
         if session.status in ("cancelled", "failed"):
             return session.sent == len(drive.placed(ticket))
-        return session.status == "closed"
+        return session.status in ("closed", "purged")
 
     def kept(self, drive):
         """How many lanes of a drive aren't free."""
@@ -130,6 +131,33 @@ class World:
         drive = self.drive(number)
         self.losing(drive, drive.unmount)
         yield "ok unmounted"
+
+    def do_purge(self, number, name):
+        drive = self.drive(number)
+        volume = drive.named(name)
+        if not volume:
+            raise Refused(3930)
+        if volume.status != "full":
+            raise Refused(3954)
+        if drive.loaded or self.keeping(drive, name):
+            raise Refused(3933)
+        try:
+            drive.purge(volume)
+        finally:
+            if volume.status != "full":
+                self.empty(drive, name)
+        yield "ok purged"
+
+    def keeping(self, drive, name):
+        """The sessions that keep a lane of the drive and have a block on the volume."""
+        return [ticket for ticket in drive.lanes if not self.is_free(drive, ticket) and drive.has_on(ticket, name)]
+
+    def empty(self, drive, name):
+        """The volume has no block any more, so the sessions that had one there are no more what they were."""
+        self.purged.add(name)
+        for session in self.sessions:
+            if session.drive is drive and drive.has_on(session.ticket, name):
+                session.stop("purged")
 
     def seek(self, number):
         drive = self.drive(number)
@@ -254,6 +282,8 @@ class World:
         if not numbers[0]:
             raise Refused(3930)
         drive = self.drive(numbers[0])
+        if self.is_gone(key, spans):
+            raise Refused(3953)
         if set(numbers) != {numbers[0]}:
             raise Refused(3930)
         count = size = 0
@@ -264,6 +294,13 @@ class World:
             index, stream, data = record
             count, size = count + 1, size + len(data)
             yield f"rec {index} {stream} {len(data)} {data[:16].hex() or '-'}"
+
+    def is_gone(self, key, spans):
+        """Whether a session of this run is purged, or a volume of one of another run was purged in this one."""
+        time, ticket = key
+        if time != self.time:
+            return any(volume in self.purged for volume, *_ in spans)
+        return ticket <= len(self.sessions) and self.sessions[ticket - 1].status == "purged"
 
     def do_drain(self):
         placed, moved = 0, True

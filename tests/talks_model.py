@@ -327,7 +327,8 @@ class World:
         return {
             "status": self.status(), "requests": ["ok requests 0"], "unmount 2": 3938, "mount 1 Vol-0009": 3930, "mount 1 .": 3937,
             f"label 1 {VOLUME} Default File": 3933 if loaded else 3935, f"adopt 1 {VOLUME}": 3935,
-            "adopt 1 Vol-0009": 3933 if loaded else 3930,
+            "adopt 1 Vol-0009": 3933 if loaded else 3930, f"purge 1 {VOLUME}": 3933, "purge 1 Vol-0009": 3933, "purge 2 Vol-0009": 3938,
+            "purge 1 ..": 3937,
         }.get(text, 3901)
 
     def read(self, key, spans):
@@ -554,7 +555,8 @@ class Client:
 TEXTS = {
     "console": ["console " + text for text in [
         "status", "requests", "unmount 1", "unmount 2", f"mount 1 {VOLUME}", "mount 1 Vol-0009", "mount 1 .", "seek 1", "",
-        "status ", f"label 1 {VOLUME} Default File", f"adopt 1 {VOLUME}", "adopt 1 Vol-0009"]],
+        "status ", f"label 1 {VOLUME} Default File", f"adopt 1 {VOLUME}", "adopt 1 Vol-0009", f"purge 1 {VOLUME}", "purge 1 Vol-0009",
+        "purge 2 Vol-0009", "purge 1 ..", "purge 1"]],
     "nonsense": ["", "append", "quit", "append data", "append data 01", "append open session JobId=0 Pool=a Media=File", "\u00e9",
                  "append open session JobId=7 Pool=a/b Media=File", "append open session JobId=7 Pool=Default Media=Tape",
                  "console", "read session Time=0 Id=1"],

@@ -13,7 +13,7 @@ REFUSALS = {
     3930: "Volume not on the shelf", 3931: "Not a volume of this profile", 3932: "Other pool or media", 3933: "In use",
     3934: "Volume not appendable", 3935: "Volume already labelled", 3936: "Volume has blocks of this run", 3937: "Bad name",
     3938: "No such drive", 3939: "No room on the device", 3940: "Device fault", 3950: "Bad span", 3951: "Damaged block",
-    3952: "Span ends early",
+    3952: "Span ends early", 3953: "Volume purged", 3954: "Volume not full",
 }
 NOT_THERE, EXISTS, NO_ROOM, DEVICE_FAULT = 3930, 3935, 3939, 3940
 CALLS = ("create", "load", "len", "read", "append", "sync", "cut")
@@ -136,8 +136,10 @@ class Head(typing.NamedTuple):
 
 
 class Found(typing.NamedTuple):
-    """What an adoption finds: the volume's pool, where its blocks end, and the number of the next one."""
+    """What an adoption finds: the volume's pool, where its label block and all its blocks end, and the number of the next
+    one."""
     pool: str
+    label_end: int
     end: int
     next: int
 
@@ -158,12 +160,13 @@ def surveyed(device, name, media, time):
         raise Refused(3931)
     if other_media != media:
         raise Refused(3932)
-    end, number = head.size, 1
+    label_end = end = head.size
+    number = 1
     while (head := reader.head(end)) and head.number == number and reader.body(end, head) is not None:
         if head.time >= time:
             raise Refused(3936)
         end, number = end + head.size, number + 1
-    return Found(pool, end, number)
+    return Found(pool, label_end, end, number)
 
 
 def session_records(device, key, spans):

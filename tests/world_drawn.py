@@ -21,7 +21,7 @@ KINDS = {
     "place": (140, 60, 100, 80), "sync": (40, 20, 60, 60), "label": (10, 10, 10, 60), "adopt": (6, 4, 6, 130),
     "mount": (30, 10, 20, 60), "unmount": (12, 6, 10, 70), "seek": (60, 50, 40, 50), "retire": (5, 3, 5, 30),
     "jobmedia": (10, 10, 10, 20), "read": (25, 15, 25, 20), "again": (15, 15, 15, 40), "restart": (8, 6, 8, 30),
-    "drain": (6, 2, 6, 6), "status": (15, 15, 15, 15), "requests": (15, 15, 15, 20), "at": (5, 5, 5, 5),
+    "purge": (16, 8, 16, 90), "drain": (6, 2, 6, 6), "status": (15, 15, 15, 15), "requests": (15, 15, 15, 20), "at": (5, 5, 5, 5),
     "other": (6, 6, 6, 6),
 }
 OPERATOR = 3
@@ -156,10 +156,13 @@ class Drawn:
             return f"place {at}"
         if drive.next_volume():
             return f"seek {at}"
-        return f"unmount {at}" if drive.loaded else f"label {at} {self.name(at)} {drive.pool} {drive.media}"
+        if drive.loaded:
+            return f"unmount {at}"
+        return self.purge(at) if self.once_in(3) else f"label {at} {self.name(at)} {drive.pool} {drive.media}"
 
     def idle(self, at):
-        kind = self.numbers.choice(("unmount", "unmount", "mount", "mount", "label", "adopt", "retire", *5 * ("sync",)))
+        kind = self.numbers.choice(("unmount", "unmount", "mount", "mount", "label", "adopt", "retire", "purge", "purge",
+                                    *5 * ("sync",)))
         return f"{kind} {at}" if kind in ("unmount", "sync") else getattr(self, kind)(at)
 
     def open(self):
@@ -199,6 +202,17 @@ class Drawn:
     def mount(self, at=None):
         at = at or self.drive()
         return f"mount {at} {self.name(at)}"
+
+    def purge(self, at=None):
+        """Mostly of a volume that is full: where there is none the drives go on, and where one is loaded it is taken out."""
+        at = at or self.drive()
+        drive = self.world.drives[at - 1] if at <= len(self.world.drives) else None
+        full = [volume.name for volume in drive.volumes if volume.status == "full"] if drive else []
+        if not full and not self.once_in(4):
+            return self.drive_goes_on()
+        if full and drive.loaded and not self.once_in(4):
+            return f"unmount {at}"
+        return f"purge {at} {self.numbers.choice(full) if full and not self.once_in(6) else self.name(at)}"
 
     def retire(self, at=None):
         """Seldom the only drive, with which all would end."""
@@ -249,21 +263,43 @@ class Mistaken(Drawn):
         return self.numbers.choice((self.numbers.choices((0, 1), k=count), [at % 2 for at in range(count)]))
 
     def run(self, drive, turns, last, ending=2):
-        """Two sessions that take records by turns. So many of them come to their end."""
+        """New volumes, and two sessions that take records by turns. So many of them come to their end."""
         for name in NAMES[0]:
             self.add(f"label {drive} {name} Default File")
         self.add(f"mount {drive} {NAMES[0][0]}")
+        self.work(turns, last, ending)
+
+    def work(self, turns, last, ending=2):
+        """The same with the volumes that there are."""
         for _ in range(2):
             self.add("open 7 Default File")
+        sessions = self.world.sessions[-2:]
         for turn in turns:
-            session = self.world.sessions[turn]
+            session = sessions[turn]
             index = len(session.records) + 1
             size = self.sizes[0] if index == 1 else self.numbers.choice(self.sizes[1:])
             self.add(f"fill {session.ticket} {index} 2 {size}")
             self.add("drain")
         for line in last:
-            for session in self.world.sessions[:ending]:
+            for session in sessions[:ending]:
                 self.add(line if line == "drain" else f"{line} {session.ticket}")
+
+    def read_told(self):
+        """What closed is read by what it told."""
+        for time, ticket in self.world.told:
+            self.add(f"again {time} {ticket}")
+
+    def adopt_all(self, drive):
+        """The volumes come in any order, and mostly none is left out."""
+        for name in self.numbers.sample(NAMES[0], len(NAMES[0]) - self.once_in(4)):
+            self.add(f"adopt {drive} {name}")
+
+    def purge_some(self, drive):
+        """Each volume is mostly purged, if it is full."""
+        self.add(f"unmount {drive}")
+        for name in NAMES[0]:
+            if not self.once_in(3):
+                self.add(f"purge {drive} {name}")
 
 
 def mistaken(seed):
@@ -274,6 +310,48 @@ def mistaken(seed):
     script.add("restart 1000")
     turns = script.numbers.choice((turns, turns + script.turns(1), script.turns(5), [0] * len(turns)))
     script.run(2, turns, script.numbers.choice((("drain",), ("end", "drain", "jobmedia"))), script.numbers.randint(1, 2))
-    for time, ticket in script.world.told:
-        script.add(f"again {time} {ticket}")
+    script.read_told()
+    return script
+
+
+class Anew(Mistaken):
+    """A script in which volumes of a drive are filled anew: a session is read by spans that tell of what stood there before.
+    Some volumes are full to their last byte, so that a later run may purge them too."""
+
+    def __init__(self, seed):
+        super().__init__(seed)
+        self.settings = Settings(block=1024, volume=self.numbers.choice((2130, 2130, 3154, 2200)), drives=[("File", 4)],
+                                 plan=self.plan())
+        self.world = World(self.settings)
+
+    def plan(self):
+        """In half of the scripts, calls that fail."""
+        count = self.numbers.choice((0, 0, 1, 3))
+        calls = [self.numbers.choice((("load", 12), ("cut", 9), ("sync", 40))) for _ in range(count)]
+        return {(1, call, self.numbers.randint(1, most)): self.numbers.choice(WAYS) for call, most in calls}
+
+
+def anew(seed):
+    """A first run; in it, or in a later one that adopts, volumes are purged and filled anew; then a run reads what was
+    told."""
+    script = Anew(seed)
+    script.run(1, script.turns(2), ("end", "drain", "close", "read"))
+    for time in (1000, 1001, 1002)[script.numbers.randrange(2):]:
+        if time > 1000:
+            script.add(f"restart {time}")
+            script.adopt_all(1)
+            script.read_told()
+        script.purge_some(1)
+        script.read_told()
+        script.work(script.turns(2), script.numbers.choice((
+            ("end", "drain", "close", "read"), ("drain", "cancel", "jobmedia"), ("end", "drain", "cancel", "close"))))
+        script.read_told()
+        script.add("status")
+        script.purge_some(1)
+        script.add("status")
+        script.read_all()
+    script.add(f"restart 2000{script.numbers.choice(('', ' 1 Vol-A1 500'))}")
+    script.adopt_all(1)
+    script.read_told()
+    script.add("status")
     return script

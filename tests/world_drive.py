@@ -3,14 +3,15 @@ device.
 """
 from volumes import BLOCK_HEADER, Place, block, label
 
-from world_device import NO_ROOM, Refused, surveyed
+from world_device import DEVICE_FAULT, NO_ROOM, Refused, surveyed
 
 
 class Volume:
-    """What a drive knows of a volume."""
+    """What a drive knows of a volume. Its label block ends where its first block begins."""
 
-    def __init__(self, name, pool, end, next_number, status="append"):
-        self.name, self.pool, self.end, self.next_number, self.status = name, pool, end, next_number, status
+    def __init__(self, name, pool, label_end, end, next_number, status="append"):
+        self.name, self.pool, self.label_end, self.end, self.next_number = name, pool, label_end, end, next_number
+        self.status = status
 
     def takes(self, pool):
         return self.status == "append" and self.pool == pool
@@ -18,7 +19,7 @@ class Volume:
 
 class Drive:
     """A drive of a run. Each lane has the session that used it last. The pool is that of the session opened last. For each
-    block on the loaded volume that awaits a sync its session is kept."""
+    block on the loaded volume that awaits a sync its session is kept; and the names of the volumes that were purged."""
 
     def __init__(self, number, media, lanes, device, host=None):
         self.number, self.media, self.device, self.host = number, media, device, host
@@ -26,7 +27,7 @@ class Drive:
         self.is_online, self.pool = True, None
         self.volumes, self.loaded = [], None
         self.queue, self.hand = [], None
-        self.unsynced = []
+        self.unsynced, self.purged = [], set()
         device.unload()
 
     def busy(self):
@@ -116,7 +117,7 @@ class Drive:
             self.device.sync()
         finally:
             self.unload()
-        self.volumes.append(Volume(name, pool, len(image), 1))
+        self.volumes.append(Volume(name, pool, len(image), len(image), 1))
 
     def adopt(self, name, limit, time):
         """Asks for the length, reads, and then loads, cuts behind the blocks, and syncs."""
@@ -129,8 +130,32 @@ class Drive:
         finally:
             self.unload()
         status = "full" if found.end >= limit else "append"
-        self.volumes.append(Volume(name, found.pool, found.end, found.next, status))
+        self.volumes.append(Volume(name, found.pool, found.label_end, found.end, found.next, status))
         return found
+
+    def named(self, name):
+        """Its volume of that name, or None."""
+        return next((volume for volume in self.volumes if volume.name == name), None)
+
+    def purge(self, volume):
+        """Loads it, cuts it behind its label, and syncs. A device that fails at that may leave any bytes there, so nothing is
+        added to it."""
+        try:
+            self.device.load(volume.name)
+            self.device.cut(volume.label_end)
+            self.device.sync()
+            self.left_empty(volume, "append")
+        except Refused as why:
+            if why.number == DEVICE_FAULT:
+                self.left_empty(volume, "error")
+            raise
+        finally:
+            self.unload()
+
+    def left_empty(self, volume, status):
+        """None of its blocks counts any more. Whoever had one there has lost it."""
+        volume.status, volume.end, volume.next_number = status, volume.label_end, 1
+        self.purged.add(volume.name)
 
     def leave(self, name, count):
         """A stop leaves so many zero bytes on a volume. Of more than it may have, one byte more than that is asked."""

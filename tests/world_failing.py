@@ -25,6 +25,18 @@ SCENARIOS = {
         "label 1 Vol-0001 Default File", "open 7 Default File", "fill 1 1 2 4000", "spool 1", "spool 1", "spool 1", "end 1",
         "drain", "close 1", "read 1",
     ]),
+    "purged": ({"volume": 2200}, [
+        "label 1 Vol-0001 Default File", "label 1 Vol-0002 Default File", "open 7 Default File", "open 8 Default File",
+        "open 9 Default File", "fill 1 1 2 2000", "end 1", "drain", "close 1", "purge 1 Vol-0001", "rec 2 1 2 hello", "end 2",
+        "drain", "close 2", "unmount 1", "purge 1 Vol-0001", "read 1", "purge 1 Vol-0001", "rec 3 1 2 abc", "end 3", "drain",
+        "close 3", "read 3",
+    ]),
+    "adopted and purged": ({"volume": 2130}, [
+        "label 1 Vol-0001 Default File", "label 1 Vol-0002 Default File", "open 7 Default File", "fill 1 1 2 1850", "end 1",
+        "drain", "close 1", "restart 1500", "adopt 1 Vol-0001", "adopt 1 Vol-0001", "adopt 1 Vol-0002", "again 1000 1",
+        "purge 1 Vol-0001", "again 1000 1", "open 8 Default File", "fill 1 1 2 1850", "end 1", "drain", "close 1", "read 1",
+        "purge 1 Vol-0001",
+    ]),
 }
 
 

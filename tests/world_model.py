@@ -65,7 +65,7 @@ SETTINGS = {
 }
 FORMS = {
     "at": [number(0, 2**63 - 1)], "label": [DRIVE, name, name, name], "adopt": [DRIVE, name], "mount": [DRIVE, name],
-    "unmount": [DRIVE], "seek": [DRIVE], "retire": [DRIVE], "take": [DRIVE], "place": [DRIVE], "sync": [DRIVE],
+    "purge": [DRIVE, name], "unmount": [DRIVE], "seek": [DRIVE], "retire": [DRIVE], "take": [DRIVE], "place": [DRIVE], "sync": [DRIVE],
     "open": [COUNTED, name, name], "rec": [COUNTED, COUNTED, COUNTED, text], "fill": [COUNTED, COUNTED, COUNTED, SIZE],
     "end": [COUNTED], "cancel": [COUNTED], "spool": [COUNTED], "despool": [COUNTED], "close": [COUNTED],
     "jobmedia": [COUNTED], "read": [COUNTED], "again": [COUNTED, COUNTED], "drain": [], "status": [], "requests": [],
@@ -250,7 +250,7 @@ class World:
 
     def do_mount(self, at, name):
         drive = self.drive(at)
-        volume = next((volume for volume in drive.volumes if volume.name == name), None)
+        volume = drive.named(name)
         if not volume:
             raise Refused(3930)
         if volume.status == "append" and volume is drive.loaded:
@@ -285,6 +285,23 @@ class World:
             raise Refused(3933)
         drive.is_online, drive.volumes = False, []
         yield "ok retired"
+
+    def do_purge(self, at, name):
+        drive = self.drive(at)
+        volume = drive.named(name)
+        if not volume:
+            raise Refused(3930)
+        if volume.status != "full":
+            raise Refused(3954)
+        sessions = [session for session in self.sessions if session.drive is drive and session.is_on(name)]
+        if drive.loaded or any(session.keeps_lane() for session in sessions):
+            raise Refused(3933)
+        try:
+            drive.purge(volume)
+        finally:
+            for session in sessions if volume.status != "full" else ():
+                session.status = "purged"
+        yield "ok purged"
 
     def reserved(self, pool, media):
         """The drive for a session: of those that take it first one with a volume of the pool loaded, then that with the
@@ -379,6 +396,8 @@ class World:
         if not drives[0]:
             raise Refused(3930)
         self.drive(drives[0].number)
+        if self.is_purged(key, [volume for volume, *_ in spans]):
+            raise Refused(3953)
         if any(drive is not drives[0] for drive in drives):
             raise Refused(3930)
         count = size = 0
@@ -389,6 +408,13 @@ class World:
                 index, stream, data = record
                 count, size = count + 1, size + len(data)
                 yield f"rec {index} {stream} {len(data)} {data[:16].hex() or '-'}"
+
+    def is_purged(self, key, volumes):
+        """Whether a session is purged: one of this run as its status says; of one of another run it is known by its volumes
+        alone."""
+        if key[0] == self.time:
+            return any((self.time, session.ticket) == key and session.status == "purged" for session in self.sessions)
+        return any(volume in drive.purged for volume in volumes for drive in self.drives)
 
     def do_drain(self):
         placed = 0

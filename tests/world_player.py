@@ -57,20 +57,25 @@ def record_line(fields):
 
 def unlike_lists(lines, answers):
     """Readings of sessions, in the run that opened them, that aren't their lists: that of a closed one is to be whole, and
-    any other to be the first of what was taken; so is what was read before a fault."""
-    lists, closed = {}, set()
+    any other to be the first of what was taken; so is what was read before a fault. Of a closed one just that is refused of
+    which a volume was purged."""
+    lists, closed, gone = {}, {}, set()
     for line, answer in zip(lines, answers):
         word, _, rest = line.partition(" ")
         ticket, said = rest.split(" ")[0], (answer or [""])[-1]
         if word == "restart" and said[:4] not in ("3901", "3912", "3937", "3938"):
-            lists, closed = {}, set()
+            lists, closed, gone = {}, {}, set()
         elif said.startswith("ok taken"):
             lists.setdefault(ticket, []).append(record_line(line))
         elif word == "close" and answer[0].startswith("ok closed"):
-            closed.add(ticket)
+            closed[ticket] = {one.split(" ")[1] for one in answer[2:]}
+        elif word == "purge" and said in ("ok purged", "3940 Device fault"):
+            gone |= {one for one, volumes in closed.items() if rest.split(" ")[1] in volumes}
         elif word == "read":
             taken = lists.get(ticket, [])
             read, wanted = answer[:-1], [one for one, _ in taken]
             whole = f"ok read {len(taken)} {sum(size for _, size in taken)} ended"
             if read != wanted[:len(read)] or (ticket in closed and said.startswith("ok") and said != whole):
                 yield f"{line!r}: {answer} is no reading of {wanted}"
+            if ticket in closed and said[:4] != "3912" and said.startswith("3953") != (ticket in gone):
+                yield f"{line!r}: {answer} of a session on {closed[ticket]}"

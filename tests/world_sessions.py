@@ -101,6 +101,10 @@ class Session:
         self.is_despooling = self.is_despooling and self.out < self.spooled
         return "sent"
 
+    def is_on(self, volume):
+        """Whether a block of it was ever placed on a volume."""
+        return any(place.volume == volume for place in self.placed)
+
     def close(self):
         self.must_be("ended")
         if self.synced < len(self.bodies):

@@ -1,24 +1,24 @@
 -- What a caller has of the theorems, over devices in memory.
-use Rattle.std.specs.Prelude.{◌≡◌, ◌⊎◌, ℕ, ◌≤◌, true, Result, Err, List}
+use Rattle.std.specs.Prelude.{◌≡◌, ◌⊎◌, ℕ, ◌≤◌, true, Some, Result, Err, List}
 use Rattle.std.specs.Global.{Global}
 use Rattle.sd_base.specs.Record.{Record}
 use Rattle.sd_base.specs.declared.number.SessionKey.{SessionKey}
 use Rattle.sd_base.specs.declared.refusal.Refusal.{Refusal}
-use Rattle.sd_base.specs.declared.refusal.Refusal.TheVariants.{DriveOffline}
+use Rattle.sd_base.specs.declared.refusal.Refusal.TheVariants.{DriveOffline, VolumePurged}
 use Rattle.sd_drive.specs.View.{DriveIs}
 use Rattle.sd_driver.specs.Shelf.{Shelf, AfterStop}
 use Rattle.sd_lane.specs.Queue.{PlainView, lanes_view}
-use Rattle.sd_machine.specs.Machine.{Machine, empty_machine}
+use Rattle.sd_machine.specs.Machine.{Machine, MachineSession, empty_machine, session_of}
 use Rattle.sd_machine.specs.Step.{Run}
 use Rattle.sd_memdrive.specs.Drive.{meaning_of}
 use Rattle.sd_memdrive.specs.declared.drive.MemDrive.{MemDrive}
-use Rattle.sd_moves.specs.World.{WorldView, BayView, IsOnline}
+use Rattle.sd_world.specs.World.{WorldView, BayView, IsOnline}
 use Rattle.sd_readback.specs.declared.read.ReadEnd.{ReadEnd}
-use Rattle.sd_session.specs.declared.status.Status.TheVariants.{Closed}
+use Rattle.sd_session.specs.declared.status.Status.TheVariants.{Closed, Purged}
 use Rattle.sd_span.specs.declared.span.Span.{Span}
 use Rattle.sd_spool.specs.MemSpool.{meaning_of as store_of}
 use Rattle.sd_spool.specs.declared.memory.MemSpool.{MemSpool}
-use Rattle.sd_closed.specs.Deeds.{events_in, replies_in}
+use Rattle.sd_world.specs.Deeds.{events_in, replies_in}
 use Rattle.sd_theorem.specs.Gives.{GivesAll}
 use Rattle.sd_theorem.specs.Headline.{HasStatus}
 use Rattle.sd_theorem.specs.Start.{Meanings, Start}
@@ -32,10 +32,15 @@ in_memory = record { device = λ d. meaning_of d; queue = λ q. lanes_view q; st
 abbrev pub MemoryStart : Type 0
 MemoryStart = Start MemDrive PlainView MemSpool Global
 
--- The session is closed in the machine, and the read gave its list; or its drive was retired, which is what it was answered.
+-- The session is closed in the machine, and the read gave its list. Or its drive was retired, or a volume of it purged, which is
+-- what it was answered.
 pub record GivesList (m : Machine) (key : SessionKey) (got got' : List Record) (result : Result ReadEnd Refusal) : Type 0 where
-  pub has : HasStatus m key Closed
-  pub gives : GivesAll has.s.records true got got' result ⊎ (result ≡ Err DriveOffline)
+  pub s : MachineSession
+  pub there : session_of key.id m.sessions ≡ Some s
+  pub key_is : s.key ≡ key
+  pub gives : ((s.status ≡ Closed) × GivesAll s.records true got got' result)
+      ⊎ (result ≡ Err DriveOffline)
+      ⊎ ((s.status ≡ Purged) × (result ≡ Err VolumePurged))
 
 -- this holds of what a device was when the session was closed on it
 abbrev pub WhenClosed : {start : MemoryStart} {key : SessionKey} {spans : List Span} {w : WorldView MemDrive}

@@ -5,17 +5,17 @@ ghost use Rattle.sd_base.specs.Limits.{most_number};
 ghost use Rattle.sd_core.specs.Conf.{IsConf, AreQueues, AreStores};
 ghost use Rattle.sd_machine.specs.Machine.{Machine, empty_machine};
 ghost use Rattle.sd_machine.specs.Step.{Run};
-ghost use Rattle.sd_closed.specs.Deeds.{answered};
+ghost use Rattle.sd_world.specs.Deeds.{answered};
 ghost use Rattle.sd_theorem.specs.Told.{WereToldClosed};
 ghost use Rattle.sd_callers.specs.Lists.{GivesList};
 
 use sd_base::{Refusal, SessionKey};
-use sd_closed::steps_lead;
 use sd_core::{Event, ReadEnd, Reply, Sink, Span, World, WorldConf};
 use sd_lane::PlainLanes;
 use sd_memdrive::MemDrive;
 use sd_spool::MemSpool;
 use sd_theorem::headline;
+use sd_world::steps_lead;
 use std::alloc::Global;
 
 /// What a world over devices in memory told: the replies to its events, and how a read ended.
@@ -27,7 +27,7 @@ pub struct Told {
 
 /// Makes a world, gives it the events, and reads a session back by these spans. `None` where memory is wanted for the
 /// world or for the replies. The replies are those of the list machine; and if the spans were told of a session that was
-/// closed, the sink got its list, all of it, once and in order.
+/// closed, the sink got its list, all of it, once and in order; or the read told that it was purged.
 #[allow(clippy::too_many_arguments)]
 pub fn run_and_read<K: Sink>(
     alloc: Global,

@@ -7,7 +7,7 @@ use Rattle.sd_words.specs.Fields.{joined}
 use Rattle.sd_words.specs.Lines.{line}
 use Rattle.sd_span.specs.JobMedia.{jobmedia_text}
 use Rattle.sd_machine.specs.declared.reply.Reply.{Reply}
-use Rattle.sd_machine.specs.declared.reply.Reply.TheVariants.{Refused, Opened, Taken, Ended, Closed, Cancelled, Spooled, SpoolFull, Nothing, NoSpool, Sent, LaneFull, NotDue, InHand, HandFull, Idle, Placed, NeedVolume, VolumeFull, VolumeError, Synced, Labelled, Adopted, Mounted, Unmounted, Requested, NoNeed, Retired, Media}
+use Rattle.sd_machine.specs.declared.reply.Reply.TheVariants.{Refused, Opened, Taken, Ended, Closed, Cancelled, Spooled, SpoolFull, Nothing, NoSpool, Sent, LaneFull, NotDue, InHand, HandFull, Idle, Placed, NeedVolume, VolumeFull, VolumeError, Synced, Labelled, Adopted, Mounted, Unmounted, Requested, NoNeed, Retired, Purged, Media}
 
 -- the words of a reply that says no more than what it is
 abbrev pub plain_words : Reply → List ℕ
@@ -31,6 +31,7 @@ plain_words Unmounted = codes "ok unmounted"
 plain_words Requested = codes "ok requested"
 plain_words NoNeed = codes "ok no need"
 plain_words Retired = codes "ok retired"
+plain_words Purged = codes "ok purged"
 plain_words reply = []
 
 -- the line of a reply, without its newline; a closed session's first one, and none of spans alone

@@ -3,7 +3,7 @@ use Rattle.std.specs.Prelude.{ℕ, List, [], ◌∷◌, ◌++◌, map, codes}
 use Rattle.std.specs.Fmt.{decimal}
 use Rattle.sd_words.specs.Fields.{joined}
 use Rattle.sd_session.specs.declared.status.Status.{Status}
-use Rattle.sd_session.specs.declared.status.Status.TheVariants.{Active, Ended, Closed, Cancelled, Failed}
+use Rattle.sd_session.specs.declared.status.Status.TheVariants.{Active, Ended, Closed, Cancelled, Failed, Purged}
 use Rattle.sd_volume.specs.declared.volume.VolumeStatus.{VolumeStatus}
 use Rattle.sd_volume.specs.declared.volume.VolumeStatus.TheVariants.{Append, Full, Error}
 use Rattle.sd_view.specs.declared.view.View.{View}
@@ -32,6 +32,7 @@ session_word Ended = codes "ended"
 session_word Closed = codes "closed"
 session_word Cancelled = codes "cancelled"
 session_word Failed = codes "failed"
+session_word Purged = codes "purged"
 
 -- a drive: its number, its media, what is loaded, how many of its lanes aren't free
 abbrev pub drive_line : DriveLine → List ℕ

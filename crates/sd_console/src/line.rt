@@ -9,7 +9,8 @@ use sd_base::Refusal;
 use sd_script::{ConsoleCmd, read_console};
 
 /// The command that a console's line spells, without the newline behind it: the lines `label`, `adopt`,
-/// `mount`, `unmount`, `retire`, `cancel`, `jobmedia`, `status` and `requests` of a script, and no other.
+/// `mount`, `unmount`, `retire`, `purge`, `cancel`, `jobmedia`, `status` and `requests` of a script,
+/// and no other.
 pub fn command(line: &[u8]) -> Result<ConsoleCmd, Refusal>
     // What is read has the form of that command,
     ensures ok { IfOk result (λ command. HasForm line.now (Console command)) }

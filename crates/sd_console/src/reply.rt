@@ -106,6 +106,7 @@ fn words_of(reply: &Reply) -> &'static str
         Reply::Requested => "ok requested",
         Reply::NoNeed => "ok no need",
         Reply::Retired => "ok retired",
+        Reply::Purged => "ok purged",
         _ => "",
     }
 }

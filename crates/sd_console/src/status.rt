@@ -115,5 +115,6 @@ fn word_of_session(status: Status) -> &'static str
         Status::Closed => "closed",
         Status::Cancelled => "cancelled",
         Status::Failed => "failed",
+        Status::Purged => "purged",
     }
 }

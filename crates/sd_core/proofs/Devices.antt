@@ -2,7 +2,7 @@
 use Rattle.std.proofs.Common.{◌≡◌, ◌++◌, ◌∷◌, [], List, None, Some, ap, sym, ◌∙◌}
 use Rattle.std.proofs.lemmas.List.{append-nil, append_assoc}
 use Rattle.sd_drive.specs.View.{DriveIs}
-use Rattle.sd_moves.specs.World.{BayView}
+use Rattle.sd_world.specs.World.{BayView}
 use Rattle.sd_core.specs.View.{device_of, devices_of}
 
 -- those of one bay more come behind the others

@@ -4,8 +4,8 @@ use Rattle.std.proofs.lemmas.Option.{get_or_from_slice_get}
 use Rattle.sd_driver.specs.Meaning.{Meaning}
 use Rattle.sd_drive.specs.Shelf.{Kept}
 use Rattle.sd_drive.specs.View.{DriveIs}
-use Rattle.sd_moves.specs.World.{BayView}
-use Rattle.sd_moves.proofs.Lookups.{one_or_two}
+use Rattle.sd_world.specs.World.{BayView}
+use Rattle.sd_world.proofs.Lookups.{one_or_two}
 
 -- a drive keeps what every drive keeps
 abbrev pub Keeps : {D : Type 0} → (D → Meaning) → DriveIs D → Type 0

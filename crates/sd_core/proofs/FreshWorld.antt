@@ -4,15 +4,17 @@ use Rattle.std.specs.List.{AllZip}
 use Rattle.std.proofs.lemmas.List.{length-map}
 use Rattle.std.proofs.lemmas.Option.{get_or_from_slice_get, slice_get_within}
 use Rattle.sd_base.specs.Limits.{most_lanes, most_number}
-use Rattle.sd_desk.specs.Desk.{claimed_by}
+use Rattle.sd_desk.specs.Desk.{claim_of}
+use Rattle.sd_desk.specs.declared.claim.Claim.{Claim}
+use Rattle.std.specs.Option.{option_map}
 use Rattle.sd_driver.specs.Meaning.{Meaning}
 use Rattle.sd_drive.specs.Limits.{AreLimits}
 use Rattle.sd_drive.specs.View.{DriveIs}
 use Rattle.sd_drive.specs.declared.limits.Limits.{Limits}
 use Rattle.sd_lane.specs.Queue.{LanesView}
 use Rattle.sd_spool.specs.Meaning.{Meaning as StoreMeaning}
-use Rattle.sd_moves.specs.World.{WorldView, WorldSession, BayView, LaneView, session_at, items_before}
-use Rattle.sd_moves.specs.Rules.{NumbersRise, AreOfOpened, IsLane, IsBay, IsWorld}
+use Rattle.sd_world.specs.World.{WorldView, WorldSession, BayView, LaneView, session_at, items_before}
+use Rattle.sd_world.specs.Rules.{NumbersRise, AreOfOpened, IsLane, IsBay, IsWorld}
 use Rattle.sd_core.specs.Conf.{IsConf, AreQueues, AreStores, empty_queue, limits_of}
 use Rattle.sd_core.specs.Fresh.{IsNewDrive, AreNewDrives, IsFresh, new_lane, new_bay, new_bays}
 use Rattle.sd_core.specs.declared.conf.WorldConf.{WorldConf}
@@ -81,7 +83,7 @@ new_bay_is : {D S Z : Type 0} (meaning : D → Meaning) (store : S → StoreMean
     → All (λ (m : List ℕ × ℕ). m.1 ≤ most_lanes) medias → IsBay w at bay
 new_bay_is {D} meaning store room medias w at bay b queue_is most =
     let few : b.m.1 ≤ most_lanes = subst (λ (m : List ℕ × ℕ). m.1 ≤ most_lanes) (get_or_from_slice_get medias at b.m b.m b.there) (most at b.m (slice_get_within medias at b.m b.there)) in
-    let new : DriveIs D = record { device = b.d.device; media = b.m.0; limits = w.limits; volumes = []; loaded = None; pool = None; hand = None; journal = [] } in
+    let new : DriveIs D = record { device = b.d.device; media = b.m.0; limits = w.limits; volumes = []; loaded = None; pool = None; hand = None; journal = []; ready = [] } in
     let long : length (new_bay store b.d b.queue b.stores).lanes ≡ b.m.1 = length-map b.stores.items (λ s. new_lane (store s)) ∙ b.many in
     let one : (e : DriveIs D) → Some b.d ≡ Some e → e ≡ new = λ e is. let same : e ≡ b.d = cc is in same ∙ b.new.is in
     subst (λ x. IsBay w at x) (sym b.bay_is) (record {
@@ -107,7 +109,7 @@ as_many_stores {S} {Z} medias ss h = zip_long (λ (d : List ℕ × ℕ) (s : Vec
 -- a world of these parts, which was just made
 pub is_fresh : {D Q S Z : Type 0} (meaning : D → Meaning) (queue : Q → LanesView) (store : S → StoreMeaning) (limits : Limits) (room : ℕ)
     (medias read : List (List ℕ × ℕ)) (devices : List D) (qs : List Q) (ss : List (Vec S Z)) (drives : List (DriveIs D)) (w : WorldView D)
-    → w.limits ≡ limits → w.queue ≡ room → w.next ≡ 1 → w.sessions ≡ [] → ((name : List ℕ) → claimed_by w.desk name ≡ None) → w.desk.requests ≡ []
+    → w.limits ≡ limits → w.queue ≡ room → w.next ≡ 1 → w.sessions ≡ [] → ((name : List ℕ) → claim_of w.desk name ≡ None) → w.desk.requests ≡ []
     → read ≡ medias → AreNewDrives meaning limits read devices drives → w.bays ≡ new_bays queue store drives qs ss
     → IsFresh meaning queue store limits room medias devices qs ss w
 is_fresh meaning queue store limits room medias read devices qs ss drives w limits_are queue_is next_is no_session no_claim no_request same drives_are bays_are = record {
@@ -115,7 +117,7 @@ is_fresh meaning queue store limits room medias read devices qs ss drives w limi
   queue_is = queue_is;
   next_is = next_is;
   no_session = no_session;
-  no_claim = no_claim;
+  no_claim = λ name. ap (option_map (λ (c : Claim). c.drive)) (no_claim name);
   no_request = no_request;
   drives = drives;
   drives_are = subst (λ l. AreNewDrives meaning limits l devices drives) same drives_are;

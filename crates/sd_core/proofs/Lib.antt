@@ -2,6 +2,7 @@ pub mod Bays
 pub mod Devices
 pub mod DrivesKept
 pub mod FreshWorld
+pub mod Gone
 pub mod NewBays
 pub mod NewDrives
 pub mod Shown

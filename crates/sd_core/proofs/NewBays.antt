@@ -5,7 +5,7 @@ use Rattle.sd_driver.specs.Meaning.{Meaning}
 use Rattle.sd_drive.specs.View.{DriveIs}
 use Rattle.sd_lane.specs.Queue.{LanesView}
 use Rattle.sd_spool.specs.Meaning.{Meaning as StoreMeaning}
-use Rattle.sd_moves.specs.World.{BayView}
+use Rattle.sd_world.specs.World.{BayView}
 use Rattle.sd_core.specs.Fresh.{StaysDevice, HasRoom, new_bay, new_bays}
 
 -- the last element that is unwrapped

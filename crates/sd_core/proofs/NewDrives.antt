@@ -12,7 +12,7 @@ use Rattle.sd_core.proofs.NewBays.{same_device}
 
 -- the drive that was made, with the media that was copied from its place
 pub is_new : {D : Type 0} (meaning : D → Meaning) (limits : Limits) (media media' : List ℕ) (device : D) (d : DriveIs D)
-    → d ≡ record { device = d.device; media = media; limits = limits; volumes = []; loaded = None; pool = None; hand = None; journal = [] }
+    → d ≡ record { device = d.device; media = media; limits = limits; volumes = []; loaded = None; pool = None; hand = None; journal = []; ready = [] }
     → media ≡ media' → StaysDevice meaning device d.device → (IsHonest (meaning device) → LeavesStable (meaning device).shelf)
     → IsNewDrive meaning limits media' device d
 is_new meaning limits media media' device d is same stays stable =

@@ -3,9 +3,9 @@ use Rattle.std.proofs.Common.{◌≡◌, ℕ, zero, suc, ◌+◌, ◌<◌, ◌�
 use Rattle.std.proofs.lemmas.List.{take_more, map-append, append_assoc, append-nil, length-take}
 use Rattle.sd_view.specs.declared.view.DriveLine.{DriveLine}
 use Rattle.sd_view.specs.declared.view.VolumeLine.{VolumeLine}
-use Rattle.sd_moves.specs.Rules.{NumbersRise}
-use Rattle.sd_moves.specs.World.{WorldSession, BayView}
-use Rattle.sd_moves.proofs.Pairs.{least_below}
+use Rattle.sd_world.specs.Rules.{NumbersRise}
+use Rattle.sd_world.specs.World.{WorldSession, BayView}
+use Rattle.sd_world.proofs.Pairs.{least_below}
 use Rattle.sd_core.specs.View.{drive_line, drive_lines, lines_of, volume_lines}
 
 -- one line more, of one item more

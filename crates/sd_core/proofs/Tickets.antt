@@ -6,11 +6,11 @@ use Rattle.std.proofs.lemmas.Option.{get_or_from_slice_get}
 use Rattle.std.specs.List.Sorted.{IsNonDecreasingBy, IsPartitionPoint}
 use Rattle.sd_machine.proofs.Lookups.{chosen}
 use Rattle.sd_session.specs.declared.status.Status.{Status}
-use Rattle.sd_moves.specs.Drives.{is_running}
-use Rattle.sd_moves.specs.Rules.{IsWorld, NumbersRise}
-use Rattle.sd_moves.specs.World.{WorldView, WorldSession, BayView, LaneView, session_at}
-use Rattle.sd_moves.proofs.Lookups.{one_or_two, session_id}
-use Rattle.sd_moves.proofs.Views.{running_is}
+use Rattle.sd_world.specs.Drives.{is_running}
+use Rattle.sd_world.specs.Rules.{IsWorld, NumbersRise}
+use Rattle.sd_world.specs.World.{WorldView, WorldSession, BayView, LaneView, session_at}
+use Rattle.sd_world.proofs.Lookups.{one_or_two, session_id}
+use Rattle.sd_world.proofs.Views.{running_is}
 use Rattle.sd_core.specs.Listing.{EndsBelow, GoesOn, KeepLanes, TicketsRise, IsListed, AreRunning, ListsHolder, ListsLanes, StayListed}
 use Rattle.sd_core.specs.View.{running_tickets}
 

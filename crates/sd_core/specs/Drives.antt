@@ -1,7 +1,7 @@
 -- The lanes of a world's drives.
 use Rattle.std.specs.Prelude.{◌≡◌, ℕ, ◌≤◌, Some, List, length, slice_get}
 use Rattle.sd_base.specs.Limits.{most_lanes}
-use Rattle.sd_moves.specs.World.{BayView}
+use Rattle.sd_world.specs.World.{BayView}
 
 -- none of the drives has more lanes than a drive may have
 abbrev pub HaveFewLanes : {D : Type 0} → List (BayView D) → Type 0

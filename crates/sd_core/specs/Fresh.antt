@@ -9,7 +9,7 @@ use Rattle.sd_spool.specs.Job.{state_of}
 use Rattle.sd_spool.specs.Meaning.{Meaning as StoreMeaning}
 use Rattle.sd_desk.specs.Desk.{claimed_by}
 use Rattle.sd_lane.specs.Queue.{LanesView}
-use Rattle.sd_moves.specs.World.{WorldView, BayView, LaneView}
+use Rattle.sd_world.specs.World.{WorldView, BayView, LaneView}
 
 -- A device is as honest as it was, its counts are as they were, and what lasted lasts; an honest one holds what it held.
 pub record StaysDevice {D : Type 0} (meaning : D → Meaning) (old new : D) : Type 0 where
@@ -20,7 +20,7 @@ pub record StaysDevice {D : Type 0} (meaning : D → Meaning) (old new : D) : Ty
 -- A drive over the device that has no volume and served no session yet. Where the device is honest, a stop before would
 -- have left what was stable.
 pub record IsNewDrive {D : Type 0} (meaning : D → Meaning) (limits : Limits) (media : List ℕ) (device : D) (d : DriveIs D) : Type 0 where
-  pub is : d ≡ record { device = d.device; media = media; limits = limits; volumes = []; loaded = None; pool = None; hand = None; journal = [] }
+  pub is : d ≡ record { device = d.device; media = media; limits = limits; volumes = []; loaded = None; pool = None; hand = None; journal = []; ready = [] }
   pub stays : StaysDevice meaning device d.device
   pub stable : IsHonest (meaning device) → LeavesStable (meaning device).shelf
 

@@ -1,7 +1,7 @@
 -- Listing the sessions that are on their way, by the lanes that they keep.
 use Rattle.std.specs.Prelude.{◌≡◌, ◌⊎◌, ℕ, ◌+◌, ◌<◌, ◌≤◌, true, Option, Some, List, [], ◌∷◌, length, slice_get, slice_index_or}
-use Rattle.sd_moves.specs.Drives.{is_running}
-use Rattle.sd_moves.specs.World.{WorldSession, BayView, LaneView, session_at}
+use Rattle.sd_world.specs.Drives.{is_running}
+use Rattle.sd_world.specs.World.{WorldSession, BayView, LaneView, session_at}
 
 -- the session of the ticket goes on
 abbrev pub GoesOn : List WorldSession → ℕ → Type 0

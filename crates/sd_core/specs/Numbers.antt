@@ -1,7 +1,7 @@
 -- The numbers of a world's sessions.
 use Rattle.std.specs.Prelude.{◌≡◌, ℕ, ◌≤◌, Some, List}
 use Rattle.sd_base.specs.Limits.{most_number}
-use Rattle.sd_moves.specs.World.{WorldSession, session_at}
+use Rattle.sd_world.specs.World.{WorldSession, session_at}
 
 -- no number of a session is above the greatest ticket
 abbrev pub NumbersAreTickets : List WorldSession → Type 0

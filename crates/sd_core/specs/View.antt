@@ -10,8 +10,8 @@ use Rattle.sd_view.specs.declared.view.SessionLine.{SessionLine}
 use Rattle.sd_view.specs.declared.view.View.{View}
 use Rattle.sd_view.specs.declared.view.VolumeLine.{VolumeLine}
 use Rattle.sd_volume.specs.Volume.{VolumeView}
-use Rattle.sd_moves.specs.Drives.{is_running}
-use Rattle.sd_moves.specs.World.{WorldView, WorldSession, BayView, session_at, busy_lanes}
+use Rattle.sd_world.specs.Drives.{is_running}
+use Rattle.sd_world.specs.World.{WorldView, WorldSession, BayView, session_at, busy_lanes}
 
 -- the status of the session of a ticket
 abbrev pub status_at : ℕ → List WorldSession → Option Status

@@ -1,9 +1,9 @@
 // What the drives of a world keep, for the proofs of who holds them.
 ghost use Rattle.std.specs.Prelude.{◌<◌, ◌^◌, ℕ, IfSome};
 ghost use Rattle.sd_drive.specs.Shelf.{Kept};
-ghost use Rattle.sd_moves.specs.Rules.{NumbersRise};
-ghost use Rattle.sd_closed.specs.Deeds.{CountsFit};
-ghost use Rattle.sd_closed.specs.Steps.{DrivesKeep};
+ghost use Rattle.sd_world.specs.Rules.{NumbersRise};
+ghost use Rattle.sd_world.specs.Deeds.{CountsFit};
+ghost use Rattle.sd_world.specs.Steps.{DrivesKeep};
 ghost use Rattle.sd_core.specs.Numbers.{NumbersAreTickets};
 
 use sd_base::{SessionKey, Ticket};

@@ -1,6 +1,6 @@
 // Which sessions of a world are on their way.
 ghost use Rattle.std.specs.Prelude.{◌≡◌, ◌⊎◌, ◌↔◌, ℕ, IfOk, IfSome, IfNone, OnOk, IsTrue};
-ghost use Rattle.sd_moves.specs.Rules.{NumbersRise};
+ghost use Rattle.sd_world.specs.Rules.{NumbersRise};
 ghost use Rattle.sd_core.specs.Listing.{AreRunning, EndsBelow, GoesOn, IsListed, KeepLanes, ListsHolder, ListsLanes, StayListed, TicketsRise};
 ghost use Rattle.sd_core.specs.View.{running_tickets};
 
@@ -81,7 +81,7 @@ fn goes_on<S: SpoolStore + Drop>(sessions: &[Entry<S>], ticket: Ticket) -> bool
     let session = &entry.session;
     match session.status() {
         Status::Active | Status::Ended => true,
-        Status::Closed | Status::Cancelled | Status::Failed => false,
+        Status::Closed | Status::Cancelled | Status::Failed | Status::Purged => false,
     }
 }
 

@@ -1,20 +1,24 @@
 // Reading a session back through the drive that has its volumes.
-ghost use Rattle.std.specs.Prelude.{◌≡◌, ◌≢◌, ◌↔◌, ℕ, Some, None, IfOk, IfErr, OnOk, OnErr, IsTrue};
+ghost use Rattle.std.specs.Prelude.{◌≡◌, ◌≢◌, ◌↔◌, ◌==◌, ◌&&◌, ◌||◌, not, ℕ, Some, None, IfOk, IfErr, OnOk, OnErr, IsTrue};
 ghost use Rattle.sd_parts.specs.View.{world_of};
-ghost use Rattle.sd_moves.specs.Rules.{IsWorld};
-ghost use Rattle.sd_closed.specs.Deeds.{CountsFit};
-ghost use Rattle.sd_closed.specs.Reading.{ReadsDrive, ReadsWorld, are_at_drive, is_at_drive};
-ghost use Rattle.sd_closed.specs.Steps.{DrivesKeep};
+ghost use Rattle.sd_world.specs.Rules.{IsWorld, NumbersRise};
+ghost use Rattle.sd_world.specs.Drives.{was_purged};
+ghost use Rattle.sd_world.specs.World.{session_at};
+ghost use Rattle.sd_world.specs.Deeds.{CountsFit};
+ghost use Rattle.sd_world.specs.Reading.{ReadsDrive, ReadsWorld, are_at_drive, is_at_drive, is_purged_session, any_purged_at};
+ghost use Rattle.sd_world.specs.Steps.{DrivesKeep};
 ghost use Rattle.sd_desk.specs.Desk.{claimed_by};
+ghost use Rattle.sd_core.specs.Numbers.{NumbersAreTickets};
 
 use crate::knowing::{know_counts, know_drives};
-use sd_base::{DriveNo, Refusal, SessionKey, VolName};
+use sd_base::{DriveNo, Refusal, SessionKey, Ticket, VolName};
 use sd_desk::Desk;
 use sd_drive::Drive;
 use sd_driver::Driver;
 use sd_lane::Lanes;
-use sd_parts::Parts;
+use sd_parts::{Entry, Parts, find};
 use sd_readback::{ReadEnd, Sink};
+use sd_session::Status;
 use sd_span::Span;
 use sd_spool::SpoolStore;
 
@@ -55,6 +59,7 @@ fn read_parts<D: Driver, Q: Lanes, S: SpoolStore + Drop, K: Sink>(
         return Err(Refusal::VolumeNotOnShelf);
     };
     let all = are_at_drive(&parts.desk, number, spans);
+    let gone = is_gone(&parts.sessions, parts.limits.time, &parts.desk, key, spans);
     let at = number.get() as usize - 1;
     if at >= parts.bays.len() {
         return Err(Refusal::VolumeNotOnShelf);
@@ -63,10 +68,61 @@ fn read_parts<D: Driver, Q: Lanes, S: SpoolStore + Drop, K: Sink>(
     let Some(drive) = &mut bay.drive else {
         return Err(Refusal::DriveOffline);
     };
+    if gone {
+        return Err(Refusal::VolumePurged);
+    }
     if !all {
         return Err(Refusal::VolumeNotOnShelf);
     }
     read_drive(drive, key, spans, sink)
+}
+
+// Whether what is read was purged: the session is purged; or it is of another run, and the volume of a span was purged in
+// this one.
+fn is_gone<S: SpoolStore + Drop>(
+    sessions: &[Entry<S>],
+    time: u32,
+    desk: &Desk,
+    key: SessionKey,
+    spans: &[Span],
+) -> bool
+    requires rise { (run : ℕ) × (next : ℕ) × NumbersRise run 1 next sessions.now }
+    requires most { NumbersAreTickets sessions.now }
+    ensures { result ≡ (is_purged_session key (session_at key.id sessions.now)
+        || (not (key.time == time) && any_purged_at desk.now spans.now)) }
+{
+    is_purged_session(sessions, key) || (key.time != time && any_purged_at(desk, spans))
+}
+
+// Whether the session of the key is there, and purged.
+fn is_purged_session<S: SpoolStore + Drop>(sessions: &[Entry<S>], key: SessionKey) -> bool
+    requires rise { (run : ℕ) × (next : ℕ) × NumbersRise run 1 next sessions.now }
+    requires most { NumbersAreTickets sessions.now }
+    ensures { result ≡ is_purged_session key (session_at key.id sessions.now) }
+{
+    let Some(ticket) = Ticket::new(key.id) else {
+        return false;
+    };
+    let Some(at) = find(sessions, ticket) else {
+        return false;
+    };
+    let entry = &sessions[at];
+    let session = &entry.session;
+    key == session.key() && was_purged(session.status())
+}
+
+// Whether a session of this status was purged.
+fn was_purged(status: Status) -> bool
+    ensures { result ≡ was_purged status }
+{
+    matches!(status, Status::Purged)
+}
+
+// Whether the volume of a span was purged in this run.
+fn any_purged_at(desk: &Desk, spans: &[Span]) -> bool
+    ensures { result ≡ any_purged_at desk.now spans.now }
+{
+    spans.iter().any(|span| desk.is_purged(&span.volume))
 }
 
 // Whether every span is on a volume of the drive.

@@ -2,8 +2,8 @@
 ghost use Rattle.std.specs.Prelude.{◌≡◌, ◌≤◌, ◌<◌, ◌+◌, ◌++◌, ℕ, length, map, IfOk, OnOk, not};
 ghost use Rattle.std.specs.List.{count_by};
 ghost use Rattle.sd_base.specs.Limits.{most_drives, most_lanes, most_number};
-ghost use Rattle.sd_moves.specs.Rules.{NumbersRise};
-ghost use Rattle.sd_moves.specs.World.{busy_lanes};
+ghost use Rattle.sd_world.specs.Rules.{NumbersRise};
+ghost use Rattle.sd_world.specs.World.{busy_lanes};
 ghost use Rattle.sd_core.specs.Drives.{HaveFewLanes};
 ghost use Rattle.sd_core.specs.View.{drive_line, drive_lines, lines_of, loaded_in, session_line, volume_line, volume_lines};
 

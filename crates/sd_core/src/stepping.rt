@@ -1,16 +1,16 @@
 // What an event does to the parts of a world.
-ghost use Rattle.sd_moves.specs.Moves.{Moves};
-ghost use Rattle.sd_moves.specs.Rules.{IsWorld};
+ghost use Rattle.sd_world.specs.Moves.{Moves};
+ghost use Rattle.sd_world.specs.Rules.{IsWorld};
 ghost use Rattle.sd_parts.specs.View.{world_of};
 ghost use Rattle.sd_machine.specs.declared.event.Event.TheVariants.{Append};
-ghost use Rattle.sd_closed.specs.Steps.{DrivesKeep};
+ghost use Rattle.sd_world.specs.Steps.{DrivesKeep};
 
 use crate::knowing::know_drives;
 use sd_base::{Rec, Ticket};
 use sd_driver::Driver;
 use sd_lane::Lanes;
 use sd_machine::{Event, Reply};
-use sd_operators::{operate, retire};
+use sd_operators::{operate, purge, retire};
 use sd_parts::Parts;
 use sd_sessions::{append, cancel, close, despool, end, media, open, spool};
 use sd_spool::SpoolStore;
@@ -77,6 +77,7 @@ fn apply<D: Driver + Drop, Q: Lanes, S: SpoolStore + Drop>(
         | Event::Unmount { drive }
         | Event::Seek { drive } => operate(parts, drive, &event),
         Event::Retire { drive } => retire(parts, drive),
+        Event::Purge { drive, name } => purge(parts, drive, &name),
         Event::Media { ticket } => media(parts, ticket),
     }
 }

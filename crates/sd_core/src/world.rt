@@ -4,9 +4,9 @@ ghost use Rattle.std.specs.List.{AllZip};
 ghost use Rattle.sd_base.specs.Limits.{most_number};
 ghost use Rattle.sd_machine.specs.Machine.{empty_machine};
 ghost use Rattle.sd_machine.specs.declared.event.Event.TheVariants.{Append};
-ghost use Rattle.sd_matches.specs.Matches.{Matches};
-ghost use Rattle.sd_closed.specs.Deeds.{IsRead};
-ghost use Rattle.sd_closed.specs.Steps.{IsSound, IsStep, StepsAlong};
+ghost use Rattle.sd_world.specs.Matches.{Matches};
+ghost use Rattle.sd_world.specs.Deeds.{IsRead};
+ghost use Rattle.sd_world.specs.Steps.{IsSound, IsStep, StepsAlong};
 ghost use Rattle.sd_core.specs.Conf.{IsConf, AreQueues, AreStores, limits_of};
 ghost use Rattle.sd_core.specs.Fresh.{IsFresh, StaysDevice};
 ghost use Rattle.sd_core.specs.View.{status_at, devices_of, running_tickets, view_of};
@@ -42,8 +42,8 @@ pub struct World<D: Driver, Q: Lanes, S: SpoolStore> {
 }
 
 impl<D: Driver, Q: Lanes, S: SpoolStore> Model for World<D, Q, S> {
-    ghost use Rattle.sd_moves.specs.World.{WorldView};
-    ghost use Rattle.sd_moves.specs.Rules.{IsWorld};
+    ghost use Rattle.sd_world.specs.World.{WorldView};
+    ghost use Rattle.sd_world.specs.Rules.{IsWorld};
     ghost use Rattle.sd_parts.specs.View.{world_of};
 
     ghost Value = { WorldView D };
@@ -190,6 +190,14 @@ impl<D: Driver, Q: Lanes, S: SpoolStore + Drop> World<D, Q, S> {
         parts.limits.time
     }
 
+    /// How many drives there are, retired ones too: they are numbered from 1.
+    pub fn drives(&self) -> usize
+        ensures { result ≡ length self.now.bays }
+    {
+        let parts = &self.parts;
+        parts.bays.len()
+    }
+
     /// The tickets of the sessions that are on their way, active or ended, by rising number. It costs what is on its way:
     /// only the sessions that used a lane last are looked at.
     pub fn tickets(&self) -> Result<Vec<Ticket>, AllocError>
@@ -231,8 +239,9 @@ impl<D: Driver, Q: Lanes, S: SpoolStore + Drop> World<D, Q, S> {
 
     /// Reads a session back from spans. The records go to the sink one by one; those that were handed over before a
     /// fault stay, and they are the first of the session's, in order. No spans are a bad span; then the first span's
-    /// volume must be at a drive, that drive online, and all spans on its volumes; then comes what the drive's reader
-    /// says. A closed session's own spans read to all of its records, and a cancelled one's to the first of them, as long
+    /// volume must be at a drive, that drive online, what is read not purged, and all spans on its volumes; then comes
+    /// what the drive's reader says. Purged is a session with that status; and, of another run's session, what names a
+    /// volume that was purged in this one. A closed session's own spans read to all of its records, and a cancelled one's to the first of them, as long
     /// as the devices return what was written; once its drive was retired, either is answered that the drive is offline.
     /// Changes no session, no volume and no list.
     pub fn read<K: Sink>(

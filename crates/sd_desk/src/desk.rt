@@ -1,4 +1,5 @@
 // The desk.
+use crate::claim::Claim;
 use crate::request::Request;
 use sd_base::{DriveNo, MediaName, PoolName, VolName};
 use std::alloc::{AllocError, Global};
@@ -11,7 +12,7 @@ use std::marker::Model;
 #[derive(Drop)]
 pub struct Desk {
     alloc: Global,
-    claims: BTreeMap<String, DriveNo>,
+    claims: BTreeMap<String, Claim>,
     requests: Vec<Request>,
 }
 
@@ -28,11 +29,12 @@ impl Model for Desk {
 
 impl Desk {
     ghost use Rattle.std.specs.Prelude.{◌≡◌, ◌↔◌, ◌≢◌, ◌++◌, ◌∷◌, [], None, Some, IsNone, IsOk, OnOk, OnErr, IfErr, IsErrOf, filter, not, ◌==◌};
-    ghost use Rattle.sd_desk.specs.Desk.{claimed_by, SameClaims, OtherClaimsStay, HasNotAsked};
+    ghost use Rattle.std.specs.Option.{option_map};
+    ghost use Rattle.sd_desk.specs.Desk.{claim_of, claimed_by, is_purged_at, new_claim, purged_claim, SameClaims, OtherClaimsStay, HasNotAsked};
 
     /// A desk that knows of no volume and no request; takes no memory.
     pub fn new(alloc: Global) -> Self
-        ensures no_claim { (name : _) → claimed_by result name ≡ None }
+        ensures no_claim { (name : _) → claim_of result name ≡ None }
         ensures no_request { result.requests ≡ [] }
     {
         Desk {
@@ -46,14 +48,36 @@ impl Desk {
     pub fn drive_of(&self, name: &VolName) -> Option<DriveNo>
         ensures { result ≡ claimed_by self.now name.now }
     {
-        self.claims.get(name.as_str()).copied()
+        self.claims.get(name.as_str()).map(|claim| claim.drive)
+    }
+
+    /// Whether the volume was purged since its name was claimed.
+    pub fn is_purged(&self, name: &VolName) -> bool
+        ensures { result ≡ is_purged_at self.now name.now }
+    {
+        match self.claims.get(name.as_str()) {
+            Some(claim) => claim.purged,
+            None => false,
+        }
+    }
+
+    /// Notes that the volume was purged, where its name is claimed; takes no memory.
+    pub fn purged(&mut self, name: &VolName)
+        ensures noted { claim_of self.new name.now ≡ option_map purged_claim
+            (claim_of self.old name.now) }
+        ensures others { OtherClaimsStay name.now self.old self.new }
+        ensures requests { self.new.requests ≡ self.old.requests }
+    {
+        if let Some(claim) = self.claims.get_mut(name.as_str()) {
+            claim.purged = true;
+        }
     }
 
     /// Claims a name that isn't claimed for a drive.
     pub fn claim(&mut self, name: &VolName, drive: DriveNo) -> Result<(), ClaimFault>
         ensures taken { IsErrOf result ClaimFault.AlreadyLabelled
             ↔ (claimed_by self.old name.now ≢ None) }
-        ensures claimed { OnOk result (claimed_by self.new name.now ≡ Some drive) }
+        ensures claimed { OnOk result (claim_of self.new name.now ≡ Some (new_claim drive)) }
         ensures others { OnOk result (OtherClaimsStay name.now self.old self.new) }
         ensures err { OnErr result (SameClaims self.old self.new) }
         ensures requests { self.new.requests ≡ self.old.requests }
@@ -64,7 +88,11 @@ impl Desk {
         let Ok(key) = String::from_str(self.alloc, name.as_str()) else {
             return Err(ClaimFault::Memory);
         };
-        match self.claims.insert(key, drive) {
+        let claim = Claim {
+            drive,
+            purged: false,
+        };
+        match self.claims.insert(key, claim) {
             Ok(_) => Ok(()),
             Err(_) => Err(ClaimFault::Memory),
         }
@@ -72,7 +100,7 @@ impl Desk {
 
     /// Takes a claim away; takes no memory.
     pub fn release(&mut self, name: &VolName)
-        ensures released { claimed_by self.new name.now ≡ None }
+        ensures released { claim_of self.new name.now ≡ None }
         ensures others { OtherClaimsStay name.now self.old self.new }
         ensures requests { self.new.requests ≡ self.old.requests }
     {

@@ -2,6 +2,7 @@
 //! asked for one (as: Bacula Main manual, storage daemon, volume requests).
 #![tactic(auto)]
 
+mod claim;
 mod desk;
 mod next;
 mod request;

@@ -5,7 +5,7 @@ use Rattle.std.specs.List.{AllByRecursion}
 use Rattle.std.specs.Str.{bytes_eq}
 use Rattle.std.proofs.lemmas.Slice.Eq.{bytes_eq-Decides}
 use Rattle.sd_driver.specs.Shelf.{Shelf, Held}
-use Rattle.sd_journal.specs.Journal.{Entry, placements}
+use Rattle.sd_journal.specs.Journal.{Entry, noted, is_purged, live}
 use Rattle.sd_label.specs.declared.label.VolumeLabel.{VolumeLabel}
 use Rattle.sd_lane.specs.declared.piece.Piece.{Piece}
 use Rattle.sd_span.specs.declared.placement.Placement.{Placement}
@@ -18,9 +18,9 @@ use Rattle.sd_volume.proofs.ImageLemmas.{volume_end-more}
 use Rattle.sd_volume.proofs.VolumeLemmas.{stands_by_its_bytes}
 use Rattle.sd_drive.specs.View.{names, block_of_piece}
 use Rattle.sd_drive.specs.Moves.{next_placement}
-use Rattle.sd_drive.specs.Shelf.{bytes_at, image_at, block_at, placements_on, blocks_on, LieBehind, IsLaidOut, AreLaidOut, Stands, LiesOn, NamesDiffer}
+use Rattle.sd_drive.specs.Shelf.{bytes_at, image_at, block_at, placements_on, blocks_on, LieBehind, IsLaidOut, AreLaidOut, LiesOn, NamesDiffer}
 use Rattle.sd_drive.proofs.Places.{some_is, get_set_here, get_set_other, get_more, place_cases, other_name, name_at}
-use Rattle.sd_drive.proofs.Stays.{SameBytes}
+use Rattle.sd_drive.proofs.Stays.{Stands, SameBytes}
 
 -- ---- placements on a volume
 
@@ -50,13 +50,30 @@ on_other name p off = from (bytes_eq p.volume name) refl
 pub none_more : (name : List ℕ) (p : Placement) (ps : List Placement) → p.volume ≢ name → placements_on name (ps ++ p ∷ []) ≡ placements_on name ps
 none_more name p ps off = placements_on-append name ps (p ∷ []) ∙ ap (λ l. placements_on name ps ++ l) (on_other name p off) ∙ append-nil (placements_on name ps)
 
+-- one more whose block is there
+pub live_more : (js : List Entry) (p : Placement) → live (js ++ noted p ∷ []) ≡ live js ++ p ∷ []
+live_more [] p = refl
+live_more (e ∷ es) p =
+    let r = live_more es p in
+    elim (is_purged e.mark) as (λ b. (if b then live (es ++ noted p ∷ []) else e.placement ∷ live (es ++ noted p ∷ [])) ≡ (if b then live es else e.placement ∷ live es) ++ p ∷ []) [
+      | true ↦ r
+      | false ↦ ap (λ l. e.placement ∷ l) r
+    ]
+
+-- an entry on another volume in front
+pub off_front : (name : List ℕ) (e : Entry) (es : List Entry) → e.placement.volume ≢ name → placements_on name (live (e ∷ es)) ≡ placements_on name (live es)
+off_front name e es off = elim (is_purged e.mark) as (λ b. placements_on name (if b then live es else e.placement ∷ live es) ≡ placements_on name (live es)) [
+  | true ↦ refl
+  | false ↦ placements_on-append name (e.placement ∷ []) (live es) ∙ ap (λ l. l ++ placements_on name (live es)) (on_other name e.placement off)
+]
+
 -- no volume of a fresh name has a placement
-pub none_on : (vs : List VolumeView) (js : List Entry) (name : List ℕ) → ((at : ℕ) → slice_get (names vs) at ≢ Some name) → AllByRecursion (LiesOn vs) js → placements_on name (placements js) ≡ []
+pub none_on : (vs : List VolumeView) (js : List Entry) (name : List ℕ) → ((at : ℕ) → slice_get (names vs) at ≢ Some name) → AllByRecursion (LiesOn vs) js → placements_on name (live js) ≡ []
 none_on vs [] name fresh lie = refl
 none_on vs (e ∷ es) name fresh lie =
     let l = lie.0 in
     let off : e.placement.volume ≢ name = λ on. fresh l.at (name_at vs l.at l.volume l.there ∙ ap (λ n. Some n) (sym l.name_is ∙ on)) in
-    placements_on-append name (e.placement ∷ []) (placements es) ∙ ap (λ l. l ++ placements_on name (placements es)) (on_other name e.placement off) ∙ none_on vs es name fresh lie.1
+    off_front name e es off ∙ none_on vs es name fresh lie.1
 
 -- ---- blocks at them
 

@@ -5,6 +5,7 @@ pub mod LaidLemmas
 pub mod LoadLemmas
 pub mod PlaceLemmas
 pub mod Places
+pub mod PurgeLemmas
 pub mod Stays
 pub mod SyncLemmas
 pub mod VolumeLists

@@ -13,9 +13,10 @@ use Rattle.sd_volume.specs.declared.fault.AdoptFault.TheVariants as adopt
 use Rattle.sd_volume.specs.Fault.{adopt_refusal}
 use Rattle.sd_volume.specs.Volume.{VolumeView}
 use Rattle.sd_drive.specs.View.{name_loaded}
-use Rattle.sd_drive.specs.Shelf.{Fits, Kept}
+use Rattle.sd_drive.specs.Shelf.{Kept}
 use Rattle.sd_drive.specs.Moves.{load_refusal}
 use Rattle.sd_drive.proofs.Places.{name_at}
+use Rattle.sd_drive.proofs.Stays.{AllStand}
 use Rattle.sd_drive.proofs.SyncLemmas.{none_loaded}
 
 -- with nothing loaded, nothing is unsynced
@@ -37,9 +38,9 @@ is_not_there Device e = cc
 is_not_there Memory e = cc
 
 -- a volume of the drive stands on the shelf
-pub on_shelf : (shelf : Shelf) (vs : List VolumeView) (js : List Entry) (at : ℕ) (name : List ℕ) → Fits shelf vs js → (v : VolumeView) × (slice_get vs at ≡ Some v) × (v.name ≡ name) → shelf.volume name ≢ None
-on_shelf shelf vs js at name fits there none =
-    let s = fits.stand at there.0 there.1 in
+pub on_shelf : (shelf : Shelf) (vs : List VolumeView) (at : ℕ) (name : List ℕ) → AllStand shelf vs → (v : VolumeView) × (slice_get vs at ≡ Some v) × (v.name ≡ name) → shelf.volume name ≢ None
+on_shelf shelf vs at name stand there none =
+    let s = stand at there.0 there.1 in
     let is = s.stands.there in
     let same = ap shelf.volume there.2 in
     absurd (cc (sym is ∙ same ∙ none))

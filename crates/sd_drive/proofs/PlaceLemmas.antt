@@ -1,44 +1,42 @@
 -- What placing a piece keeps.
 use Rattle.std.proofs.Common.{◌≡◌, ◌≢◌, ℕ, ◌+◌, ◌≤◌, List, [], ◌∷◌, ◌++◌, length, take, drop, map, refl, ap, sym, subst, Option, Some, None, Result, Ok, Err, ◌∙◌, arith, slice_get, slice_set}
-use Rattle.std.proofs.lemmas.List.{map-append, append-nil, length-take, length-drop}
+use Rattle.std.proofs.lemmas.List.{map-append, append-nil}
 use Rattle.std.specs.List.{AllByRecursion}
 use Rattle.sd_base.specs.Limits.{most_block}
-use Rattle.sd_block.specs.Image.{IsBlockImage}
 use Rattle.sd_block.proofs.ImageLemmas.{body_of_image}
 use Rattle.sd_driver.specs.Meaning.{Meaning, IsHonest}
 use Rattle.sd_driver.specs.Shelf.{Shelf, StillLasts}
-use Rattle.sd_journal.specs.Journal.{Entry, placements, items_of, item_of, noted}
+use Rattle.sd_journal.specs.Journal.{Entry, placements, items_of, item_of, noted, live}
 use Rattle.sd_lane.specs.declared.piece.Piece.{Piece}
 use Rattle.sd_span.specs.declared.placement.Placement.{Placement}
 use Rattle.sd_volume.specs.declared.volume.VolumeStatus.{VolumeStatus}
 use Rattle.sd_volume.specs.declared.volume.VolumeStatus.TheVariants as status
 use Rattle.sd_volume.specs.Append.{AddsBlock, KeepsBlocks}
-use Rattle.sd_volume.specs.Image.{volume_end}
+use Rattle.sd_volume.specs.Image.{Block, volume_end}
 use Rattle.sd_volume.specs.Volume.{VolumeView, StandsOn}
-use Rattle.sd_volume.proofs.ImageLemmas.{placed_block_stands, length-image}
+use Rattle.sd_volume.proofs.ImageLemmas.{placed_block_stands}
 use Rattle.sd_drive.specs.declared.place.Placed.{Placed}
 use Rattle.sd_drive.specs.declared.place.Placed.TheVariants.{At, NeedVolume, VolumeFull, VolumeError, Idle}
 use Rattle.sd_drive.specs.View.{DriveIs, name_loaded, items, block_of_piece, block_length}
-use Rattle.sd_drive.specs.Shelf.{bytes_at, image_at, block_at, blocks, IsPlaced, IsHeld, Stands, LiesOn, IsOnLoaded, Kept, KeepsPieces}
-use Rattle.sd_drive.specs.Moves.{TakesOn, IsWithin, PlacesOn, Places, LimitAllows, hand_after, next_placement, with_block}
+use Rattle.sd_drive.specs.Shelf.{bytes_at, image_at, block_at, block_of_entry, blocks, IsSafeIfSynced, LiesOn, IsOnLoaded, Kept, KeepsPieces}
+use Rattle.sd_drive.specs.Moves.{TakesOn, IsWithin, PlacesOn, RoomAfter, Places, LimitAllows, hand_after, next_placement, with_block}
 use Rattle.sd_drive.specs.Placing.{PlacesAt}
 use Rattle.sd_drive.proofs.Places.{some_is, get_set_here, length_set, names_set, differ_same, loaded_same, loaded_at}
-use Rattle.sd_drive.proofs.Stays.{same_bytes, moved_kept, moved_added, fits_stay, blocks_stay, front_of}
-use Rattle.sd_drive.proofs.LaidLemmas.{blocks_on_by, none_more, laid_kept, laid_added, all_laid_by, all_laid_set}
-use Rattle.sd_drive.proofs.Kept.{still, all_more, all_as, lies_set, all_moved_set, within_some, blocks_of}
+use Rattle.sd_drive.proofs.Stays.{Stands, same_bytes, front_kept, front_added, AllKeepFronts, fronts_but, still_on, all_safe, all_same_block, blocks_same, live_same}
+use Rattle.sd_drive.proofs.LaidLemmas.{blocks_on_by, none_more, live_more, laid_kept, laid_added, all_laid_by, all_laid_set}
+use Rattle.sd_drive.proofs.Kept.{still, kept_stand, all_more, all_as, lies_set, within_some, blocks_of}
 
 -- ---- a block that was not placed
 
-pub blocks_not_placed : (old new : Meaning) (vs : List VolumeView) (js : List Entry) (at : ℕ) (v w : VolumeView) (hand : Option Piece)
+-- what stood before it on each volume stands
+fronts_not_placed : (old new : Meaning) (vs : List VolumeView) (js : List Entry) (at : ℕ) (v w : VolumeView)
     → Kept old vs (Some at) js → slice_get vs at ≡ Some v → w.name ≡ v.name
     → (IsHonest old → KeepsBlocks v old.shelf w new.shelf)
     → (IsHonest old → (other : List ℕ) → other ≢ v.name → new.shelf.volume other ≡ old.shelf.volume other)
-    → IsHonest old → blocks new.shelf js hand ≡ blocks old.shelf js hand
-blocks_not_placed old new vs js at v w hand k there name keeps others o =
-    let f = k.fits o in
-    blocks_of old.shelf new.shelf js hand (blocks_stay old.shelf new.shelf vs (slice_set vs at w) js
-    (all_moved_set old.shelf new.shelf vs js at v w k.differ f there (moved_kept old.shelf new.shelf v w (keeps o) name (f.stand at v there)) (λ other apart. same_bytes old.shelf new.shelf other (others o other apart)))
-    k.lie f.hold)
+    → IsHonest old → AllKeepFronts old.shelf new.shelf vs
+fronts_not_placed old new vs js at v w k there name keeps others o =
+    let stand = kept_stand old vs (Some at) js k o in
+    fronts_but old.shelf new.shelf vs at v k.differ stand there (front_kept old.shelf new.shelf v w (keeps o) name (stand at v there)) (λ other apart. same_bytes old.shelf new.shelf other (others o other apart))
 
 pub kept_not_placed : (old new : Meaning) (vs : List VolumeView) (js : List Entry) (at : ℕ) (v w : VolumeView)
     → Kept old vs (Some at) js → slice_get vs at ≡ Some v → w.name ≡ v.name → w.end ≡ v.end
@@ -56,48 +54,40 @@ kept_not_placed old new vs js at v w k there name end honest loaded later moment
       unsynced = subst (λ l. AllByRecursion (IsOnLoaded l) js) (sym (loaded_same vs (slice_set vs at w) (Some at) same)) k.unsynced;
       laid = λ h. (
           let o = still old new honest h in
-          let same = blocks_not_placed old new vs js at v w None k there name keeps others o in
-          let all : map (block_at new.shelf) (placements js) ≡ map (block_at old.shelf) (placements js) =
-          sym (append-nil (map (block_at new.shelf) (placements js))) ∙ same ∙ append-nil (map (block_at old.shelf) (placements js)) in
-          all_laid_set old.shelf new.shelf vs (placements js) (placements js) at v w k.differ there (λ other apart. same_bytes old.shelf new.shelf other (others o other apart)) (λ other apart. refl)
-          (laid_kept old.shelf new.shelf (placements js) v w name (blocks_on_by (block_at new.shelf) (block_at old.shelf) v.name (placements js) all) (keeps o) (k.laid o at v there)) (k.laid o));
-      fits = λ h. (
+          let fronts = fronts_not_placed old new vs js at v w k there name keeps others o in
+          let stay = live_same old.shelf new.shelf js (all_same_block old.shelf new.shelf vs js fronts k.lie) in
+          all_laid_set old.shelf new.shelf vs (live js) (live js) at v w k.differ there (λ other apart. same_bytes old.shelf new.shelf other (others o other apart)) (λ other apart. refl)
+          (laid_kept old.shelf new.shelf (live js) v w name (blocks_on_by (block_at new.shelf) (block_at old.shelf) v.name (live js) stay) (keeps o) (k.laid o at v there)) (k.laid o));
+      safe = λ h. (
           let o = still old new honest h in
-          let f = k.fits o in
-          fits_stay old.shelf new.shelf vs (slice_set vs at w) js
-          (all_moved_set old.shelf new.shelf vs js at v w k.differ f there (moved_kept old.shelf new.shelf v w (keeps o) name (f.stand at v there)) (λ other apart. same_bytes old.shelf new.shelf other (others o other apart)))
-          later moment k.lie f);
+          let fronts = fronts_not_placed old new vs js at v w k there name keeps others o in
+          all_safe old.shelf new.shelf vs js fronts (still_on vs old.shelf new.shelf later) moment k.lie (k.safe o));
     }
 
 -- ---- a block that was placed
 
 placed_there : (old new : Shelf) (v w : VolumeView) (piece : Piece) (p : Placement) → v.status ≡ status.Append → Stands old v → AddsBlock (block_of_piece piece) v old w new → w.name ≡ v.name → p ≡ next_placement piece v
-    → IsPlaced new p × (block_at new p ≡ block_of_piece piece)
+    → block_at new p ≡ block_of_piece piece
 placed_there old new v w piece p takes s adds name is =
     let T : List ℕ → Type 0 = λ t. StandsOn v old s.label s.blocks t in
-    let before = front_of old v s.label s.blocks s.tail s.stands in
     let a = adds s.label s.blocks (subst T (s.stands.no_tail takes) s.stands) in
-    let block = block_of_piece piece in
-    let stands = placed_block_stands a.held.bytes s.label s.blocks [] block [] a.image in
+    let stands = placed_block_stands a.held.bytes s.label s.blocks [] (block_of_piece piece) [] a.image in
     let there : new.volume v.name ≡ Some a.held = ap new.volume (sym name) ∙ a.there in
     let q = next_placement piece v in
     let image : image_at new q ≡ take (24 + length piece.body.bytes) (drop (volume_end s.label s.blocks) a.held.bytes) =
     ap (λ o. bytes_at o v.end (block_length piece)) there ∙ ap (λ n. take (block_length piece) (drop n a.held.bytes)) s.stands.end_is in
     let body : drop 24 (image_at new q) ≡ piece.body.bytes = ap (drop 24) image ∙ body_of_image most_block _ piece.key (1 + length s.blocks) piece.body.bytes stands in
-    let long = length-image _ piece.key (1 + length s.blocks) piece.body.bytes stands in
-    let I : List ℕ → Type 0 = λ bytes. IsBlockImage most_block bytes piece.key (1 + length s.blocks) piece.body.bytes in
-    let J : List ℕ → Type 0 = λ b. IsBlockImage most_block (image_at new q) piece.key (1 + length s.blocks) b in
-    let P : Placement → Type 0 = λ x. IsPlaced new x × (block_at new x ≡ block_of_piece piece) in
-    subst P (sym is) (
-      record {
-        held = a.held;
-        there = there;
-        within = omega (arith, long, s.stands.end_is, length-take (24 + length piece.body.bytes) (drop (volume_end s.label s.blocks) a.held.bytes), length-drop (volume_end s.label s.blocks) a.held.bytes);
-        number = 1 + length s.blocks;
-        image = subst J (sym body) (subst I (sym image) stands);
-      },
-      ap (λ (b : List ℕ). record { key = piece.key; body = b }) body,
-    )
+    ap (block_at new) is ∙ ap (λ (b : List ℕ). record { key = piece.key; body = b }) body
+
+-- what stood before it on each volume stands
+fronts_placed : (old new : Meaning) (vs : List VolumeView) (js : List Entry) (at : ℕ) (v w : VolumeView) (piece : Piece)
+    → Kept old vs (Some at) js → slice_get vs at ≡ Some v → v.status ≡ status.Append → w.name ≡ v.name
+    → (IsHonest old → AddsBlock (block_of_piece piece) v old.shelf w new.shelf)
+    → (IsHonest old → (other : List ℕ) → other ≢ v.name → new.shelf.volume other ≡ old.shelf.volume other)
+    → IsHonest old → AllKeepFronts old.shelf new.shelf vs
+fronts_placed old new vs js at v w piece k there takes name adds others o =
+    let stand = kept_stand old vs (Some at) js k o in
+    fronts_but old.shelf new.shelf vs at v k.differ stand there (front_added old.shelf new.shelf v w (block_of_piece piece) (adds o) name takes (stand at v there)) (λ other apart. same_bytes old.shelf new.shelf other (others o other apart))
 
 pub kept_placed : (old new : Meaning) (vs : List VolumeView) (js js' : List Entry) (at : ℕ) (v w : VolumeView) (piece : Piece) (p : Placement)
     → Kept old vs (Some at) js → slice_get vs at ≡ Some v → v.status ≡ status.Append → w ≡ with_block piece v → p ≡ next_placement piece v → js' ≡ js ++ noted p ∷ []
@@ -117,7 +107,7 @@ kept_placed old new vs js js' at v w piece p k there takes is place journal hone
       volume = w;
       there = get_set_here vs at v w there;
       name_is = volume ∙ sym name;
-      within = (let a = ap (λ (x : Placement). x.start) place in let b = ap (λ (x : Placement). x.length) place in omega arith);
+      within = λ live. (let a = ap (λ (x : Placement). x.start) place in let b = ap (λ (x : Placement). x.length) place in omega arith);
     } in
     let P : List Entry → Type 0 = λ l. Kept new vs' (Some at) l in
     subst P (sym journal) (record {
@@ -128,21 +118,16 @@ kept_placed old new vs js js' at v w piece p k there takes is place journal hone
       unsynced = all_more (IsOnLoaded (name_loaded vs' (Some at))) js (noted p) (subst (λ l. AllByRecursion (IsOnLoaded l) js) (sym (loaded_same vs vs' (Some at) same)) k.unsynced) (λ e. on ∙ ap (λ n. Some n) (sym volume));
       laid = λ h. (
           let o = still old new honest h in
-          let f = k.fits o in
-          let moved = all_moved_set old.shelf new.shelf vs js at v w k.differ f there (moved_added old.shelf new.shelf v w (block_of_piece piece) (adds o) name takes (f.stand at v there)) (λ other apart. same_bytes old.shelf new.shelf other (others o other apart)) in
-          let stay = blocks_stay old.shelf new.shelf vs vs' js moved k.lie f.hold in
-          let last = placed_there old.shelf new.shelf v w piece p takes (f.stand at v there) (adds o) name place in
-          let more : placements (js ++ noted p ∷ []) ≡ placements js ++ p ∷ [] = map-append (λ (e : Entry). e.placement) js (noted p ∷ []) in
-          all_laid_by new.shelf vs' (placements js ++ p ∷ []) (placements (js ++ noted p ∷ [])) more
-          (all_laid_set old.shelf new.shelf vs (placements js) (placements js ++ p ∷ []) at v w k.differ there (λ other apart. same_bytes old.shelf new.shelf other (others o other apart)) (λ other apart. none_more other p (placements js) (λ e. apart (sym e ∙ volume)))
-          (laid_added old.shelf new.shelf (placements js) v w piece p takes name place (adds o) (blocks_on_by (block_at new.shelf) (block_at old.shelf) v.name (placements js) stay) last.1 (k.laid o at v there)) (k.laid o)));
-      fits = λ h. (
+          let fronts = fronts_placed old new vs js at v w piece k there takes name adds others o in
+          let stay = live_same old.shelf new.shelf js (all_same_block old.shelf new.shelf vs js fronts k.lie) in
+          let last = placed_there old.shelf new.shelf v w piece p takes (kept_stand old vs (Some at) js k o at v there) (adds o) name place in
+          all_laid_by new.shelf vs' (live js ++ p ∷ []) (live (js ++ noted p ∷ [])) (live_more js p)
+          (all_laid_set old.shelf new.shelf vs (live js) (live js ++ p ∷ []) at v w k.differ there (λ other apart. same_bytes old.shelf new.shelf other (others o other apart)) (λ other apart. none_more other p (live js) (λ e. apart (sym e ∙ volume)))
+          (laid_added old.shelf new.shelf (live js) v w piece p takes name place (adds o) (blocks_on_by (block_at new.shelf) (block_at old.shelf) v.name (live js) stay) last (k.laid o at v there)) (k.laid o)));
+      safe = λ h. (
           let o = still old new honest h in
-          let f = k.fits o in
-          let moved = all_moved_set old.shelf new.shelf vs js at v w k.differ f there (moved_added old.shelf new.shelf v w (block_of_piece piece) (adds o) name takes (f.stand at v there)) (λ other apart. same_bytes old.shelf new.shelf other (others o other apart)) in
-          let stay = fits_stay old.shelf new.shelf vs vs' js moved later moment k.lie f in
-          let last = placed_there old.shelf new.shelf v w piece p takes (f.stand at v there) (adds o) name place in
-          record { stand = stay.stand; hold = all_more (IsHeld new.shelf) js (noted p) stay.hold (last.0, λ e. absurd cc) });
+          let fronts = fronts_placed old new vs js at v w piece k there takes name adds others o in
+          all_more (IsSafeIfSynced new.shelf) js (noted p) (all_safe old.shelf new.shelf vs js fronts (still_on vs old.shelf new.shelf later) moment k.lie (k.safe o)) (λ e. absurd cc));
     })
 
 pub blocks_placed : (old new : Meaning) (vs : List VolumeView) (js js' : List Entry) (at : ℕ) (v w : VolumeView) (piece : Piece) (p : Placement)
@@ -152,13 +137,11 @@ pub blocks_placed : (old new : Meaning) (vs : List VolumeView) (js js' : List En
     → IsHonest old → blocks new.shelf js' None ≡ blocks old.shelf js (Some piece)
 blocks_placed old new vs js js' at v w piece p k there takes is place journal adds others o =
     let name : w.name ≡ v.name = ap (λ (x : VolumeView). x.name) is in
-    let f = k.fits o in
-    let moved = all_moved_set old.shelf new.shelf vs js at v w k.differ f there (moved_added old.shelf new.shelf v w (block_of_piece piece) (adds o) name takes (f.stand at v there)) (λ other apart. same_bytes old.shelf new.shelf other (others o other apart)) in
-    let stay = blocks_stay old.shelf new.shelf vs (slice_set vs at w) js moved k.lie f.hold in
-    let last = placed_there old.shelf new.shelf v w piece p takes (f.stand at v there) (adds o) name place in
-    append-nil (map (block_at new.shelf) (placements js')) ∙ ap (λ l. map (block_at new.shelf) (placements l)) journal
-    ∙ ap (map (block_at new.shelf)) (map-append (λ (e : Entry). e.placement) js (noted p ∷ [])) ∙ map-append (block_at new.shelf) (placements js) (p ∷ [])
-    ∙ ap (λ l. l ++ block_at new.shelf p ∷ []) stay ∙ ap (λ b. map (block_at old.shelf) (placements js) ++ b ∷ []) last.1
+    let fronts = fronts_placed old new vs js at v w piece k there takes name adds others o in
+    let stay = blocks_same old.shelf new.shelf js (all_same_block old.shelf new.shelf vs js fronts k.lie) in
+    let last = placed_there old.shelf new.shelf v w piece p takes (kept_stand old vs (Some at) js k o at v there) (adds o) name place in
+    append-nil (map (block_of_entry new.shelf) js') ∙ ap (map (block_of_entry new.shelf)) journal ∙ map-append (block_of_entry new.shelf) js (noted p ∷ [])
+    ∙ ap (λ l. l ++ Some (block_at new.shelf p) ∷ []) stay ∙ ap (λ (b : Block). map (block_of_entry old.shelf) js ++ Some b ∷ []) last
 
 items_placed : (js js' : List Entry) (v : VolumeView) (piece : Piece) (p : Placement) → p ≡ next_placement piece v → js' ≡ js ++ noted p ∷ [] → items js' None ≡ items js (Some piece)
 items_placed js js' v piece p place journal =
@@ -210,7 +193,7 @@ pieces_placing {E} result old new vs l js js' hand hand' at v w piece limit k is
         subst R (sym same) (record {
           honest = honest;
           items = refl;
-          blocks = blocks_not_placed old new vs js at v w (Some piece) kept there (ap (λ (x : VolumeView). x.name) e) keeps others;
+          blocks = λ o. blocks_of old.shelf new.shelf js js (Some piece) (blocks_same old.shelf new.shelf js (all_same_block old.shelf new.shelf vs js (fronts_not_placed old new vs js at v w kept there (ap (λ (x : VolumeView). x.name) e) keeps others o) kept.lie));
         })
 
     from : (r : Result Placed E) → PlacesOn r limit piece v w js js' → (IsHonest old → PlacesAt r piece v old.shelf w new.shelf) → Kept old vs (Some at) js → KeepsPieces old new js js' (Some piece) (hand_after r (Some piece))
@@ -228,14 +211,15 @@ pieces_placing {E} result old new vs l js js' hand hand' at v w piece limit k is
 -- a relation of the drive's parts, as one of the whole drive
 pub places_of : {D E : Type 0} (result : Result Placed E) (old new : DriveIs D) (at : ℕ) (v w : VolumeView) (piece : Piece)
     → old.hand ≡ Some piece → TakesOn old.volumes old.loaded old.pool at v → PlacesOn result old.limits.volume piece v w old.journal new.journal
-    → new ≡ record old { device = new.device; volumes = slice_set old.volumes at w; hand = hand_after result old.hand; journal = new.journal }
+    → RoomAfter result piece.key old.ready new.ready
+    → new ≡ record old { device = new.device; volumes = slice_set old.volumes at w; hand = hand_after result old.hand; journal = new.journal; ready = new.ready }
     → Places result old new
-places_of (Ok (At p)) old new at v w piece full takes on is = record { piece = piece; at = at; volume = v; after = w; ready = record { hand = full; takes = takes }; on = on; becomes = is }
-places_of (Ok NeedVolume) old new at v w piece full takes on is = absurd on
-places_of (Ok VolumeFull) old new at v w piece full takes on is = record { piece = piece; at = at; volume = v; after = w; ready = record { hand = full; takes = takes }; on = on; becomes = is }
-places_of (Ok VolumeError) old new at v w piece full takes on is = record { piece = piece; at = at; volume = v; after = w; ready = record { hand = full; takes = takes }; on = on; becomes = is }
-places_of (Ok Idle) old new at v w piece full takes on is = absurd on
-places_of (Err error) old new at v w piece full takes on is = record { piece = piece; at = at; volume = v; after = w; ready = record { hand = full; takes = takes }; on = on; becomes = is }
+places_of (Ok (At p)) old new at v w piece full takes on room is = record { piece = piece; at = at; volume = v; after = w; ready = record { hand = full; takes = takes }; on = on; room = room; becomes = is }
+places_of (Ok NeedVolume) old new at v w piece full takes on room is = absurd on
+places_of (Ok VolumeFull) old new at v w piece full takes on room is = record { piece = piece; at = at; volume = v; after = w; ready = record { hand = full; takes = takes }; on = on; room = room; becomes = is }
+places_of (Ok VolumeError) old new at v w piece full takes on room is = record { piece = piece; at = at; volume = v; after = w; ready = record { hand = full; takes = takes }; on = on; room = room; becomes = is }
+places_of (Ok Idle) old new at v w piece full takes on room is = absurd on
+places_of (Err error) old new at v w piece full takes on room is = record { piece = piece; at = at; volume = v; after = w; ready = record { hand = full; takes = takes }; on = on; room = room; becomes = is }
 
 pub takes_here : (vs : List VolumeView) (l : Option ℕ) (pool : Option (List ℕ)) (at : ℕ) (v : VolumeView) → (volume : VolumeView) × TakesOn vs l pool at volume → slice_get vs at ≡ Some v → TakesOn vs l pool at v
 takes_here vs l pool at v takes there =

@@ -1,23 +1,19 @@
 -- Blocks at placements stay where the bytes before the end of their volumes' blocks do.
-use Rattle.std.proofs.Common.{◌≡◌, ◌≢◌, ℕ, zero, suc, ◌+◌, ◌≤◌, List, [], ◌∷◌, ◌++◌, length, take, drop, map, refl, ap, sym, subst, Some, ◌∙◌, arith, length-append, slice_get}
+use Rattle.std.proofs.Common.{◌≡◌, ◌≢◌, inl, inr, ℕ, zero, suc, ◌+◌, ◌≤◌, Bool, true, false, if◌then◌else◌, List, [], ◌∷◌, ◌++◌, length, take, drop, map, refl, ap, ap₂, sym, subst, Option, Some, None, ◌∙◌, arith, length-append, slice_get}
 use Rattle.std.proofs.lemmas.List.{length-take, append-nil}
 use Rattle.std.specs.List.{AllByRecursion}
-use Rattle.sd_base.specs.Limits.{most_block}
-use Rattle.sd_block.specs.Image.{IsBlockImage}
 use Rattle.sd_driver.specs.Shelf.{Shelf, Held, Lasts, StillLasts, stable_bytes}
-use Rattle.sd_journal.specs.Journal.{Entry, placements}
+use Rattle.sd_journal.specs.Journal.{Entry, is_purged, live}
 use Rattle.sd_label.specs.declared.label.VolumeLabel.{VolumeLabel}
 use Rattle.sd_span.specs.declared.placement.Placement.{Placement}
-use Rattle.sd_volume.specs.declared.volume.VolumeStatus.{VolumeStatus}
 use Rattle.sd_volume.specs.declared.volume.VolumeStatus.TheVariants.{Append}
 use Rattle.sd_volume.specs.Image.{Block, label_and_blocks}
 use Rattle.sd_volume.specs.Volume.{VolumeView, StandsOn}
 use Rattle.sd_volume.specs.Append.{AddsBlock, KeepsBlocks}
 use Rattle.sd_volume.proofs.ImageLemmas.{with_one_more}
-use Rattle.sd_volume.proofs.VolumeLemmas.{stands_by_its_bytes}
 use Rattle.sd_driver.proofs.Lasting.{BeginsWith-length}
-use Rattle.sd_drive.specs.Shelf.{bytes_at, image_at, block_at, IsPlaced, IsSafe, IsHeld, Stands, Fits, LiesOn}
-use Rattle.sd_drive.proofs.Places.{some_is}
+use Rattle.sd_drive.specs.Shelf.{bytes_at, image_at, block_at, block_of_entry, blocks_on, IsSafe, IsSafeIfSynced, LiesOn, AreLaidOut, NamesDiffer}
+use Rattle.sd_drive.proofs.Places.{some_is, place_cases, other_name}
 
 -- ---- a part of a list that stands before a place
 
@@ -46,22 +42,23 @@ part_before (suc to) (suc start) count (x ∷ xs) (y ∷ ys) le same = part_befo
     tail_is : {A : Type 0} {a b : A} {l m : List A} → a ∷ l ≡ b ∷ m → l ≡ m
     tail_is e = cc
 
--- ---- a volume before and after a call
+-- ---- a volume on a shelf
 
--- the volume has the same name, ends no earlier, and up to its old end the shelf holds the same bytes of it
-pub record Moved (old new : Shelf) (v w : VolumeView) : Type 0 where
-  pub name_is : w.name ≡ v.name
-  pub end_is : v.end ≤ w.end
-  pub front : (held : Held) → old.volume v.name ≡ Some held
-      → (after : Held) × (new.volume v.name ≡ Some after) × (v.end ≤ length after.bytes) × (take v.end after.bytes ≡ take v.end held.bytes)
-  pub stands : Stands new w
+-- the volume stands on the shelf: its label block, its blocks, and a tail only where it takes no more
+pub record Stands (shelf : Shelf) (v : VolumeView) : Type 0 where
+  pub label : VolumeLabel
+  pub blocks : List Block
+  pub tail : List ℕ
+  pub stands : StandsOn v shelf label blocks tail
 
--- the shelf holds the same bytes of a volume
-abbrev pub SameBytes : Shelf → Shelf → List ℕ → Type 0
-SameBytes old new name = (held : Held) → old.volume name ≡ Some held → (after : Held) × (new.volume name ≡ Some after) × (after.bytes ≡ held.bytes)
+-- so does each of the volumes
+abbrev pub AllStand : Shelf → List VolumeView → Type 0
+AllStand shelf vs = (at : ℕ) (v : VolumeView) → slice_get vs at ≡ Some v → Stands shelf v
 
-pub same_bytes : (old new : Shelf) (name : List ℕ) → new.volume name ≡ old.volume name → SameBytes old new name
-same_bytes old new name same = λ held there. (held, same ∙ there, refl)
+pub laid_stand : (shelf : Shelf) (ps : List Placement) (vs : List VolumeView) → AreLaidOut shelf ps vs → AllStand shelf vs
+laid_stand shelf ps vs laid = λ at v there. (
+    let l = laid at v there in
+    record { label = l.label; blocks = l.earlier ++ blocks_on shelf v.name ps; tail = l.tail; stands = l.stands })
 
 -- the label block and blocks of a volume are its bytes up to its end
 pub record IsFront (shelf : Shelf) (v : VolumeView) (label : VolumeLabel) (blocks : List Block) : Type 0 where
@@ -87,51 +84,36 @@ front_of shelf v label blocks tail s =
       front = ap (λ n. take n s.held.bytes) s.end_is ∙ ap (take (length front)) bytes ∙ take_front front tail;
     }
 
-pub moved_same : (old new : Shelf) (v : VolumeView) → SameBytes old new v.name → Stands old v → Moved old new v v
-moved_same old new v same s =
+-- ---- a volume before and after a call
+
+-- up to the end of the volume's blocks the new shelf holds the same bytes of it
+pub record KeepsFront (old new : Shelf) (v : VolumeView) : Type 0 where
+  pub held : Held
+  pub was : old.volume v.name ≡ Some held
+  pub after : Held
+  pub there : new.volume v.name ≡ Some after
+  pub within : v.end ≤ length after.bytes
+  pub front : take v.end after.bytes ≡ take v.end held.bytes
+
+-- the shelf holds the same bytes of a volume
+abbrev pub SameBytes : Shelf → Shelf → List ℕ → Type 0
+SameBytes old new name = (held : Held) → old.volume name ≡ Some held → (after : Held) × (new.volume name ≡ Some after) × (after.bytes ≡ held.bytes)
+
+pub same_bytes : (old new : Shelf) (name : List ℕ) → new.volume name ≡ old.volume name → SameBytes old new name
+same_bytes old new name same = λ held there. (held, same ∙ there, refl)
+
+front_same : (old new : Shelf) (v : VolumeView) → SameBytes old new v.name → Stands old v → KeepsFront old new v
+front_same old new v same s =
     let f = front_of old v s.label s.blocks s.tail s.stands in
     let a = same f.held f.there in
     record {
-      name_is = refl;
-      end_is = omega arith;
-      front = λ held there. (
-          let b = same held there in
-          (b.0, b.1, (let within = f.within in let one : f.held ≡ held = some_is (sym f.there ∙ there) in let l = ap (λ (h : Held). length h.bytes) one in let m = ap length b.2 in omega arith), ap (take v.end) b.2));
-      stands = record {
-        label = s.label;
-        blocks = s.blocks;
-        tail = s.tail;
-        stands = stands_by_its_bytes v old new f.held a.0 s.label s.blocks s.tail s.stands f.there a.1 a.2;
-      };
+      held = f.held;
+      was = f.there;
+      after = a.0;
+      there = a.1;
+      within = (let within = f.within in let l = ap length a.2 in omega arith);
+      front = ap (take v.end) a.2;
     }
-
--- the volume takes no more blocks
-pub moved_shut : (old new : Shelf) (v w : VolumeView) (status : VolumeStatus) → w ≡ record v { status = status } → status ≢ Append → Moved old new v v → Moved old new v w
-moved_shut old new v w status is shut m =
-    let P : VolumeView → Type 0 = λ x. Moved old new v x in
-    let s = m.stands.stands in
-    subst P (sym is) (record {
-      name_is = refl;
-      end_is = omega arith;
-      front = m.front;
-      stands = record {
-        label = m.stands.label;
-        blocks = m.stands.blocks;
-        tail = m.stands.tail;
-        stands = record {
-          held = s.held;
-          there = s.there;
-          image = s.image;
-          name_is = s.name_is;
-          pool_is = s.pool_is;
-          media_is = s.media_is;
-          end_is = s.end_is;
-          next_is = s.next_is;
-          first_is = s.first_is;
-          no_tail = λ e. absurd (shut e);
-        };
-      };
-    })
 
 take_less : {A : Type 0} (less more : ℕ) (xs : List A) → less ≤ more → take less (take more xs) ≡ take less xs
 take_less zero more xs le = refl
@@ -140,42 +122,51 @@ take_less (suc less) (suc more) [] le = refl
 take_less (suc less) (suc more) (x ∷ xs) le = ap (λ l. x ∷ l) (take_less less more xs (omega arith))
 
 -- a volume that stands there with the same blocks, or with more behind them
-moved_front : (old new : Shelf) (v w : VolumeView) (label : VolumeLabel) (blocks all : List Block) (more tail : List ℕ) → IsFront old v label blocks → StandsOn w new label all tail
-    → w.name ≡ v.name → label_and_blocks label all ≡ label_and_blocks label blocks ++ more → Moved old new v w
-moved_front old new v w label blocks all more tail f s name parted =
+front_behind : (old new : Shelf) (v w : VolumeView) (label : VolumeLabel) (blocks all : List Block) (more tail : List ℕ) → IsFront old v label blocks → StandsOn w new label all tail
+    → w.name ≡ v.name → label_and_blocks label all ≡ label_and_blocks label blocks ++ more → KeepsFront old new v
+front_behind old new v w label blocks all more tail f s name parted =
     let g = front_of new w label all tail s in
     let lab = label_and_blocks label blocks in
     let end : v.end ≤ w.end = omega (arith, f.end_is, g.end_is, ap length parted, length-append lab more) in
+    let bytes : take v.end g.held.bytes ≡ lab =
+    sym (take_less v.end w.end g.held.bytes end) ∙ ap (take v.end) (g.front ∙ parted) ∙ ap (λ n. take n (lab ++ more)) f.end_is ∙ take_front lab more in
     record {
-      name_is = name;
-      end_is = end;
-      front = λ held there. (
-          let one : f.held ≡ held = some_is (sym f.there ∙ there) in
-          let bytes : take v.end g.held.bytes ≡ lab =
-          sym (take_less v.end w.end g.held.bytes end) ∙ ap (take v.end) (g.front ∙ parted) ∙ ap (λ n. take n (lab ++ more)) f.end_is ∙ take_front lab more in
-          (g.held, ap new.volume (sym name) ∙ g.there, (let a = g.within in omega arith), bytes ∙ sym f.front ∙ ap (λ (h : Held). take v.end h.bytes) one));
-      stands = record { label = label; blocks = all; tail = tail; stands = s };
+      held = f.held;
+      was = f.there;
+      after = g.held;
+      there = ap new.volume (sym name) ∙ g.there;
+      within = (let a = g.within in omega arith);
+      front = bytes ∙ sym f.front;
     }
 
 -- after an append that failed
-pub moved_kept : (old new : Shelf) (v w : VolumeView) → KeepsBlocks v old w new → w.name ≡ v.name → Stands old v → Moved old new v w
-moved_kept old new v w keeps name s =
+pub front_kept : (old new : Shelf) (v w : VolumeView) → KeepsBlocks v old w new → w.name ≡ v.name → Stands old v → KeepsFront old new v
+front_kept old new v w keeps name s =
     let k = keeps s.label s.blocks s.tail s.stands in
-    moved_front old new v w s.label s.blocks s.blocks [] k.0 (front_of old v s.label s.blocks s.tail s.stands) k.1 name (sym (append-nil (label_and_blocks s.label s.blocks)))
+    front_behind old new v w s.label s.blocks s.blocks [] k.0 (front_of old v s.label s.blocks s.tail s.stands) k.1 name (sym (append-nil (label_and_blocks s.label s.blocks)))
 
 -- after one that went in
-pub moved_added : (old new : Shelf) (v w : VolumeView) (block : Block) → AddsBlock block v old w new → w.name ≡ v.name → v.status ≡ Append → Stands old v → Moved old new v w
-moved_added old new v w block adds name takes s =
+pub front_added : (old new : Shelf) (v w : VolumeView) (block : Block) → AddsBlock block v old w new → w.name ≡ v.name → v.status ≡ Append → Stands old v → KeepsFront old new v
+front_added old new v w block adds name takes s =
     let P : List ℕ → Type 0 = λ t. StandsOn v old s.label s.blocks t in
     let k = adds s.label s.blocks (subst P (s.stands.no_tail takes) s.stands) in
-    moved_front old new v w s.label s.blocks (s.blocks ++ block ∷ []) _ [] (front_of old v s.label s.blocks s.tail s.stands) k name (with_one_more s.label s.blocks block)
+    front_behind old new v w s.label s.blocks (s.blocks ++ block ∷ []) _ [] (front_of old v s.label s.blocks s.tail s.stands) k name (with_one_more s.label s.blocks block)
 
 -- ---- all volumes of a drive
 
--- each of them has moved to the one in its place, and none has come
-pub record AllMoved (old new : Shelf) (vs vs' : List VolumeView) : Type 0 where
-  pub each : (at : ℕ) (v : VolumeView) → slice_get vs at ≡ Some v → (w : VolumeView) × (slice_get vs' at ≡ Some w) × Moved old new v w
-  pub back : (at : ℕ) (w : VolumeView) → slice_get vs' at ≡ Some w → (v : VolumeView) × (slice_get vs at ≡ Some v)
+abbrev pub AllKeepFronts : Shelf → Shelf → List VolumeView → Type 0
+AllKeepFronts old new vs = (at : ℕ) (v : VolumeView) → slice_get vs at ≡ Some v → KeepsFront old new v
+
+pub fronts_same : (old new : Shelf) (vs : List VolumeView) → AllStand old vs → ((at : ℕ) (v : VolumeView) → slice_get vs at ≡ Some v → SameBytes old new v.name) → AllKeepFronts old new vs
+fronts_same old new vs stand same = λ at v there. front_same old new v (same at v there) (stand at v there)
+
+-- where all but one keep their bytes
+pub fronts_but : (old new : Shelf) (vs : List VolumeView) (at : ℕ) (v : VolumeView) → NamesDiffer vs → AllStand old vs → slice_get vs at ≡ Some v → KeepsFront old new v
+    → ((other : List ℕ) → other ≢ v.name → SameBytes old new other) → AllKeepFronts old new vs
+fronts_but old new vs at v differ stand there own others = λ place x here. elim (place_cases place at) [
+  | inl same ↦ subst (KeepsFront old new) (some_is (sym there ∙ ap (slice_get vs) (sym same) ∙ here)) own
+  | inr apart ↦ front_same old new x (others x.name (other_name vs at place v x differ there here apart)) (stand place x here)
+]
 
 -- ---- placements
 
@@ -187,40 +178,24 @@ pub record SeenAfter (old new : Shelf) (p : Placement) : Type 0 where
   pub front : (held : Held) → old.volume p.volume ≡ Some held → take (p.start + p.length) after.bytes ≡ take (p.start + p.length) held.bytes
   pub image : image_at new p ≡ image_at old p
 
-seen_after : (old new : Shelf) (vs vs' : List VolumeView) (e : Entry) → AllMoved old new vs vs' → LiesOn vs e → IsPlaced old e.placement → SeenAfter old new e.placement
-seen_after old new vs vs' e moved lies is =
+seen_after : (old new : Shelf) (vs : List VolumeView) (e : Entry) → AllKeepFronts old new vs → LiesOn vs e → is_purged e.mark ≡ false → SeenAfter old new e.placement
+seen_after old new vs e fronts lies is =
     let p = e.placement in
-    let m = moved.each lies.at lies.volume lies.there in
-    let a = m.2.front is.held (ap old.volume (sym lies.name_is) ∙ is.there) in
+    let k = fronts lies.at lies.volume lies.there in
     let end = lies.volume.end in
-    let there : new.volume p.volume ≡ Some a.0 = ap new.volume lies.name_is ∙ a.1 in
+    let within = lies.within is in
+    let was : old.volume p.volume ≡ Some k.held = ap old.volume lies.name_is ∙ k.was in
+    let there : new.volume p.volume ≡ Some k.after = ap new.volume lies.name_is ∙ k.there in
     record {
-      after = a.0;
+      after = k.after;
       there = there;
-      within = (let w = lies.within in let l = a.2 in omega arith);
+      within = (let l = k.within in omega arith);
       front = λ held known. (
-          let one : is.held ≡ held = some_is (sym is.there ∙ known) in
-          sym (take_less (p.start + p.length) end a.0.bytes lies.within) ∙ ap (take (p.start + p.length)) (a.3 ∙ ap (λ (h : Held). take end h.bytes) one)
-          ∙ take_less (p.start + p.length) end held.bytes lies.within);
-      image = ap (λ o. bytes_at o p.start p.length) there ∙ part_before end p.start p.length is.held.bytes a.0.bytes lies.within a.3 ∙ sym (ap (λ o. bytes_at o p.start p.length) is.there);
+          let one : k.held ≡ held = some_is (sym was ∙ known) in
+          sym (take_less (p.start + p.length) end k.after.bytes within) ∙ ap (take (p.start + p.length)) (k.front ∙ ap (λ (h : Held). take end h.bytes) one)
+          ∙ take_less (p.start + p.length) end held.bytes within);
+      image = ap (λ o. bytes_at o p.start p.length) there ∙ part_before end p.start p.length k.held.bytes k.after.bytes within k.front ∙ sym (ap (λ o. bytes_at o p.start p.length) was);
     }
-
-pub is_placed_stays : (old new : Shelf) (vs vs' : List VolumeView) (e : Entry) → AllMoved old new vs vs' → LiesOn vs e → IsPlaced old e.placement → IsPlaced new e.placement
-is_placed_stays old new vs vs' e moved lies is =
-    let s = seen_after old new vs vs' e moved lies is in
-    let P : List ℕ → Type 0 = λ bytes. IsBlockImage most_block bytes e.placement.key is.number (drop 24 bytes) in
-    record {
-      held = s.after;
-      there = s.there;
-      within = s.within;
-      number = is.number;
-      image = subst P (sym s.image) is.image;
-    }
-
-pub block_stays : (old new : Shelf) (vs vs' : List VolumeView) (e : Entry) → AllMoved old new vs vs' → LiesOn vs e → IsPlaced old e.placement → block_at new e.placement ≡ block_at old e.placement
-block_stays old new vs vs' e moved lies is =
-    let s = seen_after old new vs vs' e moved lies is in
-    ap (λ (bytes : List ℕ). record { key = e.placement.key; body = drop 24 bytes }) s.image
 
 -- what lasted of the volumes of a drive lasts
 abbrev pub StillOn : List VolumeView → Shelf → Shelf → Type 0
@@ -236,10 +211,10 @@ still_there vs old new e lies later since bytes lasts =
     subst Q (sym lies.name_is) (later lies.at lies.volume lies.there since bytes (subst P lies.name_is lasts))
 
 -- what lasted of a volume up to the end of a block lasts
-pub safe_stays : (old new : Shelf) (vs vs' : List VolumeView) (e : Entry) → AllMoved old new vs vs' → LiesOn vs e → IsPlaced old e.placement → StillOn vs old new → old.moment ≤ new.moment → IsSafe old e.placement → IsSafe new e.placement
-safe_stays old new vs vs' e moved lies is later moment safe =
+safe_stays : (old new : Shelf) (vs : List VolumeView) (e : Entry) → AllKeepFronts old new vs → LiesOn vs e → is_purged e.mark ≡ false → StillOn vs old new → old.moment ≤ new.moment → IsSafe old e.placement → IsSafe new e.placement
+safe_stays old new vs e fronts lies is later moment safe =
     let p = e.placement in
-    let s = seen_after old new vs vs' e moved lies is in
+    let s = seen_after old new vs e fronts lies is in
     let same : take (p.start + p.length) s.after.bytes ≡ take (p.start + p.length) safe.held.bytes = s.front safe.held safe.there in
     let P : List ℕ → Type 0 = λ bytes. Lasts safe.since p.volume bytes new in
     let lasts : Lasts safe.since p.volume (take (p.start + p.length) s.after.bytes) new = subst P (sym same) (still_there vs old new e lies later safe.since _ safe.lasts) in
@@ -254,26 +229,40 @@ safe_stays old new vs vs' e moved lies is later moment safe =
       lasts = lasts;
     }
 
-pub held_stays : (old new : Shelf) (vs vs' : List VolumeView) (e : Entry) → AllMoved old new vs vs' → StillOn vs old new → old.moment ≤ new.moment → LiesOn vs e → IsHeld old e → IsHeld new e
-held_stays old new vs vs' e moved later moment lies held = (is_placed_stays old new vs vs' e moved lies held.0, λ synced. safe_stays old new vs vs' e moved lies held.0 later moment (held.1 synced))
+-- what is synced stays safe
+pub all_safe : (old new : Shelf) (vs : List VolumeView) (js : List Entry) → AllKeepFronts old new vs → StillOn vs old new → old.moment ≤ new.moment → AllByRecursion (LiesOn vs) js
+    → AllByRecursion (IsSafeIfSynced old) js → AllByRecursion (IsSafeIfSynced new) js
+all_safe old new vs [] fronts later moment lie safe = safe
+all_safe old new vs (e ∷ es) fronts later moment lie safe =
+    (λ synced. safe_stays old new vs e fronts lie.0 (ap is_purged synced) later moment (safe.0 synced), all_safe old new vs es fronts later moment lie.1 safe.1)
 
-pub all_stay : (old new : Shelf) (vs vs' : List VolumeView) (js : List Entry) → AllMoved old new vs vs' → StillOn vs old new → old.moment ≤ new.moment → AllByRecursion (LiesOn vs) js → AllByRecursion (IsHeld old) js → AllByRecursion (IsHeld new) js
-all_stay old new vs vs' [] moved later moment lie hold = hold
-all_stay old new vs vs' (e ∷ es) moved later moment lie hold = (held_stays old new vs vs' e moved later moment lie.0 hold.0, all_stay old new vs vs' es moved later moment lie.1 hold.1)
+-- ---- blocks
 
-pub blocks_stay : (old new : Shelf) (vs vs' : List VolumeView) (js : List Entry) → AllMoved old new vs vs' → AllByRecursion (LiesOn vs) js → AllByRecursion (IsHeld old) js
-    → map (block_at new) (placements js) ≡ map (block_at old) (placements js)
-blocks_stay old new vs vs' [] moved lie hold = refl
-blocks_stay old new vs vs' (e ∷ es) moved lie hold =
-    let h = block_stays old new vs vs' e moved lie.0 hold.0.0 in
-    let t = blocks_stay old new vs vs' es moved lie.1 hold.1 in
-    ap (λ l. l ∷ map (block_at new) (placements es)) h ∙ ap (λ l. block_at old e.placement ∷ l) t
+-- the shelves hold one block of the entry, unless it is gone
+abbrev pub SameBlock : Shelf → Shelf → Entry → Type 0
+SameBlock old new e = is_purged e.mark ≡ false → block_at new e.placement ≡ block_at old e.placement
 
-pub fits_stay : (old new : Shelf) (vs vs' : List VolumeView) (js : List Entry) → AllMoved old new vs vs' → StillLasts old new → old.moment ≤ new.moment → AllByRecursion (LiesOn vs) js → Fits old vs js → Fits new vs' js
-fits_stay old new vs vs' js moved later moment lie fits = record {
-  stand = λ at w there. (
-      let v = moved.back at w there in
-      let m = moved.each at v.0 v.1 in
-      subst (Stands new) (some_is (sym m.1 ∙ there)) m.2.stands);
-  hold = all_stay old new vs vs' js moved (still_on vs old new later) moment lie fits.hold;
-}
+pub all_same_block : (old new : Shelf) (vs : List VolumeView) (js : List Entry) → AllKeepFronts old new vs → AllByRecursion (LiesOn vs) js → AllByRecursion (SameBlock old new) js
+all_same_block old new vs [] fronts lie = tt
+all_same_block old new vs (e ∷ es) fronts lie = (
+  λ is. ap (λ (bytes : List ℕ). record { key = e.placement.key; body = drop 24 bytes }) (seen_after old new vs e fronts lie.0 is).image,
+  all_same_block old new vs es fronts lie.1,
+)
+
+pub blocks_same : (old new : Shelf) (js : List Entry) → AllByRecursion (SameBlock old new) js → map (block_of_entry new) js ≡ map (block_of_entry old) js
+blocks_same old new [] same = refl
+blocks_same old new (e ∷ es) same = ap₂ (λ b bs. b ∷ bs) (from (is_purged e.mark) same.0) (blocks_same old new es same.1)
+  where
+    from : (b : Bool) → (b ≡ false → block_at new e.placement ≡ block_at old e.placement)
+        → ◌≡◌ {A = Option Block} (if b then None else Some (block_at new e.placement)) (if b then None else Some (block_at old e.placement))
+    from true h = refl
+    from false h = ap Some (h refl)
+
+pub live_same : (old new : Shelf) (js : List Entry) → AllByRecursion (SameBlock old new) js → map (block_at new) (live js) ≡ map (block_at old) (live js)
+live_same old new [] same = refl
+live_same old new (e ∷ es) same = from (is_purged e.mark) same.0 (live_same old new es same.1)
+  where
+    from : (b : Bool) → (b ≡ false → block_at new e.placement ≡ block_at old e.placement) → map (block_at new) (live es) ≡ map (block_at old) (live es)
+        → map (block_at new) (if b then live es else e.placement ∷ live es) ≡ map (block_at old) (if b then live es else e.placement ∷ live es)
+    from true h rest = rest
+    from false h rest = ap₂ (λ b bs. b ∷ bs) (h refl) rest

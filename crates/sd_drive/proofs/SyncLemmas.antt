@@ -1,28 +1,30 @@
 -- What a sync keeps, and what taking the loaded volume out does.
-use Rattle.std.proofs.Common.{◌≡◌, ◌≢◌, ◌⊎◌, inl, inr, ℕ, ◌+◌, ◌≤◌, ◌<◌, Bool, true, false, ◌&&◌, ◌||◌, if◌then◌else◌, List, [], ◌∷◌, length, get_or, take, refl, ap, sym, subst, Option, Some, None, ◌∙◌, arith, slice_get, slice_set}
+use Rattle.std.proofs.Common.{◌≡◌, ◌≢◌, ◌⊎◌, inl, inr, ℕ, ◌+◌, ◌≤◌, ◌<◌, Bool, true, false, ◌&&◌, ◌||◌, if◌then◌else◌, List, [], ◌∷◌, length, get_or, take, refl, ap, ap₂, sym, subst, map, Option, Some, None, ◌∙◌, arith, slice_get, slice_set}
 use Rattle.std.proofs.lemmas.Option.{slice_get_read}
 use Rattle.std.proofs.Math.Seq.{take-length}
 use Rattle.std.specs.Prelude.{IsTrue, IfSome}
 use Rattle.std.specs.List.{AllByRecursion}
 use Rattle.std.specs.Str.{bytes_eq}
 use Rattle.std.proofs.lemmas.Slice.Eq.{bytes_eq-Decides}
+use Rattle.sd_base.specs.declared.number.SessionKey.{SessionKey}
 use Rattle.sd_driver.specs.Meaning.{Meaning, IsHonest}
 use Rattle.sd_driver.specs.Shelf.{Shelf, Held, SameShelf, Passes, StillLasts, Syncs, MaySync, stable_bytes}
 use Rattle.sd_driver.proofs.Lasting.{Passes-later, Lasts-begin, BeginsWith-own_take, BeginsWith-trans, BeginsWith-same}
 use Rattle.sd_driver.proofs.Names.{name_cases}
-use Rattle.sd_journal.specs.Journal.{Entry, placements, settled, settled_one, awaits_sync, any_awaits_sync, is_unsynced}
+use Rattle.sd_journal.specs.Journal.{Entry, placements, live, settled, settled_one, awaits_sync, any_awaits_sync, is_unsynced, is_purged}
 use Rattle.sd_journal.specs.declared.mark.Mark.{Mark}
 use Rattle.sd_journal.specs.declared.mark.Mark.TheVariants as mark
 use Rattle.sd_lane.specs.declared.piece.Piece.{Piece}
 use Rattle.sd_volume.specs.declared.volume.VolumeStatus.TheVariants as status
+use Rattle.sd_span.specs.declared.placement.Placement.{Placement}
 use Rattle.sd_volume.specs.Volume.{VolumeView}
 use Rattle.sd_drive.specs.View.{DriveIs, name_loaded}
-use Rattle.sd_drive.specs.Shelf.{IsPlaced, IsSafe, IsHeld, LiesOn, IsOnLoaded, Kept, KeepsPieces}
+use Rattle.sd_drive.specs.Shelf.{block_at, block_of_entry, IsSafe, IsSafeIfSynced, LiesOn, IsOnLoaded, Kept, KeepsPieces}
 use Rattle.sd_drive.specs.Moves.{awaits_on, settled_on}
 use Rattle.sd_drive.proofs.Places.{some_is, names_set, differ_same, loaded_at}
-use Rattle.sd_drive.proofs.Stays.{SameBytes, same_bytes, moved_same, moved_shut, fits_stay, blocks_stay}
+use Rattle.sd_drive.proofs.Stays.{AllStand, front_of, SameBytes, same_bytes, fronts_same, still_on, all_safe, all_same_block, blocks_same}
 use Rattle.sd_drive.proofs.LaidLemmas.{laid_same, laid_shut, all_laid_same, all_laid_by, all_laid_set}
-use Rattle.sd_drive.proofs.Kept.{still, all_as, all_map, lies_set, all_moved_set, all_moved_same, blocks_of, blocks_by, items_by, placements_settled}
+use Rattle.sd_drive.proofs.Kept.{still, kept_stand, all_as, all_map, lies_set, blocks_of, items_by}
 
 -- ---- bytes stay
 
@@ -62,6 +64,20 @@ on_volume name e awaits = (bytes_eq-Decides e.placement.volume name).0 (second (
     second : (a b : Bool) → (a && b) ≡ true → b ≡ true
     second true b h = h
     second false b h = cc
+
+-- and isn't gone
+awaits_live : (name : List ℕ) (e : Entry) → awaits_sync name e ≡ true → is_purged e.mark ≡ false
+awaits_live name e awaits = there e.mark (first (is_unsynced e.mark) (bytes_eq e.placement.volume name) awaits)
+  where
+    first : (a b : Bool) → (a && b) ≡ true → a ≡ true
+    first true b h = refl
+    first false b h = cc
+
+    there : (m : Mark) → is_unsynced m ≡ true → is_purged m ≡ false
+    there mark.Unsynced u = refl
+    there mark.Synced u = refl
+    there mark.Lost u = refl
+    there mark.Purged u = cc
 
 -- one that isn't synced and lies on it awaits that
 awaits_there : (name : List ℕ) (e : Entry) → e.mark ≡ mark.Unsynced → e.placement.volume ≡ name → awaits_sync name e ≡ true
@@ -119,12 +135,36 @@ settled_all m name es other on = all_map (IsOnLoaded (Some name)) (λ e. e.mark 
 
 settled_lie : (m : Mark) (name : List ℕ) (vs : List VolumeView) (es : List Entry) → AllByRecursion (LiesOn vs) es → AllByRecursion (LiesOn vs) (settled m name es)
 settled_lie m name vs es lie = all_map (LiesOn vs) (LiesOn vs) (settled_one m name) es
-    (λ e l. settled_case m name (LiesOn vs) e (λ awaits. record { at = l.at; volume = l.volume; there = l.there; name_is = l.name_is; within = l.within }) (λ quiet. l)) lie
+    (λ e l. settled_case m name (LiesOn vs) e (λ awaits. record { at = l.at; volume = l.volume; there = l.there; name_is = l.name_is; within = λ is. l.within (awaits_live name e awaits) }) (λ quiet. l)) lie
 
--- an entry that is settled as lost is held as before
-lost_held : (shelf : Shelf) (name : List ℕ) (es : List Entry) → AllByRecursion (IsHeld shelf) es → AllByRecursion (IsHeld shelf) (settled mark.Lost name es)
-lost_held shelf name es held = all_map (IsHeld shelf) (IsHeld shelf) (settled_one mark.Lost name) es
-    (λ e h. settled_case mark.Lost name (IsHeld shelf) e (λ awaits. (h.0, λ u. absurd (cc u))) (λ quiet. h)) held
+-- what is settled as lost isn't synced
+lost_safe : (shelf : Shelf) (name : List ℕ) (es : List Entry) → AllByRecursion (IsSafeIfSynced shelf) es → AllByRecursion (IsSafeIfSynced shelf) (settled mark.Lost name es)
+lost_safe shelf name es safe = all_map (IsSafeIfSynced shelf) (IsSafeIfSynced shelf) (settled_one mark.Lost name) es
+    (λ e h. settled_case mark.Lost name (IsSafeIfSynced shelf) e (λ awaits u. absurd (cc u)) (λ quiet. h)) safe
+
+-- marks alone change, and none of a block that is gone, or to that
+pub record SameGone (js js' : List Entry) : Type 0 where
+  pub placed : placements js' ≡ placements js
+  pub left : live js' ≡ live js
+  pub blocks : (shelf : Shelf) → map (block_of_entry shelf) js' ≡ map (block_of_entry shelf) js
+
+pub same_gone : (js : List Entry) → SameGone js js
+same_gone js = record { placed = refl; left = refl; blocks = λ shelf. refl }
+
+gone_front : (e e' : Entry) (js js' : List Entry) → (e'.placement ≡ e.placement) × (is_purged e'.mark ≡ is_purged e.mark) → SameGone js js' → SameGone (e ∷ js) (e' ∷ js')
+gone_front e e' js js' same rest = record {
+  placed = ap₂ (λ p ps. p ∷ ps) same.0 rest.placed;
+  left = ap₂ (λ (b : Bool) (p : Placement). if b then live js' else p ∷ live js') same.1 same.0 ∙ ap (λ l. if is_purged e.mark then l else e.placement ∷ l) rest.left;
+  blocks = λ shelf. ap₂ (λ (b : Bool) (p : Placement). (if b then None else Some (block_at shelf p)) ∷ map (block_of_entry shelf) js') same.1 same.0
+      ∙ ap (λ l. block_of_entry shelf e ∷ l) (rest.blocks shelf);
+}
+
+settled_gone : (m : Mark) (name : List ℕ) (es : List Entry) → is_purged m ≡ false → SameGone es (settled m name es)
+settled_gone m name [] other = same_gone []
+settled_gone m name (e ∷ es) other =
+    gone_front e (settled_one m name e) es (settled m name es)
+    (settled_case m name (λ x. (x.placement ≡ e.placement) × (is_purged x.mark ≡ is_purged e.mark)) e (λ awaits. (refl, other ∙ sym (awaits_live name e awaits))) (λ quiet. (refl, refl)))
+    (settled_gone m name es other)
 
 -- the name of what is loaded
 pub loaded_name_is : (vs : List VolumeView) (l : Option ℕ) (at : ℕ) (v : VolumeView) → l ≡ Some at → slice_get vs at ≡ Some v → name_loaded vs l ≡ Some v.name
@@ -145,31 +185,35 @@ loaded_read vs l at v within is read =
 -- ---- a sync that succeeded
 
 -- all of the loaded volume is stable, and lasts from now on
-safe_now : (old new : Shelf) (loaded : Option (List ℕ)) (name : List ℕ) (e : Entry) → Passes old new → loaded ≡ Some name → Syncs loaded old new → e.placement.volume ≡ name → IsPlaced old e.placement → IsSafe new e.placement
-safe_now old new loaded name e passes is syncs on placed =
+safe_now : (old new : Shelf) (loaded : Option (List ℕ)) (name : List ℕ) (vs : List VolumeView) (e : Entry) → Passes old new → loaded ≡ Some name → Syncs loaded old new
+    → AllStand old vs → LiesOn vs e → is_purged e.mark ≡ false → e.placement.volume ≡ name → IsSafe new e.placement
+safe_now old new loaded name vs e passes is syncs stand lies live on =
     let p = e.placement in
-    let h = syncs.here p.volume placed.held (is ∙ ap (λ n. Some n) (sym on)) placed.there in
-    let bytes : h.0.bytes ≡ placed.held.bytes = ap (λ (x : Held). x.bytes) h.1 in
-    let stable : h.0.stable ≡ length placed.held.bytes = ap (λ (x : Held). x.stable) h.1 in
+    let s = stand lies.at lies.volume lies.there in
+    let f = front_of old lies.volume s.label s.blocks s.tail s.stands in
+    let h = syncs.here p.volume f.held (is ∙ ap (λ n. Some n) (sym on)) (ap old.volume lies.name_is ∙ f.there) in
+    let bytes : h.0.bytes ≡ f.held.bytes = ap (λ (x : Held). x.bytes) h.1 in
+    let stable : h.0.stable ≡ length f.held.bytes = ap (λ (x : Held). x.stable) h.1 in
     let whole : stable_bytes (new.volume p.volume) ≡ h.0.bytes =
     ap stable_bytes h.2 ∙ ap (λ n. take n h.0.bytes) (stable ∙ sym (ap length bytes)) ∙ take-length h.0.bytes in
     record {
       held = h.0;
       there = h.2;
-      stable = (let w = placed.within in omega arith);
+      stable = (let w = lies.within live in let l = f.within in omega arith);
       since = new.moment;
       past = omega arith;
       lasts = Lasts-begin p.volume (take (p.start + p.length) h.0.bytes) old new passes
           (BeginsWith-trans (stable_bytes (new.volume p.volume)) h.0.bytes (take (p.start + p.length) h.0.bytes) (BeginsWith-same _ _ whole) (BeginsWith-own_take h.0.bytes (p.start + p.length)));
     }
 
--- what is held of entries that a sync settles: P of those before it, on the new shelf
-synced_held : (old new : Shelf) (loaded : Option (List ℕ)) (name : List ℕ) (es : List Entry) → Passes old new → loaded ≡ Some name → Syncs loaded old new
-    → AllByRecursion (IsHeld old) es → AllByRecursion (IsHeld new) es → AllByRecursion (IsHeld new) (settled mark.Synced name es)
-synced_held old new loaded name [] passes is syncs before held = held
-synced_held old new loaded name (e ∷ es) passes is syncs before held = (
-  settled_case mark.Synced name (IsHeld new) e (λ awaits. (held.0.0, λ s. safe_now old new loaded name e passes is syncs (on_volume name e awaits) before.0.0)) (λ quiet. held.0),
-  synced_held old new loaded name es passes is syncs before.1 held.1,
+-- what a sync settles is safe, and what was synced before still is
+synced_safe : (old new : Shelf) (loaded : Option (List ℕ)) (name : List ℕ) (vs : List VolumeView) (es : List Entry) → Passes old new → loaded ≡ Some name → Syncs loaded old new
+    → AllStand old vs → AllByRecursion (LiesOn vs) es → AllByRecursion (IsSafeIfSynced new) es → AllByRecursion (IsSafeIfSynced new) (settled mark.Synced name es)
+synced_safe old new loaded name vs [] passes is syncs stand lie safe = safe
+synced_safe old new loaded name vs (e ∷ es) passes is syncs stand lie safe = (
+  settled_case mark.Synced name (IsSafeIfSynced new) e
+      (λ awaits s. safe_now old new loaded name vs e passes is syncs stand lie.0 (awaits_live name e awaits) (on_volume name e awaits)) (λ quiet. safe.0),
+  synced_safe old new loaded name vs es passes is syncs stand lie.1 safe.1,
 )
 
 pub kept_synced : (old new : Meaning) (vs : List VolumeView) (l : Option ℕ) (js js' : List Entry) (at : ℕ) (v : VolumeView)
@@ -188,13 +232,14 @@ kept_synced old new vs l js js' at v k is there journal honest loaded passes lat
       unsynced = on_any (name_loaded vs l) (settled mark.Synced v.name js) (settled_all mark.Synced v.name js (λ e. cc) (subst (λ o. AllByRecursion (IsOnLoaded o) js) on k.unsynced));
       laid = λ h. (
           let o = still old new honest h in
-          all_laid_by new.shelf vs (placements js) (placements (settled mark.Synced v.name js)) (placements_settled mark.Synced v.name js)
-          (all_laid_same old.shelf new.shelf vs (placements js) (λ place w here. sync_bytes old.loaded old.shelf new.shelf (syncs o) w.name) (k.laid o)));
-      fits = λ h. (
+          all_laid_by new.shelf vs (live js) (live (settled mark.Synced v.name js)) (settled_gone mark.Synced v.name js refl).left
+          (all_laid_same old.shelf new.shelf vs (live js) (λ place w here. sync_bytes old.loaded old.shelf new.shelf (syncs o) w.name) (k.laid o)));
+      safe = λ h. (
           let o = still old new honest h in
-          let f = k.fits o in
-          let s = fits_stay old.shelf new.shelf vs vs js (all_moved_same old.shelf new.shelf vs js f (λ place w here. sync_bytes old.loaded old.shelf new.shelf (syncs o) w.name)) later (Passes-later old.shelf new.shelf passes) k.lie f in
-          record { stand = s.stand; hold = synced_held old.shelf new.shelf old.loaded v.name js passes (k.tied ∙ on) (syncs o) f.hold s.hold });
+          let stand = kept_stand old vs l js k o in
+          let fronts = fronts_same old.shelf new.shelf vs stand (λ place w here. sync_bytes old.loaded old.shelf new.shelf (syncs o) w.name) in
+          synced_safe old.shelf new.shelf old.loaded v.name vs js passes (k.tied ∙ on) (syncs o) stand k.lie
+          (all_safe old.shelf new.shelf vs js fronts (still_on vs old.shelf new.shelf later) (Passes-later old.shelf new.shelf passes) k.lie (k.safe o)));
     })
 
 -- ---- one that failed, after which the volume is out
@@ -220,29 +265,28 @@ kept_failed_sync old mid new vs l js js' at v w k on_it there is journal honest 
           let m = still mid new honest' h in
           let o = still old mid honest m in
           let bytes : (n : List ℕ) → SameBytes old.shelf new.shelf n = λ n. then_same old.shelf mid.shelf new.shelf n (may_sync_bytes old.loaded old.shelf mid.shelf (syncs o) n) (same m) in
-          all_laid_by new.shelf vs' (placements js) (placements (settled mark.Lost v.name js)) (placements_settled mark.Lost v.name js)
-          (all_laid_set old.shelf new.shelf vs (placements js) (placements js) at v w k.differ there (λ other apart. bytes other) (λ other apart. refl)
-          (laid_shut new.shelf (placements js) v w status.Error is (λ e. cc) (laid_same old.shelf new.shelf (placements js) v (bytes v.name) (k.laid o at v there))) (k.laid o)));
-      fits = λ h. (
+          all_laid_by new.shelf vs' (live js) (live (settled mark.Lost v.name js)) (settled_gone mark.Lost v.name js refl).left
+          (all_laid_set old.shelf new.shelf vs (live js) (live js) at v w k.differ there (λ other apart. bytes other) (λ other apart. refl)
+          (laid_shut new.shelf (live js) v w status.Error is (λ e. cc) (laid_same old.shelf new.shelf (live js) v (bytes v.name) (k.laid o at v there))) (k.laid o)));
+      safe = λ h. (
           let m = still mid new honest' h in
           let o = still old mid honest m in
-          let f = k.fits o in
           let bytes : (n : List ℕ) → SameBytes old.shelf new.shelf n = λ n. then_same old.shelf mid.shelf new.shelf n (may_sync_bytes old.loaded old.shelf mid.shelf (syncs o) n) (same m) in
-          let s = fits_stay old.shelf new.shelf vs vs' js
-          (all_moved_set old.shelf new.shelf vs js at v w k.differ f there (moved_shut old.shelf new.shelf v w status.Error is (λ e. cc) (moved_same old.shelf new.shelf v (bytes v.name) (f.stand at v there))) (λ other apart. bytes other))
-          (λ since n b lasts. later' since n b (later since n b lasts)) moment k.lie f in
-          record { stand = s.stand; hold = lost_held new.shelf v.name js s.hold });
+          let fronts = fronts_same old.shelf new.shelf vs (kept_stand old vs l js k o) (λ place x here. bytes x.name) in
+          lost_safe new.shelf v.name js
+          (all_safe old.shelf new.shelf vs js fronts (still_on vs old.shelf new.shelf (λ since n b lasts. later' since n b (later since n b lasts))) moment k.lie (k.safe o)));
     })
 
 -- the pieces, while bytes stay and marks alone change
 pub pieces_marked : (old new : Meaning) (vs : List VolumeView) (l : Option ℕ) (js js' : List Entry) (hand : Option Piece)
-    → Kept old vs l js → placements js' ≡ placements js → new.honest ≡ old.honest → (IsHonest old → (n : List ℕ) → SameBytes old.shelf new.shelf n)
+    → Kept old vs l js → SameGone js js' → new.honest ≡ old.honest → (IsHonest old → (n : List ℕ) → SameBytes old.shelf new.shelf n)
     → KeepsPieces old new js js' hand hand
 pieces_marked old new vs l js js' hand k marks honest bytes = record {
   honest = honest;
-  items = items_by js js' hand marks;
-  blocks = λ o. blocks_by new.shelf js js' hand marks ∙ blocks_of old.shelf new.shelf js hand
-      (blocks_stay old.shelf new.shelf vs vs js (all_moved_same old.shelf new.shelf vs js (k.fits o) (λ place w here. bytes o w.name)) k.lie (k.fits o).hold);
+  items = items_by js js' hand marks.placed;
+  blocks = λ o. (
+      let fronts = fronts_same old.shelf new.shelf vs (kept_stand old vs l js k o) (λ place w here. bytes o w.name) in
+      blocks_of old.shelf new.shelf js js' hand (marks.blocks new.shelf ∙ blocks_same old.shelf new.shelf js (all_same_block old.shelf new.shelf vs js fronts k.lie)));
 }
 
 -- ---- what is loaded is another, and nothing is unsynced
@@ -258,11 +302,11 @@ kept_loading old new vs l l' js k none loaded within honest later moment same = 
   unsynced = on_any (name_loaded vs l') js none;
   laid = λ h. (
       let o = still old new honest h in
-      all_laid_same old.shelf new.shelf vs (placements js) (λ place w here. same_bytes old.shelf new.shelf w.name (same o w.name)) (k.laid o));
-  fits = λ h. (
+      all_laid_same old.shelf new.shelf vs (live js) (λ place w here. same_bytes old.shelf new.shelf w.name (same o w.name)) (k.laid o));
+  safe = λ h. (
       let o = still old new honest h in
-      let f = k.fits o in
-      fits_stay old.shelf new.shelf vs vs js (all_moved_same old.shelf new.shelf vs js f (λ place w here. same_bytes old.shelf new.shelf w.name (same o w.name))) later moment k.lie f);
+      let fronts = fronts_same old.shelf new.shelf vs (kept_stand old vs l js k o) (λ place w here. same_bytes old.shelf new.shelf w.name (same o w.name)) in
+      all_safe old.shelf new.shelf vs js fronts (still_on vs old.shelf new.shelf later) moment k.lie (k.safe o));
 }
 
 -- with nothing loaded, nothing is unsynced
@@ -274,18 +318,20 @@ pub with_journal : {D : Type 0} (d : DriveIs D) (js : List Entry) → js ≡ d.j
 with_journal d js same = ap (λ j. record d { journal = j }) (sym same)
 
 -- a drive whose device and journal are others
-pub journal_is : {D : Type 0} (d : DriveIs D) (device : D) (js js' : List Entry) → js' ≡ js → ◌≡◌ {A = DriveIs D} (record d { device = device; journal = js' }) (record d { device = device; journal = js })
-journal_is d device js js' same = ap (λ j. record d { device = device; journal = j }) same
+pub journal_is : {D : Type 0} (d : DriveIs D) (device : D) (js js' : List Entry) (ready : List SessionKey) → js' ≡ js → ready ≡ d.ready
+    → ◌≡◌ {A = DriveIs D} (record d { device = device; journal = js'; ready = ready }) (record d { device = device; journal = js })
+journal_is d device js js' ready same room = ap₂ (λ (j : List Entry) (r : List SessionKey). record d { device = device; journal = j; ready = r }) same room
 
--- a drive after a sync that failed
-pub failed_is : {D : Type 0} (d : DriveIs D) (device : D) (js js' : List Entry) (at : ℕ) (w w' : VolumeView) → w' ≡ w → js' ≡ js
-    → ◌≡◌ {A = DriveIs D} (record d { device = device; volumes = slice_set d.volumes at w'; loaded = None; journal = js' }) (record d { device = device; volumes = slice_set d.volumes at w; loaded = None; journal = js })
-failed_is d device js js' at w w' volume journal =
-    ap (λ x. record d { device = device; volumes = slice_set d.volumes at x; loaded = None; journal = js' }) volume
-    ∙ ap (λ j. record d { device = device; volumes = slice_set d.volumes at w; loaded = None; journal = j }) journal
+-- one of whose volumes too is another
+pub parts_are : {D : Type 0} (d : DriveIs D) (device : D) (js js' : List Entry) (ready : List SessionKey) (at : ℕ) (w w' : VolumeView) → w' ≡ w → js' ≡ js → ready ≡ d.ready
+    → ◌≡◌ {A = DriveIs D} (record d { device = device; volumes = slice_set d.volumes at w'; journal = js'; ready = ready }) (record d { device = device; volumes = slice_set d.volumes at w; journal = js })
+parts_are d device js js' ready at w w' volume journal room =
+    ap (λ x. record d { device = device; volumes = slice_set d.volumes at x; journal = js'; ready = ready }) volume
+    ∙ ap₂ (λ (j : List Entry) (r : List SessionKey). record d { device = device; volumes = slice_set d.volumes at w; journal = j; ready = r }) journal room
 
-pub marked_by : (m : Mark) (name : List ℕ) (js js' : List Entry) → js' ≡ settled m name js → placements js' ≡ placements js
-marked_by m name js js' is = ap placements is ∙ placements_settled m name js
+-- what a sync that is over leaves
+pub settled_by : (m : Mark) (name : List ℕ) (js js' : List Entry) → js' ≡ settled m name js → is_purged m ≡ false → SameGone js js'
+settled_by m name js js' is other = subst (SameGone js) (sym is) (settled_gone m name js other)
 
 pub true_false : {P : Type 0} → true ≡ false → P
 true_false e = absurd (cc e)
@@ -300,4 +346,4 @@ pieces_trans a b c js js' js'' hand hand' hand'' one two = record {
 -- the pieces over calls that change no volume
 pub pieces_same : (old new : Meaning) (vs : List VolumeView) (l : Option ℕ) (js : List Entry) (hand : Option Piece)
     → Kept old vs l js → new.honest ≡ old.honest → (IsHonest old → SameShelf old.shelf new.shelf) → KeepsPieces old new js js hand hand
-pieces_same old new vs l js hand k honest same = pieces_marked old new vs l js js hand k refl honest (λ o n. same_bytes old.shelf new.shelf n (same o n))
+pieces_same old new vs l js hand k honest same = pieces_marked old new vs l js js hand k (same_gone js) honest (λ o n. same_bytes old.shelf new.shelf n (same o n))

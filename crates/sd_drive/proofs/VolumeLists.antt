@@ -3,19 +3,19 @@ use Rattle.std.proofs.Common.{◌≡◌, ◌≢◌, inl, inr, ℕ, ◌≤◌, �
 use Rattle.std.specs.Prelude.{IfSome}
 use Rattle.std.specs.List.{AllByRecursion}
 use Rattle.sd_driver.specs.Meaning.{Meaning, IsHonest}
-use Rattle.sd_driver.specs.Shelf.{Shelf, StillLasts, StillLastsBelow, MayCreate}
-use Rattle.sd_journal.specs.Journal.{Entry, placements}
+use Rattle.sd_driver.specs.Shelf.{Shelf, StillLastsBelow, MayCreate}
+use Rattle.sd_journal.specs.Journal.{Entry, live}
 use Rattle.sd_journal.specs.declared.mark.Mark.TheVariants.{Unsynced}
 use Rattle.sd_lane.specs.declared.piece.Piece.{Piece}
 use Rattle.sd_driver.proofs.Names.{name_cases}
 use Rattle.sd_volume.specs.Device.{OnlyReads}
 use Rattle.sd_volume.specs.Volume.{VolumeView}
 use Rattle.sd_drive.specs.View.{names, name_loaded}
-use Rattle.sd_drive.specs.Shelf.{Stands, LiesOn, IsOnLoaded, Kept, KeepsPieces}
-use Rattle.sd_drive.proofs.Places.{some_is, get_front, get_more, name_at, differ_more}
-use Rattle.sd_drive.proofs.Stays.{SameBytes, same_bytes, all_stay, fits_stay, blocks_stay, StillOn}
+use Rattle.sd_drive.specs.Shelf.{LiesOn, IsOnLoaded, Kept, KeepsPieces}
+use Rattle.sd_drive.proofs.Places.{get_front, name_at, differ_more}
+use Rattle.sd_drive.proofs.Stays.{Stands, SameBytes, same_bytes, fronts_same, all_safe, all_same_block, blocks_same, StillOn, still_on}
 use Rattle.sd_drive.proofs.LaidLemmas.{none_on, laid_first, all_laid_same, all_laid_more}
-use Rattle.sd_drive.proofs.Kept.{still, all_as, all_moved_same, blocks_of}
+use Rattle.sd_drive.proofs.Kept.{still, kept_stand, all_as, blocks_of}
 use Rattle.sd_drive.proofs.LoadLemmas.{none_when}
 
 -- every volume of the drive has its bytes
@@ -34,9 +34,6 @@ same_made vs name old new made = λ at v there held is. elim (name_cases v.name 
   | inl e ↦ (held, ap new.volume e ∙ made.there held (ap old.volume (sym e) ∙ is), refl)
   | inr o ↦ (held, made.others v.name o ∙ is, refl)
 ]
-
-pub on_all : (vs : List VolumeView) (old new : Shelf) → StillLasts old new → StillOn vs old new
-on_all vs old new later = λ at v there since bytes lasts. later since v.name bytes lasts
 
 pub on_others : (vs : List VolumeView) (name : List ℕ) (to : ℕ) (old new : Shelf) → IsFresh vs name → StillLastsBelow to name old new → StillOn vs old new
 on_others vs name to old new fresh below = λ at v there since bytes lasts. below.others since v.name bytes (λ e. fresh at (name_at vs at v there ∙ ap (λ n. Some n) e)) lasts
@@ -61,19 +58,11 @@ kept_more old new vs vs' l js v k none all fresh honest loaded moment later same
       unsynced = subst R (sym none) (all_as (λ e. e.mark ≢ Unsynced) (IsOnLoaded None) js (λ e n u. absurd (n u)) none_un);
       laid = λ h. (
           let o = still old new honest h in
-          all_laid_more new.shelf vs (placements js) v (laid_first new.shelf (placements js) v (none_on vs js v.name fresh k.lie) (stands o))
-          (all_laid_same old.shelf new.shelf vs (placements js) (same o) (k.laid o)));
-      fits = λ h. (
+          all_laid_more new.shelf vs (live js) v (laid_first new.shelf (live js) v (none_on vs js v.name fresh k.lie) (stands o))
+          (all_laid_same old.shelf new.shelf vs (live js) (same o) (k.laid o)));
+      safe = λ h. (
           let o = still old new honest h in
-          let f = k.fits o in
-          let moved = all_moved_same old.shelf new.shelf vs js f (same o) in
-          record {
-            stand = λ at w there. elim (get_more vs v at w there) [
-              | inl front ↦ (let m = moved.each at w front in subst (Stands new.shelf) (some_is (sym m.1 ∙ front)) m.2.stands)
-              | inr last ↦ subst (Stands new.shelf) (sym last.value) (stands o)
-            ];
-            hold = all_stay old.shelf new.shelf vs vs js moved (later o) moment k.lie f.hold;
-          });
+          all_safe old.shelf new.shelf vs js (fronts_same old.shelf new.shelf vs (kept_stand old vs l js k o) (same o)) (later o) moment k.lie (k.safe o));
     })
 
 -- with none loaded, and the same volumes
@@ -86,15 +75,10 @@ kept_called old new vs l js k none honest loaded moment later same = record {
   differ = k.differ;
   lie = k.lie;
   unsynced = k.unsynced;
-  laid = λ h. (let o = still old new honest h in all_laid_same old.shelf new.shelf vs (placements js) (same o) (k.laid o));
-  fits = λ h. (
+  laid = λ h. (let o = still old new honest h in all_laid_same old.shelf new.shelf vs (live js) (same o) (k.laid o));
+  safe = λ h. (
       let o = still old new honest h in
-      let f = k.fits o in
-      let moved = all_moved_same old.shelf new.shelf vs js f (same o) in
-      record {
-        stand = λ at w there. (let m = moved.each at w there in subst (Stands new.shelf) (some_is (sym m.1 ∙ there)) m.2.stands);
-        hold = all_stay old.shelf new.shelf vs vs js moved (later o) moment k.lie f.hold;
-      });
+      all_safe old.shelf new.shelf vs js (fronts_same old.shelf new.shelf vs (kept_stand old vs l js k o) (same o)) (later o) moment k.lie (k.safe o));
 }
 
 -- the pieces over such a call
@@ -103,7 +87,8 @@ pub pieces_called : (old new : Meaning) (vs : List VolumeView) (l : Option ℕ) 
 pieces_called old new vs l js hand k honest same = record {
   honest = honest;
   items = refl;
-  blocks = λ o. blocks_of old.shelf new.shelf js hand (blocks_stay old.shelf new.shelf vs vs js (all_moved_same old.shelf new.shelf vs js (k.fits o) (same o)) k.lie (k.fits o).hold);
+  blocks = λ o. blocks_of old.shelf new.shelf js js hand
+      (blocks_same old.shelf new.shelf js (all_same_block old.shelf new.shelf vs js (fronts_same old.shelf new.shelf vs (kept_stand old vs l js k o) (same o)) k.lie));
 }
 
 -- over calls that only read, whatever is loaded
@@ -116,11 +101,11 @@ kept_read fault old new vs l js k reads = record {
   unsynced = k.unsynced;
   laid = λ h. (
       let o = still old new reads.counted.honest h in
-      all_laid_same old.shelf new.shelf vs (placements js) (λ at v there. same_bytes old.shelf new.shelf v.name (reads.same o v.name)) (k.laid o));
-  fits = λ h. (
+      all_laid_same old.shelf new.shelf vs (live js) (λ at v there. same_bytes old.shelf new.shelf v.name (reads.same o v.name)) (k.laid o));
+  safe = λ h. (
       let o = still old new reads.counted.honest h in
-      let f = k.fits o in
-      fits_stay old.shelf new.shelf vs vs js (all_moved_same old.shelf new.shelf vs js f (λ at v there. same_bytes old.shelf new.shelf v.name (reads.same o v.name))) reads.lasts reads.counted.moment k.lie f);
+      let fronts = fronts_same old.shelf new.shelf vs (kept_stand old vs l js k o) (λ at v there. same_bytes old.shelf new.shelf v.name (reads.same o v.name)) in
+      all_safe old.shelf new.shelf vs js fronts (still_on vs old.shelf new.shelf reads.lasts) reads.counted.moment k.lie (k.safe o));
 }
 
 pub pieces_read : (fault : Type 0) (old new : Meaning) (vs : List VolumeView) (l : Option ℕ) (js : List Entry) (hand : Option Piece) → Kept old vs l js → OnlyReads fault old new → KeepsPieces old new js js hand hand

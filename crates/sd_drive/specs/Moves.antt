@@ -1,11 +1,13 @@
 -- What each call of a drive does to it, by its answer.
-use Rattle.std.specs.Prelude.{◌≡◌, ℕ, ℤ, ◌+◌, ◌≤◌, ◌⊎◌, ◌==◌, Bool, true, false, not, List, [], ◌∷◌, ◌++◌, Option, None, Some, IsSome, is_some, position, Result, Ok, Err, if◌then◌else◌, slice_get, slice_set}
+use Rattle.std.specs.Prelude.{◌≡◌, ℕ, ℤ, ◌+◌, ◌≤◌, ◌⊎◌, ◌==◌, Bool, true, false, not, List, [], ◌∷◌, ◌++◌, Option, None, Some, IsSome, is_some, position, Result, Ok, Err, OnOk, if◌then◌else◌, slice_get, slice_set}
+use Rattle.std.specs.Option.{option_and_then}
 use Rattle.std.specs.Str.{bytes_eq}
+use Rattle.sd_base.specs.declared.number.SessionKey.{SessionKey}
 use Rattle.sd_base.specs.declared.refusal.Refusal.{Refusal}
 use Rattle.sd_base.specs.declared.refusal.Refusal.TheVariants as refusal
 use Rattle.sd_driver.specs.declared.driver.DriverFault.{DriverFault}
 use Rattle.sd_driver.specs.declared.driver.DriverFault.TheVariants as driver
-use Rattle.sd_journal.specs.Journal.{Entry, noted, settled, any_awaits_sync}
+use Rattle.sd_journal.specs.Journal.{Entry, noted, settled, purged, any_awaits_sync, with_key, without_key}
 use Rattle.sd_journal.specs.declared.mark.Mark.{Mark}
 use Rattle.sd_journal.specs.declared.mark.Mark.TheVariants as mark
 use Rattle.sd_label.specs.declared.label.VolumeLabel.{VolumeLabel}
@@ -13,13 +15,15 @@ use Rattle.sd_lane.specs.declared.piece.Piece.{Piece}
 use Rattle.sd_span.specs.declared.placement.Placement.{Placement}
 use Rattle.sd_volume.specs.declared.volume.VolumeStatus.{VolumeStatus}
 use Rattle.sd_volume.specs.declared.volume.VolumeStatus.TheVariants as status
-use Rattle.sd_volume.specs.Adopt.{Adopts, status_at}
+use Rattle.sd_volume.specs.Adopt.{Adopts, CutsAt, status_at}
+use Rattle.sd_volume.specs.Purge.{emptied}
 use Rattle.sd_volume.specs.Volume.{VolumeView}
 use Rattle.sd_driver.specs.Meaning.{Meaning, IsHonest}
 use Rattle.sd_driver.specs.Shelf.{StillLastsBelow}
 use Rattle.sd_drive.specs.declared.adopt.Adopted.{Adopted}
 use Rattle.sd_drive.specs.declared.place.Placed.{Placed}
 use Rattle.sd_drive.specs.declared.place.Placed.TheVariants.{At, NeedVolume, VolumeFull, VolumeError, Idle}
+use Rattle.sd_drive.specs.Shelf.{KeepsPieces, KeepsOtherPieces}
 use Rattle.sd_drive.specs.View.{DriveIs, name_loaded, block_length}
 
 -- Placing.
@@ -75,6 +79,10 @@ PlacesOn (Ok Idle) limit piece old new journal journal' = ⊥
 PlacesOn (Err error) limit piece old new journal journal' =
     IsWithin limit piece old × (new ≡ old) × (journal' ≡ journal)
 
+-- room was made for the session's next placement, or not
+abbrev pub MayHaveRoom : SessionKey → List SessionKey → List SessionKey → Type 0
+MayHaveRoom key old new = (new ≡ old) ⊎ (new ≡ with_key key old)
+
 -- what is in the hand after that answer: the piece stays there until it is placed
 abbrev pub hand_after : {E : Type 0} → Result Placed E → Option Piece → Option Piece
 hand_after (Ok (At p)) hand = None
@@ -84,6 +92,16 @@ hand_after (Ok VolumeError) hand = hand
 hand_after (Ok Idle) hand = hand
 hand_after (Err error) hand = hand
 
+-- The sessions for whose next placement there is room after that answer: what was placed used the room of its session up;
+-- else room may have been made for it.
+abbrev pub RoomAfter : {E : Type 0} → Result Placed E → SessionKey → List SessionKey → List SessionKey → Type 0
+RoomAfter (Ok (At p)) key old new = new ≡ without_key key (with_key key old)
+RoomAfter (Ok NeedVolume) key old new = new ≡ old
+RoomAfter (Ok VolumeFull) key old new = MayHaveRoom key old new
+RoomAfter (Ok VolumeError) key old new = MayHaveRoom key old new
+RoomAfter (Ok Idle) key old new = new ≡ old
+RoomAfter (Err error) key old new = MayHaveRoom key old new
+
 -- the piece in the hand met a volume that takes blocks; nothing changes but that volume, the journal and the hand
 pub record PlacesPiece {D E : Type 0} (result : Result Placed E) (old new : DriveIs D) : Type 0 where
   pub piece : Piece
@@ -92,11 +110,13 @@ pub record PlacesPiece {D E : Type 0} (result : Result Placed E) (old new : Driv
   pub after : VolumeView
   pub ready : IsReady old piece at volume
   pub on : PlacesOn result old.limits.volume piece volume after old.journal new.journal
+  pub room : RoomAfter result piece.key old.ready new.ready
   pub becomes : new ≡ record old {
     device = new.device;
     volumes = slice_set old.volumes at after;
     hand = hand_after result old.hand;
     journal = new.journal;
+    ready = new.ready;
   }
 
 -- what a place does: it is idle exactly with an empty hand; else it needs a volume exactly where none is loaded that
@@ -267,3 +287,60 @@ pub record AdoptsVolume {D : Type 0} (name : List ℕ) (answer : Adopted) (devic
   pub answer_is : answer ≡ record { end = volume.end; next_number = volume.next_number }
   pub below : StillLastsBelow volume.end name device.shelf device'.shelf
   pub adopts : IsHonest device → Adopts name old.media old.limits.time volume device.shelf device'.shelf
+
+-- Purging.
+
+-- the volume takes no more blocks, since one found no room
+abbrev pub is_full : VolumeStatus → Bool
+is_full status.Append = false
+is_full status.Full = true
+is_full status.Error = false
+
+-- which refusal is due where this volume is to be purged, with that one loaded
+abbrev pub purge_due_at : Option ℕ → VolumeView → Option Refusal
+purge_due_at loaded v =
+    if is_full v.status then if is_some loaded then Some refusal.InUse else None else Some refusal.VolumeNotFull
+
+-- the same where perhaps no volume was found
+abbrev pub purge_due_of : Option ℕ → Option VolumeView → Option Refusal
+purge_due_of loaded None = Some refusal.VolumeNotOnShelf
+purge_due_of loaded (Some v) = purge_due_at loaded v
+
+-- which refusal of a purge is due before the device is asked: the volume isn't the drive's; it isn't full; a volume is loaded
+abbrev pub purge_due : {D : Type 0} → DriveIs D → List ℕ → Option Refusal
+purge_due d name = purge_due_of d.loaded (option_and_then (slice_get d.volumes) (place_of d.volumes name))
+
+-- the volume, which stands at this place, has no block and this status now, and the blocks of all entries on it are gone
+abbrev pub EmptiesVolume : {D : Type 0} → ℕ → VolumeView → VolumeStatus → DriveIs D → DriveIs D → Type 0
+EmptiesVolume at volume status old new = new ≡ record old {
+  device = new.device;
+  volumes = slice_set old.volumes at (emptied status volume);
+  journal = purged volume.name old.journal;
+}
+
+-- What a purge that isn't refused at once does to the volume at this place: it is emptied, and takes blocks again. Where the
+-- device fails it is emptied too, and takes none; where it isn't loaded, or memory is wanted, nothing changes.
+abbrev pub Purges : {D T : Type 0} → ℕ → VolumeView → Result T Refusal → DriveIs D → DriveIs D → Type 0
+Purges at volume (Ok done) old new = EmptiesVolume at volume status.Append old new
+Purges at volume (Err fault) old new =
+    ((fault ≡ refusal.DeviceFault) × EmptiesVolume at volume status.Error old new)
+    ⊎ (((fault ≡ refusal.VolumeNotOnShelf) ⊎ (fault ≡ refusal.Memory)) × AddsNone old new)
+
+-- What such a purge of the volume of this name, which stands at this place, does: the volume is emptied, or not, by the
+-- answer. What lasted of all other volumes still lasts, and so does its label block; and where the purge succeeds, an honest
+-- device has cut it there.
+pub record PurgesAt {D T : Type 0} (name : List ℕ) (at : ℕ) (result : Result T Refusal) (device device' : Meaning)
+    (old new : DriveIs D) : Type 0 where
+  pub volume : VolumeView
+  pub there : slice_get old.volumes at ≡ Some volume
+  pub name_is : volume.name ≡ name
+  pub purges : Purges at volume result old new
+  pub below : StillLastsBelow volume.first name device.shelf device'.shelf
+  pub cuts : IsHonest device → OnOk result (CutsAt volume.first name device.shelf device'.shelf)
+
+-- what a purge leaves of the pieces given: where it emptied the volume, by its answer, its blocks are gone
+abbrev pub KeepsPurging : {T : Type 0} → Result T Refusal → (name : List ℕ) → (old new : Meaning)
+    → List Entry → Option Piece → Type 0
+KeepsPurging (Ok done) name old new journal hand = KeepsOtherPieces name old new journal hand
+KeepsPurging (Err refusal.DeviceFault) name old new journal hand = KeepsOtherPieces name old new journal hand
+KeepsPurging (Err fault) name old new journal hand = KeepsPieces old new journal journal hand hand

@@ -1,13 +1,12 @@
 -- What a drive's journal says of the shelf of its device, and what a drive keeps of that.
-use Rattle.std.specs.Prelude.{◌≡◌, ℕ, ◌+◌, ◌<◌, ◌≤◌, List, [], ◌∷◌, ◌++◌, length, map, take, drop, if◌then◌else◌, Option, None, Some, IfSome, slice_get}
+use Rattle.std.specs.Prelude.{◌≡◌, ℕ, ◌+◌, ◌<◌, ◌≤◌, false, List, [], ◌∷◌, ◌++◌, length, map, take, drop, if◌then◌else◌, Option, None, Some, IfSome, slice_get}
 use Rattle.std.specs.List.{AllByRecursion}
 use Rattle.std.specs.Str.{bytes_eq}
 use Rattle.std.specs.Option.{option_to_list}
-use Rattle.sd_base.specs.Limits.{block_header, most_block}
-use Rattle.sd_block.specs.Image.{IsBlockImage}
+use Rattle.sd_base.specs.Limits.{block_header}
 use Rattle.sd_driver.specs.Meaning.{Meaning, IsHonest}
 use Rattle.sd_driver.specs.Shelf.{Shelf, Held, Lasts, stable_bytes}
-use Rattle.sd_journal.specs.Journal.{Entry, placements}
+use Rattle.sd_journal.specs.Journal.{Entry, is_purged, live, purged}
 use Rattle.sd_journal.specs.declared.mark.Mark.TheVariants.{Unsynced, Synced}
 use Rattle.sd_label.specs.declared.label.VolumeLabel.{VolumeLabel}
 use Rattle.sd_lane.specs.declared.piece.Piece.{Piece}
@@ -29,18 +28,15 @@ image_at shelf p = bytes_at (shelf.volume p.volume) p.start p.length
 abbrev pub block_at : Shelf → Placement → Block
 block_at shelf p = record { key = p.key; body = drop block_header (image_at shelf p) }
 
--- the blocks at the journal's placements and then the one of the piece in the hand, in the order of the pieces given
-abbrev pub blocks : Shelf → List Entry → Option Piece → List Block
-blocks shelf journal hand =
-    map (block_at shelf) (placements journal) ++ map block_of_piece (option_to_list hand)
+-- the block at the placement of an entry; none where it is gone
+abbrev pub block_of_entry : Shelf → Entry → Option Block
+block_of_entry shelf e = if is_purged e.mark then None else Some (block_at shelf e.placement)
 
--- the placement lies within its volume, and there stands the image of a block of its session
-pub record IsPlaced (shelf : Shelf) (p : Placement) : Type 0 where
-  pub held : Held
-  pub there : shelf.volume p.volume ≡ Some held
-  pub within : p.start + p.length ≤ length held.bytes
-  pub number : ℕ
-  pub image : IsBlockImage most_block (image_at shelf p) p.key number (block_at shelf p).body
+-- the blocks at the journal's placements, those that are gone left blank, and then the one of the piece in the hand, in the
+-- order of the pieces given
+abbrev pub blocks : Shelf → List Entry → Option Piece → List (Option Block)
+blocks shelf journal hand =
+    map (block_of_entry shelf) journal ++ map (λ (p : Piece). Some (block_of_piece p)) (option_to_list hand)
 
 -- the placement ends at or below the stable length of its volume, and since some moment, now or earlier, every stop
 -- leaves the volume up to that end
@@ -52,16 +48,9 @@ pub record IsSafe (shelf : Shelf) (p : Placement) : Type 0 where
   pub past : since ≤ shelf.moment
   pub lasts : Lasts since p.volume (take (p.start + p.length) held.bytes) shelf
 
--- what the shelf holds of an entry of the journal
-abbrev pub IsHeld : Shelf → Entry → Type 0
-IsHeld shelf e = IsPlaced shelf e.placement × (e.mark ≡ Synced → IsSafe shelf e.placement)
-
--- the volume stands on the shelf: its label block, its blocks, and a tail only where it takes no more
-pub record Stands (shelf : Shelf) (v : VolumeView) : Type 0 where
-  pub label : VolumeLabel
-  pub blocks : List Block
-  pub tail : List ℕ
-  pub stands : StandsOn v shelf label blocks tail
+-- where the entry's block is synced, it is safe
+abbrev pub IsSafeIfSynced : Shelf → Entry → Type 0
+IsSafeIfSynced shelf e = e.mark ≡ Synced → IsSafe shelf e.placement
 
 -- the placements on one volume, in order
 abbrev pub placements_on : List ℕ → List Placement → List Placement
@@ -96,18 +85,13 @@ pub record IsLaidOut (shelf : Shelf) (ps : List Placement) (v : VolumeView) : Ty
 abbrev pub AreLaidOut : Shelf → List Placement → List VolumeView → Type 0
 AreLaidOut shelf ps volumes = (at : ℕ) (v : VolumeView) → slice_get volumes at ≡ Some v → IsLaidOut shelf ps v
 
--- every volume of the drive stands on the shelf, and every entry of its journal is held there
-pub record Fits (shelf : Shelf) (volumes : List VolumeView) (journal : List Entry) : Type 0 where
-  pub stand : (at : ℕ) (v : VolumeView) → slice_get volumes at ≡ Some v → Stands shelf v
-  pub hold : AllByRecursion (IsHeld shelf) journal
-
--- the entry's block lies on one of the volumes, before its end
+-- the entry's block lies on one of the volumes, or did; before its end, unless it is gone
 pub record LiesOn (volumes : List VolumeView) (e : Entry) : Type 0 where
   pub at : ℕ
   pub volume : VolumeView
   pub there : slice_get volumes at ≡ Some volume
   pub name_is : e.placement.volume ≡ volume.name
-  pub within : e.placement.start + e.placement.length ≤ volume.end
+  pub within : is_purged e.mark ≡ false → e.placement.start + e.placement.length ≤ volume.end
 
 -- where the entry isn't synced yet, its volume is the loaded one
 abbrev pub IsOnLoaded : Option (List ℕ) → Entry → Type 0
@@ -119,17 +103,17 @@ NamesDiffer volumes = (at other : ℕ) (name : List ℕ)
     → slice_get (names volumes) at ≡ Some name → slice_get (names volumes) other ≡ Some name → at ≡ other
 
 -- What a drive keeps, whatever its calls answer. Always: the device has that volume loaded which the drive says, one of
--- its own; no two volumes have one name; every block of the journal lies on one of them, and those not synced yet on
--- the loaded one. While the device is honest: what the drive says of volumes and blocks stands on the shelf, and since
--- a volume came to it, the blocks of the journal alone were added there, in its order.
+-- its own; no two volumes have one name; every block of the journal that isn't gone lies on one of them, and those not
+-- synced yet on the loaded one. While the device is honest: each volume stands on the shelf, and since it came to the
+-- drive, or was purged, the blocks of the journal alone were added there, in its order; and those that are synced last.
 pub record Kept (device : Meaning) (volumes : List VolumeView) (loaded : Option ℕ) (journal : List Entry) : Type 0 where
   pub tied : device.loaded ≡ name_loaded volumes loaded
   pub one_of : IfSome loaded (λ at. at < length volumes)
   pub differ : NamesDiffer volumes
   pub lie : AllByRecursion (LiesOn volumes) journal
   pub unsynced : AllByRecursion (IsOnLoaded (name_loaded volumes loaded)) journal
-  pub laid : IsHonest device → AreLaidOut device.shelf (placements journal) volumes
-  pub fits : IsHonest device → Fits device.shelf volumes journal
+  pub laid : IsHonest device → AreLaidOut device.shelf (live journal) volumes
+  pub safe : IsHonest device → AllByRecursion (IsSafeIfSynced device.shelf) journal
 
 -- what a call keeps: whether the device is honest, the pieces given so far, and, while it is honest, their blocks
 pub record KeepsPieces (old new : Meaning)
@@ -137,6 +121,12 @@ pub record KeepsPieces (old new : Meaning)
   pub honest : new.honest ≡ old.honest
   pub items : items journal' hand' ≡ items journal hand
   pub blocks : IsHonest old → blocks new.shelf journal' hand' ≡ blocks old.shelf journal hand
+
+-- what a purge of the volume keeps: the same, but that its blocks are gone
+pub record KeepsOtherPieces (name : List ℕ) (old new : Meaning) (journal : List Entry) (hand : Option Piece) : Type 0 where
+  pub honest : new.honest ≡ old.honest
+  pub items : items (purged name journal) hand ≡ items journal hand
+  pub blocks : IsHonest old → blocks new.shelf (purged name journal) hand ≡ blocks old.shelf (purged name journal) hand
 
 -- what a stop now leaves of the shelf is what is stable now; it is so after every call of a device
 abbrev pub LeavesStable : Shelf → Type 0

@@ -2,6 +2,7 @@
 use Rattle.std.specs.Prelude.{ℕ, ◌+◌, List, ◌++◌, length, map, Option, slice_get}
 use Rattle.std.specs.Option.{option_to_list, option_and_then}
 use Rattle.sd_base.specs.Limits.{block_header}
+use Rattle.sd_base.specs.declared.number.SessionKey.{SessionKey}
 use Rattle.sd_journal.specs.Journal.{Entry, Item, items_of, placements}
 use Rattle.sd_lane.specs.declared.piece.Piece.{Piece}
 use Rattle.sd_volume.specs.Image.{Block}
@@ -21,6 +22,8 @@ pub record DriveIs (D : Type 0) : Type 0 where
   pub pool : Option (List ℕ)
   pub hand : Option Piece
   pub journal : List Entry
+  -- the sessions for whose next placement its journal has room
+  pub ready : List SessionKey
 
 -- the names of volumes, in order
 abbrev pub names : List VolumeView → List (List ℕ)

@@ -3,7 +3,7 @@ ghost use Rattle.std.specs.Prelude.{◌≡◌, ◌↔◌, ◌≤◌, ◌<◌, �
 ghost use Rattle.std.specs.Option.{option_copied};
 ghost use Rattle.sd_driver.specs.Meaning.{IsHonest, SameCounts};
 ghost use Rattle.sd_driver.specs.Shelf.{SameShelf, StillLasts};
-ghost use Rattle.sd_journal.specs.Journal.{placements, progress_of};
+ghost use Rattle.sd_journal.specs.Journal.{placements, progress_of, with_key};
 ghost use Rattle.sd_span.specs.Spans.{spans_of};
 ghost use Rattle.sd_drive.specs.Limits.{AreLimits};
 ghost use Rattle.sd_drive.specs.Shelf.{Kept, KeepsPieces, LeavesStable};
@@ -62,6 +62,7 @@ impl<D: Driver> Model for Drive<D> {
       pool = d.pool;
       hand = d.hand;
       journal = d.journal.entries;
+      ready = d.journal.ready;
     } };
 
     ghost invariant = { λ d. record {
@@ -90,6 +91,7 @@ impl<D: Driver> Drive<D> {
           pool = None;
           hand = None;
           journal = [];
+          ready = [];
         }) }
         ensures honest { IfOk result
             (λ drive. (D.meaning drive.device).honest ≡ (D.meaning driver).honest) }
@@ -191,10 +193,12 @@ impl<D: Driver> Drive<D> {
         self.hand.as_ref()
     }
 
-    /// Takes the memory for a session's first placement early, so that it is wanted where the session is opened. No
-    /// clause shows the room: it is no part of a drive's value, and `place` asks for it again.
+    /// Makes room for a session's next placement early, so that memory is wanted where the session is opened.
     pub fn ready(&mut self, key: SessionKey) -> Result<(), AllocError>
-        ensures { self.new ≡ self.old }
+        ensures ok { OnOk result (self.new ≡ record self.old {
+          ready = with_key key self.old.ready;
+        }) }
+        ensures err { OnErr result (self.new ≡ self.old) }
     {
         self.journal.ready(key)
     }
@@ -206,10 +210,13 @@ impl<D: Driver> Drive<D> {
         self.pool = Some(pool.copy());
     }
 
-    /// Notes a session that was reserved at the drive: its pool is the drive's from then on. Takes the memory for its
-    /// first placement early, as `ready` does.
+    /// Notes a session that was reserved at the drive: its pool is the drive's from then on, and there is room for its
+    /// next placement.
     pub fn serve(&mut self, key: SessionKey, pool: &PoolName) -> Result<(), AllocError>
-        ensures ok { OnOk result (self.new ≡ record self.old { pool = Some pool.now }) }
+        ensures ok { OnOk result (self.new ≡ record self.old {
+          pool = Some pool.now;
+          ready = with_key key self.old.ready;
+        }) }
         ensures err { OnErr result (self.new ≡ self.old) }
     {
         self.ready(key)?;

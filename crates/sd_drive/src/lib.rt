@@ -8,6 +8,7 @@ mod label;
 mod limits;
 mod mount;
 mod place;
+mod purge;
 mod read;
 mod receipt;
 mod sync;

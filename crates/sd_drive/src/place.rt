@@ -6,7 +6,7 @@ ghost use Rattle.sd_driver.specs.Shelf.{StillLasts};
 ghost use Rattle.sd_volume.specs.declared.volume.VolumeStatus.TheVariants.{Append};
 ghost use Rattle.sd_volume.specs.Device.{Counted, CallsAtMost, OthersStay};
 ghost use Rattle.sd_drive.specs.Shelf.{KeepsPieces};
-ghost use Rattle.sd_drive.specs.Moves.{Places, PlacesOn, TakesOn, IsWithin, LimitAllows, hand_after};
+ghost use Rattle.sd_drive.specs.Moves.{Places, PlacesOn, RoomAfter, TakesOn, IsWithin, LimitAllows, hand_after};
 ghost use Rattle.sd_drive.specs.Placing.{PlacesAt};
 
 use crate::drive::Drive;
@@ -36,7 +36,7 @@ pub enum Placed {
 impl<D: Driver> Drive<D> {
     /// Places the piece in the hand behind the last block of the loaded volume. Makes room for the journal's entry
     /// first, and calls the device once, or not at all where the block would pass the limit. After an Err all is as
-    /// before.
+    /// before, but for that room.
     pub fn place(&mut self) -> Result<Placed, AllocError>
         ensures places { Places result self.old self.new }
         ensures counted { Counted (result ≡ Ok Placed.VolumeError)
@@ -117,6 +117,7 @@ fn place_on<D: Driver>(
     requires limit { limit ≤ most_volume }
     ensures on { PlacesOn result limit piece.now volume.old volume.new
         journal.old.entries journal.new.entries }
+    ensures room { RoomAfter result piece.now.key journal.old.ready journal.new.ready }
     ensures counted { Counted (result ≡ Ok Placed.VolumeError)
         ((result ≡ Ok Placed.VolumeFull) × IsWithin limit piece.now volume.old)
         (D.meaning driver.old) (D.meaning driver.new) }

@@ -1,16 +1,17 @@
--- What a run of the list machine leaves of a closed session: all of it.
-use Rattle.std.proofs.Common.{◌≡◌, ◌≢◌, ℕ, ◌==◌, cond, true, false, Some, List, [], ◌∷◌, ◌++◌, refl, sym, ap, subst, ◌∙◌, Option, None, map}
+-- What a run of the list machine leaves of a session that is closed or was purged: all of it, but that it may be purged.
+use Rattle.std.proofs.Common.{◌≡◌, ◌≢◌, ◌⊎◌, ℕ, ◌==◌, cond, true, false, Some, List, [], ◌∷◌, ◌++◌, refl, sym, ap, subst, ◌∙◌, Option, None, map, inl, inr}
 use Rattle.sd_base.specs.declared.number.SessionKey.{SessionKey}
 use Rattle.sd_machine.specs.declared.event.Event.{Event}
-use Rattle.sd_machine.specs.declared.event.Event.TheVariants.{Open, Append, End, Close, Cancel, Spool, Despool, Take, Place, Sync, Label, Adopt, Mount, Unmount, Seek, Retire, Media}
+use Rattle.sd_machine.specs.declared.event.Event.TheVariants.{Open, Append, End, Close, Cancel, Spool, Despool, Take, Place, Sync, Label, Adopt, Mount, Unmount, Seek, Retire, Purge, Media}
 use Rattle.sd_machine.specs.declared.reply.Reply.{Reply}
-use Rattle.sd_machine.specs.declared.reply.Reply.TheVariants.{Refused, Opened, Taken, Ended, Closed, Cancelled, Spooled, SpoolFull, Nothing, NoSpool, Sent, LaneFull, NotDue, InHand, HandFull, Idle, Placed, NeedVolume, VolumeFull, VolumeError, Synced, Labelled, Adopted, Mounted, Unmounted, Requested, NoNeed, Retired, Media as Spans}
+use Rattle.sd_machine.specs.declared.reply.Reply.TheVariants.{Refused, Opened, Taken, Ended, Closed, Cancelled, Spooled, SpoolFull, Nothing, NoSpool, Sent, LaneFull, NotDue, InHand, HandFull, Idle, Placed, NeedVolume, VolumeFull, VolumeError, Synced, Labelled, Adopted, Mounted, Unmounted, Requested, NoNeed, Retired, Purged, Media as Spans}
 use Rattle.sd_session.specs.declared.status.Status.{Status}
-use Rattle.sd_session.specs.declared.status.Status.TheVariants.{Closed as IsClosed, Failed as IsFailed}
-use Rattle.sd_machine.specs.Machine.{Machine, MachineSession, Strike, session_of, with_session, changed, opened, struck_with, status_after, struck, with_strikes}
+use Rattle.sd_session.specs.declared.status.Status.TheVariants.{Failed as IsFailed, Purged as IsPurged}
+use Rattle.sd_session.specs.Session.{IsRunning}
+use Rattle.sd_machine.specs.Machine.{Machine, MachineSession, Strike, session_of, with_session, changed, opened, failed_status, struck_with, status_after, struck, with_strikes}
 use Rattle.sd_machine.specs.Step.{Run, Turns, HasSession, Step}
-use Rattle.sd_machine.specs.Kept.{ClosedKeepTheirRecords, ClosedKeepTheirStatus}
-use Rattle.sd_machine.proofs.Lookups.{chosen, not_closed}
+use Rattle.sd_machine.specs.Kept.{IsClosedOrPurged, ClosedKeepTheirRecords, ClosedKeepTheirStatus}
+use Rattle.sd_machine.proofs.Lookups.{chosen, not_over}
 
 -- Lists of sessions.
 
@@ -41,21 +42,49 @@ session_of-more ticket (y ∷ ss) more s at =
       | false ↦ λ later. session_of-more ticket ss more s later
     ]) at
 
--- no strike hits a closed session
-struck_closed : (status : Status) → struck_with status IsClosed ≡ IsClosed
-struck_closed IsFailed = refl
-struck_closed status = refl
+-- Statuses.
 
-closed_after : (strikes : List Strike) (ticket : ℕ) → status_after strikes ticket IsClosed ≡ IsClosed
-closed_after [] ticket = refl
-closed_after (x ∷ xs) ticket = ap (status_after xs ticket) (elim (x.ticket == ticket) as (λ b. cond b (struck_with x.status IsClosed) IsClosed ≡ IsClosed) [
-  | true ↦ struck_closed x.status
-  | false ↦ refl
-]) ∙ closed_after xs ticket
+-- the later status is the earlier one, or the session was purged
+abbrev Follows : Status → Status → Type 0
+Follows old new = (new ≡ old) ⊎ (new ≡ IsPurged)
 
-struck-closed : (strikes : List Strike) (s : MachineSession) → s.status ≡ IsClosed → struck strikes s ≡ s
-struck-closed strikes s closed =
-    ap (λ (status : Status). record s { status = status }) (ap (status_after strikes s.key.id) closed ∙ closed_after strikes s.key.id ∙ sym closed)
+follows_on : (a b c : Status) → Follows a b → Follows b c → Follows a c
+follows_on a b c (inl p) (inl q) = inl (q ∙ p)
+follows_on a b c (inr p) (inl q) = inr (q ∙ p)
+follows_on a b c p (inr q) = inr q
+
+still_over : (a b : Status) → IsClosedOrPurged a → Follows a b → IsClosedOrPurged b
+still_over a b (inl over) (inl p) = inl (p ∙ over)
+still_over a b (inr over) (inl p) = inr (p ∙ over)
+still_over a b over (inr p) = inr p
+
+still_purged : (a b : Status) → a ≡ IsPurged → Follows a b → b ≡ IsPurged
+still_purged a b purged (inl p) = p ∙ purged
+still_purged a b purged (inr p) = p
+
+-- a session that is closed or purged has no failure
+no_failure : (status : Status) → IsClosedOrPurged status → failed_status status ≡ status
+no_failure status (inl closed) = ap failed_status closed ∙ sym closed
+no_failure status (inr purged) = ap failed_status purged ∙ sym purged
+
+-- the only strike that hits such a session purges it
+struck_over : (strike status : Status) → IsClosedOrPurged status → Follows status (struck_with strike status)
+struck_over IsFailed status over = inl (no_failure status over)
+struck_over IsPurged status over = inr refl
+struck_over strike status over = inl refl
+
+over_after : (strikes : List Strike) (ticket : ℕ) (status : Status)
+    → IsClosedOrPurged status → Follows status (status_after strikes ticket status)
+over_after [] ticket status over = inl refl
+over_after (x ∷ xs) ticket status over =
+    let one : Follows status (cond (x.ticket == ticket) (struck_with x.status status) status) =
+    elim (x.ticket == ticket) as (λ b. Follows status (cond b (struck_with x.status status) status)) [
+      | true ↦ struck_over x.status status over
+      | false ↦ inl refl
+    ] in
+    follows_on status _ _ one (over_after xs ticket _ (still_over status _ over one))
+
+-- Strikes.
 
 -- the session that was found, struck where it is among these
 abbrev option_struck : List Strike → Option MachineSession → Option MachineSession
@@ -73,37 +102,66 @@ session_of-struck strikes ticket (y ∷ ss) s at =
       | false ↦ λ later. session_of-struck strikes ticket ss s later
     ]) at
 
--- each closed session of the one machine is in the other as it was
-abbrev KeepsClosed : Machine → Machine → Type 0
-KeepsClosed old new = (ticket : ℕ) (s : MachineSession)
-    → session_of ticket old.sessions ≡ Some s → s.status ≡ IsClosed → session_of ticket new.sessions ≡ Some s
+-- the machine has this session, as it was but that it may have been purged
+record Kept (m : Machine) (ticket : ℕ) (s : MachineSession) : Type 0 where
+  session : MachineSession
+  there : session_of ticket m.sessions ≡ Some session
+  key_is : session.key ≡ s.key
+  records_are : session.records ≡ s.records
+  status_is : Follows s.status session.status
+
+-- each session of the one machine that is closed or purged is kept in the other
+abbrev KeepsOver : Machine → Machine → Type 0
+KeepsOver old new = (ticket : ℕ) (s : MachineSession)
+    → session_of ticket old.sessions ≡ Some s → IsClosedOrPurged s.status → Kept new ticket s
+
+as_it_was : (m : Machine) (ticket : ℕ) (s : MachineSession) → session_of ticket m.sessions ≡ Some s → Kept m ticket s
+as_it_was m ticket s at = record { session = s; there = at; key_is = refl; records_are = refl; status_is = inl refl }
+
+-- what is kept by one step and by the next is kept by both
+keeps_on : (a b c : Machine) → KeepsOver a b → KeepsOver b c → KeepsOver a c
+keeps_on a b c first second ticket s at over =
+    let one = first ticket s at over in
+    let two = second ticket one.session one.there (still_over s.status one.session.status over one.status_is) in
+    record {
+      session = two.session;
+      there = two.there;
+      key_is = two.key_is ∙ one.key_is;
+      records_are = two.records_are ∙ one.records_are;
+      status_is = follows_on s.status one.session.status two.session.status one.status_is two.status_is;
+    }
 
 -- Steps.
 
-stays : (old new : Machine) → new ≡ old → KeepsClosed old new
-stays old new same ticket s at closed = subst (λ (m : Machine). session_of ticket m.sessions ≡ Some s) (sym same) at
+stays : (old new : Machine) → new ≡ old → KeepsOver old new
+stays old new same ticket s at over =
+    as_it_was new ticket s (subst (λ (m : Machine). session_of ticket m.sessions ≡ Some s) (sym same) at)
 
--- one session changes, which is not closed
-changes : (old new : Machine) (ticket : ℕ) (x y : MachineSession) → HasSession old ticket x → (x.status ≡ IsClosed → ⊥) → y.key ≡ x.key → new ≡ changed old y → KeepsClosed old new
-changes old new ticket x y there not_yet key is wanted s at closed =
+-- one session changes, which goes on
+changes : (old new : Machine) (ticket : ℕ) (x y : MachineSession)
+    → HasSession old ticket x → IsRunning x.status → y.key ≡ x.key → new ≡ changed old y → KeepsOver old new
+changes old new ticket x y there running key is wanted s at over =
     let other : y.key.id ≢ wanted = λ same.
     let id : wanted ≡ ticket = sym same ∙ ap (λ (k : SessionKey). k.id) key ∙ session_id ticket old.sessions x there in
     let one : Some x ≡ Some s = sym there ∙ ap (λ n. session_of n old.sessions) (sym id) ∙ at in
     let both : x ≡ s = cc one in
-    not_yet (ap (λ (z : MachineSession). z.status) both ∙ closed) in
-    subst (λ (m : Machine). session_of wanted m.sessions ≡ Some s) (sym is) (session_of-with wanted y old.sessions other ∙ at)
+    not_over s.status (subst (λ (z : MachineSession). IsRunning z.status) both running) over in
+    as_it_was new wanted s (subst (λ (m : Machine). session_of wanted m.sessions ≡ Some s) (sym is)
+    (session_of-with wanted y old.sessions other ∙ at))
 
-opens : (old new : Machine) → new ≡ opened old → KeepsClosed old new
-opens old new is ticket s at closed = subst (λ (m : Machine). session_of ticket m.sessions ≡ Some s) (sym is) (session_of-more ticket old.sessions _ s at)
+opens : (old new : Machine) → new ≡ opened old → KeepsOver old new
+opens old new is ticket s at over =
+    as_it_was new ticket s (subst (λ (m : Machine). session_of ticket m.sessions ≡ Some s) (sym is)
+    (session_of-more ticket old.sessions _ s at))
 
-turn_keeps : (old new : Machine) (event : Event) (reply : Reply) → Turns old event reply new → KeepsClosed old new
+turn_keeps : (old new : Machine) (event : Event) (reply : Reply) → Turns old event reply new → KeepsOver old new
 turn_keeps old new event (Refused why) turns = stays old new turns.1
 turn_keeps old new (Open job pool media moment) (Opened ticket drive) turns = opens old new turns.2
 turn_keeps old new (Append ticket r) (Taken n) turns =
-    changes old new ticket turns.0 (record turns.0 { records = turns.0.records ++ r ∷ [] }) turns.1 (λ closed. cc (sym turns.2 ∙ closed)) refl turns.5
-turn_keeps old new (End ticket moment) Ended turns = changes old new ticket turns.0 _ turns.1 (λ closed. cc (sym turns.2 ∙ closed)) refl turns.3
-turn_keeps old new (Close ticket) (Closed key spans) turns = changes old new ticket turns.0 _ turns.1 (λ closed. cc (sym turns.2 ∙ closed)) refl turns.4
-turn_keeps old new (Cancel ticket) Cancelled turns = changes old new ticket turns.0 _ turns.1 (not_closed turns.0.status turns.2) refl turns.3
+    changes old new ticket turns.0 (record turns.0 { records = turns.0.records ++ r ∷ [] }) turns.1 (inl turns.2) refl turns.5
+turn_keeps old new (End ticket moment) Ended turns = changes old new ticket turns.0 _ turns.1 (inl turns.2) refl turns.3
+turn_keeps old new (Close ticket) (Closed key spans) turns = changes old new ticket turns.0 _ turns.1 (inr turns.2) refl turns.4
+turn_keeps old new (Cancel ticket) Cancelled turns = changes old new ticket turns.0 _ turns.1 turns.2 refl turns.3
 turn_keeps old new (Spool ticket) Spooled turns = stays old new turns.3
 turn_keeps old new (Spool ticket) SpoolFull turns = stays old new turns.3
 turn_keeps old new (Spool ticket) Nothing turns = stays old new turns.3
@@ -129,28 +187,45 @@ turn_keeps old new (Seek drive) (Mounted mounted) turns = stays old new turns
 turn_keeps old new (Seek drive) Requested turns = stays old new turns
 turn_keeps old new (Seek drive) NoNeed turns = stays old new turns
 turn_keeps old new (Retire drive) Retired turns = stays old new turns
+turn_keeps old new (Purge drive name) Purged turns = stays old new turns
 turn_keeps old new (Media ticket) (Spans spans) turns = stays old new turns.1
 turn_keeps old new event reply turns = absurd turns
 
-strikes_keep : (strikes : List Strike) (m : Machine) → KeepsClosed m (with_strikes strikes m)
-strikes_keep strikes m ticket s at closed = session_of-struck strikes ticket m.sessions s at ∙ ap Some (struck-closed strikes s closed)
+strikes_keep : (strikes : List Strike) (m : Machine) → KeepsOver m (with_strikes strikes m)
+strikes_keep strikes m ticket s at over = record {
+  session = struck strikes s;
+  there = session_of-struck strikes ticket m.sessions s at;
+  key_is = refl;
+  records_are = refl;
+  status_is = over_after strikes s.key.id s.status over;
+}
 
--- a step keeps each closed session as it is, whichever sessions are struck
-pub step_keeps : (strikes : List Strike) (old new : Machine) (event : Event) (reply : Reply) → Step strikes old event reply new → KeepsClosed old new
-step_keeps strikes old new event reply step ticket s at closed =
-    stays (with_strikes strikes step.between) new step.new_is ticket s
-    (strikes_keep strikes step.between ticket s (turn_keeps old step.between event reply step.turns ticket s at closed) closed) closed
+-- a step keeps each session that is closed or purged, whichever sessions are struck
+step_keeps : (strikes : List Strike) (old new : Machine) (event : Event) (reply : Reply)
+    → Step strikes old event reply new → KeepsOver old new
+step_keeps strikes old new event reply step =
+    keeps_on old step.between new (turn_keeps old step.between event reply step.turns)
+    (keeps_on step.between (with_strikes strikes step.between) new (strikes_keep strikes step.between)
+    (stays (with_strikes strikes step.between) new step.new_is))
 
-run_keeps : (m m' : Machine) (events : List Event) (replies : List Reply) → Run m events replies m' → KeepsClosed m m'
+run_keeps : (m m' : Machine) (events : List Event) (replies : List Reply) → Run m events replies m' → KeepsOver m m'
 run_keeps m m' [] [] run = stays m m' run
 run_keeps m m' [] (reply ∷ replies) run = absurd run
 run_keeps m m' (event ∷ events) [] run = absurd run
 run_keeps m m' (event ∷ events) (reply ∷ replies) run =
-    λ ticket s at closed. run_keeps run.1 m' events replies run.3 ticket s (step_keeps run.0 m run.1 event reply run.2 ticket s at closed) closed
+    keeps_on m run.1 m' (step_keeps run.0 m run.1 event reply run.2) (run_keeps run.1 m' events replies run.3)
 
 pub closed_keep_their_records : ClosedKeepTheirRecords
-closed_keep_their_records m m' events replies run ticket s at closed =
-    record { session = s; there = run_keeps m m' events replies run ticket s at closed; key_is = refl; records_are = refl }
+closed_keep_their_records m m' events replies run ticket s at over =
+    let kept = run_keeps m m' events replies run ticket s at over in
+    record { session = kept.session; there = kept.there; key_is = kept.key_is; records_are = kept.records_are }
 
 pub closed_keep_their_status : ClosedKeepTheirStatus
-closed_keep_their_status m m' events replies run ticket s at closed = (s, run_keeps m m' events replies run ticket s at closed, closed)
+closed_keep_their_status m m' events replies run = record {
+  closed = λ ticket s at closed.
+      let kept = run_keeps m m' events replies run ticket s at (inl closed) in
+      (kept.session, kept.there, still_over s.status kept.session.status (inl closed) kept.status_is);
+  purged = λ ticket s at purged.
+      let kept = run_keeps m m' events replies run ticket s at (inr purged) in
+      (kept.session, kept.there, still_purged s.status kept.session.status purged kept.status_is);
+}

@@ -3,7 +3,7 @@ use Rattle.std.specs.Prelude.{ℕ, ◌+◌, ◌==◌, if◌then◌else◌, Optio
 use Rattle.sd_base.specs.Record.{Record}
 use Rattle.sd_base.specs.declared.number.SessionKey.{SessionKey}
 use Rattle.sd_session.specs.declared.status.Status.{Status}
-use Rattle.sd_session.specs.declared.status.Status.TheVariants.{Active, Ended, Closed, Cancelled, Failed}
+use Rattle.sd_session.specs.declared.status.Status.TheVariants.{Active, Ended, Closed, Cancelled, Failed, Purged}
 
 -- a session: its key, the records that it took, in order, and its status
 pub record MachineSession : Type 0 where
@@ -57,6 +57,7 @@ failed_status Ended = Failed
 failed_status Closed = Closed
 failed_status Cancelled = Cancelled
 failed_status Failed = Failed
+failed_status Purged = Purged
 
 -- a session that an event strikes beside its own: its ticket, and the status with which it is struck
 pub record Strike : Type 0 where
@@ -67,9 +68,15 @@ pub record Strike : Type 0 where
 abbrev pub failure : ℕ → Strike
 failure ticket = record { ticket = ticket; status = Failed }
 
--- the status of a session that is struck with the first, and had the second; no event strikes with another than Failed
+-- the session of this ticket is purged
+abbrev pub purging : ℕ → Strike
+purging ticket = record { ticket = ticket; status = Purged }
+
+-- the status of a session that is struck with the first, and had the second; no event strikes with another than Failed or
+-- Purged
 abbrev pub struck_with : Status → Status → Status
 struck_with Failed status = failed_status status
+struck_with Purged status = Purged
 struck_with other status = status
 
 -- the status of the session of a ticket after these strikes

@@ -3,16 +3,16 @@ use Rattle.std.specs.Prelude.{◌≡◌, ◌⊎◌, ℕ, ◌+◌, ◌≤◌, ◌
 use Rattle.sd_base.specs.Limits.{most_number}
 use Rattle.sd_base.specs.Record.{Record}
 use Rattle.sd_base.specs.declared.refusal.Refusal.{Refusal}
-use Rattle.sd_base.specs.declared.refusal.Refusal.TheVariants.{SessionNotOpen, BadFileIndex, SessionFailed, NotYet, Busy, NoSessionNumberLeft, NoDriveOfMedia, NoFreeLane, DriveOffline, SpoolFault, VolumeNotOnShelf, NotOurVolume, OtherPoolOrMedia, InUse, NotAppendable, AlreadyLabelled, BlocksOfThisRun, NoSuchDrive, NoRoom, DeviceFault, Memory}
+use Rattle.sd_base.specs.declared.refusal.Refusal.TheVariants.{SessionNotOpen, BadFileIndex, SessionFailed, NotYet, Busy, NoSessionNumberLeft, NoDriveOfMedia, NoFreeLane, DriveOffline, SpoolFault, VolumeNotOnShelf, NotOurVolume, OtherPoolOrMedia, InUse, NotAppendable, AlreadyLabelled, BlocksOfThisRun, NoSuchDrive, NoRoom, DeviceFault, VolumeNotFull, Memory}
 use Rattle.sd_label.specs.Cutting.{total_bytes}
 use Rattle.sd_machine.specs.declared.event.Event.{Event}
-use Rattle.sd_machine.specs.declared.event.Event.TheVariants.{Open, Append, End, Close, Cancel, Spool, Despool, Take, Place, Sync, Label, Adopt, Mount, Unmount, Seek, Retire, Media}
+use Rattle.sd_machine.specs.declared.event.Event.TheVariants.{Open, Append, End, Close, Cancel, Spool, Despool, Take, Place, Sync, Label, Adopt, Mount, Unmount, Seek, Retire, Purge, Media}
 use Rattle.sd_machine.specs.declared.reply.Reply.{Reply}
-use Rattle.sd_machine.specs.declared.reply.Reply.TheVariants.{Refused, Opened, Taken, Ended, Closed, Cancelled, Spooled, SpoolFull, Nothing, NoSpool, Sent, LaneFull, NotDue, InHand, HandFull, Idle, Placed, NeedVolume, VolumeFull, VolumeError, Synced, Labelled, Adopted, Mounted, Unmounted, Requested, NoNeed, Retired, Media as Spans}
+use Rattle.sd_machine.specs.declared.reply.Reply.TheVariants.{Refused, Opened, Taken, Ended, Closed, Cancelled, Spooled, SpoolFull, Nothing, NoSpool, Sent, LaneFull, NotDue, InHand, HandFull, Idle, Placed, NeedVolume, VolumeFull, VolumeError, Synced, Labelled, Adopted, Mounted, Unmounted, Requested, NoNeed, Retired, Purged, Media as Spans}
 use Rattle.sd_session.specs.declared.status.Status.{Status}
 use Rattle.sd_session.specs.declared.status.Status.TheVariants.{Active as IsActive, Ended as IsEnded, Closed as IsClosed, Cancelled as IsCancelled}
 use Rattle.sd_session.specs.Session.{IsRunning, MayTake, status_refusal}
-use Rattle.sd_machine.specs.Machine.{Machine, MachineSession, Strike, session_of, changed, opened, last_index, failure, with_strikes}
+use Rattle.sd_machine.specs.Machine.{Machine, MachineSession, Strike, session_of, changed, opened, last_index, failure, purging, with_strikes}
 
 -- the ticket's session is this one
 abbrev pub HasSession : Machine → ℕ → MachineSession → Type 0
@@ -102,6 +102,10 @@ abbrev pub MayRefuseMount : Refusal → Type 0
 MayRefuseMount why =
     NoDrive why ⊎ (why ≡ VolumeNotOnShelf) ⊎ (why ≡ InUse) ⊎ (why ≡ NotAppendable) ⊎ (why ≡ OtherPoolOrMedia) ⊎ NoDevice why
 
+-- what a purge may be refused for
+abbrev pub MayRefusePurge : Refusal → Type 0
+MayRefusePurge why = NoDrive why ⊎ (why ≡ VolumeNotOnShelf) ⊎ (why ≡ VolumeNotFull) ⊎ (why ≡ InUse) ⊎ NoDevice why
+
 -- what the spans of a session may be refused for: an unknown ticket, a drive that is offline for good, want of memory
 abbrev pub MayRefuseMedia : Machine → ℕ → Refusal → Type 0
 MayRefuseMedia m ticket why =
@@ -126,6 +130,7 @@ MayRefuse m (Mount drive name) why = MayRefuseMount why
 MayRefuse m (Unmount drive) why = NoDrive why ⊎ (why ≡ DeviceFault)
 MayRefuse m (Seek drive) why = NoDrive why ⊎ (why ≡ VolumeNotOnShelf) ⊎ NoDevice why
 MayRefuse m (Retire drive) why = NoDrive why ⊎ (why ≡ InUse)
+MayRefuse m (Purge drive name) why = MayRefusePurge why
 MayRefuse m (Media ticket) why = MayRefuseMedia m ticket why
 
 -- a session with that status gets another one
@@ -172,6 +177,7 @@ Turns old (Seek drive) (Mounted mounted) new = Stays old new
 Turns old (Seek drive) Requested new = Stays old new
 Turns old (Seek drive) NoNeed new = Stays old new
 Turns old (Retire drive) Retired new = Stays old new
+Turns old (Purge drive name) Purged new = Stays old new
 Turns old (Media ticket) (Spans spans) new = ((s : MachineSession) × HasSession old ticket s) × Stays old new
 Turns old event reply new = ⊥
 
@@ -180,8 +186,14 @@ abbrev pub AreFailures : Machine → List Strike → Type 0
 AreFailures m [] = Unit {0}
 AreFailures m (x ∷ xs) = ((x ≡ failure x.ticket) × (s : MachineSession) × HasSession m x.ticket s × IsRunning s.status) × AreFailures m xs
 
+-- each of the strikes is the purge of a session that goes on no more
+abbrev pub ArePurges : Machine → List Strike → Type 0
+ArePurges m [] = Unit {0}
+ArePurges m (x ∷ xs) = ((x ≡ purging x.ticket) × (s : MachineSession) × HasSession m x.ticket s × (IsRunning s.status → ⊥)) × ArePurges m xs
+
 -- Which sessions a step may strike, and with what: the one whose own spool failed fails; where a device failed to sync,
--- any may that go on; else none.
+-- any may that go on; where a volume was purged, or its device failed at that, any may be purged that go on no more; else
+-- none.
 abbrev pub MayStrike : Machine → Event → Reply → List Strike → Type 0
 MayStrike m (Spool ticket) (Refused SpoolFault) strikes = strikes ≡ failure ticket ∷ []
 MayStrike m (Despool ticket) (Refused SpoolFault) strikes = strikes ≡ failure ticket ∷ []
@@ -189,6 +201,8 @@ MayStrike m (Sync drive) (Refused DeviceFault) strikes = AreFailures m strikes
 MayStrike m (Mount drive name) (Refused DeviceFault) strikes = AreFailures m strikes
 MayStrike m (Unmount drive) (Refused DeviceFault) strikes = AreFailures m strikes
 MayStrike m (Seek drive) (Refused DeviceFault) strikes = AreFailures m strikes
+MayStrike m (Purge drive name) Purged strikes = ArePurges m strikes
+MayStrike m (Purge drive name) (Refused DeviceFault) strikes = ArePurges m strikes
 MayStrike m event reply strikes = strikes ≡ []
 
 -- a step, in which these sessions are struck

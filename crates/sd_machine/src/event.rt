@@ -79,6 +79,11 @@ pub enum Event {
     Retire {
         drive: DriveNo,
     },
+    /// A full volume is emptied for good, so that it takes blocks again.
+    Purge {
+        drive: DriveNo,
+        name: VolName,
+    },
     /// The spans of a session are asked for, as far as it was placed.
     Media {
         ticket: Ticket,

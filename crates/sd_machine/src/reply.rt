@@ -81,6 +81,8 @@ pub enum Reply {
     NoNeed,
     /// The drive is offline for good.
     Retired,
+    /// The volume is empty. The sessions that had blocks on it are purged.
+    Purged,
     /// Where the session's blocks lie, as far as it was placed.
     Media {
         spans: Items<Span>,

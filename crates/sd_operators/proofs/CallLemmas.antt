@@ -11,7 +11,7 @@ use Rattle.sd_driver.specs.Meaning.{Meaning}
 use Rattle.sd_driver.specs.Shelf.{StillLasts}
 use Rattle.sd_volume.specs.Device.{Counted}
 use Rattle.sd_lane.specs.Queue.{LanesView}
-use Rattle.sd_moves.specs.Stations.{Outcome, Calls, LosesBlocks}
+use Rattle.sd_world.specs.Stations.{Outcome, Calls, LosesBlocks}
 
 -- what a call leaves of a device, by other words for what it answered
 pub recounted : {A B A' B' : Type 0} (m m' : Meaning) → (A' → A) → (A → A') → (B' → B) → (B → B') → Counted A B m m' → Counted A' B' m m'

@@ -1,12 +1,14 @@
 -- The desk beside a drive: names that are claimed, and volumes that have them.
 use Rattle.std.proofs.Common.{◌≡◌, ◌≢◌, ℕ, Bool, true, false, List, Option, Some, None, refl, sym, ap, ◌∙◌}
+use Rattle.std.specs.Option.{option_map}
 use Rattle.std.specs.Str.{bytes_eq}
 use Rattle.std.proofs.lemmas.Slice.Eq.{bytes_eq-Decides}
-use Rattle.sd_desk.specs.Desk.{DeskView, claimed_by, OtherClaimsStay}
+use Rattle.sd_desk.specs.Desk.{DeskView, claim_of, claimed_by, OtherClaimsStay}
+use Rattle.sd_desk.specs.declared.claim.Claim.{Claim}
 use Rattle.sd_drive.specs.View.{DriveIs}
 use Rattle.sd_drive.specs.Moves.{label_due, adopt_due, place_of}
 use Rattle.sd_drive.proofs.FindLemmas.{place_there}
-use Rattle.sd_moves.specs.Operators.{SameDesk}
+use Rattle.sd_world.specs.Operators.{SameDesk}
 use Rattle.sd_operators.specs.AtStations.{AreClaimed}
 
 -- a drive has no volume of a name that isn't claimed
@@ -32,18 +34,23 @@ label_free d name media same loaded none =
 pub adopt_free : {D : Type 0} (d : DriveIs D) (name : List ℕ) → d.loaded ≡ None → place_of d.volumes name ≡ None → adopt_due d name ≡ None
 adopt_free d name loaded none = rw (none, loaded)
 
+-- a name that isn't claimed has no claim
+none_claimed : (o : Option Claim) → option_map (λ (c : Claim). c.drive) o ≡ None → o ≡ None
+none_claimed None is = refl
+none_claimed (Some c) is = absurd (cc is)
+
 -- a name that was claimed and released
 pub released : (name : List ℕ) (old mid new : DeskView) → claimed_by old name ≡ None → OtherClaimsStay name old mid → OtherClaimsStay name mid new
-    → claimed_by new name ≡ None → mid.requests ≡ old.requests → new.requests ≡ mid.requests → SameDesk old new
+    → claim_of new name ≡ None → mid.requests ≡ old.requests → new.requests ≡ mid.requests → SameDesk old new
 released name old mid new unclaimed first second gone asked asked' = record {
   claims = λ other. from other (bytes_eq other name) refl;
   requests = asked' ∙ asked;
 }
   where
-    from : (other : List ℕ) (b : Bool) → bytes_eq other name ≡ b → claimed_by new other ≡ claimed_by old other
+    from : (other : List ℕ) (b : Bool) → bytes_eq other name ≡ b → claim_of new other ≡ claim_of old other
     from other true is =
         let same = (bytes_eq-Decides other name).0 is in
-        ap (claimed_by new) same ∙ gone ∙ sym unclaimed ∙ ap (claimed_by old) (sym same)
+        ap (claim_of new) same ∙ gone ∙ sym (none_claimed (claim_of old name) unclaimed) ∙ ap (claim_of old) (sym same)
     from other false is =
         let differs : other ≢ name = λ same. (let t = (bytes_eq-Decides other name).1 same in cc (t, is)) in
         second other differs ∙ first other differs

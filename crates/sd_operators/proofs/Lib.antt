@@ -4,6 +4,7 @@ pub mod Lists
 pub mod LosingLemmas
 pub mod MountLemmas
 pub mod OperatingLemmas
+pub mod PurgeLemmas
 pub mod SeekLemmas
 pub mod TakingLemmas
 pub mod UsingLemmas

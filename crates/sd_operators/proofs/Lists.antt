@@ -1,10 +1,10 @@
 -- Sessions of which some fail.
 use Rattle.std.proofs.Common.{◌≡◌, ◌≢◌, ℕ, zero, suc, ◌+◌, Bool, false, refl, sym, ap, subst, ◌∙◌, arith, Some, None, List, [], ◌∷◌, slice_get, slice_set}
 use Rattle.sd_machine.proofs.Lookups.{chosen}
-use Rattle.sd_moves.specs.World.{WorldSession, session_at}
-use Rattle.sd_moves.specs.Drives.{FailsWhere, FailExactly}
-use Rattle.sd_moves.specs.Rules.{NumbersRise}
-use Rattle.sd_moves.proofs.Lookups.{number_least}
+use Rattle.sd_world.specs.World.{WorldSession, session_at}
+use Rattle.sd_world.specs.Drives.{FailsWhere, FailExactly}
+use Rattle.sd_world.specs.Rules.{NumbersRise}
+use Rattle.sd_world.proofs.Lookups.{number_least}
 
 -- where none fails, the sessions are as they were
 pub none_fails : (p : WorldSession → Bool) (es : List WorldSession)

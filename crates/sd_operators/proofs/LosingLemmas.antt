@@ -11,12 +11,12 @@ use Rattle.sd_journal.specs.Journal.{Entry, fails, fails_with, settled}
 use Rattle.sd_journal.proofs.EntryLemmas.{failing}
 use Rattle.sd_journal.specs.declared.mark.Mark.TheVariants.{Lost}
 use Rattle.sd_session.specs.Session.{SessionView, FailsSession, IsRunning, store_of}
-use Rattle.sd_moves.specs.World.{WorldView, WorldSession, BayView, LaneView, IsOnline, session_at}
-use Rattle.sd_moves.specs.Drives.{FailsWhere, FailExactly, is_running, loses_by}
-use Rattle.sd_moves.specs.Rules.{IsWorld}
-use Rattle.sd_moves.proofs.Lookups.{found_by_number}
-use Rattle.sd_moves.proofs.Pairs.{fails_key}
-use Rattle.sd_moves.proofs.Views.{runs, running_is, not_running, failed_over}
+use Rattle.sd_world.specs.World.{WorldView, WorldSession, BayView, LaneView, IsOnline, session_at}
+use Rattle.sd_world.specs.Drives.{FailsWhere, FailExactly, is_running, loses_by}
+use Rattle.sd_world.specs.Rules.{IsWorld}
+use Rattle.sd_world.proofs.Lookups.{found_by_number}
+use Rattle.sd_world.proofs.Pairs.{fails_key}
+use Rattle.sd_world.proofs.Views.{runs, running_is, not_running, failed_over}
 use Rattle.sd_operators.specs.Losing.{is_holder, holds_lane, has_lost}
 use Rattle.sd_operators.proofs.Lists.{fail_alike, all_stay}
 
@@ -61,7 +61,7 @@ two_steps journal p q (e ∷ es) (f ∷ fs) (g ∷ gs) keyed first second =
     )
 
 -- whether one of the elements up to this one has it
-any_more : {A : Type 0} (p : A → Bool) (xs : List A) (i : ℕ) (x : A) → x ≡ get_or xs i x → i < length xs
+pub any_more : {A : Type 0} (p : A → Bool) (xs : List A) (i : ℕ) (x : A) → x ≡ get_or xs i x → i < length xs
     → list_any p (take (i + 1) xs) ≡ (list_any p (take i xs) || p x)
 any_more p xs i x is below =
     ap (list_any p) (take_more xs i x below ∙ ap (λ y. take i xs ++ y ∷ []) (sym is)) ∙ list_any-append p (take i xs) (x ∷ [])
@@ -96,7 +96,7 @@ lane_last journal lanes i es fs past fail =
 -- Who loses.
 
 -- what one of a list has, some of it has
-any_there : {A : Type 0} (p : A → Bool) (xs : List A) (at : ℕ) (x : A) → slice_get xs at ≡ Some x → p x ≡ true → list_any p xs ≡ true
+pub any_there : {A : Type 0} (p : A → Bool) (xs : List A) (at : ℕ) (x : A) → slice_get xs at ≡ Some x → p x ≡ true → list_any p xs ≡ true
 any_there p [] at x there is = absurd (cc there)
 any_there p (y ∷ ys) zero x there is = let same : x ≡ y = cc there in ap (λ b. b || list_any p ys) (ap p (sym same) ∙ is)
 any_there p (y ∷ ys) (suc k) x there is = or_true (p y) (list_any p ys) (any_there p ys k x there is)
@@ -129,7 +129,7 @@ is_holder_of holder e is = ap (λ (h : Option ℕ). is_holder h e) is ∙ same_n
     ]
 
 -- the bay of a session of this drive is the drive's
-seat_is : {D : Type 0} (w : WorldView D) (drive at : ℕ) (bay : BayView D) (d : DriveIs D) (e : WorldSession) (at' : ℕ) (bay' : BayView D)
+pub seat_is : {D : Type 0} (w : WorldView D) (drive at : ℕ) (bay : BayView D) (d : DriveIs D) (e : WorldSession) (at' : ℕ) (bay' : BayView D)
     → IsOnline w drive at bay d → e.drive ≡ drive → e.drive ≡ at' + 1 → slice_get w.bays at' ≡ Some bay' → bay ≡ bay'
 seat_is {D} w drive at bay d e at' bay' on is number there =
     let same : at' ≡ at = (let y = on.number in omega arith) in

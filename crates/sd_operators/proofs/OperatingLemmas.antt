@@ -1,26 +1,25 @@
 -- An event of a drive, in the world around it.
-use Rattle.std.proofs.Common.{◌≡◌, ◌≢◌, ℕ, ℤ, ◌+◌, ◌≤◌, ◌&&◌, Option, Some, None, List, [], ◌∷◌, ◌++◌, map, slice_set, refl, sym, ap, ◌∙◌, subst, arith, inl, inr}
+use Rattle.std.proofs.Common.{◌≡◌, ◌≢◌, ℕ, ℤ, ◌≤◌, ◌&&◌, Option, Some, List, [], ◌∷◌, ◌++◌, map, slice_set, refl, sym, ap, ◌∙◌, subst, arith, inl, inr}
 use Rattle.sd_base.specs.Limits.{most_volume}
 use Rattle.sd_base.specs.declared.refusal.Refusal.{Refusal}
 use Rattle.sd_base.specs.declared.refusal.Refusal.TheVariants.{DeviceFault}
-use Rattle.sd_desk.specs.Desk.{DeskView, claimed_by}
+use Rattle.sd_desk.specs.Desk.{DeskView}
 use Rattle.sd_driver.specs.Meaning.{Meaning}
 use Rattle.sd_drive.specs.View.{DriveIs, items, item_of_piece}
 use Rattle.sd_drive.specs.declared.limits.Limits.{Limits}
 use Rattle.sd_journal.specs.Journal.{Item}
-use Rattle.sd_lane.specs.Queue.{LanesView, queued}
-use Rattle.sd_lane.specs.declared.piece.Piece.{Piece}
+use Rattle.sd_lane.specs.Queue.{LanesView}
 use Rattle.sd_lane.specs.declared.piece.Queued.{Queued}
 use Rattle.sd_machine.specs.declared.event.Event.{Event}
 use Rattle.sd_machine.specs.declared.event.Event.TheVariants.{Take, Place, Sync, Label, Adopt, Mount, Unmount, Seek}
 use Rattle.sd_machine.specs.declared.reply.Reply.{Reply}
 use Rattle.sd_machine.specs.declared.reply.Reply.TheVariants.{Refused}
-use Rattle.sd_moves.specs.World.{WorldView, WorldSession, BayView, IsOnline}
-use Rattle.sd_moves.specs.Drives.{DriveMissing, IsOfDrive, FailExactly, FailBy, MovesDrive}
-use Rattle.sd_moves.specs.Moves.{Moves}
-use Rattle.sd_moves.specs.Rules.{IsWorld, IsOfOpened, AreOfOpened}
-use Rattle.sd_moves.specs.Stations.{Station, Outcome}
-use Rattle.sd_moves.proofs.StationShapes.{station_shape, who_loses}
+use Rattle.sd_world.specs.World.{WorldView, WorldSession, BayView, IsOnline}
+use Rattle.sd_world.specs.Drives.{DriveMissing, IsOfDrive, FailExactly, FailBy, MovesDrive}
+use Rattle.sd_world.specs.Moves.{Moves}
+use Rattle.sd_world.specs.Rules.{IsWorld, IsOfOpened, AreOfOpened}
+use Rattle.sd_world.specs.Stations.{Station, Outcome}
+use Rattle.sd_world.proofs.StationShapes.{station_shape, who_loses}
 use Rattle.sd_operators.specs.AtStations.{MovesHere, IsStation}
 use Rattle.sd_operators.specs.Losing.{holds_lane, has_lost}
 use Rattle.sd_operators.proofs.LosingLemmas.{loses, sessions_stay}

@@ -13,8 +13,8 @@ use Rattle.sd_drive.proofs.FindLemmas.{place_there, place_none, due_there}
 use Rattle.sd_drive.proofs.Places.{get_map}
 use Rattle.sd_driver.specs.Meaning.{Meaning}
 use Rattle.sd_volume.specs.Volume.{VolumeView}
-use Rattle.sd_moves.specs.Stations.{Station, Outcome}
-use Rattle.sd_moves.specs.Operators.{MountRefused, MountFails}
+use Rattle.sd_world.specs.Stations.{Station, Outcome}
+use Rattle.sd_world.specs.Operators.{MountRefused, MountFails}
 
 -- the volume of a name stands where it was found
 stands_at : (vs : List VolumeView) (name : List ℕ) (place : ℕ) (v : VolumeView) → NamesDiffer vs → slice_get vs place ≡ Some v → name ≡ v.name

@@ -5,7 +5,7 @@ use Rattle.sd_drive.specs.View.{DriveIs}
 use Rattle.sd_lane.specs.Queue.{LanesView, queued}
 use Rattle.sd_lane.specs.declared.piece.Piece.{Piece}
 use Rattle.sd_lane.specs.declared.piece.Queued.{Queued}
-use Rattle.sd_moves.specs.Stations.{Outcome, TakesPiece}
+use Rattle.sd_world.specs.Stations.{Outcome, TakesPiece}
 
 -- queues of the same parts
 pub queue_same : (l l' k k' : ℕ) (h h' : List Queued) → l ≡ l' → k ≡ k' → h ≡ h'

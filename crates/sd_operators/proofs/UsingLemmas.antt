@@ -4,9 +4,9 @@ use Rattle.std.specs.Prelude.{not}
 use Rattle.std.specs.List.{count_by, list_any}
 use Rattle.std.proofs.lemmas.List.Sums.{sum_by-cons}
 use Rattle.sd_drive.specs.View.{DriveIs}
-use Rattle.sd_moves.specs.World.{WorldView, WorldSession, BayView, LaneView, IsOnline, with_bay}
-use Rattle.sd_moves.specs.Drives.{IsInUse, RetiresDrive}
-use Rattle.sd_moves.proofs.Bays.{IsBayAt, bay_stays}
+use Rattle.sd_world.specs.World.{WorldView, WorldSession, BayView, LaneView, IsOnline, with_bay}
+use Rattle.sd_world.specs.Drives.{IsInUse, RetiresDrive}
+use Rattle.sd_world.proofs.Bays.{IsBayAt, bay_stays}
 
 -- where a test that tells of `false` tells of one, one is counted
 any_counts : (busy : Bool → Bool) (bs : List Bool) → busy true ≡ false → busy false ≡ true → list_any busy bs ≡ true → count_by not bs ≢ 0

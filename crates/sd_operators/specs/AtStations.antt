@@ -11,9 +11,9 @@ use Rattle.sd_lane.specs.declared.piece.Queued.{Queued}
 use Rattle.sd_machine.specs.declared.event.Event.{Event}
 use Rattle.sd_machine.specs.declared.reply.Reply.{Reply}
 use Rattle.sd_volume.specs.Volume.{VolumeView}
-use Rattle.sd_moves.specs.Stations.{Station, Outcome}
-use Rattle.sd_moves.specs.DriveMoves.{DriveMoves}
-use Rattle.sd_moves.specs.Operators.{MountsAt, MountRefused}
+use Rattle.sd_world.specs.Stations.{Station, Outcome}
+use Rattle.sd_world.specs.DriveMoves.{DriveMoves}
+use Rattle.sd_world.specs.Operators.{MountsAt, MountRefused}
 
 -- the event of the drive of this number is answered so, and drive, queue and desk are others then
 abbrev pub MovesHere : {D : Type 0} → (D → Meaning) → (own : ℕ) → Event → DriveIs D → LanesView → DeskView

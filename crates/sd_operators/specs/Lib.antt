@@ -1,2 +1,3 @@
 pub mod AtStations
 pub mod Losing
+pub mod Purging

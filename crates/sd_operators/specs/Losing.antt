@@ -6,8 +6,8 @@ use Rattle.sd_base.specs.declared.refusal.Refusal.TheVariants.{DeviceFault}
 use Rattle.sd_journal.specs.Journal.{Entry, fails}
 use Rattle.sd_machine.specs.declared.reply.Reply.{Reply}
 use Rattle.sd_machine.specs.declared.reply.Reply.TheVariants.{Refused}
-use Rattle.sd_moves.specs.Drives.{is_running}
-use Rattle.sd_moves.specs.World.{WorldSession, LaneView}
+use Rattle.sd_world.specs.Drives.{is_running}
+use Rattle.sd_world.specs.World.{WorldSession, LaneView}
 
 -- the event was refused with a fault of the device
 abbrev pub is_device_fault : Reply → Bool

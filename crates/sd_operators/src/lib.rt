@@ -7,10 +7,12 @@ mod losing;
 mod mounting;
 mod operating;
 mod placing;
+mod purging;
 mod retiring;
 mod seeking;
 mod syncing;
 mod taking;
 
 pub use operating::operate;
+pub use purging::purge;
 pub use retiring::retire;

@@ -2,8 +2,8 @@
 ghost use Rattle.std.specs.Prelude.{◌≡◌, ℕ, Bool, true, false, ◌&&◌};
 ghost use Rattle.sd_journal.specs.Journal.{fails};
 ghost use Rattle.sd_session.specs.Session.{FailsSession};
-ghost use Rattle.sd_moves.specs.Drives.{FailExactly};
-ghost use Rattle.sd_moves.specs.Rules.{NumbersRise};
+ghost use Rattle.sd_world.specs.Drives.{FailExactly};
+ghost use Rattle.sd_world.specs.Rules.{NumbersRise};
 ghost use Rattle.sd_operators.specs.Losing.{is_holder, holds_lane, has_lost};
 
 use sd_base::Ticket;

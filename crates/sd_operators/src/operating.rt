@@ -1,8 +1,8 @@
 // An event of a drive.
 ghost use Rattle.std.specs.Prelude.{◌≡◌};
-ghost use Rattle.sd_moves.specs.Drives.{IsOfDrive};
-ghost use Rattle.sd_moves.specs.Moves.{Moves};
-ghost use Rattle.sd_moves.specs.Rules.{IsWorld};
+ghost use Rattle.sd_world.specs.Drives.{IsOfDrive};
+ghost use Rattle.sd_world.specs.Moves.{Moves};
+ghost use Rattle.sd_world.specs.Rules.{IsWorld};
 ghost use Rattle.sd_parts.specs.View.{world_of};
 ghost use Rattle.sd_operators.specs.AtStations.{MovesHere, IsStation};
 ghost use Rattle.sd_operators.specs.Losing.{is_device_fault};

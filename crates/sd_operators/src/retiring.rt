@@ -2,10 +2,10 @@
 ghost use Rattle.std.specs.Prelude.{◌≢◌, ◌≤◌, ◌↔◌, ℕ, Some, IsTrue, length};
 ghost use Rattle.sd_base.specs.Limits.{most_lanes};
 ghost use Rattle.sd_machine.specs.declared.event.Event.TheVariants.{Retire};
-ghost use Rattle.sd_moves.specs.Drives.{IsInUse};
-ghost use Rattle.sd_moves.specs.Moves.{Moves};
-ghost use Rattle.sd_moves.specs.Rules.{IsWorld, NumbersRise};
-ghost use Rattle.sd_moves.specs.World.{busy_lanes};
+ghost use Rattle.sd_world.specs.Drives.{IsInUse};
+ghost use Rattle.sd_world.specs.Moves.{Moves};
+ghost use Rattle.sd_world.specs.Rules.{IsWorld, NumbersRise};
+ghost use Rattle.sd_world.specs.World.{busy_lanes};
 ghost use Rattle.sd_parts.specs.View.{world_of};
 
 use sd_base::{DriveNo, Refusal};

@@ -3,7 +3,7 @@ ghost use Rattle.std.specs.Prelude.{◌≡◌, ◌↔◌, ℕ, Some, IsTrue, Mat
 ghost use Rattle.sd_drive.specs.Moves.{TakesBlocks, TakesOn};
 ghost use Rattle.sd_machine.specs.declared.event.Event.TheVariants.{Seek};
 ghost use Rattle.sd_volume.specs.Volume.{VolumeView};
-ghost use Rattle.sd_moves.specs.Operators.{NeedsNone};
+ghost use Rattle.sd_world.specs.Operators.{NeedsNone};
 ghost use Rattle.sd_operators.specs.AtStations.{MovesAtDesk};
 
 use crate::mounting::mount_named;

@@ -1,7 +1,7 @@
 -- The session that was found, as it is read at its place.
 use Rattle.std.proofs.Common.{◌≡◌, ◌<◌, ℕ, sym, subst, ◌∙◌, Some, List, length, get_or, slice_get, slice_set}
 use Rattle.std.proofs.lemmas.Option.{get_or_from_slice_get, slice_get_within}
-use Rattle.sd_moves.specs.World.{WorldSession, session_at, with_session}
+use Rattle.sd_world.specs.World.{WorldSession, session_at, with_session}
 use Rattle.sd_parts.specs.Found.{IsFoundAt}
 
 -- The session of a ticket is this one, at its place.

@@ -6,7 +6,7 @@ use Rattle.sd_journal.specs.Journal.{Entry, placed_of, progress_of}
 use Rattle.sd_span.specs.declared.progress.Progress.{Progress}
 use Rattle.sd_session.specs.Session.{SessionView}
 use Rattle.sd_session.specs.declared.status.Status.{Status}
-use Rattle.sd_moves.specs.World.{WorldSession, LaneView, session_at, leaves_lane, is_done, is_done_of, lane_is_free, free_lanes}
+use Rattle.sd_world.specs.World.{WorldSession, LaneView, session_at, leaves_lane, is_done, is_done_of, lane_is_free, free_lanes}
 
 -- a lane is free as the session that used it last tells
 pub lane_tells : (es : List WorldSession) (journal : List Entry) (holder : Option ℕ) (ticket : ℕ) (e : WorldSession) (free : Bool)

@@ -4,9 +4,9 @@ use Rattle.std.proofs.lemmas.Bool.Decides.{eqb_tells, leb_tells}
 use Rattle.std.proofs.lemmas.Bool.{ltb-true, ltb-false}
 use Rattle.std.proofs.lemmas.Option.{get_or_from_slice_get, slice_get-get_or, slice_get_within}
 use Rattle.std.specs.List.Sorted.{IsNonDecreasingBy, IsPartitionPoint}
-use Rattle.sd_moves.specs.World.{WorldSession, session_at}
-use Rattle.sd_moves.specs.Rules.{NumbersRise}
-use Rattle.sd_moves.proofs.Lookups.{number_least, found_by_number, changed_by_number, none_found}
+use Rattle.sd_world.specs.World.{WorldSession, session_at}
+use Rattle.sd_world.specs.Rules.{NumbersRise}
+use Rattle.sd_world.proofs.Lookups.{number_least, found_by_number, changed_by_number, none_found}
 use Rattle.sd_parts.specs.Found.{IsFoundAt}
 
 -- the number of a session

@@ -1,6 +1,6 @@
 -- Where a session of a world stands among the sessions.
 use Rattle.std.specs.Prelude.{◌≡◌, ℕ, Some, List, slice_get, slice_set}
-use Rattle.sd_moves.specs.World.{WorldSession, session_at, with_session}
+use Rattle.sd_world.specs.World.{WorldSession, session_at, with_session}
 
 -- the session of the ticket stands at this place, and with another of its number there it is changed
 pub record IsFoundAt (ticket : ℕ) (sessions : List WorldSession) (at : ℕ) : Type 0 where

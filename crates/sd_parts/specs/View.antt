@@ -1,5 +1,5 @@
 -- What contracts say of the parts of a world.
-use Rattle.sd_moves.specs.World.{WorldView}
+use Rattle.sd_world.specs.World.{WorldView}
 use Rattle.sd_parts.specs.declared.parts.Parts.{Parts}
 
 -- the world of these parts

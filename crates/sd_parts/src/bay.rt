@@ -18,7 +18,7 @@ pub struct LaneSlot<S: SpoolStore> {
 impl<S: SpoolStore> Model for LaneSlot<S> {
     ghost use Rattle.std.specs.Option.{option_map};
     ghost use Rattle.sd_spool.specs.Job.{state_of};
-    ghost use Rattle.sd_moves.specs.World.{LaneView};
+    ghost use Rattle.sd_world.specs.World.{LaneView};
 
     ghost Value = { LaneView };
 
@@ -38,7 +38,7 @@ pub struct Bay<D: Driver, Q: Lanes, S: SpoolStore> {
 }
 
 impl<D: Driver, Q: Lanes, S: SpoolStore> Model for Bay<D, Q, S> {
-    ghost use Rattle.sd_moves.specs.World.{BayView};
+    ghost use Rattle.sd_world.specs.World.{BayView};
 
     ghost Value = { BayView D };
 

@@ -1,7 +1,7 @@
 // A session of a world, and how it is found.
 ghost use Rattle.std.specs.Prelude.{ℕ, IfSome, IfNone, ◌≡◌, None};
-ghost use Rattle.sd_moves.specs.World.{session_at};
-ghost use Rattle.sd_moves.specs.Rules.{NumbersRise};
+ghost use Rattle.sd_world.specs.World.{session_at};
+ghost use Rattle.sd_world.specs.Rules.{NumbersRise};
 ghost use Rattle.sd_parts.specs.Found.{IsFoundAt};
 
 use sd_base::{DriveNo, Ticket};
@@ -17,7 +17,7 @@ pub struct Entry<S: SpoolStore> {
 }
 
 impl<S: SpoolStore> Model for Entry<S> {
-    ghost use Rattle.sd_moves.specs.World.{WorldSession};
+    ghost use Rattle.sd_world.specs.World.{WorldSession};
 
     ghost Value = { WorldSession };
 

@@ -1,8 +1,8 @@
 // Which lanes of a drive are free.
 ghost use Rattle.std.specs.Prelude.{◌≡◌, ◌≤◌, ℕ, length};
 ghost use Rattle.sd_base.specs.Limits.{most_lanes};
-ghost use Rattle.sd_moves.specs.Rules.{NumbersRise};
-ghost use Rattle.sd_moves.specs.World.{free_lanes, lane_is_free};
+ghost use Rattle.sd_world.specs.Rules.{NumbersRise};
+ghost use Rattle.sd_world.specs.World.{free_lanes, lane_is_free, is_done};
 
 use crate::bay::LaneSlot;
 use crate::entry::{Entry, find};
@@ -10,7 +10,7 @@ use arrayvec::ArrayVec;
 use sd_base::{MOST_LANES, Ticket};
 use sd_drive::Drive;
 use sd_driver::Driver;
-use sd_session::Status;
+use sd_session::{Session, Status};
 use sd_spool::SpoolStore;
 
 /// For how many lanes there is room.
@@ -49,10 +49,16 @@ fn is_free<D: Driver, S: SpoolStore + Drop>(
         return true;
     };
     let entry = &sessions[at];
-    let session = &entry.session;
+    is_done(&entry.session, drive)
+}
+
+/// Whether the session no longer keeps its lane at the drive.
+pub fn is_done<D: Driver, S: SpoolStore + Drop>(session: &Session<S>, drive: &Drive<D>) -> bool
+    ensures { result ≡ is_done drive.now.journal session.now }
+{
     match session.status() {
         Status::Active | Status::Ended => false,
-        Status::Closed => true,
+        Status::Closed | Status::Purged => true,
         Status::Cancelled | Status::Failed => {
             session.sent() == drive.progress(session.key()).placed
         }

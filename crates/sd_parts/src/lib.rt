@@ -8,5 +8,5 @@ mod parts;
 
 pub use bay::{Bay, LaneSlot};
 pub use entry::{Entry, find};
-pub use lanes::free_lanes;
+pub use lanes::{free_lanes, is_done};
 pub use parts::Parts;

@@ -6,10 +6,10 @@ use Rattle.sd_machine.specs.declared.event.Event.{Event}
 use Rattle.sd_machine.specs.declared.event.Event.TheVariants.{Cancel}
 use Rattle.sd_machine.specs.declared.reply.Reply.{Reply}
 use Rattle.sd_machine.specs.declared.reply.Reply.TheVariants.{Cancelled, Refused}
-use Rattle.sd_moves.proofs.Lookups.{session_id, session_at-same}
-use Rattle.sd_moves.proofs.Views.{cancelled_not_running}
-use Rattle.sd_moves.specs.Moves.{Moves}
-use Rattle.sd_moves.specs.World.{HasTicket, WorldSession, WorldView, session_at}
+use Rattle.sd_world.proofs.Lookups.{session_id, session_at-same}
+use Rattle.sd_world.proofs.Views.{cancelled_not_running}
+use Rattle.sd_world.specs.Moves.{Moves}
+use Rattle.sd_world.specs.World.{HasTicket, WorldSession, WorldView, session_at}
 use Rattle.sd_session.specs.Session.{IsRunning, SessionView}
 use Rattle.sd_session.specs.declared.status.Status.{Status}
 use Rattle.sd_session.specs.declared.status.Status.TheVariants as status

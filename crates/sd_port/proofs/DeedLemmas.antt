@@ -7,7 +7,7 @@ use Rattle.sd_append.specs.Port.{Exchange}
 use Rattle.sd_driver.specs.Meaning.{Meaning}
 use Rattle.sd_machine.specs.declared.event.Event.{Event}
 use Rattle.sd_machine.specs.declared.reply.Reply.{Reply}
-use Rattle.sd_moves.specs.World.{WorldView}
+use Rattle.sd_world.specs.World.{WorldView}
 use Rattle.sd_rounds.specs.declared.headway.Round.{Round}
 use Rattle.sd_rounds.specs.Rounds.{PlaysRound}
 use Rattle.sd_port.specs.Port.{PortDeed, Exchanged, Played, IsPortDeed, IsOver, PortLeadsTo, PortView, asked_in}

@@ -8,8 +8,8 @@ use Rattle.sd_machine.specs.declared.event.Event.TheVariants.{Append, Close}
 use Rattle.sd_base.specs.Record.{Record}
 use Rattle.sd_machine.specs.declared.reply.Reply.{Reply}
 use Rattle.sd_machine.specs.declared.reply.Reply.TheVariants.{Refused}
-use Rattle.sd_moves.specs.World.{WorldView}
-use Rattle.sd_closed.specs.Steps.{IsStep, StepsAlong}
+use Rattle.sd_world.specs.World.{WorldView}
+use Rattle.sd_world.specs.Steps.{IsStep, StepsAlong}
 use Rattle.sd_rounds.specs.declared.headway.Round.{Round}
 use Rattle.sd_rounds.specs.Rounds.{PlaysOn, PlaysRound}
 use Rattle.sd_rounds.proofs.Played.{along_append}

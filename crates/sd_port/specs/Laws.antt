@@ -4,8 +4,8 @@ use Rattle.sd_driver.specs.Meaning.{Meaning}
 use Rattle.sd_machine.specs.declared.event.Event.{Event}
 use Rattle.sd_machine.specs.declared.event.Event.TheVariants.{Cancel}
 use Rattle.sd_machine.specs.declared.reply.Reply.{Reply}
-use Rattle.sd_moves.specs.World.{HasTicket, WorldSession, WorldView}
-use Rattle.sd_closed.specs.Deeds.{LeadsTo, answered}
+use Rattle.sd_world.specs.World.{HasTicket, WorldSession, WorldView}
+use Rattle.sd_world.specs.Deeds.{LeadsTo, answered}
 use Rattle.sd_session.specs.Session.{IsRunning}
 use Rattle.sd_port.specs.Port.{PortDeed, PortLeadsTo, world_deeds_in}
 use Rattle.sd_port.specs.Tries.{Answers}

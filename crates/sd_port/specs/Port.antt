@@ -3,9 +3,9 @@ use Rattle.std.specs.Prelude.{◌≡◌, ℕ, ℤ, List, [], ◌∷◌, ◌++◌
 use Rattle.sd_driver.specs.Meaning.{Meaning}
 use Rattle.sd_machine.specs.declared.event.Event.{Event}
 use Rattle.sd_machine.specs.declared.reply.Reply.{Reply}
-use Rattle.sd_moves.specs.World.{WorldView}
-use Rattle.sd_closed.specs.Deeds.{Deed, ReadBack, IsRead, answered}
-use Rattle.sd_closed.specs.Steps.{IsSound}
+use Rattle.sd_world.specs.World.{WorldView}
+use Rattle.sd_world.specs.Deeds.{Deed, ReadBack, IsRead, answered}
+use Rattle.sd_world.specs.Steps.{IsSound}
 use Rattle.sd_append.specs.Port.{Exchange, Stepped, WasRead, Said}
 use Rattle.sd_port.specs.Console.{LineDoes}
 use Rattle.sd_port.specs.Tries.{Answers, PlaysAs}
@@ -61,7 +61,7 @@ IsPortDeed meaning syncing rounds (Exchanged (Stepped event reply) events replie
 IsPortDeed meaning syncing rounds (Exchanged (WasRead key spans records answer) events replies) old new =
     (events ≡ []) × (replies ≡ []) × IsRead meaning key spans [] records answer old new
 IsPortDeed meaning syncing rounds (Exchanged (Said text answer) events replies) old new =
-    (moment : ℤ) × LineDoes meaning moment text answer events replies old new
+    (moment : ℤ) × LineDoes meaning syncing moment text answer events replies old new
 IsPortDeed meaning syncing rounds (Played events replies) old new = PlaysAs meaning old events replies new
 
 -- from the one world these deeds lead to the other, one after another, and nothing else

@@ -6,8 +6,8 @@ use Rattle.sd_machine.specs.declared.event.Event.{Event}
 use Rattle.sd_machine.specs.declared.event.Event.TheVariants.{Append, Close}
 use Rattle.sd_machine.specs.declared.reply.Reply.{Reply}
 use Rattle.sd_machine.specs.declared.reply.Reply.TheVariants.{Refused}
-use Rattle.sd_moves.specs.World.{WorldView}
-use Rattle.sd_closed.specs.Steps.{IsStep, StepsAlong}
+use Rattle.sd_world.specs.World.{WorldView}
+use Rattle.sd_world.specs.Steps.{IsStep, StepsAlong}
 use Rattle.sd_rounds.specs.Rounds.{IsCarry, IsRound, moved_in}
 use Rattle.sd_port.specs.declared.syncing.Syncing.{Syncing}
 use Rattle.sd_port.specs.declared.syncing.Syncing.TheVariants.{EachRound, AtRest}

@@ -4,7 +4,7 @@ ghost use Rattle.sd_base.specs.Record.{Record};
 ghost use Rattle.sd_base.specs.declared.refusal.Refusal.TheVariants.{Memory};
 ghost use Rattle.sd_machine.specs.declared.event.Event.{Event as SpecEvent};
 ghost use Rattle.sd_machine.specs.declared.reply.Reply.{Reply as SpecReply};
-ghost use Rattle.sd_closed.specs.Deeds.{IsRead};
+ghost use Rattle.sd_world.specs.Deeds.{IsRead};
 ghost use Rattle.sd_rounds.specs.Rounds.{PlaysRound};
 ghost use Rattle.sd_append.specs.Port.{IsLine, Said, Stepped, WasRead};
 ghost use Rattle.sd_port.specs.Console.{LineDoes};
@@ -131,15 +131,15 @@ impl<D: Driver + Drop, Q: Lanes, S: SpoolStore + Drop> WorldPort<D, Q, S> {
 
     /// The lines that answer a console's line, each with its newline, or the refusal. What the line orders is done in the
     /// world, at the moment that is set. An operator's event is given only once there is room for the line that answers
-    /// it; so want of memory may be answered before its other refusals.
+    /// it; so want of memory may be answered before its other refusals. Where the drives sync at rest, no volume is purged.
     pub fn console(&mut self, line: &[u8]) -> Result<Items<Payload>, Refusal>
         ensures obeys { (events : List SpecEvent) × (replies : List SpecReply)
-            × LineDoes (λ d. D.meaning d) self.old.moment line.now result events replies
-            self.old.world self.new.world }
+            × LineDoes (λ d. D.meaning d) self.old.syncing self.old.moment line.now result
+            events replies self.old.world self.new.world }
         ensures lines { IfOk result (λ lines. All IsLine lines) }
         ensures port { self.new ≡ behind (Said line.now result) self.new.world self.old }
     {
-        let answer = obey_line(self.alloc, &mut self.world, self.moment, line);
+        let answer = obey_line(self.alloc, &mut self.world, self.syncing, self.moment, line);
         self.log = self.log.said(line, &answer);
         answer
     }

@@ -10,7 +10,7 @@ use sd_rounds::{Round, carry, round};
 use sd_spool::SpoolStore;
 use std::alloc::AllocError;
 
-/// When the drives of a port's world sync, while an event waits.
+/// When the drives of a port's world sync, while an event waits. At rest they do in a running server, which purges no volume.
 #[derive(Clone, Copy, Debug, PartialEq, Eq)]
 pub enum Syncing {
     /// In each round. What was placed is synced at once, block by block.

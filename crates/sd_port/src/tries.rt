@@ -3,7 +3,7 @@ ghost use Rattle.std.specs.Prelude.{◌≡◌, List};
 ghost use Rattle.sd_machine.specs.declared.event.Event.{Event as SpecEvent};
 ghost use Rattle.sd_machine.specs.declared.event.Event.TheVariants.{Append, Close};
 ghost use Rattle.sd_machine.specs.declared.reply.Reply.{Reply as SpecReply};
-ghost use Rattle.sd_closed.specs.Steps.{IsStep};
+ghost use Rattle.sd_world.specs.Steps.{IsStep};
 ghost use Rattle.sd_port.specs.Again.{event_again};
 ghost use Rattle.sd_port.specs.Tries.{Answers, Rests, may_change};
 

@@ -1,7 +1,7 @@
 // Which records a sink got while a session was read back.
 ghost use Rattle.std.specs.Prelude.{◌≡◌, ◌++◌, List, []};
 ghost use Rattle.sd_base.specs.Record.{Record};
-ghost use Rattle.sd_closed.specs.Deeds.{IsRead};
+ghost use Rattle.sd_world.specs.Deeds.{IsRead};
 
 use sd_append::Shown;
 use sd_base::{Rec, Refusal, SessionKey};

@@ -14,7 +14,7 @@ use Rattle.sd_driver.proofs.Lasting.{BeginsWith-own_take}
 use Rattle.sd_driver.proofs.Names.{name_cases}
 use Rattle.sd_drive.specs.Shelf.{Kept, block_at}
 use Rattle.sd_drive.proofs.Places.{some_is}
-use Rattle.sd_journal.specs.Journal.{Entry, placements}
+use Rattle.sd_journal.specs.Journal.{Entry, live}
 use Rattle.sd_label.specs.declared.label.VolumeLabel.{VolumeLabel}
 use Rattle.sd_readback.specs.Reading.{bytes_of, volumes_on}
 use Rattle.sd_span.specs.Spans.{placements_of, stretch_of, in_front, stretches, numbered_from, spans_of}
@@ -24,11 +24,11 @@ use Rattle.sd_volume.specs.Adopt.{Adopts}
 use Rattle.sd_volume.specs.Image.{Block, images, label_and_blocks, volume_end, VolumeImage}
 use Rattle.sd_volume.specs.Volume.{VolumeView}
 use Rattle.sd_volume.proofs.ImageLemmas.{bytes_before, kept_blocks_stand, whole_image_goes_on}
-use Rattle.sd_restore.specs.Ends.{BlocksEndAt, PlacedEndWithBlocks, KeptSpansEndWithBlocks, AdoptionKeepsSpans}
+use Rattle.sd_restore.specs.Ends.{BlocksEndAt, EndWithBlocks, PlacedEndWithBlocks, KeptSpansEndWithBlocks, AdoptionKeepsSpans}
 use Rattle.sd_restore.specs.Restore.{StandsAmong}
 use Rattle.sd_restore.proofs.HoldLemmas.{AreImages-front, blocks_behind}
 use Rattle.sd_restore.proofs.ReachLemmas.{of_if}
-use Rattle.sd_restore.proofs.RestoreLemmas.{placed_among_blocks}
+use Rattle.sd_restore.proofs.RestoreLemmas.{placed_among_blocks, live_front}
 
 -- ---- where spans end
 
@@ -80,7 +80,7 @@ among_ends shelf p a =
     }
 
 own_end : (device : Meaning) (volumes : List VolumeView) (loaded : Option ℕ) (journal : List Entry) (key : SessionKey) (before ps more : List Placement) → Kept device volumes loaded journal → IsHonest device
-    → placements journal ≡ before ++ (ps ++ more) → AllByRecursion (λ (p : Placement). BlocksEndAt (volumes_on device.shelf) p.volume (p.start + p.length)) (placements_of key ps)
+    → live journal ≡ before ++ (ps ++ more) → AllByRecursion (λ (p : Placement). BlocksEndAt (volumes_on device.shelf) p.volume (p.start + p.length)) (placements_of key ps)
 own_end device volumes loaded journal key before [] more kept honest is = tt
 own_end device volumes loaded journal key before (p ∷ ps) more kept honest is =
     from (among_ends device.shelf p (placed_among_blocks device volumes loaded journal before (ps ++ more) p kept honest is))
@@ -96,8 +96,10 @@ own_end device volumes loaded journal key before (p ∷ ps) more kept honest is 
 -- ---- the laws
 
 pub placed_end_with_blocks : PlacedEndWithBlocks
-placed_end_with_blocks device volumes loaded journal key ps more kept honest is =
-    spans_all (BlocksEndAt (volumes_on device.shelf)) key ps (own_end device volumes loaded journal key [] ps more kept honest is)
+placed_end_with_blocks device volumes loaded journal key ps more kept honest is none =
+    let l = live_front key journal ps more is none in
+    let P : List Placement → Type 0 = λ own. EndWithBlocks (volumes_on device.shelf) (numbered_from 1 (stretches own)) in
+    subst P l.own (spans_all (BlocksEndAt (volumes_on device.shelf)) key l.front (own_end device volumes loaded journal key [] l.front l.behind kept honest l.parted))
 
 -- what holds of each span, by two facts of each
 pub all_both : (P Q R : Span → Type 0) (spans : List Span) → ((s : Span) → P s → Q s → R s) → All P spans → All Q spans → All R spans

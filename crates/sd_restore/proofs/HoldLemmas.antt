@@ -1,5 +1,5 @@
 -- What the spans of stretches hold on a shelf where the volumes are laid out.
-use Rattle.std.proofs.Common.{◌≡◌, ◌≢◌, ℕ, ◌+◌, ◌<◌, ◌≤◌, Bool, true, false, if◌then◌else◌, List, [], ◌∷◌, ◌++◌, length, map, refl, ap, sym, subst, Some, ◌∙◌, arith, length-append, slice_get}
+use Rattle.std.proofs.Common.{◌≡◌, ◌≢◌, ℕ, ◌+◌, ◌<◌, ◌≤◌, Bool, true, false, List, [], ◌∷◌, ◌++◌, length, map, refl, ap, sym, subst, Some, ◌∙◌, arith, length-append, slice_get}
 use Rattle.std.proofs.lemmas.List.{append_assoc, append-nil, map-append}
 use Rattle.std.specs.List.{AllByRecursion}
 use Rattle.std.specs.Str.{bytes_eq}
@@ -7,7 +7,8 @@ use Rattle.std.proofs.lemmas.Slice.Eq.{bytes_eq-Decides}
 use Rattle.sd_block.specs.Image.{block_image}
 use Rattle.sd_driver.specs.Shelf.{Shelf}
 use Rattle.sd_drive.specs.Shelf.{block_at, placements_on, LieBehind, IsLaidOut, AreLaidOut, LiesOn}
-use Rattle.sd_journal.specs.Journal.{Entry, placements}
+use Rattle.sd_drive.proofs.LaidLemmas.{off_front}
+use Rattle.sd_journal.specs.Journal.{Entry, live}
 use Rattle.sd_label.specs.declared.label.VolumeLabel.{VolumeLabel}
 use Rattle.sd_readback.specs.Reading.{bytes_of, volumes_on, AreNumbered, SpanHolds, AllHold}
 use Rattle.sd_span.specs.Spans.{numbered_from}
@@ -132,13 +133,13 @@ pub record HasVolume (volumes : List VolumeView) (name : List ℕ) : Type 0 wher
   pub there : slice_get volumes at ≡ Some volume
   pub name_is : volume.name ≡ name
 
-pub has_volume : (volumes : List VolumeView) (journal : List Entry) (name : List ℕ) → AllByRecursion (LiesOn volumes) journal → placements_on name (placements journal) ≢ [] → HasVolume volumes name
+pub has_volume : (volumes : List VolumeView) (journal : List Entry) (name : List ℕ) → AllByRecursion (LiesOn volumes) journal → placements_on name (live journal) ≢ [] → HasVolume volumes name
 has_volume volumes [] name lie some = absurd (some refl)
 has_volume volumes (e ∷ es) name lie some = from (bytes_eq e.placement.volume name) refl (has_volume volumes es name lie.1)
   where
-    from : (b : Bool) → bytes_eq e.placement.volume name ≡ b → (placements_on name (placements es) ≢ [] → HasVolume volumes name) → HasVolume volumes name
+    from : (b : Bool) → bytes_eq e.placement.volume name ≡ b → (placements_on name (live es) ≢ [] → HasVolume volumes name) → HasVolume volumes name
     from true is rest = record { at = lie.0.at; volume = lie.0.volume; there = lie.0.there; name_is = sym lie.0.name_is ∙ (bytes_eq-Decides e.placement.volume name).0 is }
-    from false is rest = rest (λ none. some (ap (λ b. if b then e.placement ∷ placements_on name (placements es) else placements_on name (placements es)) is ∙ none))
+    from false is rest = rest (λ none. some (off_front name e es (λ on. (let t = (bytes_eq-Decides e.placement.volume name).1 on in absurd cc)) ∙ none))
 
 pub not_none : (xs ys zs : List Placement) (x : Placement) → ys ≡ x ∷ zs → xs ++ ys ≡ [] → ⊥
 not_none [] ys zs x is none = cc
@@ -150,17 +151,17 @@ pub record AllHoldFrom (shelf : Shelf) (index : ℕ) (ss : List Span) (owns : Li
   pub numbered : AreNumbered index (numbered_from index ss)
 
 pub all_hold : (shelf : Shelf) (volumes : List VolumeView) (journal : List Entry) (index : ℕ) (ss : List Span) (owns : List (List Placement)) → AllByRecursion (LiesOn volumes) journal
-    → AreLaidOut shelf (placements journal) volumes → AllReach (placements journal) ss owns → AllHoldFrom shelf index ss owns
+    → AreLaidOut shelf (live journal) volumes → AllReach (live journal) ss owns → AllHoldFrom shelf index ss owns
 all_hold shelf volumes journal index [] [] lie laid r = record { hold = tt; numbered = tt }
 all_hold shelf volumes journal index [] (own ∷ owns) lie laid r = absurd r
 all_hold shelf volumes journal index (s ∷ ss) [] lie laid r = absurd r
 all_hold shelf volumes journal index (s ∷ ss) (own ∷ owns) lie laid r =
     let before = r.0.0 in
     let reach = r.0.1 in
-    let some : placements_on s.volume (placements journal) ≢ [] =
+    let some : placements_on s.volume (live journal) ≢ [] =
     λ none. not_none before (own ++ reach.after) (reach.behind ++ reach.after) reach.first (ap (λ l. l ++ reach.after) reach.from) (sym reach.parted ∙ none) in
     let v = has_volume volumes journal s.volume lie some in
-    let h = reach_holds shelf (placements journal) v.volume s before own (laid v.at v.volume v.there) v.name_is reach in
+    let h = reach_holds shelf (live journal) v.volume s before own (laid v.at v.volume v.there) v.name_is reach in
     let rest = all_hold shelf volumes journal (index + 1) ss owns lie laid r.1 in
     record {
       hold = (

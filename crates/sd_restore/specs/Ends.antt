@@ -1,10 +1,10 @@
 -- Spans that end where a block of their volume does, and what adopting a volume keeps of them.
-use Rattle.std.specs.Prelude.{◌≡◌, ℕ, All, List, ◌++◌, Option, Some}
+use Rattle.std.specs.Prelude.{◌≡◌, ℕ, false, All, List, ◌++◌, Option, Some}
 use Rattle.sd_base.specs.declared.number.SessionKey.{SessionKey}
 use Rattle.sd_driver.specs.Meaning.{Meaning, IsHonest}
 use Rattle.sd_driver.specs.Shelf.{Shelf}
 use Rattle.sd_drive.specs.Shelf.{Kept}
-use Rattle.sd_journal.specs.Journal.{Entry, placements}
+use Rattle.sd_journal.specs.Journal.{Entry, placements, has_purged}
 use Rattle.sd_label.specs.declared.label.VolumeLabel.{VolumeLabel}
 use Rattle.sd_readback.specs.Reading.{Volumes, KeepSpans, volumes_on}
 use Rattle.sd_span.specs.Spans.{spans_of}
@@ -30,7 +30,8 @@ EndWithBlocks volumes spans = All (λ s. BlocksEndAt volumes s.volume s.end) spa
 
 -- Laws.
 
--- while a drive's device is honest, the spans of its journal, now and at any earlier moment, end where blocks do
+-- While a drive's device is honest, the spans of its journal, now and at any earlier moment, end where blocks do, if no block of
+-- the session is gone.
 abbrev pub PlacedEndWithBlocks : Type 0
 PlacedEndWithBlocks =
     (device : Meaning) (volumes : List VolumeView) (loaded : Option ℕ) (journal : List Entry)
@@ -38,6 +39,7 @@ PlacedEndWithBlocks =
     → Kept device volumes loaded journal
     → IsHonest device
     → placements journal ≡ ps ++ more
+    → has_purged key journal ≡ false
     → EndWithBlocks (volumes_on device.shelf) (spans_of key ps)
 
 -- what keeps the bytes of spans, keeps that they end where blocks do

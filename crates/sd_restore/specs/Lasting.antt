@@ -1,5 +1,5 @@
 -- Spans whose bytes every stop leaves, and what keeps them so.
-use Rattle.std.specs.Prelude.{◌≡◌, ℕ, ◌≤◌, All, List, [], take, Option}
+use Rattle.std.specs.Prelude.{◌≡◌, ℕ, ◌≤◌, All, Bool, IsTrue, List, [], take, Option}
 use Rattle.sd_base.specs.declared.number.SessionKey.{SessionKey}
 use Rattle.sd_driver.specs.Meaning.{Meaning, IsHonest}
 use Rattle.sd_driver.specs.Shelf.{Shelf, Lasts, StillLastsBelow, AfterStop, low_mark}
@@ -14,10 +14,12 @@ use Rattle.sd_volume.specs.Adopt.{KeepsWholeBlocks}
 use Rattle.sd_volume.specs.Image.{Block, VolumeImage}
 use Rattle.sd_volume.specs.Volume.{VolumeView}
 
--- a label block and whole blocks behind it that lasted since some moment still last
-abbrev pub BlocksStillLast : Shelf → Shelf → Type 0
-BlocksStillLast old new =
+-- on each volume of a name that keeps its blocks: a label block and whole blocks behind it that lasted since some moment still
+-- last
+abbrev pub BlocksStillLast : (List ℕ → Type 0) → Shelf → Shelf → Type 0
+BlocksStillLast keeps old new =
     (since : ℕ) (name bytes : List ℕ) (label : VolumeLabel) (blocks : List Block)
+    → keeps name
     → VolumeImage bytes label blocks []
     → Lasts since name bytes old
     → Lasts since name bytes new
@@ -37,10 +39,10 @@ SpansLast since volumes shelf spans = All (λ s. SpanLasts since volumes shelf s
 -- whatever an adoption answers, whole blocks that lasted still last
 abbrev pub AdoptionKeepsLasting : Type 0
 AdoptionKeepsLasting =
-    (name : List ℕ) (old new : Shelf)
+    (keeps : List ℕ → Bool) (name : List ℕ) (old new : Shelf)
     → KeepsWholeBlocks name old new
     → StillLastsBelow 0 name old new
-    → BlocksStillLast old new
+    → BlocksStillLast (λ volume. IsTrue (keeps volume)) old new
 
 -- while a drive's device is honest and all blocks of a session are synced, the session's spans last from now on
 abbrev pub SyncedSpansLast : Type 0
@@ -52,11 +54,12 @@ SyncedSpansLast =
     → synced_of key journal ≡ placed_of key journal
     → SpansLast device.shelf.moment (volumes_on device.shelf) device.shelf (spans_of key (placements journal))
 
--- spans that last still do as long as whole blocks do
+-- spans that last still do as long as the whole blocks of their volumes do
 abbrev pub LastingSpansStay : Type 0
 LastingSpansStay =
-    (since : ℕ) (volumes : Volumes) (old new : Shelf) (spans : List Span)
-    → BlocksStillLast old new
+    (keeps : List ℕ → Bool) (since : ℕ) (volumes : Volumes) (old new : Shelf) (spans : List Span)
+    → BlocksStillLast (λ volume. IsTrue (keeps volume)) old new
+    → All (λ (s : Span). IsTrue (keeps s.volume)) spans
     → SpansLast since volumes old spans
     → SpansLast since volumes new spans
 

@@ -8,9 +8,9 @@ use Rattle.sd_drive.proofs.Places.{set_same}
 use Rattle.sd_machine.specs.declared.event.Event.{Event}
 use Rattle.sd_machine.specs.declared.reply.Reply.{Reply}
 use Rattle.sd_machine.specs.declared.reply.Reply.TheVariants.{Retired}
-use Rattle.sd_moves.specs.Moves.{Moves}
-use Rattle.sd_moves.specs.World.{WorldView, BayView, IsOnline}
-use Rattle.sd_moves.proofs.MoveLeaves.{LeavesBays, leaves}
+use Rattle.sd_world.specs.Moves.{Moves}
+use Rattle.sd_world.specs.World.{WorldView, BayView, IsOnline}
+use Rattle.sd_world.proofs.MoveLeaves.{LeavesBays, leaves}
 use Rattle.sd_rounds.specs.Rounds.{online_flags}
 
 -- the drives stay as many as they are, and so do the limits; and those that are online stay so
@@ -45,10 +45,12 @@ abbrev pub IsNoRetiring : Reply → Type 0
 IsNoRetiring Retired = ⊥
 IsNoRetiring reply = Unit {0}
 
-left_stays : {D : Type 0} (meaning : D → Meaning) (w w' : WorldView D) (reply : Reply) → IsNoRetiring reply → w'.limits ≡ w.limits → LeavesBays meaning w reply w' → DrivesStay w w'
-left_stays meaning w w' reply h limits (inl same) = record { limits = limits; flags = ap (map (λ b. is_some b.drive)) same }
-left_stays meaning w w' reply h limits (inr (inl m)) = online_still w w' m.drive m.at m.bay m.bay' m.d m.online (ap is_some m.now) limits m.bays_are
-left_stays meaning w w' reply h limits (inr (inr m)) = absurd (subst IsNoRetiring m.1 h)
+left_stays : {D : Type 0} (meaning : D → Meaning) (w w' : WorldView D) (event : Event) (reply : Reply) → IsNoRetiring reply → w'.limits ≡ w.limits
+    → LeavesBays meaning w event reply w' → DrivesStay w w'
+left_stays meaning w w' event reply h limits (inl same) = record { limits = limits; flags = ap (map (λ b. is_some b.drive)) same }
+left_stays meaning w w' event reply h limits (inr (inl m)) = online_still w w' m.drive m.at m.bay m.bay' m.d m.online (ap is_some m.now) limits m.bays_are
+left_stays meaning w w' event reply h limits (inr (inr (inl m))) = absurd (subst IsNoRetiring m.1 h)
+left_stays meaning w w' event reply h limits (inr (inr (inr m))) = online_still w w' m.drive m.at m.bay m.bay' m.d m.online (ap is_some m.now) limits m.bays_are
 
 pub moves_stay : {D : Type 0} (meaning : D → Meaning) (w w' : WorldView D) (event : Event) (reply : Reply) → IsNoRetiring reply → Moves meaning w event reply w' → DrivesStay w w'
-moves_stay meaning w w' event reply h m = let left = leaves meaning w w' event reply m in left_stays meaning w w' reply h left.limits left.bays
+moves_stay meaning w w' event reply h m = let left = leaves meaning w w' event reply m in left_stays meaning w w' event reply h left.limits left.bays

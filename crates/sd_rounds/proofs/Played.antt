@@ -7,8 +7,8 @@ use Rattle.sd_machine.specs.declared.event.Event.{Event}
 use Rattle.sd_machine.specs.declared.event.Event.TheVariants.{Place, Seek}
 use Rattle.sd_machine.specs.declared.reply.Reply.{Reply}
 use Rattle.sd_machine.specs.declared.reply.Reply.TheVariants.{NeedVolume, Mounted}
-use Rattle.sd_closed.specs.Steps.{IsStep, StepsAlong}
-use Rattle.sd_moves.specs.World.{WorldView}
+use Rattle.sd_world.specs.Steps.{IsStep, StepsAlong}
+use Rattle.sd_world.specs.World.{WorldView}
 use Rattle.sd_rounds.specs.declared.headway.Round.{Round}
 use Rattle.sd_rounds.specs.Rounds.{PlaysOn, Tells, counted, has_moved, placed_in, placing}
 

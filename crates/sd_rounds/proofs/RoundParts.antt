@@ -12,11 +12,11 @@ use Rattle.sd_machine.specs.declared.event.Event.{Event}
 use Rattle.sd_machine.specs.declared.event.Event.TheVariants.{Spool, Despool, Take, Place, Sync, Label, Adopt, Mount, Unmount, Seek, Retire}
 use Rattle.sd_machine.specs.declared.reply.Reply.{Reply}
 use Rattle.sd_machine.specs.declared.reply.Reply.TheVariants.{Refused, Retired, NeedVolume, Mounted}
-use Rattle.sd_closed.specs.Steps.{StepsAlong}
-use Rattle.sd_moves.specs.Drives.{DriveMissing}
-use Rattle.sd_moves.specs.Moves.{Moves}
-use Rattle.sd_moves.specs.World.{WorldView, BayView, IsOnline}
-use Rattle.sd_moves.proofs.Framed.{none_there}
+use Rattle.sd_world.specs.Steps.{StepsAlong}
+use Rattle.sd_world.specs.Drives.{DriveMissing}
+use Rattle.sd_world.specs.Moves.{Moves}
+use Rattle.sd_world.specs.World.{WorldView, BayView, IsOnline}
+use Rattle.sd_world.proofs.Framed.{none_there}
 use Rattle.sd_rounds.specs.declared.headway.Round.{Round}
 use Rattle.sd_rounds.specs.Rounds.{AllMove, AreSends, AreTurns, Drains, IsRoundOf, IsTurn, Moved, PlaysOn, PlaysOne, PlaysRound, PlaysRounds, Tells, counted, drives_online, is_online, is_set, online_flags, placed_in, placing, sends, turn_kind}
 use Rattle.sd_rounds.proofs.Online.{DrivesStay, IsNoRetiring, drives_same, drives_then, moves_stay}

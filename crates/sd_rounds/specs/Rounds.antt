@@ -7,8 +7,8 @@ use Rattle.sd_machine.specs.declared.event.Event.{Event}
 use Rattle.sd_machine.specs.declared.event.Event.TheVariants.{Spool, Despool, Take, Place, Sync, Seek}
 use Rattle.sd_machine.specs.declared.reply.Reply.{Reply}
 use Rattle.sd_machine.specs.declared.reply.Reply.TheVariants.{Spooled, Sent, InHand, Placed, NeedVolume, VolumeFull, VolumeError, Mounted}
-use Rattle.sd_closed.specs.Steps.{StepsAlong}
-use Rattle.sd_moves.specs.World.{WorldView, BayView}
+use Rattle.sd_world.specs.Steps.{StepsAlong}
+use Rattle.sd_world.specs.World.{WorldView, BayView}
 use Rattle.sd_core.specs.View.{running_tickets}
 use Rattle.sd_rounds.specs.declared.headway.Round.{Round}
 

@@ -1,4 +1,4 @@
-// A volume labelled, written and adopted, on a drive in memory.
+// A volume labelled, written, purged and adopted, on a drive in memory.
 ghost use Rattle.std.specs.Prelude.{◌≡◌, None, Some, OnOk, OnErr};
 
 use crate::names::KEY;
@@ -8,12 +8,15 @@ use sd_label::VolumeLabel;
 use sd_memdrive::MemDrive;
 use sd_volume::{
     AdoptFault, Appended, Volume, VolumeReader, VolumeStatus, adopt, append_block, label_new,
-    next_block,
+    next_block, purge,
 };
 use std::alloc::Global;
 use std::io;
 
-/// Labels a volume, adds two blocks, adopts it and goes over its blocks.
+/// The greatest length of the volume while blocks are added: it is full behind two of them.
+const LIMIT: u64 = 3000;
+
+/// Labels a volume, fills it, purges it and fills it again, adopts it and goes over its blocks.
 pub fn run(rt: HostRuntime, label: &VolumeLabel) -> io::Result<()> {
     // A label that wanted memory behind its create leaves the name on the shelf: the second try has a drive of
     // its own.
@@ -30,6 +33,8 @@ fn write(rt: HostRuntime, label: &VolumeLabel) -> io::Result<bool> {
         return Ok(false);
     };
     print_added(rt, &mut drive, &mut volume)?;
+    print_purged(rt, &mut drive, &mut volume)?;
+    print_added(rt, &mut drive, &mut volume)?;
     print_adopted(rt, &mut drive, label)?;
     Ok(true)
 }
@@ -41,6 +46,17 @@ fn print_added<D: Driver>(rt: HostRuntime, drive: &mut D, volume: &mut Volume) -
     let added = fill(rt.alloc(), drive, volume);
     let end = volume.end();
     println!(rt; "two blocks are added: {added}; volume of {end} bytes")
+}
+
+fn print_purged<D: Driver>(rt: HostRuntime, drive: &mut D, volume: &mut Volume) -> io::Result<()>
+    requires { (D.meaning drive.old).loaded ≡ None }
+    ensures { (D.meaning drive.new).loaded ≡ None }
+{
+    let full = volume.status() == VolumeStatus::Full;
+    let purged = use_anew(drive, volume).is_ok();
+    let end = volume.end();
+    let next = volume.next_number();
+    println!(rt; "full: {full}; purged: {purged}; volume of {end} bytes, next block {next}")
 }
 
 fn print_adopted<D: Driver>(rt: HostRuntime, drive: &mut D, label: &VolumeLabel) -> io::Result<()>
@@ -56,7 +72,7 @@ fn print_adopted<D: Driver>(rt: HostRuntime, drive: &mut D, label: &VolumeLabel)
     }
 }
 
-// Whether two blocks were added.
+// Whether two blocks were added, and none more.
 fn fill<D: Driver>(alloc: Global, drive: &mut D, volume: &mut Volume) -> bool
     requires { (D.meaning drive.old).loaded ≡ None }
     ensures { (D.meaning drive.new).loaded ≡ None }
@@ -67,8 +83,9 @@ fn fill<D: Driver>(alloc: Global, drive: &mut D, volume: &mut Volume) -> bool
     let mut image = Vec::new(alloc);
     let first = add(drive, volume, &mut image);
     let second = add(drive, volume, &mut image);
+    let third = add(drive, volume, &mut image);
     drive.unload();
-    first && second
+    first && second && !third
 }
 
 fn load<D: Driver>(drive: &mut D, name: &VolName) -> Result<(), DriverFault>
@@ -103,7 +120,17 @@ fn append<D: Driver>(drive: &mut D, volume: &mut Volume, image: &mut Vec<u8>) ->
     let VolumeStatus::Append = volume.status() else {
         return Appended::Fault;
     };
-    append_block(drive, volume, image, KEY, &[7; 1000], MOST_VOLUME)
+    append_block(drive, volume, image, KEY, &[7; 1000], LIMIT)
+}
+
+fn use_anew<D: Driver>(drive: &mut D, volume: &mut Volume) -> Result<(), AdoptFault>
+    requires { (D.meaning drive.old).loaded ≡ None }
+    ensures { (D.meaning drive.new).loaded ≡ None }
+{
+    match purge(drive, volume) {
+        Err(AdoptFault::Memory) => purge(drive, volume),
+        answer => answer,
+    }
 }
 
 // Adopts the volume in a run after the one that wrote it.

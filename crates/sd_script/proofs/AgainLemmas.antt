@@ -11,7 +11,7 @@ use Rattle.std.proofs.lemmas.Fmt.{digits_decimal}
 use Rattle.std.proofs.lemmas.Str.Parse.{digit_at}
 use Rattle.sd_base.specs.Limits.{least_block_limit, most_block, most_data, most_drives, most_lanes, most_number, most_queue, most_volume}
 use Rattle.sd_script.specs.declared.command.Command.{Command}
-use Rattle.sd_script.specs.declared.command.Command.TheVariants.{Block, Volume, SpoolLimit, Queue, Time, Host, Drive, Capacity, Fail, At, Label, Adopt, Mount, Unmount, Seek, Retire, Open, Rec, Fill, End, Cancel, Spool, Despool, Take, Place, Sync, Close, JobMedia, Read, Again, Drain, Status, Requests, Restart}
+use Rattle.sd_script.specs.declared.command.Command.TheVariants.{Block, Volume, SpoolLimit, Queue, Time, Host, Drive, Capacity, Fail, At, Label, Adopt, Mount, Unmount, Seek, Retire, Purge, Open, Rec, Fill, End, Cancel, Spool, Despool, Take, Place, Sync, Close, JobMedia, Read, Again, Drain, Status, Requests, Restart}
 use Rattle.sd_script.specs.declared.console.ConsoleCmd.TheVariants as console
 use Rattle.sd_script.specs.declared.line.Setting.TheVariants as setting
 use Rattle.sd_script.specs.declared.line.Line.{Line}
@@ -25,7 +25,7 @@ use Rattle.sd_script.specs.Command.{command_text, stands}
 use Rattle.sd_words.specs.Fields.{HasNoBlank, joined, Fields, fields_of}
 use Rattle.sd_script.specs.Grammar.{IsWord, IsSpelled, IsWithin, AreWords, IsNumber, IsDrive, call_text, most_capacity, when_text}
 use Rattle.sd_words.specs.Reading.{word_at}
-use Rattle.sd_script.specs.Reading.{most_moment, most_wide, shape, one_number, label_shape, adopt_shape, mount_shape, open_shape, rec_shape, fill_shape, host_shape, drive_shape, capacity_shape, fail_shape, again_shape, behind_shape, restart_shape}
+use Rattle.sd_script.specs.Reading.{most_moment, most_wide, shape, one_number, label_shape, adopt_shape, mount_shape, purge_shape, open_shape, rec_shape, fill_shape, host_shape, drive_shape, capacity_shape, fail_shape, again_shape, behind_shape, restart_shape}
 use Rattle.sd_words.proofs.NumberLemmas.{own}
 use Rattle.sd_words.proofs.FieldLemmas.{fields_of-joined, fields_of-behind, joined-fields_of}
 use Rattle.sd_words.proofs.ReadingLemmas.{number_at_again, word_at_again, word_at_takes, only_number_again}
@@ -81,6 +81,10 @@ adopt_again d v within v_word = rw (number_at_again 1 most_drives d (v ∷ []) (
 mount_again : (d : ℕ) (v : List ℕ) → IsDrive d → IsWord v → mount_shape (decimal d ∷ v ∷ []) ≡ Some (line.Console (console.Mount d v))
 unfolding mount_shape
 mount_again d v within v_word = rw (number_at_again 1 most_drives d (v ∷ []) (lit< tt) within.0 within.1, word_at_again v [] v_word.0) refl
+
+purge_again : (d : ℕ) (v : List ℕ) → IsDrive d → IsWord v → purge_shape (decimal d ∷ v ∷ []) ≡ Some (line.Console (console.Purge d v))
+unfolding purge_shape
+purge_again d v within v_word = rw (number_at_again 1 most_drives d (v ∷ []) (lit< tt) within.0 within.1, word_at_again v [] v_word.0) refl
 
 open_again : (j : ℕ) (p m : List ℕ) → IsNumber j → IsWord p → IsWord m → open_shape (decimal j ∷ p ∷ m ∷ []) ≡ Some (line.Open j p m)
 unfolding open_shape
@@ -253,6 +257,11 @@ parts_of bytes (line.Console (console.Unmount n)) some_there spelled within word
     elim spelled [ inl e ↦ drive_parts bytes Unmount n (λ m. line.Console (console.Unmount m)) refl within refl e | inr short ↦ absurd short ]
 parts_of bytes (line.Console (console.Retire n)) some_there spelled within words =
     elim spelled [ inl e ↦ drive_parts bytes Retire n (λ m. line.Console (console.Retire m)) refl within refl e | inr short ↦ absurd short ]
+parts_of bytes (line.Console (console.Purge d v)) some_there spelled within words =
+    elim spelled [
+      | inl e ↦ plain_parts bytes Purge (decimal d ∷ v ∷ []) (line.Console (console.Purge d v)) refl (drive-plain d within, (words.0.1, tt)) e (purge_again d v within words.0)
+      | inr short ↦ absurd short
+    ]
 parts_of bytes (line.Console (console.Cancel n)) some_there spelled within words =
     elim spelled [ inl e ↦ session_parts bytes Cancel n (λ m. line.Console (console.Cancel m)) refl within refl e | inr short ↦ absurd short ]
 parts_of bytes (line.Console (console.JobMedia n)) some_there spelled within words =

@@ -5,7 +5,7 @@ use Rattle.std.specs.List.{AllByRecursion}
 use Rattle.std.specs.Str.{bytes_eq}
 use Rattle.std.proofs.lemmas.List.Elements.{All-from_recursion}
 use Rattle.sd_script.specs.declared.command.Command.{Command}
-use Rattle.sd_script.specs.declared.command.Command.TheVariants.{Block, Volume, SpoolLimit, Queue, Time, Host, Drive, Capacity, Fail, At, Label, Adopt, Mount, Unmount, Seek, Retire, Open, Rec, Fill, End, Cancel, Spool, Despool, Take, Place, Sync, Close, JobMedia, Read, Again, Drain, Status, Requests, Restart}
+use Rattle.sd_script.specs.declared.command.Command.TheVariants.{Block, Volume, SpoolLimit, Queue, Time, Host, Drive, Capacity, Fail, At, Label, Adopt, Mount, Unmount, Seek, Retire, Purge, Open, Rec, Fill, End, Cancel, Spool, Despool, Take, Place, Sync, Close, JobMedia, Read, Again, Drain, Status, Requests, Restart}
 use Rattle.sd_script.specs.declared.line.Part.{Part}
 use Rattle.sd_script.specs.declared.line.Part.TheVariants.{Head, Body}
 use Rattle.sd_script.specs.declared.line.Line.{Line}
@@ -37,6 +37,7 @@ other_at word =
     cond (bytes_eq word (command_text Unmount)) (Some Unmount) (
     cond (bytes_eq word (command_text Seek)) (Some Seek) (
     cond (bytes_eq word (command_text Retire)) (Some Retire) (
+    cond (bytes_eq word (command_text Purge)) (Some Purge) (
     cond (bytes_eq word (command_text Open)) (Some Open) (
     cond (bytes_eq word (command_text Rec)) (Some Rec) (
     cond (bytes_eq word (command_text Fill)) (Some Fill) (
@@ -54,7 +55,7 @@ other_at word =
     cond (bytes_eq word (command_text Drain)) (Some Drain) (
     cond (bytes_eq word (command_text Status)) (Some Status) (
     cond (bytes_eq word (command_text Requests)) (Some Requests) (
-    cond (bytes_eq word (command_text Restart)) (Some Restart) None))))))))))))))))))))))))
+    cond (bytes_eq word (command_text Restart)) (Some Restart) None)))))))))))))))))))))))))
 
 -- the command of a word in that part of a script
 abbrev command_at : Part → List ℕ → Option Command
@@ -112,6 +113,7 @@ plain_command Mount = search rules
 plain_command Unmount = search rules
 plain_command Seek = search rules
 plain_command Retire = search rules
+plain_command Purge = search rules
 plain_command Open = search rules
 plain_command Rec = search rules
 plain_command Fill = search rules
@@ -151,6 +153,7 @@ command-some Mount = lit< tt
 command-some Unmount = lit< tt
 command-some Seek = lit< tt
 command-some Retire = lit< tt
+command-some Purge = lit< tt
 command-some Open = lit< tt
 command-some Rec = lit< tt
 command-some Fill = lit< tt

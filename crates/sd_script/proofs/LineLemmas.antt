@@ -61,6 +61,7 @@ empty_only (line.Console (console.Adopt d v)) spelled = elim spelled [ inl e ↦
 empty_only (line.Console (console.Mount d v)) spelled = elim spelled [ inl e ↦ absurd (cc e) | inr short ↦ absurd short ]
 empty_only (line.Console (console.Unmount d)) spelled = elim spelled [ inl e ↦ absurd (cc e) | inr short ↦ absurd short ]
 empty_only (line.Console (console.Retire d)) spelled = elim spelled [ inl e ↦ absurd (cc e) | inr short ↦ absurd short ]
+empty_only (line.Console (console.Purge d v)) spelled = elim spelled [ inl e ↦ absurd (cc e) | inr short ↦ absurd short ]
 empty_only (line.Console (console.Cancel t)) spelled = elim spelled [ inl e ↦ absurd (cc e) | inr short ↦ absurd short ]
 empty_only (line.Console (console.JobMedia t)) spelled = elim spelled [ inl e ↦ absurd (cc e) | inr short ↦ absurd short ]
 empty_only (line.Console console.Status) spelled = elim spelled [ inl e ↦ absurd (cc e) | inr short ↦ absurd short ]

@@ -9,7 +9,7 @@ use Rattle.std.proofs.lemmas.Int.{ints}
 use Rattle.std.proofs.lemmas.Option.{cond_some}
 use Rattle.sd_base.specs.Limits.{least_block_limit, most_block, most_data, most_drives, most_lanes, most_number, most_queue, most_volume}
 use Rattle.sd_script.specs.declared.command.Command.{Command}
-use Rattle.sd_script.specs.declared.command.Command.TheVariants.{Block, Volume, SpoolLimit, Queue, Time, Host, Drive, Capacity, Fail, At, Label, Adopt, Mount, Unmount, Seek, Retire, Open, Rec, Fill, End, Cancel, Spool, Despool, Take, Place, Sync, Close, JobMedia, Read, Again, Drain, Status, Requests, Restart}
+use Rattle.sd_script.specs.declared.command.Command.TheVariants.{Block, Volume, SpoolLimit, Queue, Time, Host, Drive, Capacity, Fail, At, Label, Adopt, Mount, Unmount, Seek, Retire, Purge, Open, Rec, Fill, End, Cancel, Spool, Despool, Take, Place, Sync, Close, JobMedia, Read, Again, Drain, Status, Requests, Restart}
 use Rattle.sd_script.specs.declared.console.ConsoleCmd.TheVariants as console
 use Rattle.sd_script.specs.declared.line.Setting.TheVariants as setting
 use Rattle.sd_script.specs.declared.line.Line.{Line}
@@ -20,7 +20,7 @@ use Rattle.sd_memdrive.specs.declared.call.Call.{Call}
 use Rattle.sd_plan.specs.declared.fail.When.{When}
 use Rattle.sd_script.specs.Grammar.{IsSpelled, IsWithin, IsNumber, AreWords, call_text, most_capacity, when_text}
 use Rattle.sd_words.specs.Reading.{◌>>=◌, number_at, word_at, all_read, only_number}
-use Rattle.sd_script.specs.Reading.{most_moment, most_wide, shape, one_number, label_shape, adopt_shape, mount_shape, open_shape, rec_shape, fill_shape, host_shape, drive_shape, capacity_shape, call_at, when_at, fail_shape, again_shape, behind_shape, restart_behind, restart_shape}
+use Rattle.sd_script.specs.Reading.{most_moment, most_wide, shape, one_number, label_shape, adopt_shape, mount_shape, purge_shape, open_shape, rec_shape, fill_shape, host_shape, drive_shape, capacity_shape, call_at, when_at, fail_shape, again_shape, behind_shape, restart_behind, restart_shape}
 use Rattle.sd_words.proofs.FieldLemmas.{joined-fields_of, fields_of-plain}
 use Rattle.sd_words.proofs.ReadingLemmas.{bind_some, some_is, TakesNumber, number_at_takes, word_at_takes, all_read_takes, only_number_takes}
 use Rattle.sd_script.proofs.ReadingLemmas.{one_number_takes, call_at_takes, when_at_takes}
@@ -98,6 +98,23 @@ mount_takes bytes fs l has e =
     let plain = subst (λ (gs : Fields). AllByRecursion HasNoBlank gs) fields has.plain in
     subst (λ (x : Line). Spells Mount bytes x) all.1 (record {
       spelled = inl (has.text ∙ ap (λ (gs : Fields). joined (command_text Mount ∷ gs)) fields);
+      within = (drive.least_is, drive.most_is);
+      words = ((volume.1, plain.1.0), tt);
+      kinds_are = refl;
+    })
+
+purge_takes : (bytes : List ℕ) (fs : Fields) (l : Line) → HasFields bytes (command_text Purge) fs → purge_shape fs ≡ Some l → Spells Purge bytes l
+unfolding purge_shape
+purge_takes bytes fs l has e =
+    let a = bind_some (number_at 1 most_drives fs) (λ drive. word_at drive.1 >>= λ volume. all_read (line.Console (console.Purge drive.0 volume.0)) volume.1) l e in
+    let b = bind_some (word_at a.0.1) (λ volume. all_read (line.Console (console.Purge a.0.0 volume.0)) volume.1) l a.2 in
+    let all = all_read_takes (line.Console (console.Purge a.0.0 b.0.0)) l b.0.1 b.2 in
+    let drive = number_at_takes 1 most_drives fs a.0 a.1 in
+    let volume = word_at_takes a.0.1 b.0 b.1 in
+    let fields : fs ≡ decimal a.0.0 ∷ b.0.0 ∷ [] = drive.fields_are ∙ ap (λ (gs : Fields). decimal a.0.0 ∷ gs) (volume.0 ∙ ap (λ (gs : Fields). b.0.0 ∷ gs) all.0) in
+    let plain = subst (λ (gs : Fields). AllByRecursion HasNoBlank gs) fields has.plain in
+    subst (λ (x : Line). Spells Purge bytes x) all.1 (record {
+      spelled = inl (has.text ∙ ap (λ (gs : Fields). joined (command_text Purge ∷ gs)) fields);
       within = (drive.least_is, drive.most_is);
       words = ((volume.1, plain.1.0), tt);
       kinds_are = refl;
@@ -331,6 +348,7 @@ fields_take At bytes fs l has e =
 fields_take Label bytes fs l has e = label_takes bytes fs l has e
 fields_take Adopt bytes fs l has e = adopt_takes bytes fs l has e
 fields_take Mount bytes fs l has e = mount_takes bytes fs l has e
+fields_take Purge bytes fs l has e = purge_takes bytes fs l has e
 fields_take Open bytes fs l has e = open_takes bytes fs l has e
 fields_take Rec bytes fs l has e = rec_takes bytes fs l has e
 fields_take Fill bytes fs l has e = fill_takes bytes fs l has e

@@ -1,7 +1,7 @@
 -- The words that lines begin with, and where in a script lines of each stand.
 use Rattle.std.specs.Prelude.{ℕ, ◌&&◌, Bool, true, false, not, if◌then◌else◌, List, codes}
 use Rattle.sd_script.specs.declared.command.Command.{Command}
-use Rattle.sd_script.specs.declared.command.Command.TheVariants.{Block, Volume, SpoolLimit, Queue, Time, Host, Drive, Capacity, Fail, At, Label, Adopt, Mount, Unmount, Seek, Retire, Open, Rec, Fill, End, Cancel, Spool, Despool, Take, Place, Sync, Close, JobMedia, Read, Again, Drain, Status, Requests, Restart}
+use Rattle.sd_script.specs.declared.command.Command.TheVariants.{Block, Volume, SpoolLimit, Queue, Time, Host, Drive, Capacity, Fail, At, Label, Adopt, Mount, Unmount, Seek, Retire, Purge, Open, Rec, Fill, End, Cancel, Spool, Despool, Take, Place, Sync, Close, JobMedia, Read, Again, Drain, Status, Requests, Restart}
 use Rattle.sd_script.specs.declared.line.Part.{Part}
 use Rattle.sd_script.specs.declared.line.Part.TheVariants.{Head, Body}
 
@@ -23,6 +23,7 @@ command_text Mount = codes "mount"
 command_text Unmount = codes "unmount"
 command_text Seek = codes "seek"
 command_text Retire = codes "retire"
+command_text Purge = codes "purge"
 command_text Open = codes "open"
 command_text Rec = codes "rec"
 command_text Fill = codes "fill"
@@ -77,6 +78,7 @@ is_console Adopt = true
 is_console Mount = true
 is_console Unmount = true
 is_console Retire = true
+is_console Purge = true
 is_console Cancel = true
 is_console JobMedia = true
 is_console Status = true

@@ -19,7 +19,7 @@ use Rattle.sd_script.specs.declared.line.Setting.TheVariants as setting
 use Rattle.sd_script.specs.declared.line.Line.{Line}
 use Rattle.sd_script.specs.declared.line.Line.TheVariants.{Empty, Set, At, Console, Seek, Open, Rec, Fill, End, Spool, Despool, Take, Place, Sync, Close, Read, Again, Drain, Restart}
 use Rattle.sd_script.specs.declared.console.ConsoleCmd.{ConsoleCmd}
-use Rattle.sd_script.specs.declared.console.ConsoleCmd.TheVariants.{Label, Adopt, Mount, Unmount, Retire, Cancel, JobMedia, Status, Requests}
+use Rattle.sd_script.specs.declared.console.ConsoleCmd.TheVariants.{Label, Adopt, Mount, Unmount, Retire, Purge, Cancel, JobMedia, Status, Requests}
 use Rattle.sd_script.specs.declared.line.LineFault.{LineFault}
 use Rattle.sd_script.specs.declared.line.LineFault.TheVariants.{BadCommand, BadName}
 
@@ -31,6 +31,7 @@ console_fields (Adopt drive volume) = codes "adopt" ∷ decimal drive ∷ volume
 console_fields (Mount drive volume) = codes "mount" ∷ decimal drive ∷ volume ∷ []
 console_fields (Unmount drive) = codes "unmount" ∷ decimal drive ∷ []
 console_fields (Retire drive) = codes "retire" ∷ decimal drive ∷ []
+console_fields (Purge drive volume) = codes "purge" ∷ decimal drive ∷ volume ∷ []
 console_fields (Cancel ticket) = codes "cancel" ∷ decimal ticket ∷ []
 console_fields (JobMedia ticket) = codes "jobmedia" ∷ decimal ticket ∷ []
 console_fields Status = codes "status" ∷ []
@@ -125,6 +126,7 @@ IsConsoleWithin (Adopt drive volume) = IsDrive drive
 IsConsoleWithin (Mount drive volume) = IsDrive drive
 IsConsoleWithin (Unmount drive) = IsDrive drive
 IsConsoleWithin (Retire drive) = IsDrive drive
+IsConsoleWithin (Purge drive volume) = IsDrive drive
 IsConsoleWithin (Cancel ticket) = IsNumber ticket
 IsConsoleWithin (JobMedia ticket) = IsNumber ticket
 IsConsoleWithin Status = Unit {0}
@@ -173,6 +175,7 @@ abbrev pub console_names : ConsoleCmd → List (List ℕ)
 console_names (Label drive volume pool media) = volume ∷ pool ∷ media ∷ []
 console_names (Adopt drive volume) = volume ∷ []
 console_names (Mount drive volume) = volume ∷ []
+console_names (Purge drive volume) = volume ∷ []
 console_names command = []
 
 -- the fields of a line that stand in the place of a name

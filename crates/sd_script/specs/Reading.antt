@@ -13,7 +13,7 @@ use Rattle.sd_script.specs.declared.console.ConsoleCmd.TheVariants as console
 use Rattle.sd_script.specs.declared.line.LineFault.{LineFault}
 use Rattle.sd_script.specs.declared.line.LineFault.TheVariants.{BadCommand, BadName}
 use Rattle.sd_script.specs.declared.command.Command.{Command}
-use Rattle.sd_script.specs.declared.command.Command.TheVariants.{Block, Volume, SpoolLimit, Queue, Time, Host, Drive, Capacity, Fail, At, Label, Adopt, Mount, Unmount, Seek, Retire, Open, Rec, Fill, End, Cancel, Spool, Despool, Take, Place, Sync, Close, JobMedia, Read, Again, Drain, Status, Requests, Restart}
+use Rattle.sd_script.specs.declared.command.Command.TheVariants.{Block, Volume, SpoolLimit, Queue, Time, Host, Drive, Capacity, Fail, At, Label, Adopt, Mount, Unmount, Seek, Retire, Purge, Open, Rec, Fill, End, Cancel, Spool, Despool, Take, Place, Sync, Close, JobMedia, Read, Again, Drain, Status, Requests, Restart}
 use Rattle.sd_script.specs.Grammar.{AreNames, call_text, most_capacity, when_text}
 use Rattle.sd_words.specs.Fields.{Fields, joined}
 use Rattle.sd_words.specs.Reading.{◌>>=◌, number_at, word_at, all_read, only_number}
@@ -55,6 +55,13 @@ mount_shape fs = do
   drive ← number_at 1 most_drives fs
   volume ← word_at drive.1
   all_read (line.Console (console.Mount drive.0 volume.0)) volume.1
+
+-- the same of `purge`
+unfoldable pub purge_shape : Fields → Option Line
+purge_shape fs = do
+  drive ← number_at 1 most_drives fs
+  volume ← word_at drive.1
+  all_read (line.Console (console.Purge drive.0 volume.0)) volume.1
 
 -- the same of `open`
 unfoldable pub open_shape : Fields → Option Line
@@ -194,6 +201,7 @@ shape Mount fs = mount_shape fs
 shape Unmount fs = one_number 1 most_drives (λ n. line.Console (console.Unmount n)) fs
 shape Seek fs = one_number 1 most_drives line.Seek fs
 shape Retire fs = one_number 1 most_drives (λ n. line.Console (console.Retire n)) fs
+shape Purge fs = purge_shape fs
 shape Open fs = open_shape fs
 shape Rec fs = rec_shape fs
 shape Fill fs = fill_shape fs

@@ -24,6 +24,7 @@ pub enum Command {
     Unmount,
     Seek,
     Retire,
+    Purge,
     Open,
     Rec,
     Fill,
@@ -96,6 +97,7 @@ fn other_of(word: &str) -> Option<Command>
         "unmount" => Some(Command::Unmount),
         "seek" => Some(Command::Seek),
         "retire" => Some(Command::Retire),
+        "purge" => Some(Command::Purge),
         "open" => Some(Command::Open),
         "rec" => Some(Command::Rec),
         "fill" => Some(Command::Fill),
@@ -130,6 +132,7 @@ impl Command {
                 | Command::Mount
                 | Command::Unmount
                 | Command::Retire
+                | Command::Purge
                 | Command::Cancel
                 | Command::JobMedia
                 | Command::Status

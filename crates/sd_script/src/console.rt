@@ -20,6 +20,10 @@ pub enum ConsoleCmd {
     },
     Unmount(DriveNo),
     Retire(DriveNo),
+    Purge {
+        drive: DriveNo,
+        volume: VolName,
+    },
     Cancel(Ticket),
     JobMedia(Ticket),
     Status,

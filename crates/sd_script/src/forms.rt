@@ -62,6 +62,19 @@ pub fn mount(mut words: Words<'_>) -> Result<Line<'_>, LineFault>
     }))
 }
 
+#[tactic(auto, unfolding(crate::specs::Reading::purge_shape))]
+pub fn purge(mut words: Words<'_>) -> Result<Line<'_>, LineFault>
+    ensures { Gives result (shape commands.Purge words.entry) }
+{
+    let drive = words.numbered()?;
+    let volume = words.word()?;
+    words.end()?;
+    Ok(Line::Console(ConsoleCmd::Purge {
+        drive,
+        volume: Name::parse(volume)?,
+    }))
+}
+
 #[tactic(auto, unfolding(crate::specs::Reading::open_shape))]
 pub fn open(mut words: Words<'_>) -> Result<Line<'_>, LineFault>
     ensures { Gives result (shape commands.Open words.entry) }

@@ -12,7 +12,7 @@ ghost use Rattle.sd_script.specs.declared.command.Command.{Command as SpecComman
 use crate::command::{Command, command_of};
 use crate::console::ConsoleCmd;
 use crate::forms::{
-    adopt, again, at, drain, fill, label, mount, open, rec, requests, restart, status,
+    adopt, again, at, drain, fill, label, mount, open, purge, rec, requests, restart, status,
 };
 use crate::line::{Line, LineFault, Part};
 use crate::settings::{block, capacity, drive, fail, host, queue, spool_limit, time, volume};
@@ -145,6 +145,7 @@ fn line_of(command: Command, words: Words<'_>) -> Result<Line<'_>, LineFault>
         Command::Unmount => Ok(Line::Console(ConsoleCmd::Unmount(words.only()?))),
         Command::Seek => Ok(Line::Seek(words.only()?)),
         Command::Retire => Ok(Line::Console(ConsoleCmd::Retire(words.only()?))),
+        Command::Purge => purge(words),
         Command::Open => open(words),
         Command::Rec => rec(words),
         Command::Fill => fill(words),

@@ -18,7 +18,7 @@ use Rattle.sd_spool.specs.declared.store.SpoolStoreFault.{SpoolStoreFault}
 use Rattle.sd_spool.specs.declared.store.SpoolStoreFault.TheVariants.{Device, Memory as OutOfMemory}
 use Rattle.sd_session.specs.declared.opening.Opening.{Opening}
 use Rattle.sd_session.specs.declared.status.Status.{Status}
-use Rattle.sd_session.specs.declared.status.Status.TheVariants.{Active, Ended, Closed, Cancelled, Failed}
+use Rattle.sd_session.specs.declared.status.Status.TheVariants.{Active, Ended, Closed, Cancelled, Failed, Purged}
 
 -- A session: whose it is, by which lane it sends, and for which pool and media; its status; the records and
 -- data bytes that it took, and the index of the last; how many of its bodies were sent; the body that is ready
@@ -81,6 +81,7 @@ status_refusal Ended = SessionNotOpen
 status_refusal Closed = SessionNotOpen
 status_refusal Cancelled = SessionCancelled
 status_refusal Failed = SessionFailed
+status_refusal Purged = SessionNotOpen
 
 -- the session goes on, with its end label or without
 abbrev pub IsRunning : Status → Type 0
@@ -113,6 +114,7 @@ standing_of Ended = AtEnd
 standing_of Closed = AtEnd
 standing_of Cancelled = AtEnd
 standing_of Failed = AtEnd
+standing_of Purged = AtEnd
 
 -- how many bodies are in the spool
 abbrev pub spooled_count : Option JobView → ℕ
@@ -253,6 +255,11 @@ CancelsSession old new = DropsParts old Cancelled new
 -- a session that goes on fails; no other does
 abbrev pub FailsSession : SessionView → SessionView → Type 0
 FailsSession old new = (IsRunning old.status × DropsParts old Failed new) ⊎ ((IsRunning old.status → ⊥) × (new ≡ old))
+
+-- a session that goes on no more is purged; no other is
+abbrev pub PurgesSession : SessionView → SessionView → Type 0
+PurgesSession old new =
+    ((IsRunning old.status → ⊥) × (new ≡ record old { status = Purged })) ⊎ (IsRunning old.status × (new ≡ old))
 
 -- something of the session is outstanding: a body that it has itself, or one that was sent and isn't synced
 abbrev pub HasOutstanding : SessionView → Progress → Type 0

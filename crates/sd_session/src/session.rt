@@ -7,7 +7,7 @@ ghost use Rattle.sd_label.specs.Label.{IsSessionLabel, session_label_bytes};
 ghost use Rattle.sd_lane.specs.Queue.{WasFull};
 ghost use Rattle.sd_pack.specs.Packing.{HasOpen, Packs, bodies_of, all_bytes};
 ghost use Rattle.sd_spool.specs.Job.{state_of};
-ghost use Rattle.sd_session.specs.Session.{IsRunning, NotRunning, MayTake, status_refusal, start_label, due_of, spooled_in, store_refusal, spooled_count, IsWhole, IsSessionView, StartsSession, StartRefused, TakesRecord, AppendRefused, EndsSession, EndRefused, CancelsSession, FailsSession, MayClose, ClosesSession, CloseRefused, GivesBack, KeepsStore, HasNoneDue};
+ghost use Rattle.sd_session.specs.Session.{IsRunning, NotRunning, MayTake, status_refusal, start_label, due_of, spooled_in, store_refusal, spooled_count, IsWhole, IsSessionView, StartsSession, StartRefused, TakesRecord, AppendRefused, EndsSession, EndRefused, CancelsSession, FailsSession, PurgesSession, MayClose, ClosesSession, CloseRefused, GivesBack, KeepsStore, HasNoneDue};
 ghost use Rattle.sd_session.specs.Spooling.{Spools, SpoolRefused};
 ghost use Rattle.sd_session.specs.Sending.{queue_view, IsDueToSend, goes_on, Despools, DespoolRefused};
 
@@ -298,6 +298,16 @@ impl<S: SpoolStore + Drop> Session<S> {
         self.status = Status::Failed;
     }
 
+    /// A session that goes on no more is purged: a volume on which it has a block was. Any other stays as it is.
+    pub fn purge(&mut self)
+        ensures { PurgesSession self.old self.new }
+    {
+        if self.running().is_ok() {
+            return;
+        }
+        self.status = Status::Purged;
+    }
+
     /// Whether the session goes on, with its end label or without.
     pub fn running(&self) -> Result<(), Refusal>
         ensures ok { OnOk result (IsRunning self.now.status) }
@@ -305,7 +315,9 @@ impl<S: SpoolStore + Drop> Session<S> {
     {
         match self.status {
             Status::Active | Status::Ended => Ok(()),
-            Status::Closed | Status::Cancelled | Status::Failed => Err(refusal_for(self.status)),
+            Status::Closed | Status::Cancelled | Status::Failed | Status::Purged => {
+                Err(refusal_for(self.status))
+            }
         }
     }
 
@@ -598,7 +610,7 @@ fn refusal_for(status: Status) -> Refusal
     ensures { result ≡ status_refusal status }
 {
     match status {
-        Status::Active | Status::Ended | Status::Closed => Refusal::SessionNotOpen,
+        Status::Active | Status::Ended | Status::Closed | Status::Purged => Refusal::SessionNotOpen,
         Status::Cancelled => Refusal::SessionCancelled,
         Status::Failed => Refusal::SessionFailed,
     }

@@ -13,4 +13,6 @@ pub enum Status {
     Cancelled,
     /// A device lost a part of it.
     Failed,
+    /// A volume with a part of it was purged: that part is gone, for good.
+    Purged,
 }

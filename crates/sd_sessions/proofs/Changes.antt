@@ -4,9 +4,9 @@ use Rattle.sd_base.specs.declared.refusal.Refusal.{Refusal}
 use Rattle.sd_session.specs.Session.{SessionView}
 use Rattle.sd_session.specs.Spooling.{SpoolRefused}
 use Rattle.sd_session.specs.Sending.{DespoolRefused}
-use Rattle.sd_moves.specs.World.{WorldView, WorldSession}
-use Rattle.sd_moves.specs.Sessions.{ChangesSession, TicketRefused, StaysAs}
-use Rattle.sd_moves.proofs.Lookups.{set_same}
+use Rattle.sd_world.specs.World.{WorldView, WorldSession}
+use Rattle.sd_world.specs.Sessions.{ChangesSession, TicketRefused, StaysAs}
+use Rattle.sd_world.proofs.Lookups.{set_same}
 use Rattle.sd_parts.proofs.Found.{IsReadAt}
 
 -- the world in which the session at a place is this one

@@ -13,10 +13,10 @@ use Rattle.sd_reserve.specs.Reserve.{TakesMedia, IsOnline, IsCandidate, Precedes
 use Rattle.sd_reserve.specs.declared.drive.ReserveFault.{ReserveFault}
 use Rattle.sd_reserve.specs.declared.drive.ReserveFault.TheVariants.{NoDriveOfMedia, DriveOffline, NoFreeLane}
 use Rattle.sd_reserve.specs.declared.drive.DriveView.{DriveView}
-use Rattle.sd_moves.specs.Sessions.{NoneReserved}
-use Rattle.sd_moves.specs.World.{WorldView, WorldSession, BayView, LaneView, drives_for, bay_for, busy_lanes, free_lanes, lane_is_free}
+use Rattle.sd_world.specs.Sessions.{NoneReserved}
+use Rattle.sd_world.specs.World.{WorldView, WorldSession, BayView, LaneView, drives_for, bay_for, busy_lanes, free_lanes, lane_is_free}
 use Rattle.sd_sessions.proofs.Seats.{some_of}
-use Rattle.sd_moves.proofs.Lookups.{one_or_two, get_set-same, get_set-other}
+use Rattle.sd_world.proofs.Lookups.{one_or_two, get_set-same, get_set-other}
 
 -- the first of a list, where each is what it should be
 pub first_are : {A B : Type 0} (f : A → B) (xs : List A) (ys : List B) → length xs ≤ length ys

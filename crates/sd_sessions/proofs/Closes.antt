@@ -12,8 +12,8 @@ use Rattle.sd_span.specs.declared.progress.Progress.{Progress}
 use Rattle.sd_span.specs.declared.span.Span.{Span}
 use Rattle.sd_session.specs.declared.status.Status.TheVariants.{Closed}
 use Rattle.sd_session.specs.Session.{SessionView, HasOutstanding, MayClose, ClosesSession, CloseRefused}
-use Rattle.sd_moves.specs.World.{WorldView, WorldSession, BayView, IsOnline}
-use Rattle.sd_moves.specs.Sessions.{CloseCauses, ClosesAt}
+use Rattle.sd_world.specs.World.{WorldView, WorldSession, BayView, IsOnline}
+use Rattle.sd_world.specs.Sessions.{CloseCauses, ClosesAt}
 use Rattle.sd_parts.proofs.Found.{IsReadAt}
 use Rattle.sd_sessions.proofs.Seats.{IsSeatedAt, online_read}
 

@@ -3,11 +3,12 @@ use Rattle.std.proofs.Common.{◌≡◌, ℕ, ℤ, ◌+◌, ◌≤◌, sym, ap, 
 use Rattle.sd_base.specs.Limits.{most_number}
 use Rattle.sd_base.specs.declared.refusal.Refusal.{Refusal}
 use Rattle.sd_drive.specs.View.{DriveIs}
-use Rattle.sd_moves.specs.World.{WorldView, WorldSession, BayView, LaneView}
-use Rattle.sd_moves.specs.Rules.{NumbersRise}
-use Rattle.sd_moves.specs.Sessions.{Reserves, OpensSession, OpenRefused, StaysAs, opening_for}
+use Rattle.sd_journal.specs.Journal.{with_key}
+use Rattle.sd_world.specs.World.{WorldView, WorldSession, BayView, LaneView}
+use Rattle.sd_world.specs.Rules.{NumbersRise}
+use Rattle.sd_world.specs.Sessions.{Reserves, OpensSession, OpenRefused, StaysAs, next_key, opening_for}
 use Rattle.sd_sessions.specs.Opening.{OpensAt, OpensNotAt, StartsNot}
-use Rattle.sd_moves.proofs.Lookups.{set_same}
+use Rattle.sd_world.proofs.Lookups.{set_same}
 
 -- the next number is at least the first
 pub next_least : (time least next : ℕ) (es : List WorldSession) → NumbersRise time least next es → least ≤ next
@@ -51,13 +52,13 @@ opened {D} {w = w} {pool = pool} {drive = drive} {at = at} {place = place} {bay 
   new_is =
       ap (λ (es : List WorldSession). record (with_lane at place bay d' lane' es w) { next = w.next + 1 }) o.new_is
       ∙ ap (λ (x : DriveIs D). record (with_lane at place bay x lane' (o.sessions ++ record { session = o.session; drive = drive } ∷ []) w) { next = w.next + 1 }) o.drive_is
-      ∙ ap (λ (l : LaneView). record (with_lane at place bay (record d { pool = Some pool }) l (o.sessions ++ record { session = o.session; drive = drive } ∷ []) w) { next = w.next + 1 }) o.starts.lane_is;
+      ∙ ap (λ (l : LaneView). record (with_lane at place bay (record d { pool = Some pool; ready = with_key (next_key w) d.ready }) l (o.sessions ++ record { session = o.session; drive = drive } ∷ []) w) { next = w.next + 1 }) o.starts.lane_is;
 }
 
--- a session isn't opened since it doesn't start
+-- a session isn't opened since it doesn't start, for which room was made
 starts_not : {D : Type 0} (w : WorldView D) (pool media : List ℕ) (why : Refusal) (drive at place : ℕ) (bay : BayView D) (d : DriveIs D) (lane lane' : LaneView) (es' : List WorldSession)
     → w.next ≤ most_number → Reserves w pool media drive at place bay d lane → StartsNot w.limits lane w.sessions why lane' es'
-    → OpenRefused w pool media why (with_lane at place bay d lane' es' w)
+    → OpenRefused w pool media why (with_lane at place bay (record d { ready = with_key (next_key w) d.ready }) lane' es' w)
 starts_not {D} w pool media why drive at place bay d lane lane' es' left reserves s =
     inr (inr (inl (
       left,
@@ -74,8 +75,7 @@ starts_not {D} w pool media why drive at place bay d lane lane' es' left reserve
         leaves = record {
           sessions = es';
           takes = s.takes;
-          new_is = own_drive w at place bay d lane' es' reserves.online.online
-              ∙ ap (λ (l : LaneView). record w { sessions = es'; bays = slice_set w.bays at (record bay { lanes = slice_set bay.lanes place l }) }) s.lane_is;
+          new_is = ap (λ (l : LaneView). with_lane at place bay (record d { ready = with_key (next_key w) d.ready }) l es' w) s.lane_is;
         };
         cause = s.cause;
       },
@@ -92,10 +92,10 @@ nothing_changed {D} w at place bay d lane lane' es' there on stands same stay =
     ∙ ap (λ (bs : List (BayView D)). record w { bays = bs }) (set_same w.bays at bay there)
 
 pub not_opened : {D : Type 0} {w : WorldView D} {pool media : List ℕ} {drive at place : ℕ} {bay : BayView D} {d : DriveIs D} {lane : LaneView} (why : Refusal) (d' : DriveIs D) (lane' : LaneView) (es' : List WorldSession)
-    → w.next ≤ most_number → Reserves w pool media drive at place bay d lane → OpensNotAt w.limits lane w.sessions d why lane' es' d'
+    → w.next ≤ most_number → Reserves w pool media drive at place bay d lane → OpensNotAt w.limits (next_key w) lane w.sessions d why lane' es' d'
     → OpenRefused w pool media why (with_lane at place bay d' lane' es' w)
-not_opened {D} {w = w} {pool = pool} {media = media} {drive = drive} {at = at} {place = place} {bay = bay} {d = d} {lane = lane} why d' lane' es' left reserves (inl none, kept) =
-    subst (λ (x : DriveIs D). OpenRefused w pool media why (with_lane at place bay x lane' es' w)) (sym kept)
+not_opened {D} {w = w} {pool = pool} {media = media} {drive = drive} {at = at} {place = place} {bay = bay} {d = d} {lane = lane} why d' lane' es' left reserves (inl none) =
+    subst (λ (x : DriveIs D). OpenRefused w pool media why (with_lane at place bay x lane' es' w)) (sym none.3)
     (inr (inr (inr (
       left,
       none.0,
@@ -103,6 +103,6 @@ not_opened {D} {w = w} {pool = pool} {media = media} {drive = drive} {at = at} {
       reserves.chosen,
       nothing_changed w at place bay d lane lane' es' reserves.online.there reserves.online.online reserves.lane_there none.1 none.2,
     ))))
-not_opened {D} {w = w} {pool = pool} {media = media} {drive = drive} {at = at} {place = place} {bay = bay} {d = d} {lane = lane} why d' lane' es' left reserves (inr not, kept) =
-    subst (λ (x : DriveIs D). OpenRefused w pool media why (with_lane at place bay x lane' es' w)) (sym kept)
-    (starts_not w pool media why drive at place bay d lane lane' es' left reserves not)
+not_opened {D} {w = w} {pool = pool} {media = media} {drive = drive} {at = at} {place = place} {bay = bay} {d = d} {lane = lane} why d' lane' es' left reserves (inr not) =
+    subst (λ (x : DriveIs D). OpenRefused w pool media why (with_lane at place bay x lane' es' w)) (sym not.1)
+    (starts_not w pool media why drive at place bay d lane lane' es' left reserves not.0)

@@ -8,9 +8,9 @@ use Rattle.sd_drive.specs.View.{DriveIs}
 use Rattle.sd_journal.specs.Journal.{Entry}
 use Rattle.sd_reserve.specs.Reserve.{IsCandidate, Precedes}
 use Rattle.sd_session.specs.declared.opening.Opening.{Opening}
-use Rattle.sd_moves.specs.World.{WorldView, WorldSession, BayView, LaneView, drives_for, free_lanes}
-use Rattle.sd_moves.specs.Rules.{IsWorld}
-use Rattle.sd_moves.specs.Sessions.{Reserves, opening_for}
+use Rattle.sd_world.specs.World.{WorldView, WorldSession, BayView, LaneView, drives_for, free_lanes}
+use Rattle.sd_world.specs.Rules.{IsWorld}
+use Rattle.sd_world.specs.Sessions.{Reserves, opening_for}
 use Rattle.sd_sessions.specs.Opening.{CanTakeStore, OpensAt}
 use Rattle.sd_sessions.proofs.Chosen.{IsChosen, is_chosen}
 use Rattle.sd_sessions.proofs.Stores.{IsFree, is_free, can_take}

@@ -10,10 +10,10 @@ use Rattle.sd_session.specs.Session.{SessionView, IsRunning}
 use Rattle.sd_session.specs.Sending.{Despools, DespoolRefused, queue_view}
 use Rattle.sd_session.specs.declared.answer.Despooled.{Despooled}
 use Rattle.sd_session.specs.declared.answer.Despooled.TheVariants.{Sent, LaneFull, Nothing, NotDue}
-use Rattle.sd_moves.specs.World.{WorldView, WorldSession, BayView, IsOnline}
-use Rattle.sd_moves.specs.Rules.{IsWorld, IsSeated, IsBay}
-use Rattle.sd_moves.specs.Sessions.{SendsStep, DespoolsSession, RefusedWith}
-use Rattle.sd_moves.proofs.Lookups.{set_same}
+use Rattle.sd_world.specs.World.{WorldView, WorldSession, BayView, IsOnline}
+use Rattle.sd_world.specs.Rules.{IsWorld, IsSeated, IsBay}
+use Rattle.sd_world.specs.Sessions.{SendsStep, DespoolsSession, RefusedWith}
+use Rattle.sd_world.proofs.Lookups.{set_same}
 use Rattle.sd_parts.proofs.Found.{IsReadAt, read_found}
 use Rattle.sd_parts.specs.Found.{IsFoundAt}
 use Rattle.sd_sessions.proofs.Changes.{changes_one, despool_keeps_key}

@@ -6,11 +6,11 @@ use Rattle.sd_base.specs.Choice.{FirstOf}
 use Rattle.sd_journal.specs.Journal.{Entry}
 use Rattle.sd_session.specs.Session.{SessionView, IsRunning, GivesBack, KeepsStore, store_of}
 use Rattle.sd_spool.specs.Job.{StoreState}
-use Rattle.sd_moves.specs.World.{WorldSession, LaneView, session_at, with_session, lane_is_free, free_lanes}
-use Rattle.sd_moves.specs.Rules.{IsLane}
-use Rattle.sd_moves.proofs.LaneSteps.{not_free}
-use Rattle.sd_moves.proofs.Lookups.{session_id}
-use Rattle.sd_moves.proofs.OpenSteps.{holder_of}
+use Rattle.sd_world.specs.World.{WorldSession, LaneView, session_at, with_session, lane_is_free, free_lanes}
+use Rattle.sd_world.specs.Rules.{IsLane}
+use Rattle.sd_world.proofs.LaneSteps.{not_free}
+use Rattle.sd_world.proofs.Lookups.{session_id}
+use Rattle.sd_world.proofs.OpenSteps.{holder_of}
 use Rattle.sd_sessions.specs.Opening.{CanTakeStore}
 use Rattle.sd_sessions.proofs.Chosen.{was_there}
 use Rattle.sd_sessions.proofs.Seats.{some_of}

@@ -1,15 +1,17 @@
 -- The opening of a session by a lane, whatever the world around it.
 use Rattle.std.specs.Prelude.{◌≡◌, ◌≢◌, ◌⊎◌, ℕ, ◌-◌, Some, None, List, [], ◌∷◌, ◌++◌}
 use Rattle.sd_base.specs.Limits.{block_header}
+use Rattle.sd_base.specs.declared.number.SessionKey.{SessionKey}
 use Rattle.sd_base.specs.declared.refusal.Refusal.{Refusal}
 use Rattle.sd_base.specs.declared.refusal.Refusal.TheVariants.{SpoolFault, Memory}
 use Rattle.sd_drive.specs.View.{DriveIs}
 use Rattle.sd_drive.specs.declared.limits.Limits.{Limits}
+use Rattle.sd_journal.specs.Journal.{with_key}
 use Rattle.sd_session.specs.Session.{SessionView}
 use Rattle.sd_session.specs.declared.opening.Opening.{Opening}
 use Rattle.sd_spool.specs.Job.{StoreState}
-use Rattle.sd_moves.specs.World.{WorldSession, LaneView}
-use Rattle.sd_moves.specs.Sessions.{TakesStore, StartsOn, FailsToEmpty}
+use Rattle.sd_world.specs.World.{WorldSession, LaneView}
+use Rattle.sd_world.specs.Sessions.{TakesStore, StartsOn, FailsToEmpty}
 
 -- the lane's store can be taken
 abbrev pub CanTakeStore : LaneView → List WorldSession → Type 0
@@ -32,16 +34,17 @@ pub record StartsNot (limits : Limits) (lane : LaneView) (old : List WorldSessio
   pub lane_is : after ≡ record lane { store = Some store' }
   pub cause : ((why ≡ Memory) × (store' ≡ store)) ⊎ ((limits.spool ≢ 0) × (why ≡ SpoolFault) × FailsToEmpty store store')
 
--- it starts, comes behind all other sessions, and its pool is the drive's from now on
+-- it starts, comes behind all other sessions, and its pool is the drive's from now on, where there is room for its first placement
 pub record OpensAt {D : Type 0} (limits : Limits) (ticket drive : ℕ) (opening : Opening) (lane : LaneView) (old : List WorldSession) (d : DriveIs D)
     (after : LaneView) (new : List WorldSession) (d' : DriveIs D) : Type 0 where
   pub session : SessionView
   pub sessions : List WorldSession
   pub starts : StartsInLane limits ticket opening lane old session after sessions
   pub new_is : new ≡ sessions ++ record { session = session; drive = drive } ∷ []
-  pub drive_is : d' ≡ record d { pool = Some opening.pool }
+  pub drive_is : d' ≡ record d { pool = Some opening.pool; ready = with_key opening.key d.ready }
 
--- it isn't opened: for want of memory at first, or since it doesn't start
-abbrev pub OpensNotAt : {D : Type 0} → Limits → LaneView → List WorldSession → DriveIs D → Refusal → LaneView → List WorldSession → DriveIs D → Type 0
-OpensNotAt limits lane old d why after new d' =
-    (((why ≡ Memory) × (after ≡ lane) × (new ≡ old)) ⊎ StartsNot limits lane old why after new) × (d' ≡ d)
+-- it isn't opened: for want of memory at first, or since it doesn't start, for which there was room
+abbrev pub OpensNotAt : {D : Type 0} → Limits → SessionKey → LaneView → List WorldSession → DriveIs D → Refusal → LaneView → List WorldSession → DriveIs D → Type 0
+OpensNotAt limits key lane old d why after new d' =
+    ((why ≡ Memory) × (after ≡ lane) × (new ≡ old) × (d' ≡ d))
+    ⊎ (StartsNot limits lane old why after new × (d' ≡ record d { ready = with_key key d.ready }))

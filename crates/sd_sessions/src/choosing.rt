@@ -4,9 +4,9 @@ ghost use Rattle.std.specs.List.{count_by};
 ghost use Rattle.sd_base.specs.Choice.{FirstOf};
 ghost use Rattle.sd_base.specs.Limits.{most_drives, most_lanes};
 ghost use Rattle.sd_reserve.specs.Reserve.{IsCandidate, Precedes};
-ghost use Rattle.sd_moves.specs.Rules.{IsWorld, NumbersRise};
-ghost use Rattle.sd_moves.specs.Sessions.{NoneReserved};
-ghost use Rattle.sd_moves.specs.World.{drives_for, bay_for, loaded_pool, free_lanes};
+ghost use Rattle.sd_world.specs.Rules.{IsWorld, NumbersRise};
+ghost use Rattle.sd_world.specs.Sessions.{NoneReserved};
+ghost use Rattle.sd_world.specs.World.{drives_for, bay_for, loaded_pool, free_lanes};
 ghost use Rattle.sd_parts.specs.View.{world_of};
 
 use sd_base::{DriveNo, LaneNo, MOST_DRIVES, MediaName, PoolName, Refusal};

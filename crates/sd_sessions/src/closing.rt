@@ -1,7 +1,7 @@
 // What a session's client asks once all is sent: whether it lasts, and where it lies.
 ghost use Rattle.sd_machine.specs.declared.event.Event.TheVariants.{Close, Media};
-ghost use Rattle.sd_moves.specs.Moves.{Moves};
-ghost use Rattle.sd_moves.specs.Rules.{IsWorld};
+ghost use Rattle.sd_world.specs.Moves.{Moves};
+ghost use Rattle.sd_world.specs.Rules.{IsWorld};
 ghost use Rattle.sd_parts.specs.View.{world_of};
 
 use crate::place::place_of;

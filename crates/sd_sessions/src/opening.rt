@@ -1,9 +1,10 @@
 // A session is opened.
 ghost use Rattle.std.specs.Prelude.{◌≡◌, ◌≤◌, ◌<◌, ℕ, OnOk, OnErr, IfErr, vec_len, vec_capacity};
 ghost use Rattle.sd_drive.specs.Limits.{AreLimits};
+ghost use Rattle.sd_journal.specs.Journal.{with_key};
 ghost use Rattle.sd_machine.specs.declared.event.Event.TheVariants.{Open};
-ghost use Rattle.sd_moves.specs.Moves.{Moves};
-ghost use Rattle.sd_moves.specs.Rules.{IsWorld, NumbersRise};
+ghost use Rattle.sd_world.specs.Moves.{Moves};
+ghost use Rattle.sd_world.specs.Rules.{IsWorld, NumbersRise};
 ghost use Rattle.sd_parts.specs.View.{world_of};
 ghost use Rattle.sd_sessions.specs.Opening.{CanTakeStore, OpensAt, OpensNotAt};
 
@@ -94,12 +95,12 @@ fn open_at<D: Driver, S: SpoolStore + Drop>(
     requires stored { CanTakeStore lane.old sessions.old.items }
     ensures ok { OnOk result (OpensAt limits.now ticket drive opening lane.old sessions.old.items at.old
         lane.new sessions.new.items at.new) }
-    ensures err { IfErr result (λ why. OpensNotAt limits.now lane.old sessions.old.items at.old why
-        lane.new sessions.new.items at.new) }
+    ensures err { IfErr result (λ why. OpensNotAt limits.now opening.key lane.old
+        sessions.old.items at.old why lane.new sessions.new.items at.new) }
 {
-    if let Err(AllocError) = make_room(sessions, at, opening.key) {
+    let Ok(()) = make_room(sessions, at, opening.key) else {
         return Err(Refusal::Memory);
-    }
+    };
     let pool = opening.pool.copy();
     let session = start(alloc, limits, sessions, lane, ticket, opening)?;
     at.set_pool(&pool);
@@ -113,7 +114,10 @@ fn make_room<D: Driver, S: SpoolStore + Drop>(
     drive: &mut Drive<D>,
     key: SessionKey,
 ) -> Result<(), AllocError>
-    ensures drive { drive.new ≡ drive.old }
+    ensures drive { OnOk result (drive.new ≡ record drive.old {
+      ready = with_key key drive.old.ready;
+    }) }
+    ensures err { OnErr result (drive.new ≡ drive.old) }
     ensures items { sessions.new.items ≡ sessions.old.items }
     ensures ok { OnOk result (vec_len sessions.new < vec_capacity sessions.new) }
 {

@@ -1,8 +1,8 @@
 // The events that touch one session and nothing else.
 ghost use Rattle.std.specs.Prelude.{◌≡◌};
 ghost use Rattle.sd_machine.specs.declared.event.Event.TheVariants.{Append, End, Cancel, Spool};
-ghost use Rattle.sd_moves.specs.Moves.{Moves};
-ghost use Rattle.sd_moves.specs.Rules.{IsWorld};
+ghost use Rattle.sd_world.specs.Moves.{Moves};
+ghost use Rattle.sd_world.specs.Rules.{IsWorld};
 ghost use Rattle.sd_parts.specs.View.{world_of};
 
 use sd_base::{Rec, Refusal, Ticket};

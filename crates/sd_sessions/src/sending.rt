@@ -1,9 +1,9 @@
 // A step of sending.
 ghost use Rattle.std.specs.Prelude.{◌≡◌, ◌≤◌, IfOk, IfErr, OnErr};
 ghost use Rattle.sd_machine.specs.declared.event.Event.TheVariants.{Despool};
-ghost use Rattle.sd_moves.specs.Moves.{Moves};
-ghost use Rattle.sd_moves.specs.Rules.{IsWorld};
-ghost use Rattle.sd_moves.specs.Sessions.{SendsStep};
+ghost use Rattle.sd_world.specs.Moves.{Moves};
+ghost use Rattle.sd_world.specs.Rules.{IsWorld};
+ghost use Rattle.sd_world.specs.Sessions.{SendsStep};
 ghost use Rattle.sd_parts.specs.View.{world_of};
 ghost use Rattle.sd_session.specs.Sending.{DespoolRefused};
 

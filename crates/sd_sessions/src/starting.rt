@@ -2,8 +2,8 @@
 ghost use Rattle.std.specs.Prelude.{◌≡◌, ◌≤◌, ℕ, None, IfOk, IfErr, vec_len, vec_capacity};
 ghost use Rattle.sd_drive.specs.Limits.{AreLimits};
 ghost use Rattle.sd_spool.specs.Job.{state_of};
-ghost use Rattle.sd_moves.specs.Rules.{NumbersRise};
-ghost use Rattle.sd_moves.specs.Sessions.{TakesStore};
+ghost use Rattle.sd_world.specs.Rules.{NumbersRise};
+ghost use Rattle.sd_world.specs.Sessions.{TakesStore};
 ghost use Rattle.sd_sessions.specs.Opening.{CanTakeStore, StartsInLane, StartsNot};
 
 use sd_base::{Refusal, Ticket};

@@ -4,7 +4,7 @@ use Rattle.std.specs.Global.{Global}
 use Rattle.std.specs.List.{AllZip}
 use Rattle.sd_conf.specs.declared.conf.Conf.{Conf}
 use Rattle.sd_conf.specs.declared.conf.DriveConf.{DriveConf}
-use Rattle.sd_closed.specs.Steps.{IsSound}
+use Rattle.sd_world.specs.Steps.{IsSound}
 use Rattle.sd_core.specs.Conf.{AreQueues, AreStores, limits_of}
 use Rattle.sd_core.specs.Fresh.{IsFresh}
 use Rattle.sd_core.specs.declared.conf.WorldConf.{WorldConf}
@@ -13,8 +13,8 @@ use Rattle.sd_filedrive.specs.Place.{folder_named}
 use Rattle.sd_filedrive.specs.declared.drive.FileDrive.{FileDrive}
 use Rattle.sd_lane.specs.Queue.{PlainView, lanes_view}
 use Rattle.sd_machine.specs.Machine.{empty_machine}
-use Rattle.sd_matches.specs.Matches.{Matches}
-use Rattle.sd_moves.specs.World.{WorldView}
+use Rattle.sd_world.specs.Matches.{Matches}
+use Rattle.sd_world.specs.World.{WorldView}
 use Rattle.sd_spool.specs.FileSpool.{lane_file, path_of, meaning_of as store_of}
 use Rattle.sd_spool.specs.declared.file.FileSpool.{FileSpool}
 

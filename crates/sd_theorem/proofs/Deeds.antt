@@ -3,9 +3,9 @@ use Rattle.std.proofs.Common.{refl, subst, inl, inr, List, [], ◌∷◌, ◌++�
 use Rattle.sd_driver.specs.Meaning.{Meaning}
 use Rattle.sd_machine.specs.declared.event.Event.{Event}
 use Rattle.sd_machine.specs.declared.reply.Reply.{Reply}
-use Rattle.sd_moves.specs.World.{WorldView}
-use Rattle.sd_closed.specs.Deeds.{Deed, Answered, ReadBack, LeadsTo}
-use Rattle.sd_closed.specs.Steps.{IsStep}
+use Rattle.sd_world.specs.World.{WorldView}
+use Rattle.sd_world.specs.Deeds.{Deed, Answered, ReadBack, LeadsTo}
+use Rattle.sd_world.specs.Steps.{IsStep}
 use Rattle.sd_theorem.specs.Told.{WasGiven}
 
 -- the deeds up to the reply, the step that gave it, and those behind it

@@ -7,8 +7,8 @@ use Rattle.sd_drive.specs.View.{DriveIs}
 use Rattle.sd_drive.specs.declared.limits.Limits.{Limits}
 use Rattle.sd_lane.specs.Queue.{LanesView}
 use Rattle.sd_spool.specs.Meaning.{Meaning as StoreMeaning, IsHonest as StoreIsHonest}
-use Rattle.sd_moves.specs.Honest.{StoreIsTrue, AreHonest}
-use Rattle.sd_moves.specs.World.{WorldView, BayView, LaneView, session_at}
+use Rattle.sd_world.specs.Honest.{StoreIsTrue, AreHonest}
+use Rattle.sd_world.specs.World.{WorldView, BayView, LaneView, session_at}
 use Rattle.sd_core.specs.Fresh.{StaysDevice, AreNewDrives, new_lane, new_bay, new_bays}
 use Rattle.sd_theorem.specs.Start.{Meanings, Start, IsMadeOf, StartsHonest}
 

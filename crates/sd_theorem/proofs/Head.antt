@@ -1,5 +1,5 @@
 -- The session theorem.
-use Rattle.std.proofs.Common.{◌≡◌, ◌≢◌, ℕ, refl, sym, ap, subst, ◌∙◌, inl, inr, arith, length-append, Option, Some, None, Result, List, [], length}
+use Rattle.std.proofs.Common.{◌≡◌, ◌≢◌, ℕ, refl, sym, ap, subst, ◌∙◌, inl, inr, arith, false, length-append, Option, Some, None, Result, List, [], length}
 use Rattle.sd_base.specs.Record.{Record}
 use Rattle.sd_base.specs.declared.number.SessionKey.{SessionKey}
 use Rattle.sd_base.specs.declared.refusal.Refusal.{Refusal}
@@ -14,23 +14,25 @@ use Rattle.sd_readback.specs.declared.read.ReadEnd.{ReadEnd}
 use Rattle.sd_readback.proofs.FaultLemmas.{total_bytes-append}
 use Rattle.sd_session.specs.declared.status.Status.TheVariants.{Cancelled}
 use Rattle.sd_span.specs.declared.span.Span.{Span}
-use Rattle.sd_moves.specs.Honest.{AreHonest}
-use Rattle.sd_moves.specs.World.{WorldView, WorldSession, BayView, IsOnline, session_at}
-use Rattle.sd_matches.specs.Matches.{Matches, SessionsMatch}
-use Rattle.sd_matches.proofs.Sessions.{found_session}
-use Rattle.sd_closed.specs.Stands.{StandsClosed}
-use Rattle.sd_closed.specs.Deeds.{Deed, IsRead, LeadsTo}
-use Rattle.sd_closed.specs.Reads.{HasCancelled, ReadsToFront}
-use Rattle.sd_closed.specs.Stays.{AreClaimed}
-use Rattle.sd_closed.specs.Steps.{IsSound}
-use Rattle.sd_closed.proofs.DeedLemmas.{leads_keep, leads_run}
-use Rattle.sd_closed.proofs.ReadLemmas.{closed_reads, told_spans_read}
+use Rattle.sd_world.specs.Drives.{was_purged}
+use Rattle.sd_world.specs.Honest.{AreHonest}
+use Rattle.sd_world.specs.World.{WorldView, WorldSession, BayView, IsOnline, session_at}
+use Rattle.sd_world.specs.Matches.{Matches, SessionsMatch}
+use Rattle.sd_world.proofs.Sessions.{found_session}
+use Rattle.sd_world.specs.Stands.{StandsClosed}
+use Rattle.sd_world.specs.Deeds.{Deed, IsRead, LeadsTo}
+use Rattle.sd_world.specs.Reading.{is_gone}
+use Rattle.sd_world.specs.Reads.{HasCancelled, ReadsToFront}
+use Rattle.sd_world.specs.Stays.{AreClaimed}
+use Rattle.sd_world.specs.Steps.{IsSound}
+use Rattle.sd_world.proofs.DeedLemmas.{leads_keep, leads_run}
+use Rattle.sd_world.proofs.ReadLemmas.{closed_reads, told_spans_read}
 use Rattle.sd_theorem.specs.Headline.{HasStatus, ReadsClosed, ReadsCancelled, Headline}
 use Rattle.sd_theorem.specs.Start.{Meanings, Start, IsMadeOf}
 use Rattle.sd_theorem.specs.Told.{WereAsked}
 use Rattle.sd_theorem.proofs.Deeds.{given_at}
 use Rattle.sd_theorem.proofs.Fresh.{made_honest}
-use Rattle.sd_theorem.proofs.Read.{world_gives, world_refuses, counts_small}
+use Rattle.sd_theorem.proofs.Read.{world_gives, world_refuses, world_purged, own_gone, counts_small}
 use Rattle.sd_theorem.proofs.Stood.{honest_drive, is_then, told_of, told_stood}
 
 module _ {D : Type 0} (meaning : D → Meaning) (w : WorldView D) (m : Machine) (sound : IsSound meaning w) (honest : AreHonest meaning w) (pairs : Matches meaning w m)
@@ -40,32 +42,53 @@ module _ {D : Type 0} (meaning : D → Meaning) (w : WorldView D) (m : Machine) 
   pub reads_closed : StandsClosed w key spans → ReadsClosed meaning w m key spans got got' result
   reads_closed s =
       elim s.spans_are [
-        | inl p ↦
-            let here = honest_drive meaning w s.e.drive p.0 p.1 p.2 sound honest p.3 in
-            let t = closed_reads meaning w m key spans p.0 p.1 p.2 pairs (record { e = s.e; there = s.there; key_is = s.key_is; closed = s.closed; spans_are = p }) here in
-            let small = counts_small meaning w m key s.e t.s pairs s.there t.there read.fit in
-            record {
-              has = record { s = t.s; there = t.there; key_is = t.key_is; status_is = t.closed };
-              e = s.e;
-              there = s.there;
-              reads = inl (world_gives meaning w after key spans t.s.records _ got got' result s.e.drive p.0 p.1 p.2 p.3 s.claimed here.honest.device t.reads small.0 small.1 read.reads);
-            }
+        | inl p ↦ elim s.stands [
+          | inl closed ↦
+              let here = honest_drive meaning w s.e.drive p.0 p.1 p.2 sound honest p.3 in
+              let t = closed_reads meaning w m key spans p.0 p.1 p.2 pairs (record { e = s.e; there = s.there; key_is = s.key_is; closed = closed; spans_are = p }) here in
+              let small = counts_small meaning w m key s.e t.s pairs s.there t.there read.fit in
+              let kept = own_gone w key spans s.e sound.rules s.there s.key_is ∙ ap was_purged closed in
+              record {
+                s = t.s;
+                has = t.there;
+                key_is = t.key_is;
+                e = s.e;
+                there = s.there;
+                reads = inl (
+                  t.closed,
+                  world_gives meaning w after key spans t.s.records _ got got' result s.e.drive p.0 p.1 p.2 p.3 s.claimed here.honest.device kept t.reads small.0 small.1 read.reads,
+                );
+              }
+          | inr purged ↦
+              let f = found_session meaning w key.id w.sessions m.sessions s.e pairs.sessions s.there in
+              let gone = own_gone w key spans s.e sound.rules s.there s.key_is ∙ ap was_purged purged in
+              record {
+                s = f.session;
+                has = f.there;
+                key_is = f.matches.key_is ∙ s.key_is;
+                e = s.e;
+                there = s.there;
+                reads = inr (inr (f.matches.status_is ∙ purged, world_purged meaning w after key spans got got' result s.e.drive p.0 p.1 p.2 p.3 s.claimed s.some gone read.reads));
+              }
+        ]
         | inr retired ↦
             let f = found_session meaning w key.id w.sessions m.sessions s.e pairs.sessions s.there in
             record {
-              has = record { s = f.session; there = f.there; key_is = f.matches.key_is ∙ s.key_is; status_is = f.matches.status_is ∙ s.closed };
+              s = f.session;
+              has = f.there;
+              key_is = f.matches.key_is ∙ s.key_is;
               e = s.e;
               there = s.there;
-              reads = inr (world_refuses meaning w after key spans got got' result s.e.drive retired s.claimed s.some read.reads);
+              reads = inr (inl (world_refuses meaning w after key spans got got' result s.e.drive retired s.claimed s.some read.reads));
             }
       ]
 
   -- Cancelled ones.
 
   -- of the session's drive, which is online
-  reads_front : (e : WorldSession) (bodies : List (List ℕ)) (at : ℕ) (bay : BayView D) (d : DriveIs D) → session_at key.id w.sessions ≡ Some e → IsOnline w e.drive at bay d → AreClaimed w.desk e.drive spans
+  reads_front : (e : WorldSession) (bodies : List (List ℕ)) (at : ℕ) (bay : BayView D) (d : DriveIs D) → session_at key.id w.sessions ≡ Some e → is_gone w key spans ≡ false → IsOnline w e.drive at bay d → AreClaimed w.desk e.drive spans
       → ReadsToFront (volumes_on (meaning d.device).shelf) m key bodies spans → ReadsCancelled meaning w m key spans got got' result
-  reads_front e bodies at bay d there online claimed t =
+  reads_front e bodies at bay d there kept online claimed t =
       let small = counts_small meaning w m key e t.s pairs there t.there read.fit in
       let few = small.0 in
       let light = small.1 in
@@ -80,7 +103,7 @@ module _ {D : Type 0} (meaning : D → Meaning) (w : WorldView D) (m : Machine) 
           others = t.others;
           ended = t.ended;
           begin = t.records_begin;
-          reads = world_gives meaning w after key spans t.records t.ended got got' result e.drive at bay d online claimed (honest.devices e.drive at bay d online) t.reads
+          reads = world_gives meaning w after key spans t.records t.ended got got' result e.drive at bay d online claimed (honest.devices e.drive at bay d online) kept t.reads
               (omega (arith, long, few)) (omega (arith, wide, light)) read.reads;
         });
       }
@@ -119,9 +142,9 @@ module _ {D : Type 0} (meaning : D → Meaning) (w : WorldView D) (m : Machine) 
             let there : IsOnline w told.e.drive place.at place.bay d = subst (λ n. IsOnline w n place.at place.bay d) seat.2.drive_is online in
             let F : SessionKey → Type 0 = λ k. (bodies : List (List ℕ)) × ReadsToFront (volumes_on (meaning d.device).shelf) m k bodies spans in
             let front = subst F was
-            (told_spans_read meaning g.now w m told.e spans place.at place.bay d (subst At (sym was) told.there) told.spans_are some t.stays.seats t.stays.grow pairs (subst C (sym was) gone)
+            (told_spans_read meaning g.now w m told.e spans place.at place.bay d (subst At (sym was) told.there) told.spans_are some t.stays.seats t.stays.grow sound.rules pairs (subst C (sym was) gone)
             (honest_drive meaning w told.e.drive place.at place.bay d sound honest there)) in
-            reads_front e front.0 place.at place.bay d seat.1 online claimed front.1
+            reads_front e front.0 place.at place.bay d seat.1 (own_gone w key spans e sound.rules seat.1 own ∙ ap was_purged cancelled) online claimed front.1
       ] in
       whether place.bay.drive refl
 

@@ -5,3 +5,4 @@ pub mod Read
 pub mod Runs
 pub mod Stood
 pub mod Stops
+pub mod Unpurged

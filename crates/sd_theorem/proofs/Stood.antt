@@ -1,28 +1,29 @@
 -- How closed sessions stand whose spans were told, where all is honest.
-use Rattle.std.proofs.Common.{◌≡◌, ℕ, sym, subst, ◌∙◌, inl, inr, Some, List}
+use Rattle.std.proofs.Common.{◌≡◌, ◌≢◌, ℕ, sym, ap, subst, ◌∙◌, inl, inr, arith, Some, List, [], slice_get}
 use Rattle.sd_base.specs.declared.number.SessionKey.{SessionKey}
 use Rattle.sd_driver.specs.Meaning.{Meaning}
 use Rattle.sd_drive.specs.View.{DriveIs}
+use Rattle.sd_journal.specs.Journal.{placements}
 use Rattle.sd_machine.specs.Machine.{Machine}
 use Rattle.sd_machine.specs.declared.event.Event.{Event}
 use Rattle.sd_machine.specs.declared.event.Event.TheVariants.{Close, Media}
 use Rattle.sd_machine.specs.declared.reply.Reply.{Reply}
 use Rattle.sd_machine.specs.declared.reply.Reply.TheVariants.{Closed, Media as Spans}
+use Rattle.sd_span.specs.Spans.{spans_of}
 use Rattle.sd_span.specs.declared.span.Span.{Span}
-use Rattle.sd_moves.specs.Honest.{AreHonest}
-use Rattle.sd_moves.specs.Kept.{IsClosedAt}
-use Rattle.sd_moves.specs.Sessions.{SpansAt}
-use Rattle.sd_moves.specs.World.{WorldView, WorldSession, BayView, HasTicket, IsOnline, session_at}
-use Rattle.sd_matches.specs.Matches.{Matches}
-use Rattle.sd_matches.proofs.MovesSteps.{moves_steps}
-use Rattle.sd_closed.specs.Deeds.{Deed, LeadsTo, StaysFrom}
-use Rattle.sd_closed.specs.Reads.{HasHonestDrive}
-use Rattle.sd_closed.specs.Stands.{StandsClosed}
-use Rattle.sd_closed.specs.Stays.{AreClaimed}
-use Rattle.sd_closed.specs.Steps.{IsSound, IsStep}
-use Rattle.sd_closed.proofs.DeedLemmas.{leads_keep, leads_run, step_keeps}
-use Rattle.sd_closed.proofs.SpanLemmas.{closed_has_span}
-use Rattle.sd_closed.proofs.StandLemmas.{steps_keep_spans}
+use Rattle.sd_world.specs.Honest.{AreHonest}
+use Rattle.sd_world.specs.Sessions.{SpansAt}
+use Rattle.sd_world.specs.World.{WorldView, WorldSession, BayView, HasTicket, IsOnline, session_at}
+use Rattle.sd_world.specs.Matches.{Matches}
+use Rattle.sd_world.proofs.MovesSteps.{moves_steps}
+use Rattle.sd_world.specs.Deeds.{Deed, LeadsTo, StaysFrom}
+use Rattle.sd_world.specs.Reads.{HasHonestDrive}
+use Rattle.sd_world.specs.Stands.{StandsClosed}
+use Rattle.sd_world.specs.Stays.{AreClaimed}
+use Rattle.sd_world.specs.Steps.{IsSound, IsStep}
+use Rattle.sd_world.proofs.ClaimLemmas.{one_drive}
+use Rattle.sd_world.proofs.DeedLemmas.{leads_keep, leads_run, step_keeps}
+use Rattle.sd_world.proofs.StandLemmas.{steps_keep_spans}
 use Rattle.sd_theorem.specs.Told.{WasClosedWith, WereAsked, WereToldClosed}
 use Rattle.sd_theorem.proofs.Deeds.{GivenAt, given_at, split_at}
 
@@ -40,15 +41,15 @@ honest_drive meaning w drive at bay d sound honest online = record {
 }
 
 -- What is known of the world at a reply, and how it goes on from there.
-pub record IsThen {D : Type 0} (meaning : D → Meaning) (new : WorldView D) (asked now : WorldView D) : Type 0 where
+pub record IsThen {D : Type 0} (meaning : D → Meaning) (new : WorldView D) (asked now : WorldView D) (after : List Deed) : Type 0 where
   pub sound : IsSound meaning asked
   pub honest : AreHonest meaning now
   pub m : Machine
   pub matches : Matches meaning now m
-  pub stays : StaysFrom meaning now new
+  pub stays : StaysFrom meaning after now new
 
 pub is_then : {D : Type 0} (meaning : D → Meaning) (old new : WorldView D) (event : Event) (reply : Reply) (m : Machine) → IsSound meaning old → AreHonest meaning old → Matches meaning old m
-    → (g : GivenAt meaning old new event reply) → IsThen meaning new g.asked g.now
+    → (g : GivenAt meaning old new event reply) → IsThen meaning new g.asked g.now g.after
 is_then meaning old new event reply m sound honest pairs g =
     let before = leads_keep meaning old g.asked g.before sound g.leads in
     let run = leads_run meaning old g.asked g.before m sound g.leads pairs in
@@ -90,6 +91,18 @@ told_of {D} meaning asked now key spans sound step =
       claimed = (steps_keep_spans meaning asked now (Media key.id) (Spans spans) sound step).told told.0 told.1;
     }
 
+-- the spans that are told of a session that stands are those that it stands with
+one_list : {D : Type 0} (meaning : D → Meaning) (w : WorldView D) (key : SessionKey) (others spans : List Span) → (s : StandsClosed w key others) → SpansAt w s.e spans → others ≡ spans
+one_list {D} meaning w key others spans s told = elim s.spans_are [
+  | inl is ↦ (
+      let d : is.2 ≡ told.2 = one_drive w s.e.drive told.0 is.0 told.1 is.1 told.2 is.2 told.3 is.3 in
+      is.4 ∙ ap (λ (x : DriveIs D). spans_of s.e.session.key (placements x.journal)) d ∙ sym told.4)
+  | inr off ↦ (
+      let place : off.0 ≡ told.0 = omega (arith, off.2, told.3.number) in
+      let bay : off.1 ≡ told.1 = cc (sym off.3 ∙ ap (slice_get w.bays) place ∙ told.3.there) in
+      absurd (cc (sym off.4 ∙ ap (λ (b : BayView D). b.drive) bay ∙ told.3.online)))
+]
+
 -- when spans were asked for after it was closed
 asked_stood : {D : Type 0} (meaning : D → Meaning) (old new : WorldView D) (m : Machine) (key : SessionKey) (spans others : List Span) (deeds : List Deed) → IsSound meaning old → AreHonest meaning old
     → Matches meaning old m → StandsClosed old key others → LeadsTo meaning old deeds new → WereAsked key spans deeds → StandsClosed new key spans
@@ -104,13 +117,13 @@ asked_stood {D} meaning old new m key spans others deeds sound honest pairs stoo
     let one : told.e ≡ s.e = cc (sym told.there ∙ s.there) in
     let spans_are : SpansAt g.now s.e spans = subst (λ x. SpansAt g.now x spans) one told.spans_are in
     let claimed : AreClaimed g.now.desk s.e.drive spans = subst (λ (x : WorldSession). AreClaimed g.now.desk x.drive spans) one told.claimed in
-    let c : IsClosedAt g.now key spans = record { e = s.e; there = s.there; key_is = s.key_is; closed = s.closed; spans_are = spans_are } in
+    let same : others ≡ spans = one_list meaning g.now key others spans s spans_are in
     t.stays.closed key spans (record {
       e = s.e;
       there = s.there;
       key_is = s.key_is;
-      closed = s.closed;
-      some = closed_has_span g.now key spans g.step.sound.rules c;
+      stands = s.stands;
+      some = subst (λ l. l ≢ []) same s.some;
       claimed = claimed;
       spans_are = inl spans_are;
     })

@@ -3,7 +3,7 @@ use Rattle.std.specs.Prelude.{◌≡◌, ◌⊎◌, ℕ, Bool, Result, Err, List
 use Rattle.sd_base.specs.Record.{Record}
 use Rattle.sd_base.specs.declared.number.SessionKey.{SessionKey}
 use Rattle.sd_base.specs.declared.refusal.Refusal.{Refusal}
-use Rattle.sd_base.specs.declared.refusal.Refusal.TheVariants.{DeviceFault, DriveOffline, Memory}
+use Rattle.sd_base.specs.declared.refusal.Refusal.TheVariants.{DeviceFault, DriveOffline, VolumePurged, Memory}
 use Rattle.sd_driver.specs.Meaning.{Meaning}
 use Rattle.sd_drive.specs.View.{DriveIs}
 use Rattle.sd_label.specs.Cutting.{total_bytes}
@@ -11,8 +11,8 @@ use Rattle.sd_readback.specs.HandsOver.{GotFirstOf}
 use Rattle.sd_readback.specs.Reading.{Reads, volumes_on}
 use Rattle.sd_readback.specs.declared.read.ReadEnd.{ReadEnd}
 use Rattle.sd_span.specs.declared.span.Span.{Span}
-use Rattle.sd_moves.specs.World.{WorldView, BayView, IsOnline}
-use Rattle.sd_closed.specs.Stands.{IsRetired}
+use Rattle.sd_world.specs.World.{WorldView, BayView, IsOnline}
+use Rattle.sd_world.specs.Stands.{IsRetired}
 
 -- A read gave exactly these records, once each and in order; and told their number, their bytes, and whether the session
 -- ended. It was refused only where the device failed or memory was wanted, and then it gave the first of them, if any.
@@ -35,3 +35,7 @@ pub record ReadsOnline {D : Type 0} (meaning : D → Meaning) (w : WorldView D) 
 -- the drive of this number was retired, which is what the read was answered
 abbrev pub IsAnsweredOffline : {D : Type 0} → WorldView D → ℕ → List Record → List Record → Result ReadEnd Refusal → Type 0
 IsAnsweredOffline w drive got got' result = IsRetired w drive × (result ≡ Err DriveOffline) × (got' ≡ got)
+
+-- the read was answered that the volume was purged
+abbrev pub IsAnsweredPurged : List Record → List Record → Result ReadEnd Refusal → Type 0
+IsAnsweredPurged got got' result = (result ≡ Err VolumePurged) × (got' ≡ got)

@@ -8,12 +8,12 @@ use Rattle.sd_machine.specs.Machine.{Machine, MachineSession, empty_machine, ses
 use Rattle.sd_machine.specs.Step.{Run}
 use Rattle.sd_readback.specs.declared.read.ReadEnd.{ReadEnd}
 use Rattle.sd_session.specs.declared.status.Status.{Status}
-use Rattle.sd_session.specs.declared.status.Status.TheVariants.{Closed, Cancelled}
+use Rattle.sd_session.specs.declared.status.Status.TheVariants.{Closed, Cancelled, Purged}
 use Rattle.sd_span.specs.declared.span.Span.{Span}
-use Rattle.sd_moves.specs.World.{WorldView, WorldSession, session_at}
-use Rattle.sd_matches.specs.Matches.{Matches}
-use Rattle.sd_closed.specs.Deeds.{Deed, IsRead, LeadsTo, events_in, replies_in}
-use Rattle.sd_theorem.specs.Gives.{ReadsOnline, IsAnsweredOffline}
+use Rattle.sd_world.specs.World.{WorldView, WorldSession, session_at}
+use Rattle.sd_world.specs.Matches.{Matches}
+use Rattle.sd_world.specs.Deeds.{Deed, IsRead, LeadsTo, events_in, replies_in}
+use Rattle.sd_theorem.specs.Gives.{ReadsOnline, IsAnsweredOffline, IsAnsweredPurged}
 use Rattle.sd_theorem.specs.Start.{Meanings, Start, IsMadeOf, StartsHonest}
 use Rattle.sd_theorem.specs.Told.{WereAsked, WereToldClosed}
 
@@ -24,14 +24,18 @@ pub record HasStatus (m : Machine) (key : SessionKey) (status : Status) : Type 0
   pub key_is : s.key ≡ key
   pub status_is : s.status ≡ status
 
--- The session is closed in the machine, and the read gave exactly its records, once each and in order, with its end; or its
--- drive was retired, which is what the read was answered.
+-- The session is closed in the machine, and the read gave exactly its records, once each and in order, with its end. Or its
+-- drive was retired, or a volume of it purged, which is what the read was answered.
 pub record ReadsClosed {D : Type 0} (meaning : D → Meaning) (w : WorldView D) (m : Machine) (key : SessionKey) (spans : List Span)
     (got got' : List Record) (result : Result ReadEnd Refusal) : Type 0 where
-  pub has : HasStatus m key Closed
+  pub s : MachineSession
+  pub has : session_of key.id m.sessions ≡ Some s
+  pub key_is : s.key ≡ key
   pub e : WorldSession
   pub there : session_at key.id w.sessions ≡ Some e
-  pub reads : ReadsOnline meaning w e.drive key spans has.s.records true got got' result ⊎ IsAnsweredOffline w e.drive got got' result
+  pub reads : ((s.status ≡ Closed) × ReadsOnline meaning w e.drive key spans s.records true got got' result)
+      ⊎ IsAnsweredOffline w e.drive got got' result
+      ⊎ ((s.status ≡ Purged) × IsAnsweredPurged got got' result)
 
 -- The read gave records that begin those of the machine's session: what is whole in its bodies in the spans.
 pub record ReadsFront {D : Type 0} (meaning : D → Meaning) (w : WorldView D) (s : MachineSession) (e : WorldSession) (key : SessionKey)

@@ -1,10 +1,11 @@
 -- Runs of the daemon, one after another, with a stop behind each.
-use Rattle.std.specs.Prelude.{◌≡◌, ℕ, ◌+◌, Some, List, [], ◌∷◌, slice_get}
+use Rattle.std.specs.Prelude.{◌≡◌, ℕ, ◌+◌, All, Some, List, [], ◌∷◌, slice_get}
 use Rattle.sd_driver.specs.Meaning.{IsHonest}
 use Rattle.sd_driver.specs.Shelf.{Shelf, AfterStop}
 use Rattle.sd_drive.specs.View.{DriveIs}
-use Rattle.sd_moves.specs.World.{WorldView, BayView, IsOnline}
-use Rattle.sd_closed.specs.Deeds.{Deed, LeadsTo}
+use Rattle.sd_world.specs.World.{WorldView, BayView, IsOnline}
+use Rattle.sd_span.specs.declared.span.Span.{Span}
+use Rattle.sd_world.specs.Deeds.{Deed, LeadsTo, NonePurges}
 use Rattle.sd_theorem.specs.Start.{Meanings, Start, IsMadeOf}
 
 -- A run of the daemon on a shelf, as it was found, has come to this world: an honest device with that shelf was given
@@ -24,13 +25,18 @@ pub record RunsOn {D Q S : Type 0} (Z : Type 0) (is : Meanings D Q S) (found : S
   pub d : DriveIs D
   pub online : IsOnline w (at + 1) at bay d
 
--- the run stopped at some time, also inside a call, and left that
-pub record RunStops {D Q S : Type 0} (Z : Type 0) (is : Meanings D Q S) (found left : Shelf) : Type 0 where
+-- no deed purged the volume of one of the spans
+abbrev pub NonePurgesOf : List Span → List Deed → Type 0
+NonePurgesOf spans deeds = All (λ (s : Span). NonePurges deeds s.volume) spans
+
+-- the run, which purged no volume of these spans, stopped at some time, also inside a call, and left that
+pub record RunStops {D Q S : Type 0} (Z : Type 0) (is : Meanings D Q S) (spans : List Span) (found left : Shelf) : Type 0 where
   pub w : WorldView D
   pub runs : RunsOn Z is found w
+  pub unpurged : NonePurgesOf spans runs.deeds
   pub stop : AfterStop found.moment (is.device runs.d.device).shelf left
 
 -- run after run stopped, and these are the shelves that they left
-abbrev pub RunsStop : {D Q S : Type 0} → (Z : Type 0) → Meanings D Q S → Shelf → List Shelf → Shelf → Type 0
-RunsStop Z is found [] left = left ≡ found
-RunsStop Z is found (next ∷ others) left = RunStops Z is found next × RunsStop Z is next others left
+abbrev pub RunsStop : {D Q S : Type 0} → (Z : Type 0) → Meanings D Q S → List Span → Shelf → List Shelf → Shelf → Type 0
+RunsStop Z is spans found [] left = left ≡ found
+RunsStop Z is spans found (next ∷ others) left = RunStops Z is spans found next × RunsStop Z is spans next others left

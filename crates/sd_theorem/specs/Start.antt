@@ -3,8 +3,8 @@ use Rattle.std.specs.Prelude.{◌≡◌, ℕ, Some, List, Vec, slice_get}
 use Rattle.sd_driver.specs.Meaning.{Meaning, IsHonest}
 use Rattle.sd_lane.specs.Queue.{LanesView}
 use Rattle.sd_spool.specs.Meaning.{Meaning as StoreMeaning, IsHonest as StoreIsHonest}
-use Rattle.sd_moves.specs.World.{WorldView}
-use Rattle.sd_closed.specs.Steps.{IsSound}
+use Rattle.sd_world.specs.World.{WorldView}
+use Rattle.sd_world.specs.Steps.{IsSound}
 use Rattle.sd_core.specs.Conf.{limits_of}
 use Rattle.sd_core.specs.Fresh.{IsFresh}
 use Rattle.sd_core.specs.declared.conf.WorldConf.{WorldConf}

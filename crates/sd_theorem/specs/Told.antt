@@ -6,7 +6,7 @@ use Rattle.sd_machine.specs.declared.event.Event.TheVariants.{Close, Media, Adop
 use Rattle.sd_machine.specs.declared.reply.Reply.{Reply}
 use Rattle.sd_machine.specs.declared.reply.Reply.TheVariants.{Closed, Media as Spans, Adopted}
 use Rattle.sd_span.specs.declared.span.Span.{Span}
-use Rattle.sd_closed.specs.Deeds.{Deed, Answered, ReadBack}
+use Rattle.sd_world.specs.Deeds.{Deed, Answered, ReadBack}
 
 -- the event was given this reply in one of the deeds
 abbrev pub WasGiven : Event → Reply → List Deed → Type 0

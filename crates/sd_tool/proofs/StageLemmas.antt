@@ -12,17 +12,17 @@ use Rattle.sd_lane.specs.Queue.{LanesView}
 use Rattle.sd_machine.specs.declared.event.Event.{Event}
 use Rattle.sd_machine.specs.declared.reply.Reply.{Reply}
 use Rattle.sd_machine.specs.declared.reply.Reply.TheVariants.{Retired}
-use Rattle.sd_moves.specs.Moves.{Moves}
-use Rattle.sd_moves.specs.World.{WorldView, BayView}
-use Rattle.sd_moves.proofs.MoveLeaves.{leaves}
+use Rattle.sd_world.specs.Moves.{Moves}
+use Rattle.sd_world.specs.World.{WorldView, BayView}
+use Rattle.sd_world.proofs.MoveLeaves.{leaves}
 use Rattle.sd_rounds.proofs.Online.{DrivesStay, drives_same, moves_stay, online_still}
 use Rattle.sd_rounds.proofs.RoundParts.{rounds_stay}
 use Rattle.sd_rounds.specs.Rounds.{Drains, PlaysMoving, online_flags}
 use Rattle.sd_script.specs.declared.line.Tail.{Tail}
 use Rattle.sd_spool.specs.Meaning.{Meaning as StoreMeaning}
 use Rattle.sd_core.specs.Fresh.{AreNewDrives, new_bays}
-use Rattle.sd_closed.specs.Deeds.{IsRead}
-use Rattle.sd_closed.specs.Reading.{ReadsWorld}
+use Rattle.sd_world.specs.Deeds.{IsRead}
+use Rattle.sd_world.specs.Reading.{ReadsWorld}
 use Rattle.sd_core.specs.View.{device_of, devices_of}
 use Rattle.sd_tool.specs.Restart.{HandsOn, IsThere, RestartsAs, RestartsBy, StartsAnew, unfit}
 use Rattle.sd_settings.specs.Settings.{ValuesView, capacity_for, drive_count}

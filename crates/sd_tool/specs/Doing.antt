@@ -5,7 +5,7 @@ use Rattle.sd_base.specs.declared.number.SessionKey.{SessionKey}
 use Rattle.sd_base.specs.declared.refusal.Refusal.{Refusal}
 use Rattle.sd_base.specs.declared.refusal.Refusal.TheVariants as refusal
 use Rattle.sd_console.specs.Replies.{reply_line}
-use Rattle.sd_closed.specs.Deeds.{IsRead}
+use Rattle.sd_world.specs.Deeds.{IsRead}
 use Rattle.sd_core.specs.View.{status_at, view_of}
 use Rattle.sd_driver.specs.Meaning.{Meaning}
 use Rattle.sd_machine.specs.declared.event.Event.{Event}
@@ -37,6 +37,7 @@ console_event (console.Label drive volume pool media) moment = Some (event.Label
 console_event (console.Adopt drive volume) moment = Some (event.Adopt drive volume)
 console_event (console.Unmount drive) moment = Some (event.Unmount drive)
 console_event (console.Retire drive) moment = Some (event.Retire drive)
+console_event (console.Purge drive volume) moment = Some (event.Purge drive volume)
 console_event (console.Cancel ticket) moment = Some (event.Cancel ticket)
 console_event command moment = None
 

@@ -3,7 +3,7 @@ use Rattle.std.specs.Prelude.{◌≡◌, ℕ, Some, List, [], map, replicate, tr
 use Rattle.sd_lane.specs.Queue.{lanes_view}
 use Rattle.sd_driver.specs.Meaning.{Meaning}
 use Rattle.sd_drive.specs.View.{DriveIs}
-use Rattle.sd_moves.specs.World.{BayView, WorldView}
+use Rattle.sd_world.specs.World.{BayView, WorldView}
 use Rattle.sd_rounds.specs.Rounds.{online_flags}
 use Rattle.sd_core.specs.Conf.{IsConf, AreQueues, AreStores}
 use Rattle.sd_core.specs.Fresh.{AreNewDrives}

@@ -4,8 +4,8 @@ use Rattle.sd_driver.specs.Meaning.{Meaning}
 use Rattle.sd_machine.specs.declared.event.Event.{Event}
 use Rattle.sd_machine.specs.declared.reply.Reply.{Reply}
 use Rattle.sd_machine.specs.declared.reply.Reply.TheVariants.{Retired}
-use Rattle.sd_moves.specs.World.{WorldView}
-use Rattle.sd_closed.specs.Steps.{IsStep}
+use Rattle.sd_world.specs.World.{WorldView}
+use Rattle.sd_world.specs.Steps.{IsStep}
 use Rattle.sd_rounds.specs.Rounds.{online_flags}
 use Rattle.sd_settings.specs.Settings.{ValuesView, drive_count, misfit_of}
 

@@ -202,6 +202,6 @@ fn unheld(status: Option<Status>) -> Refusal
         Some(Status::Active) => Refusal::Memory,
         Some(Status::Cancelled) => Refusal::SessionCancelled,
         Some(Status::Failed) => Refusal::SessionFailed,
-        Some(Status::Ended | Status::Closed) | None => Refusal::SessionNotOpen,
+        Some(Status::Ended | Status::Closed | Status::Purged) | None => Refusal::SessionNotOpen,
     }
 }

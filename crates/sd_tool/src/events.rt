@@ -29,6 +29,10 @@ pub fn console_event(command: ConsoleCmd, moment: i64) -> Option<Event>
         ConsoleCmd::Unmount(drive) => Some(Event::Unmount { drive }),
         ConsoleCmd::Cancel(ticket) => Some(Event::Cancel { ticket }),
         ConsoleCmd::Retire(drive) => Some(Event::Retire { drive }),
+        ConsoleCmd::Purge { drive, volume } => Some(Event::Purge {
+            drive,
+            name: volume,
+        }),
         ConsoleCmd::Mount { .. }
         | ConsoleCmd::JobMedia(_)
         | ConsoleCmd::Status

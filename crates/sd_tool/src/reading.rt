@@ -162,6 +162,6 @@ fn unread(status: Option<Status>) -> Option<Refusal>
         None => Some(Refusal::SessionNotOpen),
         Some(Status::Active | Status::Ended) => Some(Refusal::NotYet),
         Some(Status::Failed) => Some(Refusal::SessionFailed),
-        Some(Status::Closed | Status::Cancelled) => None,
+        Some(Status::Closed | Status::Cancelled | Status::Purged) => None,
     }
 }

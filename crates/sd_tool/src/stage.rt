@@ -1,7 +1,7 @@
 // The world of a script.
 ghost use Rattle.std.specs.Prelude.{◌≡◌, None, IfOk, OnErr, length};
 ghost use Rattle.sd_rounds.specs.Rounds.{Drains, PlaysMoving};
-ghost use Rattle.sd_closed.specs.Deeds.{IsRead};
+ghost use Rattle.sd_world.specs.Deeds.{IsRead};
 ghost use Rattle.sd_core.specs.View.{status_at, view_of};
 ghost use Rattle.sd_tool.specs.Restart.{BeginsAs};
 ghost use Rattle.sd_settings.specs.Settings.{drive_count, misfit_of};

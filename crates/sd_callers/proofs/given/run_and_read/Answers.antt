@@ -1,5 +1,5 @@
 use Rattle.std.proofs.Common.{List, inl, inr, refl, subst}
-use Rattle.sd_closed.specs.Deeds.{answered, events_in}
+use Rattle.sd_world.specs.Deeds.{answered, events_in}
 use Rattle.sd_machine.specs.Machine.{empty_machine}
 use Rattle.sd_machine.specs.Step.{Run}
 use Rattle.sd_machine.specs.declared.event.Event.{Event}
@@ -33,10 +33,13 @@ returns g c =
         λ told.
             let r = h.closed honest c.args.key c.args.spans.now told c.read-end.new.self _ _ c.read-end.result c.read-end.ensures in
             record {
-              has = r.has;
+              s = r.s;
+              there = r.has;
+              key_is = r.key_is;
               gives = elim r.reads [
-                | inl x ↦ inl x.gives
-                | inr x ↦ inr x.1
+                | inl x ↦ inl (x.0, x.1.gives)
+                | inr (inl x) ↦ inr (inl x.1)
+                | inr (inr x) ↦ inr (inr (x.0, x.1.0))
               ];
             },
       );

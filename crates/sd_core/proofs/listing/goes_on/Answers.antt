@@ -1,6 +1,6 @@
 use Rattle.std.proofs.Common.{false, true, refl, sym, inl, inr, ◌∙◌}
-use Rattle.sd_session.specs.declared.status.Status.TheVariants.{Active, Ended, Closed, Cancelled, Failed}
-use Rattle.sd_moves.specs.World.{WorldSession}
+use Rattle.sd_session.specs.declared.status.Status.TheVariants.{Active, Ended, Closed, Cancelled, Failed, Purged}
+use Rattle.sd_world.specs.World.{WorldSession}
 use Rattle.sd_parts.proofs.Found.{read_found}
 use Rattle.sd_core.proofs.Tickets.{goes_told}
 use Rattle.sd_core.proofs.listing.goes_on.Goals as goal
@@ -23,5 +23,6 @@ returns-in-Closed g c =
     elim c.in-Closed.is [
       | inl is ↦ goes_told es c.args.ticket e Closed false f (sym c.status.ensures ∙ is) refl
       | inr (inl is) ↦ goes_told es c.args.ticket e Cancelled false f (sym c.status.ensures ∙ is) refl
-      | inr (inr is) ↦ goes_told es c.args.ticket e Failed false f (sym c.status.ensures ∙ is) refl
+      | inr (inr (inl is)) ↦ goes_told es c.args.ticket e Failed false f (sym c.status.ensures ∙ is) refl
+      | inr (inr (inr is)) ↦ goes_told es c.args.ticket e Purged false f (sym c.status.ensures ∙ is) refl
     ]

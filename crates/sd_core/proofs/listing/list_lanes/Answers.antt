@@ -1,6 +1,6 @@
 use Rattle.std.proofs.Common.{subst, arith}
 use Rattle.std.proofs.lemmas.Option.{slice_get_within}
-use Rattle.sd_moves.specs.World.{LaneView}
+use Rattle.sd_world.specs.World.{LaneView}
 use Rattle.sd_core.specs.Listing.{ListsHolder}
 use Rattle.sd_core.proofs.Tickets.{lists_next}
 use Rattle.sd_core.proofs.listing.list_lanes.Goals as goal

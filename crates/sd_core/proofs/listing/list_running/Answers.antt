@@ -1,6 +1,6 @@
 use Rattle.std.proofs.Common.{List, ℕ, sym, ap, ◌∙◌, subst, arith}
 use Rattle.std.proofs.lemmas.Option.{slice_get_within}
-use Rattle.sd_moves.specs.World.{LaneView, BayView}
+use Rattle.sd_world.specs.World.{LaneView, BayView}
 use Rattle.sd_core.specs.Listing.{AreRunning, ListsLanes}
 use Rattle.sd_core.proofs.Tickets.{bays_next, all_running}
 use Rattle.sd_core.proofs.listing.list_running.Goals as goal

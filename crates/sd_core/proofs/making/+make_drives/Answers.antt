@@ -14,7 +14,7 @@ returns-in-Err-clause-again g t c =
 pub returns-in-Ok-clause-made : goal.returns-in-Ok-clause-made
 returns-in-Ok-clause-made g t c =
     let new = is_new (λ d. g.D.Driver.meaning d) c.args.limits.now c.copy-media.result c.index-medias-len.result.0 c.in-Some.driver c.in-Ok.drive
-    (c.in-Ok.ensures.ok ∙ ap (λ (l : Limits). let d : DriveIs _ = record { device = c.in-Ok.drive.device; media = c.copy-media.result; limits = l; volumes = []; loaded = None; pool = None; hand = None; journal = [] } in d) c.copy.ensures)
+    (c.in-Ok.ensures.ok ∙ ap (λ (l : Limits). let d : DriveIs _ = record { device = c.in-Ok.drive.device; media = c.copy-media.result; limits = l; volumes = []; loaded = None; pool = None; hand = None; journal = []; ready = [] } in d) c.copy.ensures)
     (c.copy-media.ensures ∙ ap (λ (m : List ℕ × ℕ). m.0) (sym c.index-medias-len.is))
     (record { counts = c.in-Ok.ensures.counts; same = c.in-Ok.ensures.same; later = c.in-Ok.ensures.later }) c.in-Ok.ensures.given_stable in
     made_push (λ d. g.D.Driver.meaning d) c.args.limits.now c.args.medias.now c.args.drivers.now.items c.pop.new.self.items

@@ -2,7 +2,7 @@ use Rattle.std.proofs.Common.{rules, tests}
 use Rattle.std.proofs.lemmas.Iterator.{YieldsList-from_slice}
 use Rattle.std.proofs.lemmas.Iterator.Search.{all_from_yields_List}
 use Rattle.sd_desk.specs.Desk.{claimed_by}
-use Rattle.sd_closed.specs.Reading.{is_at_drive}
+use Rattle.sd_world.specs.Reading.{is_at_drive}
 use Rattle.sd_core.proofs.reading.are_at_drive.Goals as goal
 
 pub returns : goal.returns

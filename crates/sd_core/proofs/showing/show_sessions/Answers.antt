@@ -1,7 +1,7 @@
 use Rattle.std.proofs.Common.{arith, ap, ◌∙◌, []}
 use Rattle.sd_core.specs.View.{session_line}
 use Rattle.sd_core.proofs.Shown.{mapped_more, numbered_at}
-use Rattle.sd_moves.specs.World.{WorldSession}
+use Rattle.sd_world.specs.World.{WorldSession}
 use Rattle.sd_core.proofs.showing.show_sessions.Goals as goal
 
 pub show_session-requires-clause-least : goal.show_session-requires-clause-least

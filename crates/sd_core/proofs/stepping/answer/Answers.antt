@@ -1,6 +1,6 @@
 use Rattle.std.proofs.Common.{List, subst}
-use Rattle.sd_moves.specs.World.{BayView}
-use Rattle.sd_closed.specs.Steps.{DrivesKeep}
+use Rattle.sd_world.specs.World.{BayView}
+use Rattle.sd_world.specs.Steps.{DrivesKeep}
 use Rattle.sd_core.proofs.stepping.answer.Goals as goal
 
 pub returns-clause-drives : goal.returns-clause-drives

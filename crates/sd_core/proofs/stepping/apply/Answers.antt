@@ -1,7 +1,7 @@
 use Rattle.std.proofs.Common.{◌≡◌, ℤ, to_z, of_z, w64, rules, sym, subst}
 use Rattle.sd_machine.specs.declared.event.Event.{Event}
 use Rattle.sd_machine.specs.declared.event.Event.TheVariants.{Open}
-use Rattle.sd_moves.specs.Moves.{Moves}
+use Rattle.sd_world.specs.Moves.{Moves}
 use Rattle.sd_parts.specs.View.{world_of}
 use Rattle.sd_core.proofs.stepping.apply.Goals as goal
 

@@ -1,5 +1,5 @@
 use Rattle.std.proofs.Common.{ℕ, ◌&&◌, Option, Some, sym, ap, ◌∙◌, arith}
-use Rattle.sd_moves.specs.World.{WorldSession}
+use Rattle.sd_world.specs.World.{WorldSession}
 use Rattle.sd_parts.proofs.Found.{found_within, read_found}
 use Rattle.sd_operators.specs.Losing.{is_holder, has_lost}
 use Rattle.sd_operators.proofs.Lists.{none_fails, none_of_ticket, fail_one}

@@ -1,8 +1,8 @@
 use Rattle.std.proofs.Common.{ℕ, ◌&&◌, Option, refl, ap, subst}
-use Rattle.sd_moves.specs.World.{LaneView}
-use Rattle.sd_moves.specs.Drives.{FailExactly}
+use Rattle.sd_world.specs.World.{LaneView}
+use Rattle.sd_world.specs.Drives.{FailExactly}
 use Rattle.sd_operators.specs.Losing.{is_holder, has_lost}
-use Rattle.sd_moves.proofs.Pairs.{numbers_fail}
+use Rattle.sd_world.proofs.Pairs.{numbers_fail}
 use Rattle.sd_operators.proofs.Lists.{none_fails}
 use Rattle.sd_operators.proofs.LosingLemmas.{lane_step, lane_last}
 use Rattle.sd_operators.proofs.losing.fail_lost.Goals as goal

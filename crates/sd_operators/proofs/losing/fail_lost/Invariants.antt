@@ -1,6 +1,6 @@
 use Rattle.std.proofs.Common.{ℕ, ◌&&◌, take}
-use Rattle.sd_moves.specs.Drives.{FailExactly}
-use Rattle.sd_moves.specs.Rules.{NumbersRise}
+use Rattle.sd_world.specs.Drives.{FailExactly}
+use Rattle.sd_world.specs.Rules.{NumbersRise}
 use Rattle.sd_operators.specs.Losing.{holds_lane, has_lost}
 use Rattle.sd_operators.proofs.losing.fail_lost.Given as goal
 

@@ -1,7 +1,7 @@
 use Rattle.std.proofs.Common.{◌≡◌, ◌&&◌, true, List, refl, ap, ◌∙◌, subst}
-use Rattle.sd_moves.specs.Drives.{FailExactly}
-use Rattle.sd_moves.specs.World.{LaneView}
-use Rattle.sd_moves.proofs.Bays.{read_bay, online_in, offline_in, is_absent}
+use Rattle.sd_world.specs.Drives.{FailExactly}
+use Rattle.sd_world.specs.World.{LaneView}
+use Rattle.sd_world.proofs.Bays.{read_bay, online_in, offline_in, is_absent}
 use Rattle.sd_parts.specs.View.{world_of}
 use Rattle.sd_operators.specs.Losing.{is_device_fault, holds_lane, has_lost}
 use Rattle.sd_operators.proofs.OperatingLemmas.{is_station, moves_failing, moves_calmly, missing}

@@ -1,7 +1,7 @@
-use Rattle.std.proofs.Common.{◌≡◌, ℤ, to_z, of_z, w64, rules, subst}
+use Rattle.std.proofs.Common.{◌≡◌, to_z, of_z, w64, rules, subst}
 use Rattle.sd_machine.specs.declared.event.Event.{Event}
 use Rattle.sd_machine.specs.declared.event.Event.TheVariants.{Take, Place, Sync, Label, Adopt, Mount, Unmount, Seek}
-use Rattle.sd_moves.specs.Drives.{IsOfDrive}
+use Rattle.sd_world.specs.Drives.{IsOfDrive}
 use Rattle.sd_operators.proofs.OperatingLemmas.{of_drive, at_moment, no_other}
 use Rattle.sd_operators.proofs.operating.operate_on.Goals as goal
 

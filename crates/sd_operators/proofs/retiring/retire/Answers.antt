@@ -1,7 +1,7 @@
 use Rattle.std.proofs.Common.{◌≤◌, List, length, refl, sym, subst, inl, inr}
 use Rattle.sd_base.specs.Limits.{most_lanes}
-use Rattle.sd_moves.specs.World.{LaneView}
-use Rattle.sd_moves.proofs.Bays.{read_bay, online_in, offline_in}
+use Rattle.sd_world.specs.World.{LaneView}
+use Rattle.sd_world.proofs.Bays.{read_bay, online_in, offline_in}
 use Rattle.sd_parts.specs.View.{world_of}
 use Rattle.sd_operators.proofs.UsingLemmas.{used_there, used_here, left_alone, retires}
 use Rattle.sd_operators.proofs.retiring.retire.Goals as goal

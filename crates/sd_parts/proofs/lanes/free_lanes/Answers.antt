@@ -1,5 +1,5 @@
 use Rattle.std.proofs.Common.{ap, ◌∙◌, arith}
-use Rattle.sd_moves.specs.World.{lane_is_free, LaneView}
+use Rattle.sd_world.specs.World.{lane_is_free, LaneView}
 use Rattle.sd_parts.proofs.Frees.{frees_more}
 use Rattle.sd_parts.proofs.lanes.free_lanes.Goals as goal
 

@@ -1,6 +1,6 @@
 use Rattle.std.proofs.Common.{◌≡◌, take}
 use Rattle.arrayvec.specs.ArrayVec.{array_vec_len}
-use Rattle.sd_moves.specs.World.{free_lanes}
+use Rattle.sd_world.specs.World.{free_lanes}
 use Rattle.sd_parts.proofs.lanes.free_lanes.Given as goal
 
 -- each lane so far, and as many answers

@@ -1,4 +1,4 @@
-use Rattle.sd_closed.proofs.DeedLemmas.{steps_lead}
+use Rattle.sd_world.proofs.DeedLemmas.{steps_lead}
 use Rattle.sd_port.proofs.TryLemmas.{answers_along}
 use Rattle.sd_port.proofs.laws.answers_lead.Goals as goal
 

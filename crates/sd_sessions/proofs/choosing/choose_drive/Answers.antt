@@ -1,5 +1,5 @@
 use Rattle.std.proofs.Common.{◌≡◌, ap, ◌∙◌, arith, Err, List, length, take, map}
-use Rattle.sd_moves.specs.World.{WorldSession, bay_for}
+use Rattle.sd_world.specs.World.{WorldSession, bay_for}
 use Rattle.sd_parts.specs.View.{world_of}
 use Rattle.sd_sessions.proofs.Chosen.{none_reserved}
 use Rattle.sd_sessions.proofs.choosing.choose_drive.Goals as goal

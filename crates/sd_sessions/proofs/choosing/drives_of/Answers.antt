@@ -1,7 +1,7 @@
 use Rattle.std.proofs.Common.{◌<◌, ◌∙◌, arith, refl, length}
 use Rattle.std.proofs.lemmas.List.{length-set}
 use Rattle.std.proofs.lemmas.Option.{slice_get_read, slice_get_within}
-use Rattle.sd_moves.specs.World.{bay_for}
+use Rattle.sd_world.specs.World.{bay_for}
 use Rattle.sd_sessions.proofs.Chosen.{first_are, made_more}
 use Rattle.sd_sessions.proofs.choosing.drives_of.Goals as goal
 

@@ -1,6 +1,6 @@
 use Rattle.std.proofs.Common.{◌≡◌, ◌<◌, ℕ, Some, length, slice_get}
 use Rattle.sd_base.specs.Limits.{most_drives}
-use Rattle.sd_moves.specs.World.{BayView, bay_for}
+use Rattle.sd_world.specs.World.{BayView, bay_for}
 use Rattle.sd_sessions.proofs.choosing.drives_of.Given as goal
 
 -- each drive so far, of as many as there may be

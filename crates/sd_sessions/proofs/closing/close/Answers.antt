@@ -1,6 +1,6 @@
 use Rattle.std.proofs.Common.{◌∙◌, inl, inr, arith}
 use Rattle.sd_base.specs.declared.refusal.Refusal.TheVariants.{Memory}
-use Rattle.sd_moves.specs.Sessions.{CloseCauses}
+use Rattle.sd_world.specs.Sessions.{CloseCauses}
 use Rattle.sd_parts.proofs.Found.{found_within, read_found}
 use Rattle.sd_parts.specs.View.{world_of}
 use Rattle.sd_sessions.proofs.Changes.{refuses_one, refuses_read}

@@ -1,8 +1,9 @@
-use Rattle.std.proofs.Common.{◌∙◌, arith, inl, inr, refl, rules, w64}
+use Rattle.std.proofs.Common.{◌∙◌, arith, inl, inr, refl, rules, subst, w64}
 use Rattle.std.proofs.lemmas.Bool.{cases_lt}
 use Rattle.std.proofs.lemmas.Int.{to_z-of_z}
 use Rattle.sd_base.specs.Limits.{most_number}
 use Rattle.sd_parts.specs.View.{world_of}
+use Rattle.sd_sessions.specs.Opening.{OpensNotAt}
 use Rattle.sd_sessions.proofs.Opened.{opened, not_opened, next_least}
 use Rattle.sd_sessions.proofs.Reached.{reached, bay_reached, never_offline, lanes_few, some_free, is_lowest, lane_reached, opens_with}
 use Rattle.sd_sessions.proofs.opening.open.Goals as goal
@@ -60,9 +61,11 @@ returns-in-Ok-open_at g c =
 
 pub returns-in-Err-open_at : goal.returns-in-Err-open_at
 returns-in-Err-open_at g c =
+    let w = world_of c.args.parts.now in
     let b = bay_reached (world_of c.args.parts.now) c.args.pool c.args.media _ _ _ _ c.requires.world c.place_of-place.ensures c.in-Ok.ensures.ok c.index_mut-bay.ensures.value c.bay.view_is in
     let l = lane_reached c.in-Some-drive.at _ _ _ _ _ b c.in-Some-drive.is c.deref.ensures.value c.deref-2.ensures.value c.get-2.ensures.value c.choose_lane-lane.ensures.lowest c.index_mut-slot.ensures.value in
     record {
       moves = not_opened c.in-Err-open_at.why c.open_at.new.at c.open_at.new.lane c.open_at.new.sessions.items (c.in-Some.ensures.within.0 refl).1 l.reserves
-          c.in-Err-open_at.ensures.err;
+          (subst (λ i. OpensNotAt w.limits (record { time = w.limits.time; id = i }) c.index_mut-slot.result.now w.sessions c.in-Some-drive.at c.in-Err-open_at.why c.open_at.new.lane c.open_at.new.sessions.items c.open_at.new.at)
+          (c.get.ensures.value ∙ c.in-Some.ensures.value) c.in-Err-open_at.ensures.err);
     }

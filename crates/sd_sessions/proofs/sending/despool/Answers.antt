@@ -1,7 +1,7 @@
 use Rattle.std.proofs.Common.{ap, arith}
 use Rattle.sd_lane.specs.Queue.{LanesView}
 use Rattle.sd_session.specs.declared.answer.Despooled.TheVariants.{Sent, LaneFull, Nothing, NotDue}
-use Rattle.sd_moves.specs.World.{BayView}
+use Rattle.sd_world.specs.World.{BayView}
 use Rattle.sd_parts.proofs.Found.{found_within}
 use Rattle.sd_parts.specs.View.{world_of}
 use Rattle.sd_sessions.proofs.Seats.{sits_within, seated, lane_within, despools_one, despool_refused}

@@ -1,7 +1,7 @@
 use Rattle.std.proofs.Common.{◌≡◌, ◌∙◌, ap, arith, inr, sym, subst, IfSome, None, Some, option_map}
 use Rattle.sd_session.specs.Session.{SessionView, GivesBack}
 use Rattle.sd_spool.specs.Job.{StoreState, state_of}
-use Rattle.sd_moves.specs.World.{WorldSession, LaneView}
+use Rattle.sd_world.specs.World.{WorldSession, LaneView}
 use Rattle.sd_parts.specs.Found.{IsFoundAt}
 use Rattle.sd_parts.proofs.Found.{found_within, read_found}
 use Rattle.sd_sessions.proofs.Stores.{held_by, gives}

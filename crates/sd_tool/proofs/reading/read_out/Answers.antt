@@ -1,6 +1,6 @@
 use Rattle.std.proofs.Common.{List, subst}
 use Rattle.sd_base.specs.Record.{Record}
-use Rattle.sd_closed.specs.Deeds.{IsRead}
+use Rattle.sd_world.specs.Deeds.{IsRead}
 use Rattle.sd_tool.proofs.reading.read_out.Goals as goal
 
 pub returns : goal.returns

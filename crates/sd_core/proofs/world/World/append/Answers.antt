@@ -2,9 +2,9 @@ use Rattle.std.proofs.Common.{subst}
 use Rattle.sd_driver.specs.Meaning.{Meaning}
 use Rattle.sd_machine.specs.declared.event.Event.TheVariants.{Append}
 use Rattle.sd_parts.specs.View.{world_of}
-use Rattle.sd_moves.specs.Moves.{Moves}
-use Rattle.sd_moves.specs.World.{WorldView}
-use Rattle.sd_moves.proofs.Moves.{moves_keep_rules}
+use Rattle.sd_world.specs.Moves.{Moves}
+use Rattle.sd_world.specs.World.{WorldView}
+use Rattle.sd_world.proofs.Moves.{moves_keep_rules}
 use Rattle.sd_core.proofs.world.World.append.Goals as goal
 
 pub invariant_of-self : goal.invariant_of-self

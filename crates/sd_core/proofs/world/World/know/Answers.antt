@@ -1,8 +1,8 @@
 use Rattle.std.proofs.Common.{List, ap, ◌∙◌, subst}
 use Rattle.sd_driver.specs.Meaning.{Meaning}
-use Rattle.sd_moves.specs.Rules.{IsWorld}
-use Rattle.sd_moves.specs.World.{WorldView, BayView}
-use Rattle.sd_closed.specs.Steps.{DrivesKeep}
+use Rattle.sd_world.specs.Rules.{IsWorld}
+use Rattle.sd_world.specs.World.{WorldView, BayView}
+use Rattle.sd_world.specs.Steps.{DrivesKeep}
 use Rattle.sd_core.proofs.world.World.know.Goals as goal
 
 pub returns : goal.returns

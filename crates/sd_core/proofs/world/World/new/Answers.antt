@@ -1,6 +1,6 @@
 use Rattle.std.proofs.Common.{List, length, refl, ap, subst, arith}
-use Rattle.sd_moves.specs.World.{BayView}
-use Rattle.sd_closed.specs.Steps.{DrivesKeep}
+use Rattle.sd_world.specs.World.{BayView}
+use Rattle.sd_world.specs.Steps.{DrivesKeep}
 use Rattle.sd_core.specs.Conf.{limits_of}
 use Rattle.sd_core.proofs.FreshWorld.{as_many_queues, as_many_stores, are_limits, is_fresh, fresh_is_world}
 use Rattle.sd_core.proofs.world.World.new.Goals as goal

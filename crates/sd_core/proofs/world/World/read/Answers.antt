@@ -1,10 +1,10 @@
 use Rattle.std.proofs.Common.{subst}
 use Rattle.sd_driver.specs.Meaning.{Meaning}
 use Rattle.sd_parts.specs.View.{world_of}
-use Rattle.sd_moves.specs.World.{WorldView}
-use Rattle.sd_closed.specs.Deeds.{CountsFit}
-use Rattle.sd_closed.specs.Reading.{ReadsWorld}
-use Rattle.sd_closed.proofs.ReadKeeps.{reading_keeps}
+use Rattle.sd_world.specs.World.{WorldView}
+use Rattle.sd_world.specs.Deeds.{CountsFit}
+use Rattle.sd_world.specs.Reading.{ReadsWorld}
+use Rattle.sd_world.proofs.ReadKeeps.{reading_keeps}
 use Rattle.sd_core.proofs.world.World.read.Goals as goal
 
 pub invariant_of-self : goal.invariant_of-self

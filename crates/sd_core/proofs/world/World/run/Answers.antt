@@ -4,7 +4,7 @@ use Rattle.std.specs.Vec.Iter.{into_iter_items}
 use Rattle.sd_driver.specs.Meaning.{Meaning}
 use Rattle.sd_machine.specs.declared.event.Event.{Event}
 use Rattle.sd_machine.specs.declared.reply.Reply.{Reply}
-use Rattle.sd_closed.specs.Steps.{StepsAlong}
+use Rattle.sd_world.specs.Steps.{StepsAlong}
 use Rattle.sd_core.proofs.world.World.run.Goals as goal
 
 -- with nothing left, the steps are whole

@@ -2,8 +2,8 @@ use Rattle.std.proofs.Common.{◌+◌, ◌≤◌, List, ◌++◌, length, vec_le
 use Rattle.std.specs.Vec.{vec_capacity}
 use Rattle.std.specs.Vec.Iter.{into_iter_items}
 use Rattle.sd_machine.specs.declared.reply.Reply.{Reply}
-use Rattle.sd_moves.specs.World.{WorldView}
-use Rattle.sd_closed.specs.Steps.{StepsAlong}
+use Rattle.sd_world.specs.World.{WorldView}
+use Rattle.sd_world.specs.Steps.{StepsAlong}
 use Rattle.sd_core.proofs.world.World.run.Given as goal
 
 -- what is left to do completes the steps

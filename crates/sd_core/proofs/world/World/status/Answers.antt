@@ -1,5 +1,5 @@
 use Rattle.std.proofs.Common.{ap, arith}
-use Rattle.sd_moves.specs.World.{WorldView}
+use Rattle.sd_world.specs.World.{WorldView}
 use Rattle.sd_parts.proofs.Found.{found_within}
 use Rattle.sd_core.proofs.Told.{status_read}
 use Rattle.sd_core.proofs.world.World.status.Goals as goal

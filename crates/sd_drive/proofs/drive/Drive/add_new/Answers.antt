@@ -1,6 +1,7 @@
 use Rattle.std.proofs.Common.{rules, []}
 use Rattle.sd_volume.specs.Label.{new_volume}
-use Rattle.sd_drive.proofs.VolumeLists.{kept_more, kept_called, pieces_called, same_but, same_made, on_all}
+use Rattle.sd_drive.proofs.Stays.{still_on}
+use Rattle.sd_drive.proofs.VolumeLists.{kept_more, kept_called, pieces_called, same_but, same_made}
 use Rattle.sd_drive.proofs.drive.Drive.add_new.Goals as goal
 
 pub invariant_of-self-in-Ok-label_new : goal.invariant_of-self-in-Ok-label_new
@@ -14,7 +15,7 @@ invariant_of-self-in-Ok-label_new g c =
     record {
       kept = kept_more (g.D.Driver.meaning c.self.inside.driver) (g.D.Driver.meaning c.label_new.new.driver) vs _ c.self.inside.loaded js (new_volume label)
           c.self.invariant.kept none (let p = c.push_reserved.ensures.items in let r = c.reserve.ensures.items in let v = e.volume in search rules) fresh e.counted.honest e.unloaded e.counted.moment
-          (λ o. on_all vs _ _ e.lasts) (λ o. same_but vs label.name (g.D.Driver.meaning c.self.inside.driver).shelf (g.D.Driver.meaning c.label_new.new.driver).shelf fresh (e.ok o).others) (λ o. record { label = label; blocks = []; tail = []; stands = (e.ok o).stands });
+          (λ o. still_on vs _ _ e.lasts) (λ o. same_but vs label.name (g.D.Driver.meaning c.self.inside.driver).shelf (g.D.Driver.meaning c.label_new.new.driver).shelf fresh (e.ok o).others) (λ o. record { label = label; blocks = []; tail = []; stands = (e.ok o).stands });
       limit = c.self.invariant.limit;
     }
 
@@ -26,7 +27,7 @@ invariant_of-self-in-Err g c =
     let none = rw (← c.self.view_is) at c.requires.loaded in
     record {
       kept = rw c.reserve.ensures.items (kept_called (g.D.Driver.meaning c.self.inside.driver) (g.D.Driver.meaning c.label_new.new.driver) vs c.self.inside.loaded js
-          c.self.invariant.kept none e.counted.honest e.unloaded e.counted.moment (λ o. on_all vs _ _ e.lasts) (λ o. same_made vs c.args.label.now.name _ _ (e.err o)));
+          c.self.invariant.kept none e.counted.honest e.unloaded e.counted.moment (λ o. still_on vs _ _ e.lasts) (λ o. same_made vs c.args.label.now.name _ _ (e.err o)));
       limit = c.self.invariant.limit;
     }
 

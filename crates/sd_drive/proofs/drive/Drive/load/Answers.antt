@@ -1,6 +1,7 @@
 use Rattle.std.proofs.Common.{ap, sym, ◌∙◌, Some, Err}
 use Rattle.sd_driver.proofs.Lasting.{Passes-later, still_lasts}
 use Rattle.sd_volume.proofs.DeviceLemmas.{one_call}
+use Rattle.sd_drive.proofs.Kept.{kept_stand}
 use Rattle.sd_drive.proofs.Places.{within_get}
 use Rattle.sd_drive.proofs.SyncLemmas.{kept_loading}
 use Rattle.sd_drive.specs.View.{name_loaded}
@@ -37,7 +38,7 @@ returns-in-Err-clause-on_shelf g c =
     let there = rw (← c.self.view_is) at c.requires.there in
     let e = c.in-Err.ensures in
     rw (← c.self.view_is) (λ honest is.
-    on_shelf (g.D.Driver.meaning c.self.inside.driver).shelf c.self.inside.volumes.items c.self.inside.journal.entries c.args.at c.args.name.now (c.self.invariant.kept.fits honest) there
+    on_shelf (g.D.Driver.meaning c.self.inside.driver).shelf c.self.inside.volumes.items c.args.at c.args.name.now (kept_stand _ c.self.inside.volumes.items c.self.inside.loaded c.self.inside.journal.entries c.self.invariant.kept honest) there
     (e.not_there honest (ap (λ f. Err f) (is_not_there c.in-Err.fault (sym c.load_refusal.ensures ∙ is)))))
 
 pub returns-in-Ok-clause-calls : goal.returns-in-Ok-clause-calls

@@ -15,5 +15,5 @@ returns-in-Some-refusal_at-clause-due g c =
     let found = place_there vs c.args.name.now c.in-Some.at is in
     let there = slice_get_read vs _ c.in-Some.at c.index.result.now refl (within_get vs c.in-Some.at found.0 found.1) c.index.ensures in
     let i = c.self.inside in
-    let d : DriveIs _ = record { device = i.driver; media = i.media; limits = i.limits; volumes = i.volumes.items; loaded = i.loaded; pool = i.pool; hand = i.hand; journal = i.journal.entries } in
+    let d : DriveIs _ = record { device = i.driver; media = i.media; limits = i.limits; volumes = i.volumes.items; loaded = i.loaded; pool = i.pool; hand = i.hand; journal = i.journal.entries; ready = i.journal.ready } in
     rw (← c.self.view_is) (due_there d c.args.name.now c.in-Some.at c.index.result.now is there ∙ sym c.refusal_at.ensures ∙ c.in-Some-refusal_at.is)

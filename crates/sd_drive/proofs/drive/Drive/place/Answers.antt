@@ -25,7 +25,7 @@ returns-clause-places g c =
     let v = c.index_mut.result.now in
     let there = slice_get_read vs _ _ v refl (rw c.deref.ensures.value at c.in-Some-open_place.ensures.within) c.index_mut.ensures.value in
     let takes = takes_here vs c.self.inside.loaded c.self.inside.pool _ v (rw c.deref.ensures.value at c.in-Some-open_place.ensures.open) there in
-    rw (← c.self.view_is) (places_of c.place_on-placed.result _ _ c.in-Some-open_place.at v c.place_on-placed.new.volume c.in-Some.piece c.in-Some.is takes e.on (let h = c.empty_after.ensures in search rules))
+    rw (← c.self.view_is) (places_of c.place_on-placed.result _ _ c.in-Some-open_place.at v c.place_on-placed.new.volume c.in-Some.piece c.in-Some.is takes e.on e.room (let h = c.empty_after.ensures in search rules))
 
 pub returns-clause-counted : goal.returns-clause-counted
 returns-clause-counted g c =

@@ -1,10 +1,10 @@
-use Rattle.std.proofs.Common.{rules, arith, ap, sym, subst, ◌∙◌, true, false, ◌≡◌, List, ℕ}
+use Rattle.std.proofs.Common.{rules, arith, refl, ap, sym, subst, ◌∙◌, true, false, ◌≡◌, List, ℕ, None}
 use Rattle.std.specs.Prelude.{IsSome, IsTrue}
 use Rattle.sd_journal.specs.Journal.{any_awaits_sync, settled}
 use Rattle.sd_journal.specs.declared.mark.Mark.TheVariants.{Synced, Lost}
 use Rattle.sd_journal.proofs.EntryLemmas.{settling}
 use Rattle.sd_driver.proofs.Lasting.{Passes-later, still_lasts}
-use Rattle.sd_drive.proofs.SyncLemmas.{kept_synced, kept_failed_sync, pieces_marked, loaded_read, loaded_name_is, settled_is, awaits_is, settled_none, with_journal, sync_bytes, may_sync_bytes, then_same, journal_is, failed_is, marked_by, true_false}
+use Rattle.sd_drive.proofs.SyncLemmas.{kept_synced, kept_failed_sync, pieces_marked, loaded_read, loaded_name_is, settled_is, awaits_is, settled_none, with_journal, sync_bytes, may_sync_bytes, then_same, journal_is, parts_are, settled_by, true_false}
 use Rattle.sd_drive.specs.View.{DriveIs}
 use Rattle.sd_drive.proofs.CallLemmas.{sync_call, failed_sync_calls}
 use Rattle.sd_drive.proofs.Places.{some_is}
@@ -75,8 +75,8 @@ returns-in-Ok-clause-ok g c =
     let journal : c.synced.new.self.entries ≡ settled Synced v.name js = ap (λ (j : _). j.entries) c.synced.ensures ∙ ap (λ (n : List ℕ). settled Synced n js) c.name-in-Ok.ensures in
     let is = journal ∙ sym (settled_is Synced vs c.self.inside.loaded js _ v c.in-Some.is there) in
     let i = c.self.inside in
-    let d : DriveIs _ = record { device = i.driver; media = i.media; limits = i.limits; volumes = i.volumes.items; loaded = i.loaded; pool = i.pool; hand = i.hand; journal = i.journal.entries } in
-    rw (← c.self.view_is) (journal_is d _ _ _ is)
+    let d : DriveIs _ = record { device = i.driver; media = i.media; limits = i.limits; volumes = i.volumes.items; loaded = i.loaded; pool = i.pool; hand = i.hand; journal = i.journal.entries; ready = i.journal.ready } in
+    rw (← c.self.view_is) (journal_is d _ _ _ _ is (ap (λ (j : _). j.ready) c.synced.ensures))
 
 pub returns-in-Ok-clause-none : goal.returns-in-Ok-clause-none
 returns-in-Ok-clause-none g c =
@@ -104,7 +104,7 @@ returns-in-Ok-clause-keeps g c =
     let e = c.in-Ok.ensures in
     let journal : c.synced.new.self.entries ≡ settled Synced v.name js = ap (λ (j : _). j.entries) c.synced.ensures ∙ ap (λ (n : List ℕ). settled Synced n js) c.name-in-Ok.ensures in
     rw (← c.self.view_is) (pieces_marked (g.D.Driver.meaning c.self.inside.driver) (g.D.Driver.meaning c.sync.new.self) vs c.self.inside.loaded js c.synced.new.self.entries c.self.inside.hand
-    c.self.invariant.kept (marked_by Synced v.name js _ journal) e.counts.honest (λ o n. sync_bytes _ _ _ (e.ok o) n))
+    c.self.invariant.kept (settled_by Synced v.name js _ journal refl) e.counts.honest (λ o n. sync_bytes _ _ _ (e.ok o) n))
 
 pub returns-in-Err-clause-err : goal.returns-in-Err-clause-err
 returns-in-Err-clause-err g c =
@@ -118,14 +118,14 @@ returns-in-Err-clause-err g c =
     let awaits : any_awaits_sync v.name js ≡ true =
     ap (λ (o : _). any_awaits_sync o.name js) (some_is (sym there ∙ one)) ∙ ap (λ (n : List ℕ). any_awaits_sync n js) (sym c.name.ensures) ∙ sym c.has_unsynced.ensures ∙ c.if-not-has_unsynced.false in
     let i = c.self.inside in
-    let d : DriveIs _ = record { device = i.driver; media = i.media; limits = i.limits; volumes = i.volumes.items; loaded = i.loaded; pool = i.pool; hand = i.hand; journal = i.journal.entries } in
+    let d : DriveIs _ = record { device = i.driver; media = i.media; limits = i.limits; volumes = i.volumes.items; loaded = i.loaded; pool = i.pool; hand = i.hand; journal = i.journal.entries; ready = i.journal.ready } in
     rw (← c.self.view_is) (record {
       at = c.in-Some.at;
       volume = v;
       loaded = c.in-Some.is;
       there = there;
       awaited = awaits;
-      becomes = failed_is d _ _ _ c.in-Some.at _ _ c.fail.ensures journal;
+      becomes = parts_are (record d { loaded = None }) _ _ _ _ c.in-Some.at _ _ c.fail.ensures journal (ap (λ (j : _). j.ready) c.sync_failed.ensures);
     })
 
 pub returns-in-Err-clause-quiet : goal.returns-in-Err-clause-quiet
@@ -146,7 +146,7 @@ returns-in-Err-clause-keeps g c =
     let u = c.unload.ensures in
     let journal : c.sync_failed.new.self.entries ≡ settled Lost v.name js = ap (λ (j : _). j.entries) c.sync_failed.ensures ∙ ap (λ (n : List ℕ). settled Lost n js) c.name-in-Err.ensures in
     rw (← c.self.view_is) (pieces_marked (g.D.Driver.meaning c.self.inside.driver) (g.D.Driver.meaning c.unload.new.self) vs c.self.inside.loaded js c.sync_failed.new.self.entries c.self.inside.hand
-    c.self.invariant.kept (marked_by Lost v.name js _ journal) (u.counts.honest ∙ e.counts.honest) (λ o n. then_same (g.D.Driver.meaning c.self.inside.driver).shelf (g.D.Driver.meaning c.sync.new.self).shelf (g.D.Driver.meaning c.unload.new.self).shelf n (may_sync_bytes _ (g.D.Driver.meaning c.self.inside.driver).shelf (g.D.Driver.meaning c.sync.new.self).shelf (e.err o) n) (u.same (subst IsTrue (sym e.counts.honest) o))))
+    c.self.invariant.kept (settled_by Lost v.name js _ journal refl) (u.counts.honest ∙ e.counts.honest) (λ o n. then_same (g.D.Driver.meaning c.self.inside.driver).shelf (g.D.Driver.meaning c.sync.new.self).shelf (g.D.Driver.meaning c.unload.new.self).shelf n (may_sync_bytes _ (g.D.Driver.meaning c.self.inside.driver).shelf (g.D.Driver.meaning c.sync.new.self).shelf (e.err o) n) (u.same (subst IsTrue (sym e.counts.honest) o))))
 
 pub returns-in-Ok-clause-others : goal.returns-in-Ok-clause-others
 returns-in-Ok-clause-others g c = rw (← c.self.view_is) (λ honest. (c.in-Ok.ensures.ok honest).others)

@@ -14,8 +14,8 @@ pub returns-clause-obeys : goal.returns-clause-obeys
 returns-clause-obeys g c =
     let wide : to_z w64 (of_z w64 c.self.inside.moment) ≡ c.self.inside.moment = search rules in
     rw (← c.self.view_is)
-    (subst (λ (moment : ℤ). LineDone g.D.Driver.meaning moment c.args.line.now c.obey_line-answer.result c.self.inside.world c.obey_line-answer.new.world) wide c.obey_line-answer.ensures)
+    (subst (λ (moment : ℤ). LineDone g.D.Driver.meaning c.self.inside.syncing moment c.args.line.now c.obey_line-answer.result c.self.inside.world c.obey_line-answer.new.world) wide c.obey_line-answer.ensures)
 
 pub returns-clause-lines : goal.returns-clause-lines
 returns-clause-lines g c =
-    line_lines g.D.Driver.meaning (to_z w64 (of_z w64 c.self.inside.moment)) c.args.line.now c.obey_line-answer.result c.obey_line-answer.ensures.0 c.obey_line-answer.ensures.1 c.self.inside.world c.obey_line-answer.new.world c.obey_line-answer.ensures.2
+    line_lines g.D.Driver.meaning c.self.inside.syncing (to_z w64 (of_z w64 c.self.inside.moment)) c.args.line.now c.obey_line-answer.result c.obey_line-answer.ensures.0 c.obey_line-answer.ensures.1 c.self.inside.world c.obey_line-answer.new.world c.obey_line-answer.ensures.2

@@ -1,6 +1,6 @@
 use Rattle.std.proofs.Common.{refl, sym, subst, to_z, of_z, w64, rules, ◌≡◌, []}
-use Rattle.sd_closed.specs.Steps.{IsSound}
-use Rattle.sd_moves.specs.World.{WorldView}
+use Rattle.sd_world.specs.Steps.{IsSound}
+use Rattle.sd_world.specs.World.{WorldView}
 use Rattle.sd_port.proofs.port.WorldPort.new.Goals as goal
 
 -- nothing was done yet

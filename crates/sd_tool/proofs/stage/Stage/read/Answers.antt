@@ -1,5 +1,5 @@
 use Rattle.std.proofs.Common.{ap, subst, ◌∙◌}
-use Rattle.sd_closed.specs.Deeds.{IsRead}
+use Rattle.sd_world.specs.Deeds.{IsRead}
 use Rattle.sd_drive.specs.declared.limits.Limits.{Limits}
 use Rattle.sd_tool.specs.Stage.{StageView}
 use Rattle.sd_tool.proofs.StageLemmas.{reads_stay}

@@ -1,5 +1,0 @@
-use Rattle.sd_closed.proofs.ReadLemmas.{closed_reads}
-use Rattle.sd_closed.proofs.laws.closed_reads.Goals as goal
-
-pub returns : goal.returns
-returns g c = λ meaning w m key spans at bay d pairs closed h. closed_reads meaning w m key spans at bay d pairs closed h

@@ -1,5 +1,0 @@
-use Rattle.sd_closed.proofs.GrowLemmas.{journals_grow}
-use Rattle.sd_closed.proofs.laws.journals_grow.Goals as goal
-
-pub returns : goal.returns
-returns g c = λ meaning old new event reply m. journals_grow meaning old new event reply m

@@ -1,5 +1,0 @@
-use Rattle.sd_closed.proofs.DeedLemmas.{leads_join}
-use Rattle.sd_closed.proofs.laws.leads_join.Goals as goal
-
-pub returns : goal.returns
-returns g c = λ meaning old middle new first second leads then. leads_join meaning old middle new first second leads then

@@ -1,5 +1,0 @@
-use Rattle.sd_closed.proofs.DeedLemmas.{leads_keep}
-use Rattle.sd_closed.proofs.laws.leads_keep.Goals as goal
-
-pub returns : goal.returns
-returns g c = λ meaning old new deeds sound leads. leads_keep meaning old new deeds sound leads

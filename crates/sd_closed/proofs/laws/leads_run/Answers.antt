@@ -1,5 +1,0 @@
-use Rattle.sd_closed.proofs.DeedLemmas.{leads_run}
-use Rattle.sd_closed.proofs.laws.leads_run.Goals as goal
-
-pub returns : goal.returns
-returns g c = λ meaning old new deeds m sound leads pairs. leads_run meaning old new deeds m sound leads pairs

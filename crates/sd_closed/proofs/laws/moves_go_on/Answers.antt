@@ -1,5 +1,0 @@
-use Rattle.sd_closed.proofs.GrowLemmas.{moves_go_on}
-use Rattle.sd_closed.proofs.laws.moves_go_on.Goals as goal
-
-pub returns : goal.returns
-returns g c = λ meaning old new event reply m. moves_go_on meaning old new event reply m

@@ -1,5 +1,0 @@
-use Rattle.sd_closed.proofs.ReadLemmas.{told_spans_read}
-use Rattle.sd_closed.proofs.laws.told_spans_read.Goals as goal
-
-pub returns : goal.returns
-returns g c = λ meaning old w m e spans at bay d there told some seats grew pairs cancelled h. told_spans_read meaning old w m e spans at bay d there told some seats grew pairs cancelled h

@@ -1,9 +1,0 @@
-pub mod Deeds
-pub mod Devices
-pub mod Grows
-pub mod Reading
-pub mod Reads
-pub mod Seats
-pub mod Stands
-pub mod Stays
-pub mod Steps

@@ -1,5 +1,0 @@
-use Rattle.sd_matches.proofs.MovesSteps.{moves_steps}
-use Rattle.sd_matches.proofs.laws.moves_are_steps.Goals as goal
-
-pub returns : goal.returns
-returns c s = moves_steps

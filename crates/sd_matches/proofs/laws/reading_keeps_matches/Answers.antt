@@ -1,5 +1,0 @@
-use Rattle.sd_matches.proofs.MovesSteps.{reading_keeps}
-use Rattle.sd_matches.proofs.laws.reading_keeps_matches.Goals as goal
-
-pub returns : goal.returns
-returns c s = reading_keeps

@@ -1,5 +1,0 @@
-use Rattle.sd_moves.proofs.FailSteps.{fail_by_cause}
-use Rattle.sd_moves.proofs.laws.moves_fail_by_cause.Goals as goal
-
-pub returns : goal.returns
-returns g c = λ meaning old new event reply h m. fail_by_cause meaning old new event reply h m

@@ -1,5 +1,0 @@
-use Rattle.sd_moves.proofs.HonestSteps.{moves_keep_honesty}
-use Rattle.sd_moves.proofs.laws.moves_keep_honesty.Goals as goal
-
-pub returns : goal.returns
-returns g c = λ meaning old new event reply h m honest. moves_keep_honesty meaning old new event reply h m honest

@@ -1,5 +1,0 @@
-use Rattle.sd_moves.proofs.Moves.{moves_keep_rules}
-use Rattle.sd_moves.proofs.laws.moves_keep_rules.Goals as goal
-
-pub returns : goal.returns
-returns g c = λ meaning old new event reply h m. moves_keep_rules meaning old new event reply h m

@@ -1,0 +1,240 @@
+-- What an event of a drive does in the world around it: where no such drive is online; and who fails by a sync that failed.
+use Rattle.std.specs.Prelude.{◌≡◌, ◌≢◌, ◌⊎◌, ℕ, ◌+◌, Bool, true, false, not, ◌==◌, ◌&&◌, if◌then◌else◌, Option, Some, None, List, [], ◌∷◌, map, slice_get, slice_set}
+use Rattle.std.specs.List.{list_any}
+use Rattle.sd_base.specs.declared.refusal.Refusal.{Refusal}
+use Rattle.sd_base.specs.declared.refusal.Refusal.TheVariants.{NoSuchDrive, DriveOffline, InUse, VolumeNotOnShelf, DeviceFault, Memory}
+use Rattle.sd_desk.specs.Desk.{DeskView}
+use Rattle.sd_driver.specs.Meaning.{Meaning, IsHonest}
+use Rattle.sd_driver.specs.Shelf.{SameShelf, StillLastsBelow}
+use Rattle.sd_drive.specs.Moves.{AddsNone, EmptiesVolume, place_of, purge_due}
+use Rattle.sd_drive.specs.Shelf.{KeepsOtherPieces}
+use Rattle.sd_drive.specs.View.{DriveIs}
+use Rattle.sd_journal.specs.Journal.{Entry, fails_with, has_on}
+use Rattle.sd_lane.specs.declared.piece.Queued.{Queued}
+use Rattle.sd_machine.specs.declared.event.Event.{Event}
+use Rattle.sd_machine.specs.declared.event.Event.TheVariants.{Take, Place, Sync, Label, Adopt, Mount, Unmount, Seek}
+use Rattle.sd_machine.specs.declared.reply.Reply.{Reply}
+use Rattle.sd_machine.specs.declared.reply.Reply.TheVariants.{Refused}
+use Rattle.sd_session.specs.Session.{SessionView, FailsSession}
+use Rattle.sd_session.specs.declared.status.Status.{Status}
+use Rattle.sd_session.specs.declared.status.Status.TheVariants.{Active, Ended, Closed, Cancelled, Failed, Purged}
+use Rattle.sd_volume.specs.Adopt.{CutsAt}
+use Rattle.sd_volume.specs.Device.{Counted}
+use Rattle.sd_volume.specs.Volume.{VolumeView}
+use Rattle.sd_volume.specs.declared.volume.VolumeStatus.{VolumeStatus}
+use Rattle.sd_volume.specs.declared.volume.VolumeStatus.TheVariants.{Error}
+use Rattle.sd_world.specs.Operators.{NotesPurge}
+use Rattle.sd_world.specs.World.{WorldView, WorldSession, LaneView, BayView, IsOnline, session_at, with_bay, with_drive, is_done, busy_lanes}
+use Rattle.sd_world.specs.Stations.{Outcome, Calls}
+use Rattle.sd_world.specs.DriveMoves.{DriveMoves}
+
+-- there is no drive of this number, or it is offline for good
+abbrev pub DriveMissing : {D : Type 0} → WorldView D → ℕ → Refusal → Type 0
+DriveMissing {D} w drive why = (at : ℕ) × (drive ≡ at + 1)
+    × (((slice_get w.bays at ≡ None) × (why ≡ NoSuchDrive))
+    ⊎ ((bay : BayView D) × (slice_get w.bays at ≡ Some bay) × (bay.drive ≡ None) × (why ≡ DriveOffline)))
+
+-- A sync that fails.
+
+-- the session goes on, with its end label or without
+abbrev pub is_running : Status → Bool
+is_running Active = true
+is_running Ended = true
+is_running Closed = false
+is_running Cancelled = false
+is_running Failed = false
+is_running Purged = false
+
+-- the session goes on at the drive, and a block of it awaits a sync of the volume
+abbrev pub loses_by : ℕ → List ℕ → List Entry → WorldSession → Bool
+loses_by drive volume journal e =
+    (e.drive == drive) && (is_running e.session.status && fails_with e.session.key volume journal)
+
+-- where this is so the session fails, else it is as it was
+abbrev pub FailsWhere : Bool → WorldSession → WorldSession → Type 0
+FailsWhere true e e' = (s : SessionView) × FailsSession e.session s × (e' ≡ record e { session = s })
+FailsWhere false e e' = e' ≡ e
+
+-- of the sessions exactly those fail that lose a block by it
+abbrev pub FailExactly : (WorldSession → Bool) → List WorldSession → List WorldSession → Type 0
+FailExactly loses [] [] = Unit {0}
+FailExactly loses [] (e' ∷ es') = ⊥
+FailExactly loses (e ∷ es) [] = ⊥
+FailExactly loses (e ∷ es) (e' ∷ es') = FailsWhere (loses e) e e' × FailExactly loses es es'
+
+-- Where blocks of a volume are lost, exactly the sessions fail that go on at the drive and have a block on the volume
+-- that wasn't synced.
+abbrev pub FailBy : ℕ → List Entry → Option (List ℕ) → List WorldSession → List WorldSession → Type 0
+FailBy drive journal None old new = new ≡ old
+FailBy drive journal (Some volume) old new = FailExactly (loses_by drive volume journal) old new
+
+-- The event of a drive.
+
+-- the event happens at this drive
+abbrev pub IsOfDrive : Event → ℕ → Type 0
+IsOfDrive (Take drive) own = drive ≡ own
+IsOfDrive (Place drive) own = drive ≡ own
+IsOfDrive (Sync drive) own = drive ≡ own
+IsOfDrive (Label drive name pool media moment) own = drive ≡ own
+IsOfDrive (Adopt drive name) own = drive ≡ own
+IsOfDrive (Mount drive name) own = drive ≡ own
+IsOfDrive (Unmount drive) own = drive ≡ own
+IsOfDrive (Seek drive) own = drive ≡ own
+IsOfDrive event own = ⊥
+
+-- the event happens at the drive, which is online; sessions fail by what it lost there, and nothing else changes
+pub record AtDrive {D : Type 0} (meaning : D → Meaning) (old : WorldView D) (drive : ℕ) (event : Event) (reply : Reply) (new : WorldView D) : Type 0 where
+  pub at : ℕ
+  pub bay : BayView D
+  pub d : DriveIs D
+  pub online : IsOnline old drive at bay d
+  pub outcome : Outcome D
+  pub moves : DriveMoves meaning drive event reply (record { drive = d; queue = bay.queue; desk = old.desk }) outcome
+  pub sessions : List WorldSession
+  pub fail : FailBy drive d.journal outcome.lost old.sessions sessions
+  pub new_is : new ≡ record old {
+    sessions = sessions;
+    bays = slice_set old.bays at (record bay { drive = Some outcome.drive; queue = outcome.queue });
+    desk = outcome.desk;
+  }
+
+-- it is refused where there is no such drive online, and nothing changes; else it happens at the drive
+abbrev pub MovesDrive : {D : Type 0} → (D → Meaning) → WorldView D → ℕ → Event → Reply → WorldView D → Type 0
+MovesDrive meaning old drive event reply new =
+    ((why : Refusal) × (reply ≡ Refused why) × DriveMissing old drive why × (new ≡ old)) ⊎ AtDrive meaning old drive event reply new
+
+-- Retiring.
+
+-- a lane of the drive isn't free, a volume is loaded, or a piece is in its hand or in the queue
+abbrev pub IsInUse : {D : Type 0} → List WorldSession → DriveIs D → List LaneView → List Queued → Type 0
+IsInUse sessions d lanes held = (busy_lanes sessions (Some d) lanes ≢ 0) ⊎ (d.loaded ≢ None) ⊎ (d.hand ≢ None) ⊎ (held ≢ [])
+
+-- the drive goes offline for good
+pub record RetiresDrive {D : Type 0} (old : WorldView D) (drive : ℕ) (new : WorldView D) : Type 0 where
+  pub at : ℕ
+  pub bay : BayView D
+  pub d : DriveIs D
+  pub online : IsOnline old drive at bay d
+  pub unused : IsInUse old.sessions d bay.lanes bay.queue.held → ⊥
+  pub new_is : new ≡ with_bay at (record bay { drive = None }) old
+
+-- why a drive doesn't: it isn't online, or it is in use; nothing changes
+abbrev pub RetireRefused : {D : Type 0} → WorldView D → ℕ → Refusal → WorldView D → Type 0
+RetireRefused {D} old drive why new = (new ≡ old) × (DriveMissing old drive why
+    ⊎ ((why ≡ InUse) × (at : ℕ) × (bay : BayView D) × (d : DriveIs D) × IsOnline old drive at bay d
+    × IsInUse old.sessions d bay.lanes bay.queue.held))
+
+-- Purging.
+
+-- the session was purged
+abbrev pub was_purged : Status → Bool
+was_purged Active = false
+was_purged Ended = false
+was_purged Closed = false
+was_purged Cancelled = false
+was_purged Failed = false
+was_purged Purged = true
+
+-- this session keeps its lane from being free, and has a block on the volume
+abbrev pub keeps_lane : List Entry → List ℕ → Option WorldSession → Bool
+keeps_lane journal name None = false
+keeps_lane journal name (Some e) = not (is_done journal e.session) && has_on e.session.key name journal
+
+-- so does the one of this ticket, if there is one
+abbrev pub is_kept_by : List WorldSession → List Entry → List ℕ → Option ℕ → Bool
+is_kept_by sessions journal name None = false
+is_kept_by sessions journal name (Some ticket) = keeps_lane journal name (session_at ticket sessions)
+
+-- a session that keeps one of these lanes from being free has a block on the volume
+abbrev pub is_kept : List WorldSession → List Entry → List ℕ → List LaneView → Bool
+is_kept sessions journal name lanes = list_any (λ (l : LaneView). is_kept_by sessions journal name l.holder) lanes
+
+-- the drive's own refusal, or else in use, where this is so
+abbrev pub due_or_kept : Option Refusal → Bool → Option Refusal
+due_or_kept (Some why) kept = Some why
+due_or_kept None kept = if kept then Some InUse else None
+
+-- Which refusal of a purge is due before the device is asked: the drive's own; or a session that keeps its lane from being free
+-- has a block on the volume.
+abbrev pub purge_due_in : {D : Type 0} → List WorldSession → BayView D → DriveIs D → List ℕ → Option Refusal
+purge_due_in sessions bay d name = due_or_kept (purge_due d name) (is_kept sessions d.journal name bay.lanes)
+
+-- the session is of the drive, and a block of it was placed on the volume
+abbrev pub is_on : ℕ → List ℕ → List Entry → WorldSession → Bool
+is_on drive name journal e = (e.drive == drive) && has_on e.session.key name journal
+
+-- such a session is purged; any other is as it was
+abbrev pub purged_if_on : ℕ → List ℕ → List Entry → WorldSession → WorldSession
+purged_if_on drive name journal e =
+    if is_on drive name journal e then record e { session = record e.session { status = Purged } } else e
+
+-- the sessions once the volume of the drive was purged
+abbrev pub purged_sessions : ℕ → List ℕ → List Entry → List WorldSession → List WorldSession
+purged_sessions drive name journal sessions = map (purged_if_on drive name journal) sessions
+
+-- what a purge of a volume leaves of the drive's device: as every call does, but that what stood on the volume behind its label
+-- block is gone
+pub record CallsPurging {D : Type 0} (meaning : D → Meaning) (fault : Type 0) (volume : VolumeView) (old new : DriveIs D) : Type 0 where
+  pub counted : Counted fault ⊥ (meaning old.device) (meaning new.device)
+  pub keeps : KeepsOtherPieces volume.name (meaning old.device) (meaning new.device) old.journal old.hand
+  pub below : StillLastsBelow volume.first volume.name (meaning old.device).shelf (meaning new.device).shelf
+
+-- The drive's volume of this name is emptied, and has this status then, which is Error where the device failed. Else an honest
+-- device cut it to its label block.
+pub record PurgesNamed {D : Type 0} (meaning : D → Meaning) (fault : Type 0) (status : VolumeStatus) (name : List ℕ) (d after : DriveIs D) : Type 0 where
+  pub place : ℕ
+  pub volume : VolumeView
+  pub place_is : place_of d.volumes name ≡ Some place
+  pub there : slice_get d.volumes place ≡ Some volume
+  pub name_is : volume.name ≡ name
+  pub empties : EmptiesVolume place volume status d after
+  pub calls : CallsPurging meaning fault volume d after
+  pub cuts : (fault → ⊥) → IsHonest (meaning d.device)
+      → CutsAt volume.first name (meaning d.device).shelf (meaning after.device).shelf
+
+-- The device of the drive hasn't the volume, which an honest one has, or memory is wanted: the drive stays as it was.
+pub record PurgesNone {D : Type 0} (meaning : D → Meaning) (why : Refusal) (d after : DriveIs D) : Type 0 where
+  pub why_is : (why ≡ VolumeNotOnShelf) ⊎ (why ≡ Memory)
+  pub on_shelf : IsHonest (meaning d.device) → why ≢ VolumeNotOnShelf
+  pub adds_none : AddsNone d after
+  pub calls : Calls meaning ⊥ ⊥ d after
+  pub same : IsHonest (meaning d.device) → SameShelf (meaning d.device).shelf (meaning after.device).shelf
+
+-- a volume of the drive is emptied, and exactly the sessions of the drive are purged that have a block on it
+pub record PurgesVolume {D : Type 0} (meaning : D → Meaning) (fault : Type 0) (status : VolumeStatus)
+    (old : WorldView D) (drive : ℕ) (name : List ℕ) (new : WorldView D) : Type 0 where
+  pub at : ℕ
+  pub bay : BayView D
+  pub d : DriveIs D
+  pub online : IsOnline old drive at bay d
+  pub due : purge_due_in old.sessions bay d name ≡ None
+  pub after : DriveIs D
+  pub purges : PurgesNamed meaning fault status name d after
+  pub desk : DeskView
+  pub notes : NotesPurge name old.desk desk
+  pub new_is : new ≡ record old {
+    sessions = purged_sessions drive name d.journal old.sessions;
+    bays = slice_set old.bays at (record bay { drive = Some after });
+    desk = desk;
+  }
+
+-- a volume of the drive isn't emptied, and nothing changes
+pub record LeavesVolume {D : Type 0} (meaning : D → Meaning) (old : WorldView D) (drive : ℕ) (name : List ℕ) (why : Refusal) (new : WorldView D) : Type 0 where
+  pub at : ℕ
+  pub bay : BayView D
+  pub d : DriveIs D
+  pub online : IsOnline old drive at bay d
+  pub due : purge_due_in old.sessions bay d name ≡ None
+  pub after : DriveIs D
+  pub none : PurgesNone meaning why d after
+  pub new_is : new ≡ with_drive at bay after old
+
+-- Why a volume isn't purged: the drive isn't online; a refusal is due before the device is asked; it isn't found, or memory is
+-- wanted. Or the device failed, and the volume is emptied all the same.
+abbrev pub PurgeRefused : {D : Type 0} → (D → Meaning) → WorldView D → ℕ → List ℕ → Refusal → WorldView D → Type 0
+PurgeRefused {D} meaning old drive name why new =
+    (DriveMissing old drive why × (new ≡ old))
+    ⊎ ((at : ℕ) × (bay : BayView D) × (d : DriveIs D) × IsOnline old drive at bay d
+    × (purge_due_in old.sessions bay d name ≡ Some why) × (new ≡ old))
+    ⊎ LeavesVolume meaning old drive name why new
+    ⊎ ((why ≡ DeviceFault) × PurgesVolume meaning (Unit {0}) Error old drive name new)
