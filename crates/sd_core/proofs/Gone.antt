@@ -1,8 +1,12 @@
 -- Whether what is read was purged.
-use Rattle.std.proofs.Common.{◌≡◌, ◌≤◌, ◌||◌, ◌&&◌, ◌==◌, not, ℕ, Bool, false, refl, ap, ◌∙◌, arith, Option, Some, None, List}
+use Rattle.std.proofs.Common.{◌≡◌, ◌≤◌, ◌||◌, ◌&&◌, ◌==◌, not, ℕ, Bool, false, refl, sym, ap, ◌∙◌, arith, Option, Some, None, List, get_or}
 use Rattle.sd_base.specs.Limits.{most_number}
 use Rattle.sd_base.specs.declared.number.SessionKey.{SessionKey}
+use Rattle.sd_base.specs.Key.{is_key}
+use Rattle.sd_parts.specs.Found.{IsFoundAt}
+use Rattle.sd_parts.proofs.Found.{read_found}
 use Rattle.sd_span.specs.declared.span.Span.{Span}
+use Rattle.sd_world.specs.Drives.{was_purged}
 use Rattle.sd_world.specs.Reading.{is_gone, is_purged_session, any_purged_at}
 use Rattle.sd_world.specs.Rules.{IsWorld, NumbersRise}
 use Rattle.sd_world.specs.World.{WorldView, WorldSession, session_at}
@@ -35,6 +39,12 @@ no_ticket key es rise most none = from (session_at key.id es) refl
         let same = session_id key.id es e is in
         let low = n.least_is in
         absurd (none (omega (arith, same, low), most key.id e is))
+
+-- the session that was found by it tells
+pub told_by : (key : SessionKey) (es : List WorldSession) (ticket at : ℕ) (e read : WorldSession) → IsFoundAt ticket es at → ticket ≡ key.id
+    → read ≡ get_or es at read → e ≡ read → is_purged_session key (session_at key.id es) ≡ (is_key key e.session.key && was_purged e.session.status)
+told_by key es ticket at e read found number is same =
+    ap (is_purged_session key) (ap (λ n. session_at n es) (sym number) ∙ (read_found ticket es es at e read found refl is same).found)
 
 -- as it was read in the world
 pub gone_there : {D : Type 0} (w : WorldView D) (key : SessionKey) (spans : List Span) (sessions : List WorldSession) (gone : Bool) → sessions ≡ w.sessions

@@ -241,9 +241,9 @@ impl<D: Driver, Q: Lanes, S: SpoolStore + Drop> World<D, Q, S> {
     /// fault stay, and they are the first of the session's, in order. No spans are a bad span; then the first span's
     /// volume must be at a drive, that drive online, what is read not purged, and all spans on its volumes; then comes
     /// what the drive's reader says. Purged is a session with that status; and, of another run's session, what names a
-    /// volume that was purged in this one. A closed session's own spans read to all of its records, and a cancelled one's to the first of them, as long
-    /// as the devices return what was written; once its drive was retired, either is answered that the drive is offline.
-    /// Changes no session, no volume and no list.
+    /// volume that was purged in this one. A closed session's own spans read to all of its records, and a cancelled
+    /// one's to the first of them, as long as the devices return what was written; once its drive was retired, either
+    /// is answered that the drive is offline. Changes no session, no volume and no list.
     pub fn read<K: Sink>(
         &mut self,
         key: SessionKey,

@@ -1,10 +1,9 @@
-use Rattle.std.proofs.Common.{◌≡◌, ◌&&◌, true, false, Some, refl, sym, ap, ◌∙◌, arith}
+use Rattle.std.proofs.Common.{◌&&◌, sym, ap, ◌∙◌, arith}
 use Rattle.sd_world.specs.Drives.{was_purged}
-use Rattle.sd_world.specs.Reading.{is_purged_session}
 use Rattle.sd_world.specs.World.{WorldSession, session_at}
 use Rattle.sd_base.specs.Key.{is_key}
-use Rattle.sd_parts.proofs.Found.{found_within, read_found}
-use Rattle.sd_core.proofs.Gone.{no_ticket, none_of_key}
+use Rattle.sd_parts.proofs.Found.{found_within}
+use Rattle.sd_core.proofs.Gone.{no_ticket, none_of_key, told_by}
 use Rattle.sd_core.proofs.reading.is_purged_session.Goals as goal
 
 pub returns-in_default : goal.returns-in_default
@@ -25,21 +24,14 @@ bounds-sessions-at g c = found_within c.in-Some.ticket c.args.sessions.now c.in-
 
 pub returns-then-eq : goal.returns-then-eq
 returns-then-eq g c =
-    let es = c.args.sessions.now in
-    let key = c.args.key in
     let e : WorldSession = record { session = c.entry.inside.session; drive = c.entry.inside.drive } in
-    let found = read_found c.in-Some.ticket es es c.in-Some-find.at e _ c.in-Some-find.ensures.found refl c.index-sessions-at.is c.entry.view_is in
-    let here : session_at key.id es ≡ Some e = ap (λ n. session_at n es) (sym c.in-Some.ensures.value) ∙ found.found in
-    let own : is_key key e.session.key ≡ true = ap (is_key key) (sym c.key.ensures) ∙ sym c.eq.ensures ∙ c.if-eq.true in
-    c.was_purged.ensures ∙ ap was_purged c.status.ensures
-    ∙ sym (ap (is_purged_session key) here ∙ ap (λ b. b && was_purged e.session.status) own)
+    let told = told_by c.args.key c.args.sessions.now c.in-Some.ticket c.in-Some-find.at e _ c.in-Some-find.ensures.found c.in-Some.ensures.value c.index-sessions-at.is c.entry.view_is in
+    let own = ap (is_key c.args.key) (sym c.key.ensures) ∙ sym c.eq.ensures ∙ c.if-eq.true in
+    c.was_purged.ensures ∙ ap was_purged c.status.ensures ∙ sym (told ∙ ap (λ b. b && was_purged e.session.status) own)
 
 pub returns-else-eq : goal.returns-else-eq
 returns-else-eq g c =
-    let es = c.args.sessions.now in
-    let key = c.args.key in
     let e : WorldSession = record { session = c.entry.inside.session; drive = c.entry.inside.drive } in
-    let found = read_found c.in-Some.ticket es es c.in-Some-find.at e _ c.in-Some-find.ensures.found refl c.index-sessions-at.is c.entry.view_is in
-    let here : session_at key.id es ≡ Some e = ap (λ n. session_at n es) (sym c.in-Some.ensures.value) ∙ found.found in
-    let other : is_key key e.session.key ≡ false = ap (is_key key) (sym c.key.ensures) ∙ sym c.eq.ensures ∙ c.if-eq.false in
-    c.if-eq.false ∙ sym (ap (is_purged_session key) here ∙ ap (λ b. b && was_purged e.session.status) other)
+    let told = told_by c.args.key c.args.sessions.now c.in-Some.ticket c.in-Some-find.at e _ c.in-Some-find.ensures.found c.in-Some.ensures.value c.index-sessions-at.is c.entry.view_is in
+    let other = ap (is_key c.args.key) (sym c.key.ensures) ∙ sym c.eq.ensures ∙ c.if-eq.false in
+    c.if-eq.false ∙ sym (told ∙ ap (λ b. b && was_purged e.session.status) other)
