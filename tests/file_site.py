@@ -98,8 +98,7 @@ class Talk(client.Talk):
     """A connection that doesn't wait for ever."""
 
     def __init__(self, port):
-        super().__init__(port)
-        self.socket.settimeout(WAIT)
+        super().__init__(port, timeout=WAIT)
 
     def __exit__(self, *why):
         try:

@@ -48,13 +48,12 @@ class Talk(client.Talk):
     """A connection that doesn't wait for ever. Where the daemon goes away, that is told."""
 
     def __init__(self, port):
-        super().__init__(port)
-        self.socket.settimeout(WAIT)
+        super().__init__(port, timeout=WAIT)
 
     def __exit__(self, kind, why, _):
         with contextlib.suppress(OSError):
             super().__exit__()
-        if isinstance(why, ConnectionError) or str(why) == "the daemon ended the talk":
+        if isinstance(why, client.Lost):
             raise Stopped from why
 
     def console(self, line):
@@ -127,7 +126,7 @@ class Site:
         is_stopped = False
         try:
             yield port
-        except (Stopped, ConnectionError):
+        except (Stopped, client.Lost):
             is_stopped = process.wait(timeout=WAIT) == -signal.SIGKILL
         finally:
             process.kill()

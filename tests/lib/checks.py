@@ -1,0 +1,35 @@
+"""Checks that are counted. What came otherwise than it was wanted is printed."""
+
+
+def difference(got, wanted):
+    """What is other in what came, in few words: of lists of one length, what is other in the first that is."""
+    if isinstance(got, (list, tuple)) and isinstance(wanted, (list, tuple)) and len(got) == len(wanted):
+        return next((difference(*pair) for pair in zip(got, wanted) if pair[0] != pair[1]), f"{got} {wanted}")
+    if isinstance(got, bytes) and isinstance(wanted, bytes) and len(got) + len(wanted) > 200:
+        at = next((at for at, pair in enumerate(zip(got, wanted)) if pair[0] != pair[1]), min(len(got), len(wanted)))
+        return (f"{len(got)} bytes in place of {len(wanted)}, and from {at} on {got[at:at + 20].hex()} "
+                f"in place of {wanted[at:at + 20].hex()}")
+    return f"{got!r:.600} in place of {wanted!r:.600}"
+
+
+class Checks:
+    """Counts what is as it is wanted, and prints what is otherwise."""
+
+    def __init__(self):
+        self.passed = self.failed = 0
+        self.group = ""
+
+    def check(self, what, holds, *shown):
+        if holds:
+            self.passed += 1
+        else:
+            self.failed += 1
+            print(f"{self.group}: {what}:", *shown)
+
+    def same(self, what, got, wanted):
+        self.check(what, got == wanted, difference(got, wanted))
+
+    def ended(self):
+        """Says how many passed and failed, and gives the status: 0 where some passed and none failed."""
+        print(f"{self.passed} passed, {self.failed} failed")
+        return int(self.failed > 0 or self.passed == 0)

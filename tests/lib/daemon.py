@@ -1,0 +1,109 @@
+"""The programs that the tests run, and a daemon of a test's own."""
+import os
+import pathlib
+import random
+import signal
+import socket
+import subprocess
+import sys
+import time
+
+ROOT = pathlib.Path(__file__).resolve().parent.parent.parent
+CLIENT = ROOT / "examples" / "client.py"
+SDD = ROOT / "crates" / "sdd" / "out" / "sdd"
+SDTOOL = ROOT / "crates" / "sdtool" / "out" / "sdtool"
+# Nothing is waited for longer, in seconds.
+WAIT = 30
+LISTENS = "0A"
+kept_ports = []
+
+
+def build():
+    """Builds the programs, unless the command line says that they are built."""
+    if "--built" not in sys.argv[1:]:
+        subprocess.run([ROOT / "build"], check=True)
+
+
+def free_port():
+    """A port that nothing has, and that no other test is given while this process lasts, since that keeps the datagrams'
+    port of the same number. The system gives none of these to a client."""
+    for port in random.sample(range(20_000, 32_000), 12_000):
+        kept, tried = socket.socket(type=socket.SOCK_DGRAM), socket.socket()
+        with tried:
+            try:
+                kept.bind(("127.0.0.1", port))
+                tried.bind(("127.0.0.1", port))
+            except OSError:
+                kept.close()
+                continue
+        kept_ports.append(kept)
+        return port
+    raise OSError("no port is free")
+
+
+def is_listened_on(port):
+    """Whether a socket listens on that port. No connection is made, since the daemon would take that for a talk."""
+    lines = pathlib.Path("/proc/net/tcp").read_text().splitlines()[1:]
+    return any(fields[3] == LISTENS and int(fields[1].partition(":")[2], 16) == port for fields in map(str.split, lines))
+
+
+def drive(media, folder, *lines):
+    """The lines of a drive in a configuration."""
+    return "\n".join(["[[drive]]", f'media = "{media}"', f'folder = "{folder}"', *lines, ""])
+
+
+def later_second():
+    """Waits for another second: no two runs may have one time."""
+    now = int(time.time())
+    while int(time.time()) == now:
+        time.sleep(0.02)
+
+
+class Daemon:
+    """A running `sdd serve`, which listens from the start on. What it prints and logs goes to two files beside its
+    configuration."""
+
+    def __init__(self, conf, *words, port, program=SDD, log=True, **options):
+        self.out, self.logged = conf.with_suffix(".out"), conf.with_suffix(".log")
+        words = ["--log", *words] if log else words
+        with open(self.out, "wb") as out, open(self.logged, "wb") as logged:
+            self.process = subprocess.Popen([program, "serve", conf, *words], stdout=out, stderr=logged, **options)
+        end = time.monotonic() + WAIT
+        while not is_listened_on(port) or (log and not self.log()):
+            if self.process.poll() is not None or time.monotonic() > end:
+                self.kill()
+                raise TimeoutError(f"not listening: {self.out.read_text()!r} {self.log()}")
+            time.sleep(0.002)
+
+    def __enter__(self):
+        return self
+
+    def __exit__(self, *_):
+        self.kill()
+
+    def log(self):
+        """The lines of its log."""
+        return self.logged.read_text(errors="replace").splitlines()
+
+    def printed(self):
+        return self.out.read_text(errors="replace")
+
+    def kill(self):
+        if self.process.poll() is None:
+            self.process.send_signal(signal.SIGKILL)
+        self.process.wait(timeout=WAIT)
+
+    def wait(self):
+        """Where it ends by itself, what it printed and its status."""
+        return self.printed(), self.process.wait(timeout=WAIT)
+
+
+def serve_status(conf, **options):
+    """What `sdd serve` prints of a configuration that it can't serve, and its status."""
+    run = subprocess.run([SDD, "serve", conf], capture_output=True, text=True, timeout=WAIT, **options)
+    return run.stdout, run.returncode
+
+
+def environment(**words):
+    """The environment of a program, with these words besides."""
+    return {**os.environ, **{name: str(word) for name, word in words.items()}}
