@@ -9,8 +9,8 @@ a client with. docs/PROTOCOL.md has what it says, and what its records hold.
     sdd-client console WORD ..         gives a line of the operator, and prints the answer
     sdd-client adopt-all CONF          adopts the volumes in the folders of the daemon's configuration
 
-Options stand before the command; --help has them. FILE and the SPANS of append and read are paths, or - for the standard
-input or output. What goes wrong is told on standard error in a line, and by the status:
+Options stand before the command; --help has them. With --volumes FOLDER restore and read need no daemon: they read the
+volumes in that folder by sdtool. FILE and the SPANS of append and read are paths, or - for the standard input or output. What goes wrong is told on standard error in a line, and by the status:
 
     0  all is done
     1  the daemon refused, in the words told; or it has not the whole session
@@ -27,6 +27,7 @@ import re
 import socket
 import stat
 import struct
+import subprocess
 import sys
 import time
 import tomllib
@@ -234,6 +235,21 @@ def read_session(talk, lines, take):
     if not (whole := READ_WHOLE.fullmatch(said)):
         raise Lost(f"{said} in place of the read's end")
     if whole[3] == "0":
+        raise Refused(f"the session was given up before its end: {said}")
+    return said
+
+
+def read_volumes(folder, spans, take):
+    """The same without the daemon: by `sdtool read`, from the volumes in a folder and the file that has the lines."""
+    with subprocess.Popen(["sdtool", "read", spans, folder], stdout=subprocess.PIPE) as tool:
+        while head := re.fullmatch(rb"rec (\d+) (\d+) (\d+)\n", line := tool.stdout.readline()):
+            data = tool.stdout.read(int(head[3]))
+            tool.stdout.read(1)
+            take(int(head[1]), int(head[2]), data)
+    said = line.decode(errors="replace").rstrip("\n")
+    if not said.startswith("ok read "):
+        raise Refused(said or "sdtool broke off")
+    if not said.endswith(" ended"):
         raise Refused(f"the session was given up before its end: {said}")
     return said
 
@@ -446,12 +462,18 @@ class Restored:
         self.file, self.count = None, self.count + 1
 
 
+def read_back(talk, asked, take):
+    """Reads a session back over a talk, or without one from the volumes that are named."""
+    if talk is None:
+        return read_volumes(asked.volumes, "/dev/stdin" if asked.spans == "-" else asked.spans, take)
+    return read_session(talk, lines_in(asked.spans), take)
+
+
 def restore(talk, asked):
-    lines = lines_in(asked.spans)
     pathlib.Path(asked.folder).mkdir(parents=True, exist_ok=True)
     with Restored(asked.folder) as files:
         try:
-            read_session(talk, lines, files.take)
+            read_back(talk, asked, files.take)
             files.finish()
         finally:
             complain(f"{files.count} files are restored")
@@ -465,13 +487,12 @@ def append_stream(talk, asked):
 
 
 def read_stream(talk, asked):
-    lines = lines_in(asked.spans)
     if asked.file == "-":
-        said = read_session(talk, lines, lambda index, stream, data: sys.stdout.buffer.write(data))
+        said = read_back(talk, asked, lambda index, stream, data: sys.stdout.buffer.write(data))
         sys.stdout.flush()
     else:
         with NewFile(asked.file) as file:
-            said = read_session(talk, lines, lambda index, stream, data: file.write(data))
+            said = read_back(talk, asked, lambda index, stream, data: file.write(data))
             file.finish()
     complain(said)
 
@@ -482,10 +503,16 @@ def say(talk, asked):
 
 
 def adopt_all(talk, asked):
-    """Adopts what may be a volume in each drive's folder, by the order of names. One that this run knows already is well."""
-    refused = 0
+    """Adopts what may be a volume in each drive's folder, by the order of names. One that this run knows already is well. A
+    folder that can't be read, or a volume that is refused, is told, and the others are adopted."""
+    refused, unread = 0, 0
     for number, folder in enumerate(asked.folders, 1):
-        for name in volumes_in(folder):
+        try:
+            names = volumes_in(folder)
+        except OSError as why:
+            names, unread = [], unread + 1
+            complain(f"drive {number}: {why}")
+        for name in names:
             try:
                 print_lines(f"{name}: {line}" for line in talk.console(f"adopt {number} {name}"))
             except Refused as why:
@@ -494,6 +521,8 @@ def adopt_all(talk, asked):
                     complain(f"drive {number}, {name}: {why}")
     if refused:
         raise Refused(f"{refused} not adopted")
+    if unread:
+        raise Unfit(f"{unread} folders can't be read")
 
 
 def configured(path):
@@ -538,6 +567,8 @@ def arguments():
     parser.add_argument("--media", default="File", help="their media; File where it isn't given")
     parser.add_argument("--record", type=sizes, default=[65536], metavar="SIZE[,SIZE..]",
                         help="bytes of a record, 65536 where it isn't given; several sizes are taken in turn")
+    parser.add_argument("--volumes", metavar="FOLDER",
+                        help="restore and read take the volumes in this folder, by sdtool, and no daemon")
     tasks = parser.add_subparsers(required=True, metavar="COMMAND")
 
     def task(name, work, text, **words):
@@ -552,11 +583,16 @@ def arguments():
     task("read", read_stream, "restores it", spans={}, file={})
     task("console", say, "gives a line of the operator, and prints the answer", words={"nargs": "+", "metavar": "word"})
     task("adopt-all", adopt_all, "adopts the volumes of a configuration", conf={})
-    return parser.parse_args()
+    asked = parser.parse_args()
+    if asked.volumes and asked.work not in (restore, read_stream):
+        parser.error("--volumes is for restore and read")
+    return asked
 
 
 def connected(asked):
-    """The talk. Where all volumes are to be adopted the daemon may still be on its way to its port."""
+    """The talk, where there is one. Where all volumes are to be adopted the daemon may still be on its way to its port."""
+    if asked.volumes:
+        return contextlib.nullcontext()
     if asked.work is not adopt_all:
         return Talk(asked.port or PORT, timeout=asked.timeout)
     port, asked.folders = configured(asked.conf)
@@ -575,7 +611,8 @@ def main():
     try:
         with connected(asked) as talk:
             asked.work(talk, asked)
-            talk.terminate()
+            if talk:
+                talk.terminate()
     except Failed as why:
         complain(why)
         return why.status
