@@ -67,7 +67,8 @@ class Daemon:
         self.out, self.logged = conf.with_suffix(".out"), conf.with_suffix(".log")
         words = ["--log", *words] if log else words
         with open(self.out, "wb") as out, open(self.logged, "wb") as logged:
-            self.process = subprocess.Popen([program, "serve", conf, *words], stdout=out, stderr=logged, **options)
+            options = {"stdout": out, "stderr": logged, **options}
+            self.process = subprocess.Popen([program, "serve", conf, *words], **options)
         end = time.monotonic() + WAIT
         while not is_listened_on(port) or (log and not self.log()):
             if self.process.poll() is not None or time.monotonic() > end:
@@ -95,7 +96,8 @@ class Daemon:
 
     def wait(self):
         """Where it ends by itself, what it printed and its status."""
-        return self.printed(), self.process.wait(timeout=WAIT)
+        status = self.process.wait(timeout=WAIT)
+        return self.printed(), status
 
 
 def serve_status(conf, **options):

@@ -1,4 +1,6 @@
-"""The dialogues of docs/PROTOCOL.md, each in a talk of its own with a daemon of its own. tests/pages/run plays them."""
+"""The dialogues of docs/PROTOCOL.md, each in a talk of its own with a daemon of its own. tests/pages/run plays them; the
+conversation that the page shows byte by byte is played by tests/talks.
+"""
 import pathlib
 import re
 import socket
@@ -10,10 +12,7 @@ from shim import compiled, loaded
 
 PAGE = ROOT / "docs" / "PROTOCOL.md"
 BLOCK = re.compile(r"^```dialogue\n(.*?)^```$", re.MULTILINE | re.DOTALL)
-# A row of the conversation byte by byte: who sends, and the bytes in hexadecimal, in parts.
-ROW = re.compile(r"^\| (client|daemon) \| ((?:`[0-9a-f]+` ?)+)\|", re.MULTILINE)
-SECONDS = 1000
-LEAST_DIALOGUES, LEAST_ROWS = 5, 15
+SECONDS, LEAST_DIALOGUES = 1000, 5
 
 
 def sent(text):
@@ -32,8 +31,6 @@ def dialogues_in(page):
     for number, block in enumerate(BLOCK.findall(page), 1):
         lines = [(line[0], line[2:]) for line in block.splitlines()]
         yield f"dialogue {number}", [(who, (sent if who == ">" else answered)(text)) for who, text in lines]
-    rows = [(who, re.findall(r"[0-9a-f]+", parts)) for who, parts in ROW.findall(page)]
-    yield "byte by byte", [("<" if who == "daemon" else ">", bytes.fromhex("".join(parts))) for who, parts in rows]
 
 
 def held(checks, name, lines, port):
@@ -54,7 +51,7 @@ def held(checks, name, lines, port):
 def play(checks):
     checks.group = PAGE.name
     lists = list(dialogues_in(PAGE.read_text()))
-    checks.check("dialogues", len(lists) > LEAST_DIALOGUES and len(lists[-1][1]) > LEAST_ROWS, [len(lines) for _, lines in lists])
+    checks.check("dialogues", len(lists) >= LEAST_DIALOGUES, len(lists))
     with tempfile.TemporaryDirectory() as folder:
         library, port = compiled(folder), free_port()
         for number, (name, lines) in enumerate(lists):
