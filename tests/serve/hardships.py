@@ -1,0 +1,275 @@
+"""What a daemon may meet: clients that take nothing, that wait for each other; want of memory; a log that nobody reads or that
+isn't wanted; being stopped for a while; a limit of its files. No signal is masked here. tests/serve/run runs it.
+"""
+import contextlib
+import os
+import re
+import resource
+import signal
+import socket
+import subprocess
+import time
+
+from clients import client, say
+from daemon import SDTOOL, WAIT, Daemon, drive, free_port
+from shim import loaded
+
+# So much is neither kept by the system for a client that reads nothing, nor long to write.
+MORE_THAN_WAITS = 24_000_000
+WANT = "3960 Want of memory"
+HELLO = [client.packet(b"hello")]
+# At least so many allocations come before the daemon listens, and so many in the talks behind that.
+LEAST_ALLOCATIONS, LEAST_WANTS = 100, 10
+
+
+class Place:
+    """A folder with a daemon's configuration and volumes, and what is said to that daemon."""
+
+    def __init__(self, folder, settings=""):
+        folder.mkdir()
+        self.folder, self.conf, self.port = folder, folder / "conf", free_port()
+        self.volumes = folder / "volumes"
+        self.volumes.mkdir()
+        self.conf.write_text(f"port = {self.port}\n{settings}" + drive("File", self.volumes))
+
+    def daemon(self, *words, **options):
+        return Daemon(self.conf, *words, port=self.port, **options)
+
+    def talk(self):
+        return client.Talk(self.port, timeout=WAIT)
+
+    def say(self, *words):
+        return say(self.port, *words)
+
+    def label(self, checks, name="Vol-0001"):
+        checks.same(f"label {name}", self.say("console", "label", "1", name, "Default", "File"), ("ok labelled\n", 0))
+
+    def job(self, packets=HELLO):
+        """The lines of a job of its own."""
+        with self.talk() as talk:
+            ticket = client.open_session(talk, 7, "Default", "File")
+            client.append_packets(talk, ticket, packets)
+            return client.close_session(talk, ticket)
+
+    def read(self, lines):
+        """The data of the session with these lines, over a talk of its own."""
+        data = []
+        with self.talk() as talk:
+            client.read_session(talk, lines, lambda index, stream, one: data.append(one))
+        return b"".join(data)
+
+    def serves(self, checks, what):
+        """The daemon goes on: a job is closed, and read back."""
+        checks.same(f"{what}: a job", self.read(self.job()), b"hello")
+
+
+def takes_nothing(checks, folder, library):
+    """A client that takes nothing of what it is sent loses its connection, and the next one is served."""
+    place = Place(folder / "takes_nothing")
+    with place.daemon(env=loaded(library, QUIET_SECONDS=1)) as daemon:
+        place.label(checks)
+        lines = place.job([client.packet(bytes(1_000_000))] * (MORE_THAN_WAITS // 1_000_000))
+        with socket.create_connection(("127.0.0.1", place.port)) as quiet:
+            _, seconds, number = lines[0].split()
+            quiet.sendall(client.text_packet(f"read session Time={seconds} Id={number}")
+                          + b"".join(map(client.text_packet, lines[1:])) + client.signal(client.END_OF_DATA))
+            place.serves(checks, "behind a client that takes nothing")
+        checks.check("how it ended", any(line.endswith("ended: nothing could be written") for line in daemon.log()), daemon.log())
+
+
+def two_wait(checks, folder, _):
+    """Two clients that wait for a third one are served when it ends, in the order in which they came."""
+    place, order = Place(folder / "two_wait"), []
+    with place.daemon(), contextlib.ExitStack() as stack:
+        first, second, third = (stack.enter_context(place.talk()) for _ in range(3))
+        checks.same("the first", first.console("requests"), ["ok requests 0"])
+        for number, talk in ((2, second), (3, third)):
+            talk.send(client.text_packet("console requests"))
+            talk.socket.settimeout(0.3)
+            checks.check(f"{number} waits", raises(TimeoutError, talk.socket.recv, 1))
+            talk.socket.settimeout(WAIT)
+        for ended, talk, number in ((first, second, 2), (second, third, 3)):
+            ended.terminate()
+            checks.same(f"{number} is served", list(talk.lines()), ["ok requests 0"])
+            order.append(number)
+            if number == 2:
+                third.socket.settimeout(0.3)
+                checks.check("3 waits for 2", raises(TimeoutError, third.socket.recv, 1))
+                third.socket.settimeout(WAIT)
+        third.terminate()
+        place.label(checks)
+        place.serves(checks, "behind all three")
+
+
+def raises(kind, act, *words):
+    try:
+        act(*words)
+    except kind:
+        return True
+    return False
+
+
+def without_log(checks, folder, _):
+    """Without `--log` a daemon serves as ever, and says nothing on standard output or error."""
+    place = Place(folder / "without_log")
+    with place.daemon("--talks", "6", log=False) as daemon:
+        place.label(checks)
+        place.serves(checks, "without a log")
+        checks.same("a fault", place.say("console", "adopt", "1", "Vol-0009")[1], 1)
+        with place.talk() as talk:
+            client.open_session(talk, 7, "Default", "File")
+        with socket.create_connection(("127.0.0.1", place.port)) as broken:
+            broken.sendall(b"\x7f")
+        checks.same("printed, and its status", daemon.wait(), ("", 0))
+        checks.same("logged", daemon.log(), [])
+
+
+def log_unread(checks, folder, _):
+    """When the log's reader goes away, the daemon goes on."""
+    place = Place(folder / "log_unread")
+    reads, writes = os.pipe()
+    with place.daemon("--log", log=False, stderr=writes) as daemon:
+        os.close(writes)
+        with open(reads) as log:
+            checks.check("the log", log.readline().startswith("listening on "))
+        place.label(checks)
+        place.serves(checks, "with a log that nobody reads")
+        checks.same("it runs", daemon.process.poll(), None)
+
+
+def stopped_a_while(checks, folder, _):
+    """A daemon that is stopped and goes on serves as before. The job that it was at is whole or told as lost, and what was
+    closed before is read."""
+    place = Place(folder / "stopped_a_while")
+    with place.daemon() as daemon:
+        place.label(checks)
+        lines = place.job()
+        for data_comes in (False, True):
+            with place.talk() as talk:
+                ticket = client.open_session(talk, 8, "Default", "File")
+                if data_comes:
+                    talk.ask(f"append data {ticket}")
+                    talk.send(client.text_packet("1 2 0"))
+                time.sleep(0.1)
+                daemon.process.send_signal(signal.SIGSTOP)
+                await_state(daemon.process.pid, "T")
+                daemon.process.send_signal(signal.SIGCONT)
+                time.sleep(0.1)
+                outcome = went_on(talk, ticket, data_comes)
+            said = place.say("console", "status")[0]
+            wanted = {"closed": f"session {ticket} closed 1\n", "lost": f"session {ticket} cancelled 0\n"}[outcome]
+            checks.check(f"its session is {outcome}", wanted in said, said)
+        checks.same("what was closed", place.read(lines), b"hello")
+        place.serves(checks, "behind a stop")
+
+
+def went_on(talk, ticket, data_comes):
+    """Whether the job of a talk could be closed, or its connection is lost."""
+    try:
+        if not data_comes:
+            talk.ask(f"append data {ticket}")
+            talk.send(client.text_packet("1 2 0"))
+        end = client.signal(client.END_OF_DATA)
+        talk.send(*HELLO, end, end)
+        talk.line()
+        client.close_session(talk, ticket)
+    except client.Lost:
+        return "lost"
+    return "closed"
+
+
+def await_state(process, state):
+    until = time.monotonic() + WAIT
+    while f") {state} " not in open(f"/proc/{process}/stat").read() and time.monotonic() < until:
+        time.sleep(0.01)
+
+
+def limited_files(checks, folder, _):
+    """A daemon whose files the system limits (LimitFSIZE) is ended by the system at a longer one. What was closed lasts, and a
+    run without the limit goes on with the volume."""
+    place = Place(folder / "limited_files")
+    limit = {"preexec_fn": lambda: resource.setrlimit(resource.RLIMIT_FSIZE, (200_000, 200_000))}
+    with place.daemon(**limit) as daemon:
+        place.label(checks)
+        lines = place.job()
+        checks.check("a longer file", raises(client.Lost, place.job, 5 * [client.packet(bytes(100_000))]))
+        checks.same("its end", daemon.process.wait(timeout=WAIT), -signal.SIGXFSZ)
+    time.sleep(1.1)
+    with place.daemon():
+        said, status = place.say("adopt-all", str(place.conf))
+        checks.check("adopted", status == 0 and said.startswith("Vol-0001: ok adopted "), said)
+        checks.same("what was closed", place.read(lines), b"hello")
+        place.serves(checks, "without the limit")
+
+
+def want_of_memory(checks, folder, library):
+    """Each allocation of a daemon that serves a label, a job, its reading and the status is refused in turn. The daemon says so
+    before it listens, or refuses, or ends that talk. Given once more all goes well, and what was closed is read back."""
+    counted = allocations(checks, folder, library)
+    came = {"not started": 0, "refused": 0, "lost": 0, "unseen": 0}
+    for number in range(1, counted + 1):
+        place = Place(folder / f"wanting-{number}")
+        env = loaded(library, FAIL_ALLOC=number)
+        try:
+            daemon = place.daemon(env=env)
+        except TimeoutError:
+            came["not started"] += 1
+            checks.same(f"allocation {number}, not started", place.conf.with_suffix(".out").read_text(), f"{WANT}\n")
+            continue
+        with daemon:
+            wanted = []
+            for act in (labelled, closed_and_read, shown):
+                again(checks, f"allocation {number}", place, act, wanted)
+            checks.check(f"allocation {number}: it runs", daemon.process.poll() is None, daemon.log())
+        came[wanted[0] if wanted else "unseen"] += 1
+    checks.check("want of memory", came["not started"] > 0 and came["refused"] >= LEAST_WANTS, came)
+
+
+def allocations(checks, folder, library):
+    """How many allocations a daemon makes that does all this and ends."""
+    place, count = Place(folder / "ample"), folder / "count"
+    with place.daemon("--talks", "4", env=loaded(library, COUNT_ALLOC=count)) as daemon:
+        wanted = []
+        for act in (labelled, closed_and_read, shown):
+            again(checks, "with ample memory", place, act, wanted)
+        checks.same("with ample memory", (wanted, daemon.wait()), ([], ("", 0)))
+    counted = sum(map(int, count.read_text().split()))
+    checks.check("allocations", counted >= LEAST_ALLOCATIONS, counted)
+    return counted
+
+
+def again(checks, what, place, act, wanted):
+    """Does an act, once more where memory wanted, and notes what came of the first time."""
+    for _ in range(2):
+        try:
+            checks.check(f"{what}: {act.__name__}", act(place))
+            return
+        except client.Refused as why:
+            checks.same(f"{what}: {act.__name__}", str(why), WANT)
+            wanted.append("refused")
+        except client.Lost:
+            wanted.append("lost")
+    checks.check(f"{what}: {act.__name__}", False, f"is refused twice: {wanted}")
+
+
+def labelled(place):
+    """A volume is labelled, under a new name if the first one was refused: a label that was refused may leave its name."""
+    place.names = getattr(place, "names", 0) + 1
+    with place.talk() as talk:
+        return talk.console(f"label 1 Vol-000{place.names} Default File") == ["ok labelled"]
+
+
+def closed_and_read(place):
+    lines = place.job()
+    spans = place.folder / "spans"
+    spans.write_text("".join(f"{line}\n" for line in lines))
+    done = subprocess.run([SDTOOL, "read", spans, place.volumes], capture_output=True, timeout=WAIT)
+    return done.stdout == b"rec 1 2 5\nhello\nok read 1 5 ended\n" and place.read(lines) == b"hello"
+
+
+def shown(place):
+    with place.talk() as talk:
+        return re.fullmatch(r"session \d+ closed 1", talk.console("status")[-2]) is not None
+
+
+GROUPS = (takes_nothing, two_wait, without_log, log_unread, stopped_a_while, limited_files, want_of_memory)
