@@ -10,7 +10,8 @@ a client with. docs/PROTOCOL.md has what it says, and what its records hold.
     sdd-client adopt-all CONF          adopts the volumes in the folders of the daemon's configuration
 
 Options stand before the command; --help has them. With --volumes FOLDER restore and read need no daemon: they read the
-volumes in that folder by sdtool. FILE and the SPANS of append and read are paths, or - for the standard input or output. What goes wrong is told on standard error in a line, and by the status:
+volumes in that folder by sdtool. FILE and the SPANS of append and read are paths, or - for the standard input or
+output. What goes wrong is told on standard error in a line, and by the status:
 
     0  all is done
     1  the daemon refused, in the words told; or it has not the whole session
@@ -228,9 +229,10 @@ def read_session(talk, lines, take):
             raise Lost(f"a signal {header} in place of a header")
         if not (fields := HEADER.fullmatch(header)):
             raise Refused(header.decode(errors="replace").rstrip("\n"))
-        take(int(fields[1]), int(fields[2]), talk.receive())
-        if talk.receive() != END_OF_DATA:
-            raise Lost("a record has no end")
+        data, end = talk.receive(), talk.receive()
+        if isinstance(data, int) or end != END_OF_DATA:
+            raise Lost("a record is broken off")
+        take(int(fields[1]), int(fields[2]), data)
     said = talk.line()
     if not (whole := READ_WHOLE.fullmatch(said)):
         raise Lost(f"{said} in place of the read's end")
@@ -239,9 +241,12 @@ def read_session(talk, lines, take):
     return said
 
 
-def read_volumes(folder, spans, take):
-    """The same without the daemon: by `sdtool read`, from the volumes in a folder and the file that has the lines."""
-    with subprocess.Popen(["sdtool", "read", spans, folder], stdout=subprocess.PIPE) as tool:
+def read_volumes(folder, lines, take):
+    """The same without the daemon: by `sdtool read`, from the volumes in a folder."""
+    fields_of(lines)
+    with subprocess.Popen(["sdtool", "read", "/dev/stdin", folder], stdin=subprocess.PIPE, stdout=subprocess.PIPE) as tool:
+        tool.stdin.write("".join(f"{line}\n" for line in lines).encode())
+        tool.stdin.close()
         while head := re.fullmatch(rb"rec (\d+) (\d+) (\d+)\n", line := tool.stdout.readline()):
             data = tool.stdout.read(int(head[3]))
             tool.stdout.read(1)
@@ -268,7 +273,7 @@ class NewFile:
 
     def __init__(self, path):
         self.path = pathlib.Path(path)
-        self.part = self.path.with_name(f".{self.path.name[:200]}.{os.getpid()}.part")
+        self.part = self.path.with_name(f".sdd-client-{os.getpid()}.part")
         self.file = open(os.open(self.part, os.O_WRONLY | os.O_CREAT | os.O_EXCL, 0o600), "wb")
 
     def __enter__(self):
@@ -464,9 +469,8 @@ class Restored:
 
 def read_back(talk, asked, take):
     """Reads a session back over a talk, or without one from the volumes that are named."""
-    if talk is None:
-        return read_volumes(asked.volumes, "/dev/stdin" if asked.spans == "-" else asked.spans, take)
-    return read_session(talk, lines_in(asked.spans), take)
+    lines = lines_in(asked.spans)
+    return read_session(talk, lines, take) if talk else read_volumes(asked.volumes, lines, take)
 
 
 def restore(talk, asked):

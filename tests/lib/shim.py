@@ -12,8 +12,8 @@ SOURCE = pathlib.Path(__file__).resolve().parent / "shim.c"
 def compiled(folder):
     """Makes the library in a folder. Without a compiler that fails, and with it the test."""
     library = pathlib.Path(folder) / "shim.so"
-    subprocess.run([*shlex.split(os.environ.get("CC", "cc")), "-O2", "-Wall", "-Werror", "-shared", "-fPIC", "-o", library, SOURCE, "-ldl"],
-                   check=True, timeout=120)
+    compiler = [*shlex.split(os.environ.get("CC", "cc")), "-O2", "-Wall", "-Werror", "-shared", "-fPIC"]
+    subprocess.run([*compiler, "-o", library, SOURCE, "-ldl"], check=True, timeout=120)
     return library
 
 
