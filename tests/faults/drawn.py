@@ -1,4 +1,4 @@
-"""Scripts that are drawn from a seed, line by line, as the model of tests/script_model.py stands then: sessions step by
+"""Scripts that are drawn from a seed, line by line, as the model of tests/faults/script_model.py stands then: sessions step by
 step, the choice of drives, lanes and volumes, and volumes that are purged. The program's answers are compared with the
 model's.
 """

@@ -1,7 +1,10 @@
 """What a daemon may meet: clients that take nothing, that wait for each other; want of memory; a log that nobody reads or that
 isn't wanted; being stopped for a while; a limit of its files. No signal is masked here. tests/serve/run runs it.
 """
+import collections
+import concurrent.futures
 import contextlib
+import itertools
 import os
 import re
 import resource
@@ -203,53 +206,62 @@ def limited_files(checks, folder, _):
 
 
 def want_of_memory(checks, folder, library):
-    """Each allocation of a daemon that serves a label, a job, its reading and the status is refused in turn. The daemon says so
-    before it listens, or refuses, or ends that talk. Given once more all goes well, and what was closed is read back."""
+    """Each allocation of a daemon that serves a label, a job, its reading and the status is refused in turn. The daemon
+    says so before it listens, or refuses, or ends that talk. Given once more all goes well, and what was closed is read."""
     counted = allocations(checks, folder, library)
-    came = {"not started": 0, "refused": 0, "lost": 0, "unseen": 0}
-    for number in range(1, counted + 1):
-        place = Place(folder / f"wanting-{number}")
-        env = loaded(library, FAIL_ALLOC=number)
-        try:
-            daemon = place.daemon(env=env)
-        except TimeoutError:
-            came["not started"] += 1
-            checks.same(f"allocation {number}, not started", place.conf.with_suffix(".out").read_text(), f"{WANT}\n")
-            continue
-        with daemon:
-            wanted = []
-            for act in (labelled, closed_and_read, shown):
-                again(checks, f"allocation {number}", place, act, wanted)
-            checks.check(f"allocation {number}: it runs", daemon.process.poll() is None, daemon.log())
-        came[wanted[0] if wanted else "unseen"] += 1
-    checks.check("want of memory", came["not started"] > 0 and came["refused"] >= LEAST_WANTS, came)
+    kinds = collections.Counter()
+    with concurrent.futures.ThreadPoolExecutor(os.cpu_count()) as pool:
+        for number, (kind, faults) in enumerate(pool.map(wanting, itertools.repeat((folder, library)), range(1, counted + 1)), 1):
+            kinds[kind] += 1
+            checks.same(f"allocation {number}", faults, [])
+    checks.check("want of memory", kinds["not started"] > 0 and kinds["refused"] >= LEAST_WANTS, kinds)
+
+
+def wanting(where, number):
+    """A daemon whose allocation of that number is refused: what came of that first, and what is wrong."""
+    folder, library = where
+    place = Place(folder / f"wanting-{number}")
+    try:
+        daemon = place.daemon(env=loaded(library, FAIL_ALLOC=number))
+    except TimeoutError:
+        printed = place.conf.with_suffix(".out").read_text()
+        return "not started", [] if printed == f"{WANT}\n" else [printed]
+    with daemon:
+        came, faults = served(place)
+        if daemon.process.poll() is not None:
+            faults.append(f"the daemon ended: {daemon.log()}")
+    return (came or ["unseen"])[0], faults
 
 
 def allocations(checks, folder, library):
     """How many allocations a daemon makes that does all this and ends."""
     place, count = Place(folder / "ample"), folder / "count"
     with place.daemon("--talks", "4", env=loaded(library, COUNT_ALLOC=count)) as daemon:
-        wanted = []
-        for act in (labelled, closed_and_read, shown):
-            again(checks, "with ample memory", place, act, wanted)
-        checks.same("with ample memory", (wanted, daemon.wait()), ([], ("", 0)))
+        checks.same("with ample memory", (served(place), daemon.wait()), (([], []), ("", 0)))
     counted = sum(map(int, count.read_text().split()))
     checks.check("allocations", counted >= LEAST_ALLOCATIONS, counted)
     return counted
 
 
-def again(checks, what, place, act, wanted):
-    """Does an act, once more where memory wanted, and notes what came of the first time."""
-    for _ in range(2):
-        try:
-            checks.check(f"{what}: {act.__name__}", act(place))
-            return
-        except client.Refused as why:
-            checks.same(f"{what}: {act.__name__}", str(why), WANT)
-            wanted.append("refused")
-        except client.Lost:
-            wanted.append("lost")
-    checks.check(f"{what}: {act.__name__}", False, f"is refused twice: {wanted}")
+def served(place):
+    """Has a label, a job that is read, and the status; each once more where memory wanted. Gives what came of that, and what
+    is wrong."""
+    came, faults = [], []
+    for act in (labelled, closed_and_read, shown):
+        for _ in range(2):
+            try:
+                if not act(place):
+                    faults.append(f"{act.__name__} comes otherwise")
+                break
+            except client.Refused as why:
+                came.append("refused")
+                if str(why) != WANT:
+                    faults.append(f"{act.__name__}: {why}")
+            except client.Lost:
+                came.append("lost")
+        else:
+            faults.append(f"{act.__name__} comes to no end: {came}")
+    return came, faults
 
 
 def labelled(place):

@@ -1,4 +1,4 @@
-"""Scripts that are drawn from a seed, line by line, as the model of tests/model.py stands then. Half of the lines
+"""Scripts that are drawn from a seed, line by line, as the model of tests/worlds/model.py stands then. Half of the lines
 bring a session or a drive on, so that most come to something.
 """
 import random
