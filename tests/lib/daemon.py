@@ -1,4 +1,5 @@
 """The programs that the tests run, and a daemon of a test's own."""
+import collections
 import os
 import pathlib
 import random
@@ -15,7 +16,8 @@ SDTOOL = ROOT / "crates" / "sdtool" / "out" / "sdtool"
 # Nothing is waited for longer, in seconds.
 WAIT = 30
 LISTENS = "0A"
-kept_ports = []
+# The datagrams' ports of the ports that were given out last.
+kept_ports = collections.deque(maxlen=100)
 
 
 def build():
@@ -25,8 +27,8 @@ def build():
 
 
 def free_port():
-    """A port that nothing has, and that no other test is given while this process lasts, since that keeps the datagrams'
-    port of the same number. The system gives none of these to a client."""
+    """A port that nothing has. No other test is given it before its daemon listens, since this process keeps the
+    datagrams' port of that number; and the system gives none of these to a client."""
     for port in random.sample(range(20_000, 32_000), 12_000):
         kept, tried = socket.socket(type=socket.SOCK_DGRAM), socket.socket()
         with tried:
@@ -36,6 +38,8 @@ def free_port():
             except OSError:
                 kept.close()
                 continue
+        if len(kept_ports) == kept_ports.maxlen:
+            kept_ports.popleft().close()
         kept_ports.append(kept)
         return port
     raise OSError("no port is free")
