@@ -95,8 +95,8 @@ class Talk:
         try:
             yield
         except TimeoutError as why:
-            raise Lost(f"the daemon gave no answer for {self.timeout} seconds; it serves one client after another, and may "
-                       "have had another one") from why
+            raise Lost(f"the daemon gave no answer for {self.timeout} seconds; it serves one client after another, "
+                       "and may have had another one") from why
         except ConnectionRefusedError as why:
             raise Lost("no daemon listens on this port") from why
         except OSError as why:
@@ -218,8 +218,8 @@ def records_of(file, sizes):
 
 
 def read_session(talk, lines, take):
-    """Reads back the session with these lines, those of its close. `take` is given each record: its FileIndex, its Stream
-    and its data. A session without an end is told as `Refused`, behind its records."""
+    """Reads back the session with these lines, those of its close. `take` is given each record: its FileIndex, its
+    Stream and its data. A session without an end is told as `Refused`, behind its records."""
     session, spans = fields_of(lines)
     talk.send(text_packet("read session Time={} Id={}".format(*session)))
     talk.send(*map(text_packet, spans), signal(END_OF_DATA))
@@ -244,7 +244,8 @@ def read_session(talk, lines, take):
 def read_volumes(folder, lines, take):
     """The same without the daemon: by `sdtool read`, from the volumes in a folder."""
     fields_of(lines)
-    with subprocess.Popen(["sdtool", "read", "/dev/stdin", folder], stdin=subprocess.PIPE, stdout=subprocess.PIPE) as tool:
+    command = ["sdtool", "read", "/dev/stdin", folder]
+    with subprocess.Popen(command, stdin=subprocess.PIPE, stdout=subprocess.PIPE) as tool:
         tool.stdin.write("".join(f"{line}\n" for line in lines).encode())
         tool.stdin.close()
         while head := re.fullmatch(rb"rec (\d+) (\d+) (\d+)\n", line := tool.stdout.readline()):
@@ -300,8 +301,8 @@ class NewFile:
 
 
 class Spans:
-    """The file that is to have the lines of a job's close. It is made before the job, which is no good without them; with
-    `-` they are printed."""
+    """The file that is to have the lines of a job's close. It is made before the job, which is no good without them;
+    with `-` they are printed."""
 
     def __init__(self, path):
         if path != "-" and os.path.lexists(path):
@@ -507,8 +508,8 @@ def say(talk, asked):
 
 
 def adopt_all(talk, asked):
-    """Adopts what may be a volume in each drive's folder, by the order of names. One that this run knows already is well. A
-    folder that can't be read, or a volume that is refused, is told, and the others are adopted."""
+    """Adopts what may be a volume in each drive's folder, by the order of names. One that this run knows already is
+    well. A folder that can't be read, or a volume that is refused, is told, and the others are adopted."""
     refused, unread = 0, 0
     for number, folder in enumerate(asked.folders, 1):
         try:
@@ -541,9 +542,12 @@ def configured(path):
 
 def volumes_in(folder):
     """The plain files whose names a volume may have. Numbers in them count as numbers: Vol-2 comes before Vol-10."""
+    def rank(name):
+        return [(len(word) if word.isdigit() else 0, word) for word in re.split(r"(\d+)", name)]
+
     with os.scandir(folder or ".") as entries:
         names = [one.name for one in entries if one.is_file(follow_symlinks=False) and VOLUME_NAME.fullmatch(one.name)]
-    return sorted(names, key=lambda name: [(len(word) if word.isdigit() else 0, word) for word in re.split(r"(\d+)", name)])
+    return sorted(names, key=rank)
 
 
 def sizes(text):
@@ -594,7 +598,7 @@ def arguments():
 
 
 def connected(asked):
-    """The talk, where there is one. Where all volumes are to be adopted the daemon may still be on its way to its port."""
+    """The talk, where there is one. Before all volumes are adopted the daemon may still be on its way to its port."""
     if asked.volumes:
         return contextlib.nullcontext()
     if asked.work is not adopt_all:
