@@ -20,5 +20,6 @@ END_OF_DATA = client.signal(client.END_OF_DATA)
 
 def say(port, *words, **options):
     """What the command prints for these words, on standard output and error, and its status."""
-    run = subprocess.run([CLIENT, "--port", str(port), *words], capture_output=True, text=True, timeout=2 * WAIT, **options)
+    command = [CLIENT, "--port", str(port), *words]
+    run = subprocess.run(command, capture_output=True, text=True, timeout=2 * WAIT, **options)
     return run.stdout + run.stderr, run.returncode

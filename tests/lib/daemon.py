@@ -48,7 +48,8 @@ def free_port():
 def is_listened_on(port):
     """Whether a socket listens on that port. No connection is made, since the daemon would take that for a talk."""
     lines = pathlib.Path("/proc/net/tcp").read_text().splitlines()[1:]
-    return any(fields[3] == LISTENS and int(fields[1].partition(":")[2], 16) == port for fields in map(str.split, lines))
+    sockets = map(str.split, lines)
+    return any(state == LISTENS and int(local.partition(":")[2], 16) == port for _, local, _, state, *_ in sockets)
 
 
 def drive(media, folder, *lines):

@@ -1,5 +1,5 @@
-"""The dialogues of docs/PROTOCOL.md, each in a talk of its own with a daemon of its own. tests/pages/run plays them; the
-conversation that the page shows byte by byte is played by tests/talks.
+"""The dialogues of docs/PROTOCOL.md, each in a talk of its own with a daemon of its own. tests/pages/run plays them;
+the conversation that the page shows byte by byte is played by tests/talks.
 """
 import pathlib
 import re
@@ -60,6 +60,6 @@ def play(checks):
             conf = place / "conf"
             conf.write_text(f"port = {port}\n" + drive("File", place))
             with Daemon(conf, port=port, env=loaded(library, CLOCK_SECONDS=SECONDS)):
-                checks.same("label", say(port, "console", "label", "1", "Vol-0001", "Default", "File"), ("ok labelled\n", 0))
-                checks.same("mount", say(port, "console", "mount", "1", "Vol-0001"), ("ok mounted\n", 0))
+                for line, answer in (("label 1 Vol-0001 Default File", "labelled"), ("mount 1 Vol-0001", "mounted")):
+                    checks.same(line, say(port, "console", *line.split()), (f"ok {answer}\n", 0))
                 held(checks, name, lines, port)

@@ -1,5 +1,5 @@
-"""What a daemon may meet: clients that take nothing, that wait for each other; want of memory; a log that nobody reads or that
-isn't wanted; being stopped for a while; a limit of its files. No signal is masked here. tests/serve/run runs it.
+"""What a daemon may meet: clients that take nothing, that wait for each other; want of memory; a log that nobody reads
+or that isn't wanted; being stopped for a while; a limit of its files. No signal is masked here. tests/serve/run runs it.
 """
 import collections
 import concurrent.futures
@@ -77,7 +77,8 @@ def takes_nothing(checks, folder, library):
             quiet.sendall(client.text_packet(f"read session Time={seconds} Id={number}")
                           + b"".join(map(client.text_packet, lines[1:])) + client.signal(client.END_OF_DATA))
             place.serves(checks, "behind a client that takes nothing")
-        checks.check("how it ended", any(line.endswith("ended: nothing could be written") for line in daemon.log()), daemon.log())
+        ends = [line.partition(" ended: ")[2] for line in daemon.log()]
+        checks.check("how it ended", "nothing could be written" in ends, daemon.log())
 
 
 def two_wait(checks, folder, _):
@@ -141,8 +142,8 @@ def log_unread(checks, folder, _):
 
 
 def stopped_a_while(checks, folder, _):
-    """A daemon that is stopped and goes on serves as before. The job that it was at is whole or told as lost, and what was
-    closed before is read."""
+    """A daemon that is stopped and goes on serves as before. The job that it was at is whole or told as lost, and what
+    was closed before is read."""
     place = Place(folder / "stopped_a_while")
     with place.daemon() as daemon:
         place.label(checks)
@@ -188,8 +189,8 @@ def await_state(process, state):
 
 
 def limited_files(checks, folder, _):
-    """A daemon whose files the system limits (LimitFSIZE) is ended by the system at a longer one. What was closed lasts, and a
-    run without the limit goes on with the volume."""
+    """A daemon whose files the system limits (LimitFSIZE) is ended by the system at a longer one. What was closed lasts,
+    and a run without the limit goes on with the volume."""
     place = Place(folder / "limited_files")
     limit = {"preexec_fn": lambda: resource.setrlimit(resource.RLIMIT_FSIZE, (200_000, 200_000))}
     with place.daemon(**limit) as daemon:
@@ -211,7 +212,8 @@ def want_of_memory(checks, folder, library):
     counted = allocations(checks, folder, library)
     kinds = collections.Counter()
     with concurrent.futures.ThreadPoolExecutor(os.cpu_count()) as pool:
-        for number, (kind, faults) in enumerate(pool.map(wanting, itertools.repeat((folder, library)), range(1, counted + 1)), 1):
+        numbers = range(1, counted + 1)
+        for number, (kind, faults) in zip(numbers, pool.map(wanting, itertools.repeat((folder, library)), numbers)):
             kinds[kind] += 1
             checks.same(f"allocation {number}", faults, [])
     checks.check("want of memory", kinds["not started"] > 0 and kinds["refused"] >= LEAST_WANTS, kinds)
@@ -244,8 +246,8 @@ def allocations(checks, folder, library):
 
 
 def served(place):
-    """Has a label, a job that is read, and the status; each once more where memory wanted. Gives what came of that, and what
-    is wrong."""
+    """Has a label, a job that is read, and the status; each once more where memory wanted. Gives what came of that, and
+    what is wrong."""
     came, faults = [], []
     for act in (labelled, closed_and_read, shown):
         for _ in range(2):
@@ -265,7 +267,7 @@ def served(place):
 
 
 def labelled(place):
-    """A volume is labelled, under a new name if the first one was refused: a label that was refused may leave its name."""
+    """A volume is labelled, under a new name if the first one was refused: such a label may leave its name."""
     place.names = getattr(place, "names", 0) + 1
     with place.talk() as talk:
         return talk.console(f"label 1 Vol-000{place.names} Default File") == ["ok labelled"]
