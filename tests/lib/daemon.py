@@ -20,10 +20,10 @@ LISTENS = "0A"
 kept_ports = collections.deque(maxlen=100)
 
 
-def build():
-    """Builds the programs, unless the command line says that they are built."""
+def build(*programs):
+    """Builds these programs, or `sdtool` and `sdd`, unless the command line says that they are built."""
     if "--built" not in sys.argv[1:]:
-        subprocess.run([ROOT / "build"], check=True)
+        subprocess.run([ROOT / "build", *programs], check=True)
 
 
 def free_port():

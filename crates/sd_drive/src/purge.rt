@@ -4,7 +4,7 @@ ghost use Rattle.sd_base.specs.declared.refusal.Refusal.{Refusal as SpecRefusal}
 ghost use Rattle.sd_driver.specs.Meaning.{IsHonest};
 ghost use Rattle.sd_driver.specs.Shelf.{SameShelf, StillLasts};
 ghost use Rattle.sd_journal.specs.Journal.{has_on, purged};
-ghost use Rattle.sd_volume.specs.Device.{Counted};
+ghost use Rattle.sd_volume.specs.Device.{CallsAtMost, Counted};
 ghost use Rattle.sd_volume.specs.Volume.{VolumeView};
 ghost use Rattle.sd_drive.specs.Moves.{PurgesAt, KeepsPurging, purge_due, purge_due_at, place_of};
 
@@ -54,6 +54,7 @@ impl<D: Driver> Drive<D> {
             → (other : List ℕ) → other ≢ name.now
             → (D.meaning self.new.device).shelf.volume other
             ≡ (D.meaning self.old.device).shelf.volume other }
+        ensures calls { CallsAtMost 4 (D.meaning self.old.device) (D.meaning self.new.device) }
     {
         let at = self.purgeable(name)?;
         self.purge_at(at, name)
@@ -105,6 +106,7 @@ impl<D: Driver> Drive<D> {
             → (other : List ℕ) → other ≢ name.now
             → (D.meaning self.new.device).shelf.volume other
             ≡ (D.meaning self.old.device).shelf.volume other }
+        ensures calls { CallsAtMost 4 (D.meaning self.old.device) (D.meaning self.new.device) }
     {
         match purge(&mut self.driver, &mut self.volumes[at]) {
             Ok(()) => {

@@ -54,6 +54,16 @@ impl<D: Driver> Drive<D> {
         }
     }
 
+    /// Whether a block of the loaded volume awaits a sync. Takes no memory.
+    pub fn awaits_sync(&self) -> bool
+        ensures { result ≡ awaits_sync self.now }
+    {
+        match self.loaded {
+            None => false,
+            Some(at) => self.journal.has_unsynced(self.volumes[at].name()),
+        }
+    }
+
     /// Makes the blocks of the loaded volume last, as a sync does, and takes it out. With no volume loaded nothing
     /// changes. Takes no memory.
     pub fn unmount(&mut self) -> Result<(), Refusal>

@@ -1,9 +1,11 @@
 // What sessions and a drive use of the queue between them, whoever owns it.
-ghost use Rattle.std.specs.Prelude.{◌≡◌, ℕ, ◌<◌, ◌≤◌, ◌++◌, ◌∷◌, [], true, length, ◌↔◌, IsTrue, OnOk, OnErr, IfErr, IfSome, IfNone};
+ghost use Rattle.std.specs.Prelude.{◌≡◌, ℕ, ◌<◌, ◌≤◌, ◌++◌, ◌∷◌, [], true, length, ◌↔◌, IsTrue, OnOk, OnErr, IfOk, IfErr, IfSome, IfNone};
+ghost use Rattle.sd_base.specs.Limits.{most_lanes};
 ghost use Rattle.sd_lane.specs.Queue.{queued, Sends, SendsNone, LanesFollow, WasFull};
 
 use crate::piece::{Piece, Queued};
 use sd_base::LaneNo;
+use std::alloc::{AllocError, Global};
 
 /// Something by which lanes push their pieces to a drive.
 ///
@@ -37,6 +39,10 @@ pub trait Lane {
     // How many pieces the queue has room for.
     ghost capacity: { Self → ℕ };
 
+    // Where what it changes is kept: an end that borrows a seat stays at that seat, so whoever lent it a
+    // seat knows what became of it.
+    ghost place: { Self → ℕ };
+
     /// Pushes a piece behind the others, or gives it back where there is no room. Takes no memory.
     fn try_push(&mut self, lane: LaneNo, piece: Piece) -> Result<(), Piece>
         requires { opens self.old lane }
@@ -44,6 +50,7 @@ pub trait Lane {
         ensures alone { alone self.new ≡ alone self.old }
         ensures lanes { lanes self.new ≡ lanes self.old }
         ensures capacity { capacity self.new ≡ capacity self.old }
+        ensures place { place self.new ≡ place self.old }
         ensures taken { taken self.new ≡ taken self.old }
         ensures sent { OnOk result
             (Sends (λ other. sent self.old other) (λ other. sent self.new other)
@@ -84,6 +91,17 @@ pub trait Lanes: Lane {
     /// Whether no piece is held.
     fn is_empty(&self) -> bool
         ensures { IsTrue result ↔ (Self.held self.now ≡ []) };
+
+    /// An empty queue of the same kind, for the lanes 1 to `lanes`, with room for `capacity` pieces.
+    fn like(&self, alloc: Global, lanes: u32, capacity: usize) -> Result<Self, AllocError>
+    where
+        Self: Sized,
+        requires most { lanes ≤ most_lanes }
+        requires room { 0 < capacity }
+        ensures lanes { IfOk result (λ queue. Self.lanes queue ≡ lanes) }
+        ensures capacity { IfOk result (λ queue. Self.capacity queue ≡ capacity) }
+        ensures held { IfOk result (λ queue. Self.held queue ≡ []) }
+        ensures taken { IfOk result (λ queue. Self.taken queue ≡ []) };
 
     // Laws: its owner is alone, and each of its lanes may push.
     ghost single: { (x : Self) → Self.alone x ≡ true };

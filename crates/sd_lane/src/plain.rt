@@ -118,6 +118,8 @@ impl Lane for PlainLanes {
 
     ghost capacity = { λ q. q.capacity };
 
+    ghost place = { λ q. 0 };
+
     fn try_push(&mut self, lane: LaneNo, piece: Piece) -> Result<(), Piece> {
         self.push(lane, piece)
     }
@@ -134,6 +136,10 @@ impl Lanes for PlainLanes {
 
     fn is_empty(&self) -> bool {
         self.pieces.is_empty()
+    }
+
+    fn like(&self, alloc: Global, lanes: u32, capacity: usize) -> Result<Self, AllocError> {
+        PlainLanes::new(alloc, lanes, capacity)
     }
 
     ghost single = { λ q. refl };

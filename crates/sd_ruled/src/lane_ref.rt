@@ -32,6 +32,8 @@ impl<'a, R: Wait + Drop> Lane for LaneRef<'a, R> {
 
     ghost capacity = { λ s. s.queue.now.capacity };
 
+    ghost place = { λ s. s.seat.ghost_name };
+
     fn try_push(&mut self, lane: LaneNo, piece: Piece) -> Result<(), Piece> {
         self.seat.push(self.queue, piece)
     }

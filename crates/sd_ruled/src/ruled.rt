@@ -153,6 +153,8 @@ impl<R: Wait + Drop> Lane for RuledLanes<R> {
 
     ghost capacity = { λ q. q.capacity };
 
+    ghost place = { λ q. 0 };
+
     fn try_push(&mut self, lane: LaneNo, piece: Piece) -> Result<(), Piece> {
         self.push(lane, piece)
     }
@@ -160,7 +162,7 @@ impl<R: Wait + Drop> Lane for RuledLanes<R> {
     ghost follows = { λ q alone lane. refl };
 }
 
-impl<R: Wait + Drop> Lanes for RuledLanes<R> {
+impl<R: Wait + Copy + Drop> Lanes for RuledLanes<R> {
     ghost use Rattle.std.specs.Prelude.{refl};
 
     fn try_take(&mut self) -> Option<Piece> {
@@ -169,6 +171,10 @@ impl<R: Wait + Drop> Lanes for RuledLanes<R> {
 
     fn is_empty(&self) -> bool {
         self.count == 0
+    }
+
+    fn like(&self, alloc: Global, lanes: u32, capacity: usize) -> Result<Self, AllocError> {
+        RuledLanes::new(self.rt, alloc, lanes, capacity)
     }
 
     ghost single = { λ q. refl };

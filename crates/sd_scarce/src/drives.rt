@@ -13,6 +13,8 @@ struct Told {
     /// Whether there is a receipt for no block of it, and for one.
     no_block: bool,
     one_block: bool,
+    /// Whether a block awaits a sync.
+    awaits_sync: bool,
 }
 
 /// Makes a drive on a device in memory, notes a session at it, and asks for its receipts.
@@ -21,9 +23,11 @@ pub fn run(rt: HostRuntime, names: &Names) -> io::Result<()> {
         served,
         no_block,
         one_block,
+        awaits_sync,
     } = make_and_serve(rt.alloc(), names)?;
     println!(rt; "session noted at its drive: {served}")?;
-    println!(rt; "a receipt for no block: {no_block}, for one: {one_block}")
+    println!(rt; "a receipt for no block: {no_block}, for one: {one_block}")?;
+    println!(rt; "a block awaits a sync: {awaits_sync}")
 }
 
 fn make_and_serve(alloc: Global, names: &Names) -> Result<Told, AllocError> {
@@ -40,6 +44,7 @@ fn make_and_serve(alloc: Global, names: &Names) -> Result<Told, AllocError> {
             served: serve(&mut drive, names)?,
             no_block: has_receipt(&drive, 0)?,
             one_block: has_receipt(&drive, 1)?,
+            awaits_sync: drive.awaits_sync(),
         }),
         Err(_) => Err(AllocError),
     }

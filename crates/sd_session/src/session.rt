@@ -384,6 +384,7 @@ impl<S: SpoolStore + Drop> Session<S> {
         ensures alone { L.alone lane.new ≡ L.alone lane.old }
         ensures lanes { L.lanes lane.new ≡ L.lanes lane.old }
         ensures capacity { L.capacity lane.new ≡ L.capacity lane.old }
+        ensures place { L.place lane.new ≡ L.place lane.old }
         ensures taken { L.taken lane.new ≡ L.taken lane.old }
         ensures was_full { result ≡ Ok Despooled.LaneFull → WasFull (L.lanes lane.old)
             (L.capacity lane.old) self.old.lane (L.sent lane.old self.old.lane) }

@@ -51,6 +51,10 @@ drives_fit v few = elim (cases_Bool (nat_lt 0 (length v.drives))) [
   | inr none ↦ rw none (omega arith, omega arith)
 ]
 
+-- no drive has too many lanes
+pub lanes_within : (v : ValuesView) → AreSettable v → All (λ (d : List ℕ × ℕ). d.1 ≤ most_lanes) (drives_of v)
+lanes_within v settable = all_drives (λ (d : List ℕ × ℕ). d.1 ≤ most_lanes) v settable.lanes_most (omega arith)
+
 -- settings that go together are those of a world
 pub settings_fit : (v : ValuesView) (conf : WorldConf) → AreSettable v → misfit_of v ≡ None
     → conf.block ≡ v.block → conf.volume ≡ v.volume → conf.spool ≡ v.spool → conf.queue ≡ v.queue → conf.drives.items ≡ drives_of v → IsConf conf
@@ -72,5 +76,5 @@ settings_fit v conf settable none block_is volume_is spool_is queue_is drives_ar
       drives_least = omega (arith, ap length drives_are, many.0);
       drives_most = omega (arith, ap length drives_are, many.1);
       lanes_least = subst (All (λ (d : List ℕ × ℕ). 1 ≤ d.1)) (sym drives_are) (all_drives (λ (d : List ℕ × ℕ). 1 ≤ d.1) v settable.lanes_least (omega arith));
-      lanes_most = subst (All (λ (d : List ℕ × ℕ). d.1 ≤ most_lanes)) (sym drives_are) (all_drives (λ (d : List ℕ × ℕ). d.1 ≤ most_lanes) v settable.lanes_most (omega arith));
+      lanes_most = subst (All (λ (d : List ℕ × ℕ). d.1 ≤ most_lanes)) (sym drives_are) (lanes_within v settable);
     }

@@ -28,7 +28,6 @@ use Rattle.sd_tool.specs.Restart.{HandsOn, IsThere, RestartsAs, RestartsBy, Star
 use Rattle.sd_settings.specs.Settings.{ValuesView, capacity_for, drive_count}
 use Rattle.sd_tool.specs.Stage.{StageView, retired_after}
 use Rattle.sd_tool.specs.declared.restart.Restart.{Restart}
-use Rattle.sd_tool.specs.declared.restart.Restarted.{Restarted}
 
 -- Steps and readings.
 
@@ -151,6 +150,6 @@ tail_there count retired (Some tail) none = elim (cases_lt count tail.drive) [
 ]
 
 -- nothing forbids a new run
-pub restarts_anew : {D : Type 0} (meaning : D → Meaning) (old : StageView D) (restart : Restart) (new : Restarted D) → unfit (drive_count old.values) old.retired restart.tail ≡ None
-    → StartsAnew meaning restart.tail new.refused old restart.time new.stage → RestartsAs meaning old restart new
-restarts_anew meaning old restart new none anew = subst (λ o. RestartsBy meaning o restart.tail old restart.time new.stage new.refused) (sym none) (inr anew)
+pub restarts_anew : {D : Type 0} (meaning : D → Meaning) (old : StageView D) (restart : Restart) (new : StageView D) (refused : Option Refusal) → unfit (drive_count old.values) old.retired restart.tail ≡ None
+    → StartsAnew meaning restart.tail refused old restart.time new → RestartsAs meaning old restart new refused
+restarts_anew meaning old restart new refused none anew = subst (λ o. RestartsBy meaning o restart.tail old restart.time new refused) (sym none) (inr anew)

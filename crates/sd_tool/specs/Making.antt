@@ -1,6 +1,6 @@
 -- What the worlds of a script are made with.
 use Rattle.std.specs.Prelude.{◌≡◌, ℕ, Some, List, [], map, replicate, true}
-use Rattle.sd_lane.specs.Queue.{lanes_view}
+use Rattle.sd_lane.specs.Queue.{LanesView}
 use Rattle.sd_driver.specs.Meaning.{Meaning}
 use Rattle.sd_drive.specs.View.{DriveIs}
 use Rattle.sd_world.specs.World.{BayView, WorldView}
@@ -11,7 +11,7 @@ use Rattle.sd_tool.specs.declared.making.Room.{Room}
 use Rattle.sd_settings.specs.Settings.{ValuesView, drive_count, drives_of}
 
 -- the room is what a world of these settings is made with: its settings, a queue for each drive and a store for each lane
-pub record IsRoomOf (v : ValuesView) (room : Room) : Type 0 where
+pub record IsRoomOf {Q : Type 0} (lanes_of : Q → LanesView) (v : ValuesView) (room : Room Q) : Type 0 where
   pub conf : IsConf room.conf
   pub block_is : room.conf.block ≡ v.block
   pub volume_is : room.conf.volume ≡ v.volume
@@ -19,7 +19,7 @@ pub record IsRoomOf (v : ValuesView) (room : Room) : Type 0 where
   pub queue_is : room.conf.queue ≡ v.queue
   pub drives_are : room.conf.drives.items ≡ drives_of v
   pub host_is : room.conf.host ≡ v.host
-  pub queues : AreQueues (λ q. lanes_view q) room.conf.queue room.conf.drives.items room.queues.items
+  pub queues : AreQueues lanes_of room.conf.queue room.conf.drives.items room.queues.items
   pub stores : AreStores room.conf.drives.items room.stores.items
 
 -- A world that was just made of these settings over these devices, for the run of this time: no session was opened, and

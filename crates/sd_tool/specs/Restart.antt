@@ -10,7 +10,6 @@ use Rattle.sd_settings.specs.Settings.{ValuesView, capacity_for, drive_count}
 use Rattle.sd_tool.specs.Stage.{StageView}
 use Rattle.sd_tool.specs.Tail.{PutsTail}
 use Rattle.sd_tool.specs.declared.restart.Restart.{Restart}
-use Rattle.sd_tool.specs.declared.restart.Restarted.{Restarted}
 
 -- a drive was retired
 abbrev pub offline : Bool → Option Refusal
@@ -64,6 +63,6 @@ RestartsBy meaning None tail old time new refused = ((new ≡ old) × (refused �
 
 -- What stands behind a `restart` line. The old world stands where there can't be a new one, and the line is refused for
 -- that; it may stand for want of memory too. Else a new one of that time stands, also where its tail is refused.
-abbrev pub RestartsAs : {D : Type 0} → (D → Meaning) → StageView D → Restart → Restarted D → Type 0
-RestartsAs meaning old restart new =
-    RestartsBy meaning (unfit (drive_count old.values) old.retired restart.tail) restart.tail old restart.time new.stage new.refused
+abbrev pub RestartsAs : {D : Type 0} → (D → Meaning) → StageView D → Restart → StageView D → Option Refusal → Type 0
+RestartsAs meaning old restart new refused =
+    RestartsBy meaning (unfit (drive_count old.values) old.retired restart.tail) restart.tail old restart.time new refused

@@ -33,7 +33,7 @@ use Rattle.sd_tool.specs.declared.run.Script.{Script}
 -- A new world stands, or the old one where there can't be a new one; which, is printed.
 abbrev pub Restarts : {D : Type 0} → (D → Meaning) → Restart → ScriptView D → ScriptView D → Type 0
 Restarts meaning restart old new =
-    (refused : Option Refusal) × RestartsAs meaning old.stage restart (record { stage = new.stage; refused = refused })
+    (refused : Option Refusal) × RestartsAs meaning old.stage restart new.stage refused
     × KeepsRest old new × Says old.said new.said (as_line (restarted_text refused))
 
 -- what any line does
@@ -83,36 +83,36 @@ Ends {D} meaning part came bytes old said status =
     × (said.failed ≡ true) × (status ≡ 1))
 
 -- what came leaves the script that goes on, or what a run has that is over
-abbrev pub Comes : {D W : Type 0} → (W → Option (List ℕ)) → (D → Meaning) → Part → Next → List ℕ → ScriptView D → Came D W → Type 0
+abbrev pub Comes : {D Q W : Type 0} → (W → Option (List ℕ)) → (D → Meaning) → Part → Next → List ℕ → ScriptView D → Came D Q W → Type 0
 Comes contents meaning part came bytes old (On s) = GoesOn meaning part came bytes old (script_view contents s)
 Comes contents meaning part came bytes old (Over ran) =
     Ends meaning part came bytes old (said_view contents ran.out) ran.status
 
 -- What is to be shown, behind a line that was done, is shown: the script goes on where that could be written, and else
 -- the run is over.
-abbrev pub Shown : {D W : Type 0} → (W → Option (List ℕ)) → ScriptView D → Came D W → Type 0
+abbrev pub Shown : {D Q W : Type 0} → (W → Option (List ℕ)) → ScriptView D → Came D Q W → Type 0
 Shown contents done (On s) = Prints done (script_view contents s) [] × ((script_view contents s).said.failed ≡ false)
 Shown contents done (Over ran) =
     Says done.said (said_view contents ran.out) [] × ((said_view contents ran.out).failed ≡ true) × (ran.status ≡ 1)
 
 -- it is refused for this, and that is shown
-abbrev pub Refuses : {D W : Type 0} → (W → Option (List ℕ)) → ScriptView D → Refusal → Came D W → Type 0
+abbrev pub Refuses : {D Q W : Type 0} → (W → Option (List ℕ)) → ScriptView D → Refusal → Came D Q W → Type 0
 Refuses {D} contents old why came =
     (between : ScriptView D) × Prints old between (refused_line why) × Shown contents between came
 
 -- there was no memory for a new world, and the run is over
-abbrev pub EndsForMemory : {D W : Type 0} → (W → Option (List ℕ)) → SaidView → Came D W → Type 0
+abbrev pub EndsForMemory : {D Q W : Type 0} → (W → Option (List ℕ)) → SaidView → Came D Q W → Type 0
 EndsForMemory contents old (On s) = ⊥
 EndsForMemory contents old (Over ran) = Says old (said_view contents ran.out) (refused_line refusal.Memory) × (ran.status ≡ 1)
 
 -- a `restart` line is done and shown, or there was no memory for the new world
-abbrev pub RestartComes : {D W : Type 0} → (W → Option (List ℕ)) → (D → Meaning) → Restart → ScriptView D → Came D W → Type 0
+abbrev pub RestartComes : {D Q W : Type 0} → (W → Option (List ℕ)) → (D → Meaning) → Restart → ScriptView D → Came D Q W → Type 0
 RestartComes {D} contents meaning restart old came =
     ((between : ScriptView D) × Restarts meaning restart old between × Shown contents between came)
     ⊎ EndsForMemory contents old.said came
 
 -- a line is done and shown
-abbrev pub LineComes : {D W : Type 0} → (W → Option (List ℕ)) → (D → Meaning) → Line → ScriptView D → Came D W → Type 0
+abbrev pub LineComes : {D Q W : Type 0} → (W → Option (List ℕ)) → (D → Meaning) → Line → ScriptView D → Came D Q W → Type 0
 LineComes contents meaning (line.Restart time tail) old came = RestartComes contents meaning (record { time = time; tail = tail }) old came
 LineComes {D} contents meaning other old came = (between : ScriptView D) × LineDoes meaning other old between × Shown contents between came
 
@@ -123,17 +123,17 @@ abbrev pub LineCame : Type 0
 LineCame = Next × List ℕ
 
 -- After a line of this part these came; all but the last of them left a script that went on, and the last one left this.
-abbrev pub Reaches : {D W : Type 0} → (W → Option (List ℕ)) → (D → Meaning) → Part → LineCame → List LineCame → ScriptView D → Came D W → Type 0
+abbrev pub Reaches : {D Q W : Type 0} → (W → Option (List ℕ)) → (D → Meaning) → Part → LineCame → List LineCame → ScriptView D → Came D Q W → Type 0
 Reaches contents meaning part c [] old came = Comes contents meaning part c.0 c.1 old came
 Reaches {D} contents meaning part c (d ∷ ds) old came =
     (between : ScriptView D) × GoesOn meaning part c.0 c.1 old between × Reaches contents meaning Body d ds between came
 
 -- A script is run from this line on, and this is what its run has: what came last ended it; or it is over since as many
 -- lines came as 64 bits count.
-abbrev pub RunsFrom : {D W : Type 0} → (W → Option (List ℕ)) → (D → Meaning) → LineCame → ScriptView D → Ran W → Type 0
-RunsFrom {D} {W} contents meaning first begun ran =
-    ((later : List LineCame) × Reaches contents meaning Head first later begun (Over ran))
-    ⊎ ((later : List LineCame) × (s : Script D W) × (length later ≡ 2 ^ 64 - 1)
+abbrev pub RunsFrom : {D Q W : Type 0} → (W → Option (List ℕ)) → (D → Meaning) → LineCame → ScriptView D → Ran W → Type 0
+RunsFrom {D} {Q} {W} contents meaning first begun ran =
+    ((later : List LineCame) × Reaches {Q = Q} contents meaning Head first later begun (Over ran))
+    ⊎ ((later : List LineCame) × (s : Script D Q W) × (length later ≡ 2 ^ 64 - 1)
     × Reaches contents meaning Head first later begun (On s) × (ran.out ≡ s.out) × (ran.status ≡ 0))
 
 -- the script begins: a world of these settings over these devices, at the moment 0; nothing was closed, and nothing printed yet
@@ -145,8 +145,8 @@ pub record Begins {D : Type 0} (meaning : D → Meaning) (v : ValuesView) (devic
 
 -- A script of these settings is run over these devices. Where they don't go together, that is printed, and nothing is run; nor is it where
 -- there is no memory for its world.
-abbrev pub RunsScript : {D W : Type 0} → (W → Option (List ℕ)) → (D → Meaning) → ValuesView → List D → LineCame → SaidView → Ran W → Type 0
-RunsScript {D} contents meaning v devices first said ran =
+abbrev pub RunsScript : {D Q W : Type 0} → (W → Option (List ℕ)) → (D → Meaning) → ValuesView → List D → LineCame → SaidView → Ran W → Type 0
+RunsScript {D} {Q} contents meaning v devices first said ran =
     ((m : Misfit) × (misfit_of v ≡ Some m) × Says said (said_view contents ran.out) (as_line (misfit_text m)) × (ran.status ≡ 1))
     ⊎ ((misfit_of v ≡ None) × Says said (said_view contents ran.out) (refused_line refusal.Memory) × (ran.status ≡ 1))
-    ⊎ ((misfit_of v ≡ None) × (begun : ScriptView D) × Begins meaning v devices said begun × RunsFrom contents meaning first begun ran)
+    ⊎ ((misfit_of v ≡ None) × (begun : ScriptView D) × Begins meaning v devices said begun × RunsFrom {Q = Q} contents meaning first begun ran)

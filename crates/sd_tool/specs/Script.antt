@@ -13,7 +13,7 @@ pub record ScriptView (D : Type 0) : Type 0 where
   pub said : SaidView
 
 -- the same of a script, by what is known of its writer
-abbrev pub script_view : {D W : Type 0} → (W → Option (List ℕ)) → Script D W → ScriptView D
+abbrev pub script_view : {D Q W : Type 0} → (W → Option (List ℕ)) → Script D Q W → ScriptView D
 script_view contents s = record {
   stage = s.stage;
   moment = s.moment;

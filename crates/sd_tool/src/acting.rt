@@ -13,6 +13,7 @@ use crate::run::Script;
 use crate::told::Told;
 use sd_base::{Bytes, DriveNo, Items, Rec, Refusal, Ticket, VolName};
 use sd_driver::Driver;
+use sd_lane::Lanes;
 use sd_machine::{Event, Reply};
 use sd_script::{ConsoleCmd, Line};
 use sd_session::Status;
@@ -25,7 +26,7 @@ use std::io::Write;
 /// The letter that a `fill` line fills its record with.
 const FILLING: u8 = b'x';
 
-impl<D: Driver + Drop, W: Write + Drop> Script<D, W> {
+impl<D: Driver + Drop, Q: Lanes + Drop, W: Write + Drop> Script<D, Q, W> {
     /// Prints why a line is refused.
     pub(crate) fn refuse(&mut self, why: Refusal)
         ensures { Prints (script_view W.contents self.old) (script_view W.contents self.new)

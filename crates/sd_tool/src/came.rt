@@ -11,14 +11,15 @@ use crate::run::{Came, DONE, FAILED, Ran, Script, given_up};
 use crate::told::Told;
 use sd_base::Refusal;
 use sd_driver::Driver;
+use sd_lane::Lanes;
 use sd_printer::Printer;
 use sd_script::{Line, Part, read_line};
 use sd_settings::Next;
 use std::io::Write;
 
-impl<D: Driver + Drop, W: Write + Drop> Script<D, W> {
+impl<D: Driver + Drop, Q: Lanes + Drop, W: Write + Drop> Script<D, Q, W> {
     /// Does what came is for, where a line stands in `bytes`, and prints what it comes to.
-    pub(crate) fn come(self, part: Part, next: Next, bytes: &[u8]) -> Came<D, W>
+    pub(crate) fn come(self, part: Part, next: Next, bytes: &[u8]) -> Came<D, Q, W>
         ensures { Comes W.contents (λ d. D.meaning d) part next bytes.now
             (script_view W.contents self) result }
     {
@@ -31,7 +32,7 @@ impl<D: Driver + Drop, W: Write + Drop> Script<D, W> {
         }
     }
 
-    fn run(self, part: Part, bytes: &[u8]) -> Came<D, W>
+    fn run(self, part: Part, bytes: &[u8]) -> Came<D, Q, W>
         ensures { Comes W.contents (λ d. D.meaning d) part Next.Line bytes.now
             (script_view W.contents self) result }
     {
@@ -41,7 +42,7 @@ impl<D: Driver + Drop, W: Write + Drop> Script<D, W> {
         }
     }
 
-    fn come_to(self, line: Line<'_>) -> Came<D, W>
+    fn come_to(self, line: Line<'_>) -> Came<D, Q, W>
         requires { IsWithin line }
         ensures { LineComes W.contents (λ d. D.meaning d) line.entry
             (script_view W.contents self) result }
@@ -53,7 +54,7 @@ impl<D: Driver + Drop, W: Write + Drop> Script<D, W> {
     }
 
     // What a line comes to is seen at once.
-    fn shown(mut self) -> Came<D, W>
+    fn shown(mut self) -> Came<D, Q, W>
         ensures { Shown W.contents (script_view W.contents self) result }
     {
         self.out.flush();
@@ -88,7 +89,7 @@ impl<D: Driver + Drop, W: Write + Drop> Script<D, W> {
     }
 
     // The line is refused.
-    fn refused(mut self, why: Refusal) -> Came<D, W>
+    fn refused(mut self, why: Refusal) -> Came<D, Q, W>
         ensures { Refuses W.contents (script_view W.contents self) why result }
     {
         self.refuse(why);
@@ -97,7 +98,7 @@ impl<D: Driver + Drop, W: Write + Drop> Script<D, W> {
 
     // The script behind a line that makes a new world. It is over where there is no memory for that world once the old
     // one is gone.
-    fn restarted(self, restart: Restart) -> Came<D, W>
+    fn restarted(self, restart: Restart) -> Came<D, Q, W>
         requires time_least { 1 ≤ restart.time }
         requires time_most { restart.time ≤ most_number }
         ensures { RestartComes W.contents (λ d. D.meaning d) restart

@@ -1,7 +1,6 @@
 // The worlds of a run.
-ghost use Rattle.std.specs.Prelude.{◌≡◌, ◌≤◌, None, IfOk, length};
-ghost use Rattle.sd_lane.specs.Queue.{lanes_view};
-ghost use Rattle.sd_base.specs.Limits.{most_number};
+ghost use Rattle.std.specs.Prelude.{◌≡◌, ◌≤◌, ◌<◌, None, IfOk, All, length};
+ghost use Rattle.sd_base.specs.Limits.{most_lanes, most_number};
 ghost use Rattle.sd_core.specs.Conf.{AreQueues, AreStores};
 ghost use Rattle.sd_tool.specs.Making.{IsRoomOf, StartsAs};
 ghost use Rattle.sd_settings.specs.Settings.{drive_count, drives_of, misfit_of};
@@ -9,7 +8,7 @@ ghost use Rattle.sd_settings.specs.Settings.{drive_count, drives_of, misfit_of};
 use sd_base::{HostName, MediaName, Name};
 use sd_core::{World, WorldConf};
 use sd_driver::Driver;
-use sd_lane::PlainLanes;
+use sd_lane::Lanes;
 use sd_settings::Values;
 use sd_spool::MemSpool;
 use std::alloc::{AllocError, Global};
@@ -20,25 +19,27 @@ const USUAL_MEDIA: &str = "File";
 /// The lanes of that drive.
 const USUAL_LANES: u32 = 4;
 
-/// A world over drives, with its queues and its spools in memory.
-pub type ScriptWorld<D> = World<D, PlainLanes, MemSpool>;
+/// A world over drives and queues, with its spools in memory.
+pub type ScriptWorld<D, Q> = World<D, Q, MemSpool>;
 
 /// What a world is made with but its drives, each with nothing in it yet.
 #[derive(Drop)]
-pub struct Room {
+pub struct Room<Q: Lanes> {
     conf: WorldConf,
-    queues: Vec<PlainLanes>,
+    queues: Vec<Q>,
     stores: Vec<Vec<MemSpool>>,
 }
 
-impl Room {
-    /// What a world of these settings is made with.
-    pub fn new(alloc: Global, values: &Values) -> Result<Room, AllocError>
+impl<Q: Lanes + Drop> Room<Q> {
+    /// What a world of these settings is made with, its queues like the one given.
+    pub fn new(alloc: Global, values: &Values, queue: &Q) -> Result<Room<Q>, AllocError>
         requires { misfit_of values.now ≡ None }
-        ensures { IfOk result (IsRoomOf values.now) }
+        ensures { IfOk result (IsRoomOf
+            (λ q. record { lanes = Q.lanes q; capacity = Q.capacity q; held = Q.held q })
+            values.now) }
     {
         let drives = drives_of(alloc, values)?;
-        let queues = queues_of(alloc, &drives, values.queue)?;
+        let queues = queues_of(alloc, queue, &drives, values.queue)?;
         let stores = stores_of(alloc, &drives)?;
         let conf = WorldConf {
             block: values.block,
@@ -62,8 +63,10 @@ impl Room {
         values: &Values,
         time: u32,
         drivers: Vec<D>,
-    ) -> Result<ScriptWorld<D>, AllocError>
-        requires room { IsRoomOf values.now self }
+    ) -> Result<ScriptWorld<D, Q>, AllocError>
+        requires room { IsRoomOf
+            (λ q. record { lanes = Q.lanes q; capacity = Q.capacity q; held = Q.held q })
+            values.now self }
         requires drivers { length drivers.items ≡ drive_count values.now }
         requires time_least { 1 ≤ time }
         requires time_most { time ≤ most_number }
@@ -108,17 +111,22 @@ fn copies_of(
     Ok(copies)
 }
 
-// An empty queue for each drive.
-fn queues_of(
+// An empty queue for each drive, like the one given.
+fn queues_of<Q: Lanes + Drop>(
     alloc: Global,
+    queue: &Q,
     drives: &[(MediaName, u32)],
     room: usize,
-) -> Result<Vec<PlainLanes>, AllocError>
-    ensures { IfOk result (λ queues. AreQueues (λ q. lanes_view q) room drives.now queues.items) }
+) -> Result<Vec<Q>, AllocError>
+    requires lanes { All (λ d. d.1 ≤ most_lanes) drives.now }
+    requires room { 0 < room }
+    ensures { IfOk result (λ queues. AreQueues
+        (λ q. record { lanes = Q.lanes q; capacity = Q.capacity q; held = Q.held q })
+        room drives.now queues.items) }
 {
     let mut queues = Vec::new(alloc);
     for drive in drives {
-        queues.push(PlainLanes::new(alloc, drive.1, room)?)?;
+        queues.push(queue.like(alloc, drive.1, room)?)?;
     }
     Ok(queues)
 }

@@ -12,6 +12,7 @@ use crate::run::Script;
 use crate::stage::Stage;
 use sd_base::{Refusal, SessionKey, Ticket};
 use sd_driver::Driver;
+use sd_lane::Lanes;
 use sd_machine::{Event, Reply};
 use sd_printer::Printer;
 use sd_readback::ReadEnd;
@@ -21,7 +22,7 @@ use sd_transcript::{Before, RecordPrinter, print_read, print_reply};
 use std::io::Write;
 use std::marker::Brand;
 
-impl<D: Driver + Drop, W: Write + Drop> Script<D, W> {
+impl<D: Driver + Drop, Q: Lanes + Drop, W: Write + Drop> Script<D, Q, W> {
     /// Reads a closed or a cancelled session back, by its spans as they are now.
     pub(crate) fn read(mut self, ticket: Ticket) -> Self
         ensures { ReadsUnless (λ d. D.meaning d) ticket
@@ -94,8 +95,8 @@ impl<D: Driver + Drop, W: Write + Drop> Script<D, W> {
 }
 
 // Reads a session back by what was printed of it, where something was.
-fn read_printed<D: Driver + Drop, W: Write>(
-    stage: &mut Stage<D>,
+fn read_printed<D: Driver + Drop, Q: Lanes + Drop, W: Write>(
+    stage: &mut Stage<D, Q>,
     key: SessionKey,
     printed: Option<&Closed>,
     mut out: Printer<W>,
@@ -114,8 +115,8 @@ fn read_printed<D: Driver + Drop, W: Write>(
 }
 
 // Reads a session back, and prints its records as they come, and how that ended.
-fn read_back<D: Driver + Drop, W: Write>(
-    stage: &mut Stage<D>,
+fn read_back<D: Driver + Drop, Q: Lanes + Drop, W: Write>(
+    stage: &mut Stage<D, Q>,
     key: SessionKey,
     spans: &[Span],
     out: Printer<W>,
@@ -123,7 +124,7 @@ fn read_back<D: Driver + Drop, W: Write>(
     ensures { ReadsOn (λ d. D.meaning d) key spans.now stage.old stage.new
         (said_view W.contents out) (said_view W.contents result) }
 {
-    let ReadTo { result, mut out } = read_out::<Brand, D, W>(stage, key, spans, out);
+    let ReadTo { result, mut out } = read_out::<Brand, D, Q, W>(stage, key, spans, out);
     print_read(&result, &mut out);
     out
 }
@@ -136,8 +137,8 @@ struct ReadTo<W> {
 }
 
 // Reads a session back, and prints its records as they come.
-fn read_out<K: Before, D: Driver + Drop, W: Write>(
-    stage: &mut Stage<D>,
+fn read_out<K: Before, D: Driver + Drop, Q: Lanes + Drop, W: Write>(
+    stage: &mut Stage<D, Q>,
     key: SessionKey,
     spans: &[Span],
     out: Printer<W>,

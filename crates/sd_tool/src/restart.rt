@@ -9,6 +9,7 @@ use crate::stage::Stage;
 use crate::tail::put_tail;
 use sd_base::Refusal;
 use sd_driver::Driver;
+use sd_lane::Lanes;
 use sd_script::Tail;
 use sd_settings::Values;
 use std::alloc::{AllocError, Global};
@@ -22,29 +23,31 @@ pub struct Restart {
 
 /// What a `restart` line came to: the world that stands now, and why the line was refused, if it was.
 #[derive(Drop)]
-pub struct Restarted<D: Driver> {
-    pub stage: Stage<D>,
+pub struct Restarted<D: Driver, Q: Lanes> {
+    pub stage: Stage<D, Q>,
     pub refused: Option<Refusal>,
 }
 
-impl<D: Driver + Drop> Stage<D> {
+impl<D: Driver + Drop, Q: Lanes + Drop> Stage<D, Q> {
     /// A new world of that time over the same drives, with the bytes of the tail appended before. Where the drive of the
     /// tail isn't there, or a drive was retired, or for want of memory, the old world stands; where the appending alone is
     /// refused the new one does. An `Err` comes where memory is wanted once the old world is gone.
-    pub fn restarted(self, alloc: Global, restart: Restart) -> Result<Restarted<D>, AllocError>
+    pub fn restarted(self, alloc: Global, restart: Restart) -> Result<Restarted<D, Q>, AllocError>
         requires time_least { 1 ≤ restart.time }
         requires time_most { restart.time ≤ most_number }
-        ensures { IfOk result (RestartsAs (λ d. D.meaning d) self restart) }
+        ensures { IfOk result (λ restarted. RestartsAs (λ d. D.meaning d) self restart
+            restarted.stage restarted.refused) }
     {
         let Restart { time, tail } = restart;
         if let Some(why) = self.unfit(&tail) {
             return Ok(self.refused(why));
         }
-        let Ok(room) = Room::new(alloc, &self.values) else {
+        let Ok(room) = Room::new(alloc, &self.values, &self.queue) else {
             return Ok(self.refused(Refusal::Memory));
         };
         let Stage {
             world,
+            queue,
             values,
             time: old_time,
             retired,
@@ -54,6 +57,7 @@ impl<D: Driver + Drop> Stage<D> {
             Err(world) => {
                 let same = Stage {
                     world,
+                    queue,
                     values,
                     time: old_time,
                     retired,
@@ -65,6 +69,7 @@ impl<D: Driver + Drop> Stage<D> {
         let world = room.into_world(alloc, &values, time, drivers)?;
         let stage = Stage {
             world,
+            queue,
             values,
             time,
             retired: false,
@@ -73,7 +78,7 @@ impl<D: Driver + Drop> Stage<D> {
     }
 
     // The world stands, and the line is refused.
-    fn refused(self, why: Refusal) -> Restarted<D>
+    fn refused(self, why: Refusal) -> Restarted<D, Q>
         ensures { result ≡ record { stage = self; refused = Some why } }
     {
         Restarted {

@@ -11,6 +11,7 @@ use crate::stage::Stage;
 use crate::told::Told;
 use sd_base::Refusal;
 use sd_driver::Driver;
+use sd_lane::Lanes;
 use sd_printer::Printer;
 use sd_script::Part;
 use sd_settings::{Lines, Next, Settings};
@@ -34,9 +35,9 @@ pub struct Ran<W> {
 
 /// A script that is run.
 #[derive(Drop)]
-pub struct Script<D: Driver, W: Write> {
+pub struct Script<D: Driver, Q: Lanes, W: Write> {
     pub(crate) alloc: Global,
-    pub(crate) stage: Stage<D>,
+    pub(crate) stage: Stage<D, Q>,
     /// The moment of what happens now, in microseconds.
     pub(crate) moment: i64,
     pub(crate) printed: Printed,
@@ -45,41 +46,50 @@ pub struct Script<D: Driver, W: Write> {
 
 /// What a line of a script leaves: a script that goes on, or a run that is over.
 #[derive(Drop)]
-pub enum Came<D: Driver, W: Write> {
-    On(Script<D, W>),
+pub enum Came<D: Driver, Q: Lanes, W: Write> {
+    On(Script<D, Q, W>),
     Over(Ran<W>),
 }
 
 /// Runs the script whose settings were read, and answers the status alone: see `run_script`.
-pub fn run_lines<D: Driver + Drop, R: BufRead, W: Write + Drop>(
+pub fn run_lines<D: Driver + Drop, Q: Lanes + Drop, R: BufRead, W: Write + Drop>(
     alloc: Global,
     settings: Settings,
     drivers: Vec<D>,
+    queue: Q,
     reader: &mut R,
     writer: W,
 ) -> u8
     requires { length drivers.items ≡ drives_due settings.values }
-    ensures { (ran : Ran W) × (result ≡ ran.status) × RunsScript W.contents (λ d. D.meaning d)
+    ensures { (ran : Ran W) × (result ≡ ran.status) × RunsScript {Q = Q} W.contents (λ d. D.meaning d)
         settings.values drivers.items (settings.first, settings.lines.bytes)
         (record { written = W.contents writer; failed = false }) ran }
 {
-    let Ran { status, out: _ } = run_script(alloc, settings, drivers, reader, Printer::new(writer));
+    let Ran { status, out: _ } = run_script(
+        alloc,
+        settings,
+        drivers,
+        queue,
+        reader,
+        Printer::new(writer),
+    );
     status
 }
 
 /// Runs the script whose settings were read, from the line that they ended at to the end of the input,
 /// and prints what each line comes to. There is a driver for each drive of the settings, and none where they don't go
-/// together: then the fault is printed and nothing is run. The status is 0 where the script came to its end, whatever
+/// together: then the fault is printed and nothing is run. The queues of its worlds are like the one given. The status is 0 where the script came to its end, whatever
 /// was refused in it, and else 1.
-pub fn run_script<D: Driver + Drop, R: BufRead, W: Write + Drop>(
+pub fn run_script<D: Driver + Drop, Q: Lanes + Drop, R: BufRead, W: Write + Drop>(
     alloc: Global,
     settings: Settings,
     drivers: Vec<D>,
+    queue: Q,
     reader: &mut R,
     mut out: Printer<W>,
 ) -> Ran<W>
     requires { length drivers.items ≡ drives_due settings.values }
-    ensures { RunsScript W.contents (λ d. D.meaning d) settings.values
+    ensures { RunsScript {Q = Q} W.contents (λ d. D.meaning d) settings.values
         drivers.items (settings.first, settings.lines.bytes) (said_view W.contents out) result }
 {
     let Settings {
@@ -90,7 +100,7 @@ pub fn run_script<D: Driver + Drop, R: BufRead, W: Write + Drop>(
     if let Some(misfit) = values.misfit() {
         return given_up(out, Told::Unfit(misfit));
     }
-    let Ok(stage) = Stage::new(alloc, values, drivers) else {
+    let Ok(stage) = Stage::new(alloc, values, drivers, queue) else {
         return given_up(out, Refusal::Memory);
     };
     let script = Script {
@@ -104,13 +114,13 @@ pub fn run_script<D: Driver + Drop, R: BufRead, W: Write + Drop>(
 }
 
 // Runs a script from the line that came first on.
-fn run_from<D: Driver + Drop, R: BufRead, W: Write + Drop>(
-    script: Script<D, W>,
+fn run_from<D: Driver + Drop, Q: Lanes + Drop, R: BufRead, W: Write + Drop>(
+    script: Script<D, Q, W>,
     first: Next,
     mut lines: Lines,
     reader: &mut R,
 ) -> Ran<W>
-    ensures { RunsFrom W.contents (λ d. D.meaning d) (first, lines.bytes)
+    ensures { RunsFrom {Q = Q} W.contents (λ d. D.meaning d) (first, lines.bytes)
         (script_view W.contents script) result }
 {
     let mut came = script.come(Part::Head, first, lines.bytes());

@@ -11,6 +11,7 @@ use crate::making::{Room, ScriptWorld};
 use sd_base::{Refusal, SessionKey, Ticket};
 use sd_desk::Request;
 use sd_driver::Driver;
+use sd_lane::Lanes;
 use sd_machine::{Event, Reply};
 use sd_readback::{ReadEnd, Sink};
 use sd_rounds::drain;
@@ -24,14 +25,16 @@ use std::marker::Model;
 /// A world, the settings that it was made of, the time of its run, and whether a drive of it was retired. In a contract
 /// it is a `StageView`.
 #[derive(Drop)]
-pub struct Stage<D: Driver> {
-    pub(crate) world: ScriptWorld<D>,
+pub struct Stage<D: Driver, Q: Lanes> {
+    pub(crate) world: ScriptWorld<D, Q>,
+    /// An empty queue, which those of the worlds are like.
+    pub(crate) queue: Q,
     pub(crate) values: Values,
     pub(crate) time: u32,
     pub(crate) retired: bool,
 }
 
-impl<D: Driver> Model for Stage<D> {
+impl<D: Driver, Q: Lanes> Model for Stage<D, Q> {
     ghost use Rattle.std.specs.Prelude.{◌≡◌};
     ghost use Rattle.sd_tool.specs.Stage.{IsStage, StageView};
 
@@ -44,18 +47,24 @@ impl<D: Driver> Model for Stage<D> {
         × (s.world.limits.time ≡ s.time) };
 }
 
-impl<D: Driver + Drop> Stage<D> {
-    /// The world that a script begins with.
-    pub fn new(alloc: Global, values: Values, drivers: Vec<D>) -> Result<Stage<D>, AllocError>
+impl<D: Driver + Drop, Q: Lanes + Drop> Stage<D, Q> {
+    /// The world that a script begins with, its queues like the one given.
+    pub fn new(
+        alloc: Global,
+        values: Values,
+        drivers: Vec<D>,
+        queue: Q,
+    ) -> Result<Stage<D, Q>, AllocError>
         requires fits { misfit_of values ≡ None }
         requires drivers { length drivers.items ≡ drive_count values }
         ensures { IfOk result (BeginsAs (λ d. D.meaning d) values drivers.items) }
     {
-        let room = Room::new(alloc, &values)?;
+        let room = Room::new(alloc, &values, &queue)?;
         let time = values.time;
         let world = room.into_world(alloc, &values, time, drivers)?;
         Ok(Stage {
             world,
+            queue,
             values,
             time,
             retired: false,

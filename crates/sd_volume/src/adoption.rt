@@ -5,7 +5,7 @@ ghost use Rattle.sd_driver.specs.Meaning.{IsHonest};
 ghost use Rattle.sd_driver.specs.Shelf.{Held, SameShelf, StillLasts, StillLastsBelow};
 ghost use Rattle.sd_volume.specs.declared.fault.AdoptFault.{AdoptFault as SpecFault};
 ghost use Rattle.sd_volume.specs.Adopt.{IsDue, IsAdoptable, Adopts, CutsAt, KeepsUpTo, KeepsWholeBlocks, status_at};
-ghost use Rattle.sd_volume.specs.Device.{Counted, OnlyReads, CutsLoaded, KeepsLoaded};
+ghost use Rattle.sd_volume.specs.Device.{CallsAtMost, Counted, OnlyReads, CutsLoaded, KeepsLoaded};
 ghost use Rattle.sd_volume.specs.Reader.{Shows};
 
 use crate::fault::AdoptFault;
@@ -169,6 +169,7 @@ pub(crate) fn cut_back<D: Driver>(driver: &mut D, name: &VolName, to: u64) -> Re
         (D.meaning driver.old) (D.meaning driver.new) }
     ensures faults { IfErr result (λ fault. (fault ≡ AdoptFault.NotOnShelf)
         ⊎ (fault ≡ AdoptFault.Device) ⊎ (fault ≡ AdoptFault.Memory)) }
+    ensures calls { CallsAtMost 4 (D.meaning driver.old) (D.meaning driver.new) }
     ensures lasts_below { StillLastsBelow to name.now
         (D.meaning driver.old).shelf (D.meaning driver.new).shelf }
     ensures refused_last { IfErr result (λ fault. fault ≢ AdoptFault.Device
@@ -198,6 +199,7 @@ fn cut_loaded<D: Driver>(driver: &mut D, to: u64) -> Result<(), AdoptFault>
         (D.meaning driver.old) (D.meaning driver.new) }
     ensures faults { IfErr result
         (λ fault. (fault ≡ AdoptFault.Device) ⊎ (fault ≡ AdoptFault.Memory)) }
+    ensures calls { CallsAtMost 2 (D.meaning driver.old) (D.meaning driver.new) }
     ensures lasts_below { (volume : List ℕ) → (D.meaning driver.old).loaded ≡ Some volume
         → StillLastsBelow to volume (D.meaning driver.old).shelf (D.meaning driver.new).shelf }
     ensures refused_last { IfErr result (λ fault. fault ≢ AdoptFault.Device

@@ -4,7 +4,7 @@ ghost use Rattle.sd_driver.specs.Meaning.{IsHonest};
 ghost use Rattle.sd_driver.specs.Shelf.{SameShelf, StillLasts, StillLastsBelow};
 ghost use Rattle.sd_volume.specs.declared.volume.VolumeStatus.TheVariants.{Append, Error};
 ghost use Rattle.sd_volume.specs.Adopt.{CutsAt};
-ghost use Rattle.sd_volume.specs.Device.{Counted};
+ghost use Rattle.sd_volume.specs.Device.{CallsAtMost, Counted};
 ghost use Rattle.sd_volume.specs.Purge.{emptied, LeavesLabel, KeepsLabel};
 
 use crate::adoption::cut_back;
@@ -29,6 +29,7 @@ pub fn purge<D: Driver>(driver: &mut D, volume: &mut Volume) -> Result<(), Adopt
     ensures failed { IsErrOf result AdoptFault.Device → volume.new ≡ emptied Error volume.old }
     ensures refused { IfErr result (λ fault. fault ≢ AdoptFault.Device
         → volume.new ≡ volume.old) }
+    ensures calls { CallsAtMost 4 (D.meaning driver.old) (D.meaning driver.new) }
     ensures lasts_below { StillLastsBelow volume.old.first volume.old.name
         (D.meaning driver.old).shelf (D.meaning driver.new).shelf }
     ensures refused_last { IfErr result (λ fault. fault ≢ AdoptFault.Device

@@ -5,9 +5,11 @@
 use sd_arguments::{ToolTask, status_of, tool_task};
 use sd_base::Refusal;
 use sd_extract::{Extracted, read_back};
+use sd_lane::Lanes;
 use sd_listing::list_volume;
 use sd_printer::Printer;
 use sd_progress::Progress;
+use sd_ruled::RuledLanes;
 use sd_settings::{memory_drives, read_settings};
 use sd_tool::run_lines;
 use std::io::{BufReader, BufWriter};
@@ -24,7 +26,10 @@ fn main(rt: HostRuntime) -> ExitCode {
         return without_memory(&rt);
     };
     match tool_task(alloc, words.as_slice()) {
-        ToolTask::Run => run_script(&rt),
+        ToolTask::Run => match RuledLanes::new(rt, alloc, 1, 1) {
+            Ok(queue) => run_script(&rt, queue),
+            Err(_) => without_memory(&rt),
+        },
         ToolTask::List { volume, progress } => list(&rt, volume, progress),
         ToolTask::Read {
             spans,
@@ -39,8 +44,8 @@ fn main(rt: HostRuntime) -> ExitCode {
     }
 }
 
-/// Runs the script on standard input, over drives in memory.
-fn run_script<R: Input + Print + AllocGlobal>(rt: &R) -> ExitCode {
+/// Runs the script on standard input, over drives in memory and queues like the one given.
+fn run_script<R: Input + Print + AllocGlobal, Q: Lanes + Drop>(rt: &R, queue: Q) -> ExitCode {
     let alloc = rt.alloc();
     let Ok(mut reader) = BufReader::new(alloc, rt.reader()) else {
         return without_memory(rt);
@@ -52,7 +57,7 @@ fn run_script<R: Input + Print + AllocGlobal>(rt: &R) -> ExitCode {
     let Ok(drivers) = memory_drives(alloc, &settings.values) else {
         return without_memory(rt);
     };
-    let status = run_lines(alloc, settings, drivers, &mut reader, &mut writer);
+    let status = run_lines(alloc, settings, drivers, queue, &mut reader, &mut writer);
     // What could not be written is given up, and not tried again as the writer goes.
     let _ = writer.into_parts();
     ExitCode::from(status)

@@ -1,10 +1,9 @@
 use Rattle.std.proofs.Common.{◌≡◌, ap}
-use Rattle.sd_lane.specs.Queue.{lanes_view}
 use Rattle.sd_core.specs.Conf.{empty_queue}
 use Rattle.sd_tool.proofs.MakingLemmas.{zip_more}
 use Rattle.sd_tool.proofs.making.queues_of.Goals as goal
 
 pub loop-drive-preserved : goal.loop-drive-preserved
-loop-drive-preserved c =
-    zip_more (λ d q. lanes_view q ≡ empty_queue d.1 c.args.room) c.args.drives.now c.loop-drive.drive-index c.drive-item.result c.loop-drive.queues.items c.push.new.self.items c.in_ok-new.field-0
+loop-drive-preserved g c =
+    zip_more (λ d q. record { lanes = g.Q.Lane.lanes q; capacity = g.Q.Lane.capacity q; held = g.Q.Lane.held q } ≡ empty_queue d.1 c.args.room) c.args.drives.now c.loop-drive.drive-index c.drive-item.result c.loop-drive.queues.items c.push.new.self.items c.in_ok-new.field-0
     c.drive-item.is c.loop-drive-test.true c.in_ok-push.ensures.items c.loop-drive.invariant (ap lanes_view c.in_ok-new.ensures)

@@ -1,6 +1,17 @@
+use Rattle.std.proofs.Common.{arith}
 use Rattle.std.proofs.lemmas.Result.{IfErr-weaker}
 use Rattle.sd_driver.proofs.Lasting.{still_lasts, StillLasts-trans, StillLastsBelow-of, StillLastsBelow-trans}
+use Rattle.sd_volume.proofs.DeviceLemmas.{one_call}
 use Rattle.sd_volume.proofs.adoption.cut_back.Goals as goal
+
+pub returns-clause-calls : goal.returns-clause-calls
+returns-clause-calls g c =
+    omega (
+      arith,
+      one_call (g.D.Driver.meaning c.args.driver.now) (g.D.Driver.meaning c.load.new.self) c.in_ok-load.ensures.passes,
+      c.cut_loaded-cut.ensures.calls,
+      one_call (g.D.Driver.meaning c.cut_loaded-cut.new.driver) (g.D.Driver.meaning c.unload.new.self) c.unload.ensures.passes,
+    )
 
 pub returns-clause-lasts_below : goal.returns-clause-lasts_below
 returns-clause-lasts_below g c =

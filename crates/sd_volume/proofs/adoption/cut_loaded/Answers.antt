@@ -1,8 +1,28 @@
-use Rattle.std.proofs.Common.{sym, subst}
+use Rattle.std.proofs.Common.{arith, sym, subst}
 use Rattle.std.specs.Prelude.{IsTrue}
 use Rattle.sd_driver.proofs.Lasting.{still_lasts, still_lasts_below, StillLastsBelow-of, StillLastsBelow-trans}
-use Rattle.sd_volume.proofs.DeviceLemmas.{cuts_of, cut_keeps, failed_cut_keeps, failed_sync_keeps}
+use Rattle.sd_volume.proofs.DeviceLemmas.{cuts_of, cut_keeps, failed_cut_keeps, failed_sync_keeps, one_call}
 use Rattle.sd_volume.proofs.adoption.cut_loaded.Goals as goal
+
+pub returns-in_err-cut-clause-calls : goal.returns-in_err-cut-clause-calls
+returns-in_err-cut-clause-calls g c =
+    omega (arith, one_call (g.D.Driver.meaning c.args.driver.now) (g.D.Driver.meaning c.cut.new.self) c.in_err-cut.ensures.passes)
+
+pub returns-in_err-sync-clause-calls : goal.returns-in_err-sync-clause-calls
+returns-in_err-sync-clause-calls g c =
+    omega (
+      arith,
+      one_call (g.D.Driver.meaning c.args.driver.now) (g.D.Driver.meaning c.cut.new.self) c.in_ok-cut.ensures.passes,
+      one_call (g.D.Driver.meaning c.cut.new.self) (g.D.Driver.meaning c.sync.new.self) c.in_err-sync.ensures.passes,
+    )
+
+pub returns-clause-calls : goal.returns-clause-calls
+returns-clause-calls g c =
+    omega (
+      arith,
+      one_call (g.D.Driver.meaning c.args.driver.now) (g.D.Driver.meaning c.cut.new.self) c.in_ok-cut.ensures.passes,
+      one_call (g.D.Driver.meaning c.cut.new.self) (g.D.Driver.meaning c.sync.new.self) c.in_ok-sync.ensures.passes,
+    )
 
 pub returns-in_err-cut-clause-lasts_below : goal.returns-in_err-cut-clause-lasts_below
 returns-in_err-cut-clause-lasts_below g c = λ volume is. still_lasts_below c.args.to _ volume _ _ is c.in_err-cut.ensures.passes c.in_err-cut.ensures.stable

@@ -107,6 +107,12 @@ returns-in-Ok-clause-others g c =
     let at = is_named vs c.args.at name v (rw (← c.self.view_is) at c.requires.there) c.index_mut.ensures.value in
     rw (← c.self.view_is) (λ o other apart. c.in-Ok.ensures.others o other (λ is. apart (is ∙ at.name_is)))
 
+pub returns-in-Ok-clause-calls : goal.returns-in-Ok-clause-calls
+returns-in-Ok-clause-calls g c = rw (← c.self.view_is) c.in-Ok.ensures.calls
+
+pub returns-in-Err-clause-calls : goal.returns-in-Err-clause-calls
+returns-in-Err-clause-calls g c = rw (← c.self.view_is) c.in-Err.ensures.calls
+
 pub returns-in-Err-clause-purges : goal.returns-in-Err-clause-purges
 returns-in-Err-clause-purges g c =
     let i = c.self.inside in

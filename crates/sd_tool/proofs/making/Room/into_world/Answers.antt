@@ -1,6 +1,6 @@
 use Rattle.std.proofs.Common.{true, ap, sym, subst, ◌∙◌, length, map, replicate}
 use Rattle.std.specs.Prelude.{is_some}
-use Rattle.sd_lane.specs.Queue.{LanesView, PlainView, lanes_view}
+use Rattle.sd_lane.specs.Queue.{LanesView}
 use Rattle.sd_spool.specs.Meaning.{Meaning}
 use Rattle.sd_spool.specs.MemSpool.{meaning_of}
 use Rattle.sd_spool.specs.declared.memory.MemSpool.{MemSpool}
@@ -15,7 +15,7 @@ returns-in-Ok g c =
     let r = c.requires.room in
     let medias = c.args.self.conf.drives.items in
     let many = ap length r.drives_are in
-    let queue : PlainView → LanesView = λ q. lanes_view q in
+    let queue : g.row.Q.Denot → LanesView = λ q. record { lanes = g.Q.Lane.lanes q; capacity = g.Q.Lane.capacity q; held = g.Q.Lane.held q } in
     let store : MemSpool → Meaning = λ s. meaning_of s in
     let online = new_online _ queue store _ medias c.args.drivers.items f.drives c.args.self.queues.items c.args.self.stores.items f.drives_are
     (c.requires.drivers ∙ sym many) (zip_long _ medias c.args.self.queues.items r.queues) (zip_long _ medias c.args.self.stores.items r.stores) in

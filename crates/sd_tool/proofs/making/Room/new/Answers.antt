@@ -1,12 +1,11 @@
 use Rattle.std.proofs.Common.{ap, subst, ◌∙◌}
-use Rattle.sd_lane.specs.Queue.{lanes_view}
 use Rattle.sd_core.specs.Conf.{AreQueues, AreStores}
 use Rattle.sd_settings.specs.Settings.{AreSettable, ValuesView}
-use Rattle.sd_tool.proofs.MakingLemmas.{settings_fit}
+use Rattle.sd_tool.proofs.MakingLemmas.{lanes_within, settings_fit}
 use Rattle.sd_tool.proofs.making.Room.new.Goals as goal
 
 pub returns : goal.returns
-returns c =
+returns g c =
     let is = c.values.view_is in
     let block = ap (λ (v : ValuesView). v.block) is in
     let volume = ap (λ (v : ValuesView). v.volume) is in
@@ -20,6 +19,6 @@ returns c =
       queue_is = queue;
       drives_are = c.in_ok-drives.ensures;
       host_is = c.copy_of.ensures ∙ ap (λ (v : ValuesView). v.host) is;
-      queues = subst (λ ds. AreQueues (λ q. lanes_view q) c.values.inside.queue ds c.in_ok-queues.queues.items) c.deref.ensures.value c.in_ok-queues.ensures;
+      queues = subst (λ ds. AreQueues (λ q. record { lanes = g.Q.Lane.lanes q; capacity = g.Q.Lane.capacity q; held = g.Q.Lane.held q }) c.values.inside.queue ds c.in_ok-queues.queues.items) c.deref.ensures.value c.in_ok-queues.ensures;
       stores = subst (λ ds. AreStores ds c.in_ok-stores.stores.items) c.deref-2.ensures.value c.in_ok-stores.ensures;
     }

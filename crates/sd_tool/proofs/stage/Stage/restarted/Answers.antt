@@ -41,7 +41,7 @@ returns g c =
     let none : unfit (drive_count old.values) old.retired tail ≡ None = sym c.unfit.ensures ∙ none_of c.unfit.result c.in_default.not-Some in
     let before = c.in-Ok-into_drivers.ensures.ok ∙ ap (λ (s : StageView g.row.D.Denot). devices_of s.world.bays) c.self.view_is in
     let values = ap (λ (s : StageView g.row.D.Denot). s.values) c.self.view_is in
-    restarts_anew M old c.args.restart _ none (record {
+    restarts_anew M old c.args.restart _ _ none (record {
       values = values;
       retired = refl;
       devices = devices;
