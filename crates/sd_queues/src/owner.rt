@@ -18,7 +18,7 @@ enum Pushed {
 }
 
 // Pushes the next piece of a lane.
-fn push<R: Wait + Drop>(
+fn push<R: Wait + Copy + Drop>(
     alloc: Global,
     queue: &mut RuledLanes<R>,
     lane: LaneNo,
@@ -42,7 +42,7 @@ fn push<R: Wait + Drop>(
 }
 
 /// Pushes by one lane after another until a piece comes back, as it was. How many went in, of at most so many.
-pub fn fill<R: Wait + Drop>(
+pub fn fill<R: Wait + Copy + Drop>(
     alloc: Global,
     queue: &mut RuledLanes<R>,
     lanes: u32,
@@ -64,7 +64,7 @@ pub fn fill<R: Wait + Drop>(
 }
 
 /// Takes so many pieces, or all that there are. How many came.
-pub fn take<R: Wait + Drop>(queue: &mut RuledLanes<R>, most: usize, came: &mut Came) -> usize
+pub fn take<R: Wait + Copy + Drop>(queue: &mut RuledLanes<R>, most: usize, came: &mut Came) -> usize
     ensures { queue.new.lanes ≡ queue.old.lanes }
 {
     for count in 0..most {

@@ -1,5 +1,7 @@
 // The seats of a queue, in threads of their own.
-ghost use Rattle.std.specs.Prelude.{◌≡◌, length};
+ghost use Rattle.std.specs.Prelude.{◌≡◌, ℕ, ◌∷◌, ◌++◌, [], false, length, IsTrue};
+ghost use Rattle.sd_lane.specs.Queue.{queued, Sends, SendsNone};
+ghost use Rattle.sd_lane.specs.declared.piece.Piece.{Piece as SpecPiece};
 ghost use Rattle.sd_ruled.specs.Seats.{AreSeats};
 
 use crate::pieces::{Came, Counts, make_piece};
@@ -183,9 +185,15 @@ pub fn run<R: Threads + Wait + Clock + Sync + Drop>(
     }
 }
 
-// Pushes a piece by what may push for its lane.
+// Pushes a piece by what may push for its lane. Whether it went in.
 fn push_by<L: Lane>(end: &mut L, alloc: Global, lane: LaneNo, seq: u64) -> bool
     requires { L.opens end.old lane }
+    ensures place { L.place end.new ≡ L.place end.old }
+    ensures opens { (other : ℕ) → L.opens end.old other → L.opens end.new other }
+    ensures sent { IsTrue result → (piece : SpecPiece) × Sends (λ other. L.sent end.old other)
+        (λ other. L.sent end.new other) (queued lane piece) }
+    ensures not_sent { result ≡ false → SendsNone (λ other. L.sent end.old other)
+        (λ other. L.sent end.new other) }
 {
     match make_piece(alloc, lane, seq) {
         Some(piece) => end.try_push(lane, piece).is_ok(),
@@ -193,7 +201,7 @@ fn push_by<L: Lane>(end: &mut L, alloc: Global, lane: LaneNo, seq: u64) -> bool
     }
 }
 
-// Pushes a piece by a seat as a `Lane`.
+// Pushes a piece by a seat as a `Lane`. What was lent is at that seat afterwards, so it is known what the seat sent.
 fn push_by_seat<'a, R: Wait + Drop>(
     queue: &'a LaneQueue<R>,
     seat: &'a mut LaneSeat,
@@ -201,6 +209,8 @@ fn push_by_seat<'a, R: Wait + Drop>(
     sent: &Counts,
 ) -> bool
     requires { seat.old.table ≡ queue.now.table }
+    ensures sent { IsTrue result → (piece : SpecPiece) × (seat.new.sent ≡ seat.old.sent ++ piece ∷ []) }
+    ensures not_sent { result ≡ false → seat.new.sent ≡ seat.old.sent }
 {
     let lane = seat.lane();
     let mut end = LaneRef { queue, seat };
