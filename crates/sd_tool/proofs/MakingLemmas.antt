@@ -7,7 +7,9 @@ use Rattle.std.proofs.lemmas.List.{take_more}
 use Rattle.std.proofs.lemmas.List.Elements.{All-nil, All-cons}
 use Rattle.sd_base.specs.Limits.{most_drives, most_lanes}
 use Rattle.sd_core.proofs.NewBays.{zip_push}
-use Rattle.sd_core.specs.Conf.{IsConf}
+use Rattle.sd_core.specs.Conf.{IsConf, empty_queue}
+use Rattle.sd_lane.specs.Queue.{LanesView}
+use Rattle.sd_lane.specs.declared.piece.Queued.{Queued}
 use Rattle.sd_core.specs.declared.conf.WorldConf.{WorldConf}
 use Rattle.sd_settings.specs.Settings.{AreSettable, ValuesView, drives_of, is_spool_short, misfit_of}
 use Rattle.sd_settings.specs.declared.fits.Misfit.TheVariants as misfit
@@ -22,6 +24,11 @@ pub zip_more : {A B : Type 0} (R : A → B → Type 0) (xs : List A) (n : ℕ) (
 zip_more R xs n x ys all y is within all_are h r =
     subst (λ l. AllZip R l all) (sym (taken_more xs n x is within))
     (subst (λ l. AllZip R (take n xs ++ x ∷ []) l) (sym all_are) (zip_push R (take n xs) ys x y h r))
+
+-- a queue that holds nothing
+pub is_empty_queue : (lanes capacity : ℕ) (held : List Queued) (asked room : ℕ) → lanes ≡ asked → capacity ≡ room → held ≡ []
+    → ◌≡◌ {A = LanesView} (record { lanes = lanes; capacity = capacity; held = held }) (empty_queue asked room)
+is_empty_queue lanes capacity held asked room many has none = rw (many, has, none) refl
 
 -- Settings that go together.
 

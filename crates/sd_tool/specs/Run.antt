@@ -128,10 +128,10 @@ Reaches contents meaning part c [] old came = Comes contents meaning part c.0 c.
 Reaches {D} contents meaning part c (d ∷ ds) old came =
     (between : ScriptView D) × GoesOn meaning part c.0 c.1 old between × Reaches contents meaning Body d ds between came
 
--- A script is run from this line on, and this is what its run has: what came last ended it; or it is over since as many
+-- A script over queues of this kind is run from this line on, and this is what its run has: what came last ended it; or it is over since as many
 -- lines came as 64 bits count.
-abbrev pub RunsFrom : {D Q W : Type 0} → (W → Option (List ℕ)) → (D → Meaning) → LineCame → ScriptView D → Ran W → Type 0
-RunsFrom {D} {Q} {W} contents meaning first begun ran =
+abbrev pub RunsFrom : {D W : Type 0} → (Q : Type 0) → (W → Option (List ℕ)) → (D → Meaning) → LineCame → ScriptView D → Ran W → Type 0
+RunsFrom {D} {W} Q contents meaning first begun ran =
     ((later : List LineCame) × Reaches {Q = Q} contents meaning Head first later begun (Over ran))
     ⊎ ((later : List LineCame) × (s : Script D Q W) × (length later ≡ 2 ^ 64 - 1)
     × Reaches contents meaning Head first later begun (On s) × (ran.out ≡ s.out) × (ran.status ≡ 0))
@@ -143,10 +143,10 @@ pub record Begins {D : Type 0} (meaning : D → Meaning) (v : ValuesView) (devic
   pub none_closed : s.closed ≡ []
   pub said_is : s.said ≡ said
 
--- A script of these settings is run over these devices. Where they don't go together, that is printed, and nothing is run; nor is it where
+-- A script of these settings is run over these devices and queues of this kind. Where they don't go together, that is printed, and nothing is run; nor is it where
 -- there is no memory for its world.
-abbrev pub RunsScript : {D Q W : Type 0} → (W → Option (List ℕ)) → (D → Meaning) → ValuesView → List D → LineCame → SaidView → Ran W → Type 0
-RunsScript {D} {Q} contents meaning v devices first said ran =
+abbrev pub RunsScript : {D W : Type 0} → (Q : Type 0) → (W → Option (List ℕ)) → (D → Meaning) → ValuesView → List D → LineCame → SaidView → Ran W → Type 0
+RunsScript {D} Q contents meaning v devices first said ran =
     ((m : Misfit) × (misfit_of v ≡ Some m) × Says said (said_view contents ran.out) (as_line (misfit_text m)) × (ran.status ≡ 1))
     ⊎ ((misfit_of v ≡ None) × Says said (said_view contents ran.out) (refused_line refusal.Memory) × (ran.status ≡ 1))
-    ⊎ ((misfit_of v ≡ None) × (begun : ScriptView D) × Begins meaning v devices said begun × RunsFrom {Q = Q} contents meaning first begun ran)
+    ⊎ ((misfit_of v ≡ None) × (begun : ScriptView D) × Begins meaning v devices said begun × RunsFrom Q contents meaning first begun ran)

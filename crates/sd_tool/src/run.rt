@@ -61,7 +61,7 @@ pub fn run_lines<D: Driver + Drop, Q: Lanes + Drop, R: BufRead, W: Write + Drop>
     writer: W,
 ) -> u8
     requires { length drivers.items ≡ drives_due settings.values }
-    ensures { (ran : Ran W) × (result ≡ ran.status) × RunsScript {Q = Q} W.contents (λ d. D.meaning d)
+    ensures { (ran : Ran W) × (result ≡ ran.status) × RunsScript Q W.contents (λ d. D.meaning d)
         settings.values drivers.items (settings.first, settings.lines.bytes)
         (record { written = W.contents writer; failed = false }) ran }
 {
@@ -89,7 +89,7 @@ pub fn run_script<D: Driver + Drop, Q: Lanes + Drop, R: BufRead, W: Write + Drop
     mut out: Printer<W>,
 ) -> Ran<W>
     requires { length drivers.items ≡ drives_due settings.values }
-    ensures { RunsScript {Q = Q} W.contents (λ d. D.meaning d) settings.values
+    ensures { RunsScript Q W.contents (λ d. D.meaning d) settings.values
         drivers.items (settings.first, settings.lines.bytes) (said_view W.contents out) result }
 {
     let Settings {
@@ -120,7 +120,7 @@ fn run_from<D: Driver + Drop, Q: Lanes + Drop, R: BufRead, W: Write + Drop>(
     mut lines: Lines,
     reader: &mut R,
 ) -> Ran<W>
-    ensures { RunsFrom {Q = Q} W.contents (λ d. D.meaning d) (first, lines.bytes)
+    ensures { RunsFrom Q W.contents (λ d. D.meaning d) (first, lines.bytes)
         (script_view W.contents script) result }
 {
     let mut came = script.come(Part::Head, first, lines.bytes());

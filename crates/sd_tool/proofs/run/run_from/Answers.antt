@@ -15,7 +15,7 @@ loop-init g c =
 pub returns-in-Over : goal.returns-in-Over
 returns-in-Over g c =
     let i = c.loop.invariant in
-    let Left : Came g.row.D.Denot g.row.W.Denot → Type 0 = λ came. Reaches g.W.Write.contents (λ d. g.D.Driver.meaning d) Head (c.args.first, c.args.lines.bytes) i.0 (script_view g.W.Write.contents c.args.script) came in
+    let Left : Came g.row.D.Denot g.row.Q.Denot g.row.W.Denot → Type 0 = λ came. Reaches g.W.Write.contents (λ d. g.D.Driver.meaning d) Head (c.args.first, c.args.lines.bytes) i.0 (script_view g.W.Write.contents c.args.script) came in
     inl (i.0, subst Left c.in-Over.is i.2)
 
 pub loop-preserved : goal.loop-preserved
@@ -24,7 +24,7 @@ loop-preserved g c =
     let old = script_view g.W.Write.contents c.args.script in
     let first : LineCame = (c.args.first, c.args.lines.bytes) in
     let bytes = c.read_next-next.new.self.bytes in
-    let Left : Came g.row.D.Denot g.row.W.Denot → Type 0 = λ came. Reaches g.W.Write.contents (λ d. g.D.Driver.meaning d) Head first i.0 old came in
+    let Left : Came g.row.D.Denot g.row.Q.Denot g.row.W.Denot → Type 0 = λ came. Reaches g.W.Write.contents (λ d. g.D.Driver.meaning d) Head first i.0 old came in
     let Bytes : List ℕ → Type 0 = λ bs. Comes g.W.Write.contents (λ d. g.D.Driver.meaning d) Body c.read_next-next.result bs (script_view g.W.Write.contents c.in-On.script) c.come-came-in-On.result in
     let last : LineCame = (c.read_next-next.result, bytes) in (
       i.0 ++ last ∷ [],
@@ -35,7 +35,7 @@ loop-preserved g c =
 pub returns-in-On-came : goal.returns-in-On-came
 returns-in-On-came g c =
     let i = c.loop.invariant in
-    let Left : Came g.row.D.Denot g.row.W.Denot → Type 0 = λ came. Reaches g.W.Write.contents (λ d. g.D.Driver.meaning d) Head (c.args.first, c.args.lines.bytes) i.0 (script_view g.W.Write.contents c.args.script) came in
+    let Left : Came g.row.D.Denot g.row.Q.Denot g.row.W.Denot → Type 0 = λ came. Reaches g.W.Write.contents (λ d. g.D.Driver.meaning d) Head (c.args.first, c.args.lines.bytes) i.0 (script_view g.W.Write.contents c.args.script) came in
     let k = i.1 in
     let most = c.loop-test.false in
     let within = c.loop.auto.counter-end in
@@ -45,5 +45,5 @@ returns-in-On-came g c =
 pub returns : goal.returns
 returns g c =
     let i = c.loop.invariant in
-    let Left : Came g.row.D.Denot g.row.W.Denot → Type 0 = λ came. Reaches g.W.Write.contents (λ d. g.D.Driver.meaning d) Head (c.args.first, c.args.lines.bytes) i.0 (script_view g.W.Write.contents c.args.script) came in
+    let Left : Came g.row.D.Denot g.row.Q.Denot g.row.W.Denot → Type 0 = λ came. Reaches g.W.Write.contents (λ d. g.D.Driver.meaning d) Head (c.args.first, c.args.lines.bytes) i.0 (script_view g.W.Write.contents c.args.script) came in
     inl (i.0, subst Left c.in-Over-came.is i.2)
