@@ -20,6 +20,16 @@ pub enum ToolTask<'a> {
         folder: &'a str,
         progress: Progress,
     },
+    /// To find the sessions on the volumes of these names in `folder`; of all volumes there where none is named.
+    Scan {
+        folder: &'a str,
+        volumes: Vec<&'a str>,
+        progress: Progress,
+    },
+    /// To look for damage on all volumes in `folder`.
+    Verify {
+        folder: &'a str,
+    },
     /// To print this: help or the version, or what is wrong with the command line.
     Print(Error),
     /// There was no memory to read the command line.
@@ -31,6 +41,8 @@ const VOLUME: &str = "VOLUME";
 const SPANS: &str = "SPANS";
 
 const FOLDER: &str = "FOLDER";
+
+const VOLUMES: &str = "VOLUMES";
 
 const PROGRESS: &str = "progress";
 
@@ -55,6 +67,14 @@ fn parse<'a>(alloc: Global, words: &'a [String]) -> Result<ToolTask<'a>, Error> 
             folder: word(given, FOLDER),
             progress: progress_of(given),
         },
+        Some(("scan", given)) => ToolTask::Scan {
+            folder: word(given, FOLDER),
+            volumes: words_of(alloc, given, VOLUMES)?,
+            progress: progress_of(given),
+        },
+        Some(("verify", given)) => ToolTask::Verify {
+            folder: word(given, FOLDER),
+        },
         _ => ToolTask::Run,
     })
 }
@@ -62,6 +82,18 @@ fn parse<'a>(alloc: Global, words: &'a [String]) -> Result<ToolTask<'a>, Error> 
 /// The word that was given for an argument. Each of them is required, so there is one.
 fn word<'a>(given: &ArgMatches<'a>, argument: &str) -> &'a str {
     given.get_str(argument).unwrap_or("")
+}
+
+/// The words that were given for an argument, if there are any.
+fn words_of<'a>(
+    alloc: Global,
+    given: &ArgMatches<'a>,
+    argument: &str,
+) -> Result<Vec<&'a str>, AllocError> {
+    match given.get_strs(argument) {
+        Some(words) => Vec::from_slice(alloc, words),
+        None => Ok(Vec::new(alloc)),
+    }
 }
 
 fn progress_of(given: &ArgMatches<'_>) -> Progress {
@@ -76,13 +108,15 @@ fn command<'a>(alloc: Global) -> Result<Command<'a>, AllocError> {
     Command::new(alloc, "sdtool")
         .version("0.1.0")
         .about(
-            "Runs scripts over the core of the storage daemon, lists volumes and reads sessions back",
+            "Runs scripts over the core of the storage daemon, lists, scans and verifies volumes, and reads sessions back",
         )
         .subcommand_required(true)
         .arg_required_else_help(true)
         .subcommand(run_command(alloc))?
         .subcommand(list_command(alloc)?)?
-        .subcommand(read_command(alloc)?)
+        .subcommand(read_command(alloc)?)?
+        .subcommand(scan_command(alloc)?)?
+        .subcommand(verify_command(alloc)?)
 }
 
 fn run_command<'a>(alloc: Global) -> Command<'a> {
@@ -104,6 +138,29 @@ fn read_command<'a>(alloc: Global) -> Result<Command<'a>, AllocError> {
         .arg(required(alloc, SPANS, "The file of the session's JobMedia text"))?
         .arg(required(alloc, FOLDER, "The folder of the volumes"))?
         .arg(progress(alloc))
+}
+
+fn scan_command<'a>(alloc: Global) -> Result<Command<'a>, AllocError> {
+    let volumes = Arg::new(alloc, VOLUMES)
+        .value_name("VOLUME")
+        .num_args(0..)
+        .action(ArgAction::Append)
+        .help("The volumes, in the order of their use; all of the folder where none is named");
+    Command::new(alloc, "scan")
+        .about(
+            "Finds the sessions on whole volumes, and writes the JobMedia texts that they are read by",
+        )
+        .arg(required(alloc, FOLDER, "The folder of the volumes"))?
+        .arg(volumes)?
+        .arg(progress(alloc))
+}
+
+fn verify_command<'a>(alloc: Global) -> Result<Command<'a>, AllocError> {
+    Command::new(alloc, "verify")
+        .about(
+            "Looks for damage on all volumes of a folder, and for sessions of which not all is there",
+        )
+        .arg(required(alloc, FOLDER, "The folder of the volumes"))
 }
 
 fn required<'a>(alloc: Global, name: &'a str, help: &'a str) -> Arg<'a> {

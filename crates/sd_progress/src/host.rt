@@ -1,14 +1,15 @@
 // Where a program has its texts and its volumes: in files, and in folders.
-ghost use Rattle.std.specs.Prelude.{◌≡◌, ℕ, List, Option, IfOk};
+ghost use Rattle.std.specs.Prelude.{◌≡◌, ◌≤◌, ℕ, List, length, Option, IfOk};
 ghost use Rattle.sd_driver.specs.Meaning.{Meaning};
 ghost use Rattle.sd_progress.specs.declared.watched.Progress.{Progress as SpecProgress};
 
 use crate::watched::{Progress, Watched};
+use sd_base::VolName;
 use sd_driver::Driver;
 use sd_filedrive::FileDrive;
 use std::alloc::AllocError;
-use std::fs::File;
-use std::io::{self, Read};
+use std::fs::{self, DirEntry, File};
+use std::io::{self, ErrorKind, Read};
 
 /// What a program has its texts and its volumes of. What it is stands in two ghost members: what the file at a path
 /// holds, where that is known, and what the device of a folder, whose reading is told of or not, is as it is made.
@@ -29,6 +30,9 @@ pub trait Host {
     fn open_folder(&self, path: &str, progress: Progress) -> Result<Self::Shelf, AllocError>
         ensures { IfOk result (λ shelf.
             Self.Shelf.meaning shelf ≡ device_of self.now path.now progress) };
+
+    /// The regular files of this folder whose names a volume could have, in the order of their names.
+    fn files_in(&self, path: &str) -> io::Result<Vec<VolName>>;
 }
 
 /// The system. Its files and folders are only read, and none is made.
@@ -62,4 +66,47 @@ impl Host for HostRuntime {
         let drive = FileDrive::new(self.clone()?, self.alloc(), path)?;
         Ok(Watched::new(drive, self.clone()?, progress))
     }
+
+    fn files_in(&self, path: &str) -> io::Result<Vec<VolName>> {
+        let mut names = Vec::new(self.alloc());
+        for entry in fs::read_dir(self, path)? {
+            match entry {
+                Ok(entry) => {
+                    if let Some(name) = volume_name(&entry)? {
+                        place(&mut names, name)?;
+                    }
+                }
+                // A name that is no text.
+                Err(fault) if fault.kind() == ErrorKind::InvalidFilename => {}
+                Err(fault) => return Err(fault),
+            }
+        }
+        Ok(names)
+    }
+}
+
+// The name of a regular file, where a volume could have it.
+fn volume_name(entry: &DirEntry<HostRuntime>) -> io::Result<Option<VolName>> {
+    let Ok(name) = VolName::parse(entry.file_name()) else {
+        return Ok(None);
+    };
+    Ok(entry.file_type()?.is_file().then_some(name))
+}
+
+// Puts a name before the first of these that comes behind it.
+fn place(names: &mut Vec<VolName>, one: VolName) -> Result<(), AllocError> {
+    let at = place_for(names, &one);
+    names.insert(at, one)?;
+    Ok(())
+}
+
+fn place_for(names: &[VolName], one: &VolName) -> usize
+    ensures { result ≤ length names.now }
+{
+    for (at, name) in names.iter().enumerate() {
+        if one.as_str() < name.as_str() {
+            return at;
+        }
+    }
+    names.len()
 }

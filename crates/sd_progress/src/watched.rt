@@ -1,9 +1,10 @@
 // A device whose reading is told of. But for that it is the device inside.
 ghost use Rattle.std.specs.Prelude.{◌≡◌};
-ghost use Rattle.sd_progress.specs.Progress.{is_due};
+ghost use Rattle.sd_progress.specs.Progress.{is_due, of_total, rate_of, seconds_left};
 
 use sd_base::VolName;
 use sd_driver::{Driver, DriverFault};
+use std::time::{Clock, Instant};
 
 /// How many bytes are read from one line to the next.
 const STEP: u64 = 256_000_000;
@@ -14,27 +15,45 @@ pub enum Progress {
     Silent,
     /// A line to standard error every 256,000,000 bytes.
     Told,
+    /// The same, with the rate so far and how long the rest of so many bytes takes at it.
+    Of(u64),
+}
+
+impl Progress {
+    /// The same of a reading of so many bytes.
+    pub fn of(self, total: u64) -> Progress
+        ensures { result ≡ of_total self total }
+    {
+        match self {
+            Progress::Silent => Progress::Silent,
+            Progress::Told | Progress::Of(_) => Progress::Of(total),
+        }
+    }
 }
 
 /// The device inside, with a count of the bytes that were read of it.
 #[derive(Drop)]
-pub struct Watched<D, R: Eprint + Drop> {
+pub struct Watched<D, R: Eprint + Clock + Drop> {
     device: D,
     system: R,
     progress: Progress,
     read: u64,
+    /// When it was made, where the clock told that.
+    begun: Option<Instant>,
 }
 
-impl<D, R: Eprint + Drop> Watched<D, R> {
+impl<D, R: Eprint + Clock + Drop> Watched<D, R> {
     pub fn new(device: D, system: R, progress: Progress) -> Self
         ensures device { result.device ≡ device }
         ensures progress { result.progress ≡ progress }
     {
+        let begun = Instant::now(&system).ok();
         Watched {
             device,
             system,
             progress,
             read: 0,
+            begun,
         }
     }
 
@@ -44,13 +63,54 @@ impl<D, R: Eprint + Drop> Watched<D, R> {
     {
         let before = self.read;
         self.read = before.saturating_add(bytes);
-        if self.progress == Progress::Told && is_due(before, self.read) {
-            // Where the line can't be written the reading goes on.
-            let _ = self
-                .system
-                .eprintln(format_args!("{} bytes read", self.read));
+        if is_due(before, self.read) {
+            self.tell();
         }
     }
+
+    // Tells of the bytes so far. Where the line can't be written the reading goes on.
+    fn tell(&self) {
+        let read = self.read;
+        let _ = match self.progress {
+            Progress::Silent => Ok(()),
+            Progress::Told => self.system.eprintln(format_args!("{read} bytes read")),
+            Progress::Of(total) => {
+                let rate = rate_of(read, self.millis());
+                let left = seconds_left(total.saturating_sub(read), rate);
+                self.system.eprintln(format_args!(
+                    "{read} bytes read, {rate} bytes/s, {left} s left"
+                ))
+            }
+        };
+    }
+
+    // How many milliseconds it has been read; 0 where the clock doesn't tell.
+    fn millis(&self) -> u64 {
+        let Some(begun) = self.begun else {
+            return 0;
+        };
+        match begun.elapsed(&self.system) {
+            Ok(time) => {
+                let millis = u64::from(time.subsec_millis());
+                time.as_secs().saturating_mul(1000).saturating_add(millis)
+            }
+            Err(_) => 0,
+        }
+    }
+}
+
+// How many bytes a second these are, in so many milliseconds.
+fn rate_of(bytes: u64, millis: u64) -> u64
+    ensures { result ≡ rate_of bytes millis }
+{
+    (bytes / millis.max(1)).saturating_mul(1000)
+}
+
+// How many seconds so many bytes take at that rate.
+fn seconds_left(bytes: u64, rate: u64) -> u64
+    ensures { result ≡ seconds_left bytes rate }
+{
+    bytes / rate.max(1)
 }
 
 // Whether a line is due between two counts of bytes.
@@ -60,7 +120,7 @@ fn is_due(before: u64, after: u64) -> bool
     before / STEP < after / STEP
 }
 
-impl<D: Driver, R: Eprint + Send + Drop> Driver for Watched<D, R> {
+impl<D: Driver, R: Eprint + Clock + Send + Drop> Driver for Watched<D, R> {
     ghost meaning = { λ w. D.meaning w.device };
 
     fn create(&mut self, name: &VolName) -> Result<(), DriverFault> {

@@ -1,5 +1,6 @@
 //! The storage daemon's tool. `sdtool run` reads a script on standard input, runs it over the core and prints what each
-//! line of it comes to; `sdtool ls` lists a volume; `sdtool read` reads a session back from its volumes.
+//! line of it comes to; `sdtool ls` lists a volume; `sdtool read` reads a session back from its volumes; `sdtool scan`
+//! finds the sessions on volumes, and `sdtool verify` what is damaged of them.
 #![tactic(auto)]
 
 use sd_arguments::{ToolTask, status_of, tool_task};
@@ -10,6 +11,7 @@ use sd_listing::list_volume;
 use sd_printer::Printer;
 use sd_progress::Progress;
 use sd_ruled::RuledLanes;
+use sd_scan::{Told, scan_folder, scan_named};
 use sd_settings::{memory_drives, read_settings};
 use sd_tool::run_lines;
 use std::io::{BufReader, BufWriter};
@@ -36,6 +38,12 @@ fn main(rt: HostRuntime) -> ExitCode {
             folder,
             progress,
         } => read(&rt, spans, folder, progress),
+        ToolTask::Scan {
+            folder,
+            volumes,
+            progress,
+        } => scan(&rt, folder, &volumes, progress),
+        ToolTask::Verify { folder } => verify(&rt, folder),
         ToolTask::Print(told) => match told.print(&rt) {
             Ok(()) => ExitCode::from(status_of(&told)),
             Err(_) => ExitCode::FAILURE,
@@ -81,6 +89,32 @@ fn read(rt: &HostRuntime, spans: &str, folder: &str, progress: Progress) -> Exit
         return without_memory(rt);
     };
     let Extracted { out, status } = read_back(rt, spans, folder, progress, Printer::new(writer));
+    let _ = out.into_writer().into_parts();
+    ExitCode::from(status)
+}
+
+/// Finds the sessions on these volumes of a folder, or on all of them where none is named.
+fn scan(rt: &HostRuntime, folder: &str, volumes: &[&str], progress: Progress) -> ExitCode {
+    let Ok(writer) = BufWriter::new(rt.alloc(), io::writer(rt)) else {
+        return without_memory(rt);
+    };
+    let mut out = Printer::new(writer);
+    let status = if volumes.is_empty() {
+        scan_folder(rt, folder, Told::All, progress, &mut out)
+    } else {
+        scan_named(rt, folder, volumes, progress, &mut out)
+    };
+    let _ = out.into_writer().into_parts();
+    ExitCode::from(status)
+}
+
+/// Looks for damage on all volumes of a folder, and tells how far it has come.
+fn verify(rt: &HostRuntime, folder: &str) -> ExitCode {
+    let Ok(writer) = BufWriter::new(rt.alloc(), io::writer(rt)) else {
+        return without_memory(rt);
+    };
+    let mut out = Printer::new(writer);
+    let status = scan_folder(rt, folder, Told::Unsound, Progress::Told, &mut out);
     let _ = out.into_writer().into_parts();
     ExitCode::from(status)
 }

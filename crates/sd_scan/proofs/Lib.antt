@@ -1,0 +1,5 @@
+pub mod LineLemmas
+pub mod FaultLemmas
+pub mod KindLemmas
+pub mod RunLemmas
+pub mod VolumeLemmas

@@ -1,0 +1,40 @@
+-- What a scan prints of volumes, and what it comes to.
+use Rattle.std.specs.Prelude.{◌≡◌, ℕ, Bool, true, false, ◌&&◌, List, [], ◌∷◌, ◌++◌, length}
+use Rattle.sd_driver.specs.Shelf.{Shelf}
+use Rattle.sd_found.specs.Found.{Found}
+use Rattle.sd_found.specs.Sessions.{AreReports, keys_of}
+use Rattle.sd_found.specs.declared.report.Report.{Report}
+use Rattle.sd_words.specs.Lines.{line}
+use Rattle.sd_scan.specs.Lines.{all_ended, line_text, reports_lines}
+use Rattle.sd_scan.specs.Volume.{ScansVolume}
+use Rattle.sd_scan.specs.declared.line.Line.TheVariants.{Done}
+use Rattle.sd_scan.specs.declared.print.Told.{Told}
+use Rattle.sd_scan.specs.declared.volumes.Outcome.{Outcome}
+use Rattle.sd_scan.specs.declared.volumes.Outcome.TheVariants.{Sound, Unsound}
+
+-- what is printed of the volumes of these names, one after another, and which blocks are found on them before all damage
+abbrev pub ScansVolumes : Told → Shelf → List (List ℕ) → List Found → List ℕ → Bool → Type 0
+ScansVolumes told shelf [] found due undamaged = (found ≡ []) × (due ≡ []) × (undamaged ≡ true)
+ScansVolumes told shelf (name ∷ names) found due undamaged =
+    (here : List Found) × (rest : List Found) × (first : List ℕ) × (behind : List ℕ) × (whole : Bool) × (others : Bool)
+    × ScansVolume told shelf name here first whole × ScansVolumes told shelf names rest behind others
+    × (found ≡ here ++ rest) × (due ≡ first ++ behind) × (undamaged ≡ (whole && others))
+
+-- a scan is sound where no volume is damaged, and all of each session is there
+abbrev pub outcome_of : Bool → Bool → Outcome
+outcome_of true true = Sound
+outcome_of true false = Unsound
+outcome_of false ended = Unsound
+
+-- What is printed of volumes. First what is damaged of each and what stands behind damage; then the sessions of the blocks that were
+-- found before all damage, and of no others: of each its line, with the spans of its placements; last how many volumes and sessions
+-- there are.
+pub record Scans (told : Told) (shelf : Shelf) (names : List (List ℕ)) (due : List ℕ) (outcome : Outcome) : Type 0 where
+  pub found : List Found
+  pub front : List ℕ
+  pub undamaged : Bool
+  pub volumes : ScansVolumes told shelf names found front undamaged
+  pub reports : List Report
+  pub reports_are : AreReports found reports
+  pub due_is : due ≡ front ++ (reports_lines told reports ++ line (line_text (Done (length names) (length (keys_of found)))))
+  pub outcome_is : outcome ≡ outcome_of undamaged (all_ended reports)

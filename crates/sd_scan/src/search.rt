@@ -1,0 +1,84 @@
+// The next whole block behind a damaged place.
+ghost use Rattle.std.specs.Prelude.{◌≡◌, ◌≢◌, ◌+◌, ◌≤◌, ◌<◌, ℕ, length, drop, None, Some, IfOk, IfErr, IfSome, IfNone, OnOk, IsErrOf};
+ghost use Rattle.sd_base.specs.Limits.{block_header, most_block};
+ghost use Rattle.sd_block.specs.Head.{IsHeadOf};
+ghost use Rattle.sd_block.specs.declared.head.Head.{Head as SpecHead};
+ghost use Rattle.sd_driver.specs.Meaning.{IsHonest};
+ghost use Rattle.sd_driver.specs.Shelf.{Held};
+ghost use Rattle.sd_volume.specs.Device.{OnlyReads};
+ghost use Rattle.sd_volume.specs.Reader.{Shows};
+ghost use Rattle.sd_scan.specs.Run.{IsFirstWhole, NoneBetween};
+
+use sd_base::{BLOCK_HEADER, MOST_BLOCK};
+use sd_block::read_head;
+use sd_driver::{Driver, DriverFault};
+use sd_volume::{VolumeReader, next_block};
+
+/// A whole block: where it stands, and its number.
+#[derive(Clone, Copy, Debug, PartialEq, Eq)]
+pub(crate) struct Whole {
+    pub(crate) at: u64,
+    pub(crate) number: u32,
+}
+
+/// The first place from `from` on at which a whole block stands, whatever its number, on a volume
+/// of that size.
+pub(crate) fn next_whole<D: Driver>(
+    driver: &mut D,
+    reader: &mut VolumeReader,
+    from: u64,
+    size: u64,
+) -> Result<Option<Whole>, DriverFault>
+    ensures name { reader.new.name ≡ reader.old.name }
+    ensures device { OnlyReads (IsErrOf result DriverFault.Device)
+        (D.meaning driver.old) (D.meaning driver.new) }
+    ensures faults { IfErr result
+        (λ fault. (fault ≢ DriverFault.Exists) × (fault ≢ DriverFault.NoRoom)) }
+    ensures within { IfOk result (λ found. IfSome found
+        (λ whole. (from ≤ whole.at) × (whole.at < size))) }
+    ensures found { IsHonest (D.meaning driver.old) → Shows reader.old (D.meaning driver.old).shelf
+        → (held : Held) → (D.meaning driver.old).shelf.volume reader.old.name ≡ Some held
+        → size ≡ length held.bytes
+        → IfOk result (λ found. IfSome found
+        (λ whole. IsFirstWhole held.bytes from whole.at whole.number)) }
+    ensures none { IsHonest (D.meaning driver.old) → Shows reader.old (D.meaning driver.old).shelf
+        → (held : Held) → (D.meaning driver.old).shelf.volume reader.old.name ≡ Some held
+        → size ≡ length held.bytes
+        → IfOk result (λ found. IfNone found (NoneBetween held.bytes from size)) }
+    ensures shows { IsHonest (D.meaning driver.old) → Shows reader.old (D.meaning driver.old).shelf
+        → OnOk result (Shows reader.new (D.meaning driver.new).shelf) }
+{
+    let mut at = from;
+    while at < size {
+        reader.fill(driver, at, MOST_BLOCK)?;
+        at = at.saturating_add(headless(reader.shown()) as u64);
+        if at >= size {
+            return Ok(None);
+        }
+        if let Some(head) = next_block(driver, reader, at)? {
+            return Ok(Some(Whole {
+                at,
+                number: head.number,
+            }));
+        }
+        at += 1;
+    }
+    Ok(None)
+}
+
+// How many of the first places in the bytes are none where the header of a block stands, each with
+// a whole header's bytes behind it.
+fn headless(bytes: &[u8]) -> usize
+    ensures within { result ≤ length bytes.now }
+    ensures none { (at : ℕ) → at < result → (at + block_header ≤ length bytes.now)
+        × ((head : SpecHead) → ¬ IsHeadOf most_block (drop at bytes.now) head) }
+{
+    let mut at = 0;
+    while bytes.len() - at >= BLOCK_HEADER {
+        if let Ok(_) = read_head(&bytes[at..], MOST_BLOCK) {
+            return at;
+        }
+        at += 1;
+    }
+    at
+}

@@ -1,0 +1,154 @@
+// Volumes, one after another.
+ghost use Rattle.std.specs.Prelude.{◌≡◌, ℕ, List, ◌++◌, length, Some, IfOk, OnOk, IsErrOf};
+ghost use Rattle.sd_driver.specs.Meaning.{IsHonest};
+ghost use Rattle.sd_driver.specs.Shelf.{Held};
+ghost use Rattle.sd_found.specs.Found.{Found};
+ghost use Rattle.sd_found.specs.Sessions.{Keeps};
+ghost use Rattle.sd_printer.specs.Says.{Says, said_view};
+ghost use Rattle.sd_volume.specs.Device.{OnlyReads};
+ghost use Rattle.sd_volume.specs.Reader.{Shows};
+ghost use Rattle.sd_scan.specs.Scan.{Scans, ScansVolumes, outcome_of};
+ghost use Rattle.sd_scan.specs.Volume.{FindsOn, ScansVolume};
+
+use crate::behind::tell_behind;
+use crate::fault::ScanFault;
+use crate::line::Line;
+use crate::print::{Told, both, print_sessions};
+use crate::run::take_run;
+use sd_base::VolName;
+use sd_driver::Driver;
+use sd_found::Sessions;
+use sd_printer::Printer;
+use sd_volume::{VolumeReader, read_label};
+use std::alloc::Global;
+use std::io::Write;
+
+/// What a scan came to.
+#[derive(Clone, Copy, Debug, PartialEq, Eq)]
+pub enum Outcome {
+    /// Nothing is damaged, and all of each session is there.
+    Sound,
+    /// Something is damaged, or of some session not all is there.
+    Unsound,
+}
+
+/// Reads the volumes of these names to their ends, in that order, and prints what is damaged of
+/// each of them and what is found behind damage; then, of each session that stands in the blocks
+/// before all damage, what was found of it. After a fault nothing more is printed here.
+///
+/// Holds one buffer of a block's greatest length, and what `Sessions` keeps. Volumes are not
+/// changed, loaded or not.
+pub fn scan<D: Driver, W: Write>(
+    alloc: Global,
+    driver: &mut D,
+    names: &[VolName],
+    told: Told,
+    out: &mut Printer<W>,
+) -> Result<Outcome, ScanFault>
+    ensures device { OnlyReads (IsErrOf result ScanFault.Device)
+        (D.meaning driver.old) (D.meaning driver.new) }
+    ensures scans { (due : List ℕ)
+        × Says (said_view W.contents out.old) (said_view W.contents out.new) due
+        × (IsHonest (D.meaning driver.old) → IfOk result
+        (λ outcome. Scans told (D.meaning driver.old).shelf names.now due outcome)) }
+{
+    let mut sessions = Sessions::new(alloc);
+    let undamaged = scan_volumes(alloc, driver, names, told, &mut sessions, out)?;
+    let ended = print_sessions(alloc, &sessions, told, out)?;
+    out.line(Line::Done {
+        volumes: names.len(),
+        sessions: sessions.len(),
+    });
+    Ok(outcome_of(undamaged, ended))
+}
+
+fn outcome_of(undamaged: bool, ended: bool) -> Outcome
+    ensures { result ≡ outcome_of undamaged ended }
+{
+    if undamaged && ended {
+        Outcome::Sound
+    } else {
+        Outcome::Unsound
+    }
+}
+
+// Reads the volumes of these names, and says whether none is damaged.
+fn scan_volumes<D: Driver, W: Write>(
+    alloc: Global,
+    driver: &mut D,
+    names: &[VolName],
+    told: Told,
+    sessions: &mut Sessions,
+    out: &mut Printer<W>,
+) -> Result<bool, ScanFault>
+    ensures device { OnlyReads (IsErrOf result ScanFault.Device)
+        (D.meaning driver.old) (D.meaning driver.new) }
+    ensures scans { (due : List ℕ)
+        × Says (said_view W.contents out.old) (said_view W.contents out.new) due
+        × IfOk result (λ undamaged. (more : List Found)
+        × ((found : List Found) → Keeps found sessions.old → Keeps (found ++ more) sessions.new)
+        × (IsHonest (D.meaning driver.old)
+        → ScansVolumes told (D.meaning driver.old).shelf names.now more due undamaged)) }
+{
+    let mut undamaged = true;
+    for name in names {
+        let whole = scan_volume(alloc, driver, name, told, sessions, out)?;
+        undamaged = both(undamaged, whole);
+    }
+    Ok(undamaged)
+}
+
+// Reads the volume of this name, and says whether its blocks reach to its end.
+fn scan_volume<D: Driver, W: Write>(
+    alloc: Global,
+    driver: &mut D,
+    name: &VolName,
+    told: Told,
+    sessions: &mut Sessions,
+    out: &mut Printer<W>,
+) -> Result<bool, ScanFault>
+    ensures device { OnlyReads (IsErrOf result ScanFault.Device)
+        (D.meaning driver.old) (D.meaning driver.new) }
+    ensures scans { (due : List ℕ)
+        × Says (said_view W.contents out.old) (said_view W.contents out.new) due
+        × IfOk result (λ undamaged. (more : List Found)
+        × ((found : List Found) → Keeps found sessions.old → Keeps (found ++ more) sessions.new)
+        × (IsHonest (D.meaning driver.old)
+        → ScansVolume told (D.meaning driver.old).shelf name.now more due undamaged)) }
+{
+    let size = driver.len(name)?;
+    let mut reader = VolumeReader::new(alloc, name)?;
+    out.line(Line::Volume {
+        name: name.copy(),
+        size,
+    });
+    let end = take_image(driver, &mut reader, name, size, sessions)?;
+    tell_behind(alloc, driver, &mut reader, name, end, size, told, out)?;
+    Ok(end == size)
+}
+
+// Takes the blocks of the image of a volume of that size, and says where it ends: at its front,
+// where no label of that name begins it.
+fn take_image<D: Driver>(
+    driver: &mut D,
+    reader: &mut VolumeReader,
+    name: &VolName,
+    size: u64,
+    sessions: &mut Sessions,
+) -> Result<u64, ScanFault>
+    ensures name { reader.new.name ≡ reader.old.name }
+    ensures device { OnlyReads (IsErrOf result ScanFault.Device)
+        (D.meaning driver.old) (D.meaning driver.new) }
+    ensures takes { IfOk result (λ end. (more : List Found)
+        × ((found : List Found) → Keeps found sessions.old → Keeps (found ++ more) sessions.new)
+        × (IsHonest (D.meaning driver.old) → Shows reader.old (D.meaning driver.old).shelf
+        → (held : Held) → (D.meaning driver.old).shelf.volume reader.old.name ≡ Some held
+        → size ≡ length held.bytes → FindsOn name.now held.bytes more end)) }
+    ensures shows { IsHonest (D.meaning driver.old) → Shows reader.old (D.meaning driver.old).shelf
+        → OnOk result (Shows reader.new (D.meaning driver.new).shelf) }
+{
+    let Some(found) = read_label(driver, reader, name, size)? else {
+        return Ok(0);
+    };
+    take_run(driver, reader, name, found.first, 1, size, sessions)
+}

@@ -1,0 +1,236 @@
+"""What `sdtool scan` and `sdtool verify` print of a folder: a model of its own, over whole files in memory, by
+docs/FORMATS.md alone."""
+import re
+import struct
+import zlib
+
+from volumes import BLOCK_HEADER, LEAST_BLOCK, MOST_BLOCK, MOST_DATA, PROFILE, RECORD_HEADER
+
+NAME = re.compile(r"(?!\.\.?$)[A-Za-z0-9:._-]{1,127}")
+
+
+def header(image, at):
+    """The size, the number and the key of a block's header, or the word for what is wrong with it."""
+    if len(image) - at < BLOCK_HEADER:
+        return "short"
+    _, size, number, mark, session, time = struct.unpack_from(">III4sII", image, at)
+    if mark != b"BB02":
+        return "id"
+    if not LEAST_BLOCK <= size <= MOST_BLOCK:
+        return "size"
+    return size, number, (time, session)
+
+
+def whole_block(image, at):
+    """The size, number, key and body of the whole block at a place, or the word for what is wrong there."""
+    head = header(image, at)
+    if isinstance(head, str):
+        return head
+    size, number, key = head
+    if size > len(image) - at:
+        return "short"
+    if zlib.crc32(image[at + 4:at + size]) != struct.unpack_from(">I", image, at)[0]:
+        return "checksum"
+    return size, number, key, image[at + BLOCK_HEADER:at + size]
+
+
+def names_in(data, count):
+    """So many texts at the front of the data, each with its zero byte, and what is behind them."""
+    texts = []
+    for _ in range(count):
+        text, zero, data = data.partition(b"\0")
+        if not zero or not NAME.fullmatch(text.decode("latin-1")):
+            return None
+        texts.append(text.decode())
+    return texts, data
+
+
+def label_of(name, image):
+    """The moment of the label block of that name at the front of a file, and its size; none where there is none."""
+    found = whole_block(image, 0)
+    if isinstance(found, str) or found[1] != 0 or found[2] != (0, 0):
+        return None
+    body = found[3]
+    if len(body) < RECORD_HEADER + len(PROFILE) + 12 or not body[RECORD_HEADER:].startswith(PROFILE):
+        return None
+    index, stream, size = struct.unpack_from(">iiI", body)
+    version, moment = struct.unpack_from(">Iq", body, RECORD_HEADER + len(PROFILE))
+    texts = names_in(body[RECORD_HEADER + len(PROFILE) + 12:], 2 + version) if version in (1, 2) else None
+    if (index, stream, size) != (-2, 1, len(body) - RECORD_HEADER) or texts is None or texts[1] or texts[0][0] != name:
+        return None
+    return moment, found[0]
+
+
+def session_label(index, stream, data):
+    """The job, the pool and the totals of a session's label, or none where it is none."""
+    if not data.startswith(PROFILE) or len(data) < len(PROFILE) + 16:
+        return None
+    version, job, _ = struct.unpack_from(">IIq", data, len(PROFILE))
+    texts = names_in(data[len(PROFILE) + 16:], 2)
+    if version != 1 or not 1 <= job < 2**31 or job != stream or texts is None:
+        return None
+    if index == -4:
+        return None if texts[1] else (job, texts[0][0], None)
+    if len(texts[1]) != 20 or struct.unpack_from(">I", texts[1], 16)[0] != 84:
+        return None
+    return job, texts[0][0], struct.unpack_from(">QQ", texts[1])
+
+
+class Session:
+    """A session, by its bodies as they come."""
+
+    def __init__(self, body):
+        self.start, self.runs = None, []
+        self.records = self.bytes = 0
+        self.began = self.ended = self.damaged = False
+        self.due = None
+        first = self.fragments(body)
+        if first and first[0][0] == -4:
+            self.start = session_label(*first[0][:2], first[0][3]) if len(first[0][3]) == first[0][2] else None
+
+    @staticmethod
+    def fragments(body):
+        """The fragments at the front of a body: index, stream, size and part. The last is none where it can't be read."""
+        found, at = [], 0
+        while at < len(body):
+            if len(body) - at < RECORD_HEADER:
+                return [*found, None]
+            index, stream, size = struct.unpack_from(">iiI", body, at)
+            if stream in (0, -2**31):
+                return [*found, None]
+            part = body[at + RECORD_HEADER:at + RECORD_HEADER + size]
+            found.append((index, stream, size, part))
+            at += RECORD_HEADER + len(part)
+        return found
+
+    def take(self, volume, start, body):
+        indexes = [one[0] for one in self.fragments(body) if one and one[0] > 0] or [0]
+        if not self.runs or self.runs[-1][0] != volume:
+            self.runs.append([volume, 0, 0, start, 0])
+        run = self.runs[-1]
+        run[1:] = [run[1] or indexes[0], indexes[-1] or run[2], run[3], start + BLOCK_HEADER + len(body)]
+        if self.damaged:
+            return
+        before = (self.records, self.bytes, self.began, self.ended, self.due)
+        if not all([self.follow(one) for one in self.fragments(body)]):
+            self.records, self.bytes, self.began, self.ended, self.due = before
+            self.damaged = True
+
+    def follow(self, one):
+        """Goes on with the next fragment, if it may stand there."""
+        if one is None or self.damaged or self.ended:
+            self.damaged = True
+            return False
+        index, stream, size, part = one
+        if not self.began:
+            label = session_label(index, stream, part) if index == -4 and len(part) == size else None
+            self.began = label is not None
+            good = self.began
+        elif self.due:
+            good = (index, -stream, size) == self.due and part != b""
+            self.due = (index, -stream, size - len(part)) if len(part) < size else None
+            self.records += good and not self.due
+            self.bytes += len(part)
+        elif index == -5:
+            label = session_label(index, stream, part) if len(part) == size else None
+            good = self.ended = label is not None and label[2] == (self.records, self.bytes)
+        elif index < 1 or stream < 0 or size > MOST_DATA:
+            good = False
+        else:
+            good = True
+            self.due = (index, stream, size - len(part)) if len(part) < size else None
+            self.records += not self.due
+            self.bytes += len(part)
+        self.damaged = self.damaged or not good
+        return good
+
+    def whole_bytes(self):
+        """The data bytes of the whole records alone."""
+        return self.bytes - (self.partial if self.due else 0)
+
+
+class Counting(Session):
+    """The same, with the bytes of an unfinished record apart."""
+
+    def __init__(self, body):
+        super().__init__(body)
+        self.partial = 0
+
+    def follow(self, one):
+        before, due, records = self.bytes, self.due, self.records
+        good = super().follow(one)
+        self.partial = 0 if self.records > records or not self.due else (self.partial if due else 0) + self.bytes - before
+        return good
+
+    def take(self, volume, start, body):
+        before = None if self.damaged else self.partial
+        super().take(volume, start, body)
+        if self.damaged and before is not None:
+            self.partial = before
+
+
+def take_run(name, image, at, number, sessions):
+    """Takes the blocks that stand one behind another from a place on, and gives their end."""
+    while True:
+        found = whole_block(image, at)
+        if isinstance(found, str) or found[1] != number:
+            return at
+        size, _, key, body = found
+        sessions.setdefault(key, Counting(body)).take(name, at, body)
+        at, number = at + size, number + 1
+
+
+def told(key, session, with_spans):
+    """The lines of a session."""
+    job, pool, _ = session.start or (0, "-", None)
+    ended = session.ended and not session.damaged
+    line = (f"session {key[0]} {key[1]} job {job} pool {pool} {'ended' if ended else 'cut'} "
+            f"records {session.records} bytes {session.whole_bytes()}\n")
+    if not with_spans:
+        return "" if ended else line
+    spans = "".join(f"span {volume} {number} {first} {last} {start} {end}\n"
+                    for number, (volume, first, last, start, end) in enumerate(session.runs, 1))
+    return f"{line}session {key[0]} {key[1]}\n{spans}"
+
+
+def behind(name, image, at, with_spans):
+    """What is told of a volume from a place on where no block that is due stands."""
+    while at < len(image):
+        found = whole_block(image, at)
+        yield f"damage {name} {at} {found if isinstance(found, str) else 'number'}\n"
+        while at < len(image) and isinstance(whole_block(image, at), str):
+            at = image.find(b"BB02", at + 13) - 12
+            if at < 0:
+                return
+        yield f"behind {name} {at}\n"
+        sessions = {}
+        at = take_run(name, image, at, whole_block(image, at)[1], sessions)
+        for key, session in sessions.items():
+            yield told(key, session, with_spans)
+
+
+def lines_of(files, names, with_spans):
+    if names is None:
+        labels = {name: label_of(name, image) for name, image in files.items() if NAME.fullmatch(name)}
+        yield "".join(sorted(f"foreign {name}\n" for name, label in labels.items() if label is None))
+        names = sorted((name for name, label in labels.items() if label), key=lambda name: (labels[name][0], name))
+    sessions = {}
+    for name in names:
+        image = files[name]
+        yield f"volume {name} {len(image)}\n"
+        label = label_of(name, image)
+        at = take_run(name, image, label[1], 1, sessions) if label else 0
+        yield from behind(name, image, at, with_spans)
+    for key, session in sessions.items():
+        yield told(key, session, with_spans)
+    yield f"ok scan {len(names)} {len(sessions)}\n"
+
+
+def scanned(files, names=None):
+    """What `sdtool scan` prints of these files, of those that are named where some are."""
+    return "".join(lines_of(files, names, True))
+
+
+def verified(files):
+    """What `sdtool verify` prints of these files."""
+    return "".join(lines_of(files, None, False))
