@@ -1,5 +1,6 @@
 """The programs that the tests run, and a daemon of a test's own."""
 import collections
+import itertools
 import os
 import pathlib
 import random
@@ -16,8 +17,10 @@ SDTOOL = ROOT / "crates" / "sdtool" / "out" / "sdtool"
 # Nothing is waited for longer, in seconds.
 WAIT = 30
 LISTENS = "0A"
-# The datagrams' ports of the ports that were given out last.
-kept_ports = collections.deque(maxlen=100)
+# The ports in the order in which they are given out, so that none comes twice before all others came.
+ports = itertools.cycle(random.sample(range(20_000, 32_000), 12_000))
+# The datagrams' ports of those that were given out last.
+kept_ports = collections.deque(maxlen=400)
 
 
 def build(*programs):
@@ -27,29 +30,34 @@ def build(*programs):
 
 
 def free_port():
-    """A port that nothing has. No other test is given it before its daemon listens, since this process keeps the
-    datagrams' port of that number; and the system gives none of these to a client."""
-    for port in random.sample(range(20_000, 32_000), 12_000):
-        kept, tried = socket.socket(type=socket.SOCK_DGRAM), socket.socket()
-        with tried:
-            try:
-                kept.bind(("127.0.0.1", port))
-                tried.bind(("127.0.0.1", port))
-            except OSError:
-                kept.close()
-                continue
+    """A port that nothing has. No other test is given it between the runs of its daemon: this process gives it once, and
+    keeps the datagrams' port of that number from others for a while; and the system gives none of these to a client.
+    It is not bound here to try it: a process that is just being started would have that socket for a moment too."""
+    for port in itertools.islice(ports, 12_000):
+        kept = socket.socket(type=socket.SOCK_DGRAM)
+        try:
+            kept.bind(("127.0.0.1", port))
+        except OSError:
+            kept.close()
+            continue
         if len(kept_ports) == kept_ports.maxlen:
             kept_ports.popleft().close()
         kept_ports.append(kept)
-        return port
+        if not any(local == port for local, _ in sockets()):
+            return port
     raise OSError("no port is free")
+
+
+def sockets():
+    """The local port and the state of each socket, those of connections that ended a while ago too."""
+    for line in pathlib.Path("/proc/net/tcp").read_text().splitlines()[1:]:
+        _, local, _, state, *_ = line.split()
+        yield int(local.partition(":")[2], 16), state
 
 
 def is_listened_on(port):
     """Whether a socket listens on that port. No connection is made, since the daemon would take that for a talk."""
-    lines = pathlib.Path("/proc/net/tcp").read_text().splitlines()[1:]
-    sockets = map(str.split, lines)
-    return any(state == LISTENS and int(local.partition(":")[2], 16) == port for _, local, _, state, *_ in sockets)
+    return (port, LISTENS) in sockets()
 
 
 def drive(media, folder, *lines):

@@ -93,7 +93,12 @@ fn play_on<R: Threads + Wait + Clock + Sync + Copy + Drop>(
 }
 
 // Fills the queue, and takes half of what it holds.
-fn begin<R: Wait + Copy + Drop>(alloc: Global, queue: &mut RuledLanes<R>, case: &Case, book: &mut Book)
+fn begin<R: Wait + Copy + Drop>(
+    alloc: Global,
+    queue: &mut RuledLanes<R>,
+    case: &Case,
+    book: &mut Book,
+)
     requires { (1 ≤ case.now.lanes) × (case.now.lanes ≤ most_lanes) × (queue.old.lanes ≡ case.now.lanes) }
     ensures { queue.new.lanes ≡ queue.old.lanes }
 {
@@ -133,7 +138,12 @@ fn add_each(sent: &mut Counts, lanes: u32, each: u64) {
 }
 
 // Fills the queue again, and takes all that it holds.
-fn finish<R: Wait + Copy + Drop>(alloc: Global, queue: &mut RuledLanes<R>, case: &Case, book: &mut Book)
+fn finish<R: Wait + Copy + Drop>(
+    alloc: Global,
+    queue: &mut RuledLanes<R>,
+    case: &Case,
+    book: &mut Book,
+)
     requires { (1 ≤ case.now.lanes) × (case.now.lanes ≤ most_lanes) × (queue.old.lanes ≡ case.now.lanes) }
     ensures { queue.new.lanes ≡ queue.old.lanes }
 {

@@ -1,0 +1,6 @@
+pub mod AnswerLemmas
+pub mod ClaimLemmas
+pub mod OperateLemmas
+pub mod SeekLemmas
+pub mod SideLemmas
+pub mod TurnLemmas

@@ -1,0 +1,5 @@
+use Rattle.std.proofs.Common.{inl}
+use Rattle.sd_line.proofs.line.Line.turn.Goals as goal
+
+pub returns : goal.returns
+returns g c = inl (_, _, c.turn_on.ensures.turns)

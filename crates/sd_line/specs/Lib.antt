@@ -1,0 +1,3 @@
+pub mod Operates
+pub mod Side
+pub mod Turns

@@ -1,0 +1,64 @@
+-- What contracts see of a line, and what the value under its lock keeps.
+use Rattle.std.specs.Prelude.{◌≡◌, ℕ, List, [], ◌∷◌, ◌++◌, map, Option, Some}
+use Rattle.atomic_table.specs.Seated.{TableId}
+use Rattle.sd_driver.specs.Meaning.{Meaning, IsHonest}
+use Rattle.sd_drive.specs.Limits.{AreLimits}
+use Rattle.sd_drive.specs.Shelf.{blocks}
+use Rattle.sd_drive.specs.View.{DriveIs, items, item_of_piece, block_of_piece}
+use Rattle.sd_drive.specs.declared.limits.Limits.{Limits}
+use Rattle.sd_journal.specs.Journal.{Item}
+use Rattle.sd_lane.specs.declared.piece.Piece.{Piece}
+use Rattle.sd_lane.specs.declared.piece.Queued.{Queued}
+use Rattle.sd_ruled.specs.Seats.{QueueIs, LaneSeatIs, DriveSeatIs}
+use Rattle.sd_volume.specs.Image.{Block}
+
+-- what lies under the lock: the drive, its number, and its seat at the queue
+pub record SideIs (D : Type 0) : Type 0 where
+  pub no : ℕ
+  pub drive : DriveIs D
+  pub seat : DriveSeatIs
+
+-- a line, but for what its lock hides: the number of its drive, that drive's media and limits, which nothing changes, and the
+-- queue before it
+pub record LineIs : Type 0 where
+  pub no : ℕ
+  pub media : List ℕ
+  pub limits : Limits
+  pub queue : QueueIs
+
+-- the seat of a lane, with the number of the line's drive
+pub record SeatIs : Type 0 where
+  pub no : ℕ
+  pub seat : LaneSeatIs
+
+-- the queue of no line
+abbrev pub no_table : TableId
+no_table = record { words = 0; slots = 0; views_name = 0; atom = 0; block = 0; offset = 0; slot_names = [] }
+
+-- the seats of the drive of this number
+abbrev pub seats_at : ℕ → List LaneSeatIs → List SeatIs
+seats_at own seats = map (λ s. record { no = own; seat = s }) seats
+
+-- the seat that sent one piece more
+abbrev pub sends_one : Piece → SeatIs → SeatIs
+sends_one piece s = record s { seat = record s.seat { sent = s.seat.sent ++ piece ∷ [] } }
+
+-- what placements have of the pieces that were taken, in order
+abbrev pub items_taken : List Queued → List Item
+items_taken taken = map (λ q. item_of_piece q.piece) taken
+
+-- the blocks that these pieces become, none of which is gone
+abbrev pub blocks_taken : List Queued → List (Option Block)
+blocks_taken taken = map (λ q. Some (block_of_piece q.piece)) taken
+
+-- What the value under the lock keeps, whatever threads do. Its seat is of the queue that is named
+-- for its number, and its drive of the run; the drive's limits are such as a drive may have. The
+-- drive's journal and then its hand follow the pieces that the seat took: they have, in order, each
+-- one's key, indexes and length. And while the device is honest, the block that stands at each
+-- placement, and then the one of the piece in the hand, has that piece's key and body.
+pub record KeepsSide {D : Type 0} (meaning : D → Meaning) (table : ℕ → TableId) (time : ℕ → ℕ) (s : SideIs D) : Type 0 where
+  pub here : s.seat.table ≡ table s.no
+  pub run : s.drive.limits.time ≡ time s.no
+  pub limits : AreLimits s.drive.limits
+  pub follows : items s.drive.journal s.drive.hand ≡ items_taken s.seat.taken
+  pub holds : IsHonest (meaning s.drive.device) → blocks (meaning s.drive.device).shelf s.drive.journal s.drive.hand ≡ blocks_taken s.seat.taken

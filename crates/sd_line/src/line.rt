@@ -1,0 +1,255 @@
+// A line, and its lock.
+ghost use Rattle.std.specs.Prelude.{◌≡◌, ◌≢◌, ◌≤◌, ℕ, List, [], ◌∷◌, ◌++◌, None, Some, length, slice_get, IfOk, IfErr, IfSome, OnOk, OnErr};
+ghost use Rattle.std.specs.Sync.Mutex.{mutex_guard_value};
+ghost use Rattle.std.specs.Vec.{vec_capacity};
+ghost use Rattle.sd_base.specs.Limits.{most_lanes};
+ghost use Rattle.sd_base.specs.declared.refusal.Refusal.TheVariants.{BadCommand};
+ghost use Rattle.sd_drive.specs.Limits.{AreLimits};
+ghost use Rattle.sd_drive.specs.View.{DriveIs};
+ghost use Rattle.sd_journal.specs.Journal.{Entry, placements, progress_of};
+ghost use Rattle.sd_lane.specs.Queue.{WasFull};
+ghost use Rattle.sd_line.specs.Operates.{MayOperate, operated_at};
+ghost use Rattle.sd_line.specs.Side.{seats_at};
+ghost use Rattle.sd_line.specs.Turns.{MayTurn};
+ghost use Rattle.sd_machine.specs.declared.reply.Reply.TheVariants.{Refused};
+ghost use Rattle.sd_ruled.specs.Seats.{LaneSeatIs, seats_of};
+ghost use Rattle.sd_span.specs.Spans.{spans_of};
+ghost use Rattle.sd_world.specs.Reading.{ReadsDrive};
+
+use crate::gate::Gate;
+use crate::naming::Naming;
+use crate::seat::Seat;
+use crate::side::DriveSide;
+use crate::turning::Turned;
+use sd_base::{DriveNo, Items, MOST_LANES, MediaName, PoolName, Refusal, SessionKey};
+use sd_drive::{Drive, Limits};
+use sd_driver::Driver;
+use sd_lane::Piece;
+use sd_machine::{Event, Reply};
+use sd_readback::{ReadEnd, Sink};
+use sd_ruled::{LaneQueue, LaneSeat, NotSplit, RuledLanes, Split};
+use sd_span::{Progress, Span};
+use std::alloc::{AllocError, Global};
+use std::marker::Model;
+use std::sync::{Mutex, MutexGuard, Wait};
+
+/// A drive under a lock, and the queue before it, which threads share without one. In a contract it
+/// is a `LineIs`.
+#[derive(Drop)]
+pub struct Line<D: Driver, N: Naming, R: Wait + Drop> {
+    rt: R,
+    no: DriveNo,
+    // Those of the drive, so that who opens a session need not take the lock to know them.
+    media: MediaName,
+    limits: Limits,
+    queue: LaneQueue<R>,
+    side: Mutex<DriveSide<D, N>>,
+}
+
+impl<D: Driver, N: Naming, R: Wait + Drop> Model for Line<D, N, R> {
+    ghost use Rattle.std.specs.Prelude.{◌≡◌};
+    ghost use Rattle.sd_drive.specs.Limits.{AreLimits};
+    ghost use Rattle.sd_line.specs.Side.{LineIs};
+
+    ghost Value = { LineIs };
+
+    ghost view = { λ l. record { no = l.no; media = l.media; limits = l.limits; queue = l.queue } };
+
+    ghost invariant = { λ l. record {
+      here : l.queue.table ≡ N.table l.no;
+      run : l.limits.time ≡ N.time l.no;
+      limits : AreLimits l.limits;
+    } };
+}
+
+/// A drive and a queue of which no line was made, for want of memory.
+#[derive(Drop)]
+pub struct NotLined<D: Driver, R: Wait + Drop> {
+    pub drive: Drive<D>,
+    pub lanes: RuledLanes<R>,
+}
+
+impl<D: Driver, N: Naming, R: Wait + Drop> Line<D, N, R> {
+    /// A line of a drive and of the queue before it, and the seats of the lanes 1, 2 and on. Where
+    /// memory is wanted drive and queue come back.
+    pub fn new(
+        rt: R,
+        alloc: Global,
+        no: DriveNo,
+        drive: Drive<D>,
+        lanes: RuledLanes<R>,
+    ) -> Result<(Self, Vec<Seat<N>>), NotLined<D, R>>
+        requires named { (lanes.table ≡ N.table no) × (drive.limits.time ≡ N.time no) }
+        requires limits { AreLimits drive.limits }
+        requires most { lanes.lanes ≤ most_lanes }
+        requires unused { (drive.journal ≡ []) × (drive.hand ≡ None) }
+        requires empty { (lanes.taken ≡ []) × (lanes.held ≡ []) }
+        ensures line { IfOk result (λ made. made.0 ≡ record {
+          no = no;
+          media = drive.media;
+          limits = drive.limits;
+          queue = record { table = lanes.table; capacity = lanes.capacity };
+        }) }
+        ensures seats { IfOk result (λ made. made.1.items
+            ≡ seats_at no (seats_of lanes.table lanes.lanes [] lanes.lanes)) }
+        ensures err { IfErr result (λ back. (back.drive ≡ drive) × (back.lanes ≡ lanes)) }
+    {
+        let Ok(mut seats) = Vec::with_capacity(alloc, MOST_LANES as usize) else {
+            return Err(NotLined { drive, lanes });
+        };
+        let Split {
+            queue,
+            lanes,
+            drive: seat,
+        } = match lanes.split(alloc) {
+            Ok(split) => split,
+            Err(NotSplit { lanes }) => return Err(NotLined { drive, lanes }),
+        };
+        name_seats(no, lanes, &mut seats);
+        let media = drive.media().copy();
+        let limits = drive.limits().copy();
+        let side = Mutex::new(DriveSide::new(no, drive, seat));
+        let line = Line {
+            rt,
+            no,
+            media,
+            limits,
+            queue,
+            side,
+        };
+        Ok((line, seats))
+    }
+
+    /// The number of the line's drive.
+    pub fn no(&self) -> DriveNo
+        ensures { result ≡ self.now.no }
+    {
+        self.no
+    }
+
+    /// The media of the line's drive.
+    pub fn media(&self) -> &MediaName
+        ensures { result.now ≡ self.now.media }
+    {
+        &self.media
+    }
+
+    /// The limits of the line's drive.
+    pub fn limits(&self) -> &Limits
+        ensures limits { result.now ≡ self.now.limits }
+        ensures run { self.now.limits.time ≡ N.time self.now.no }
+        ensures known { AreLimits self.now.limits }
+    {
+        &self.limits
+    }
+
+    /// Notes a session at the drive, with its lock held: as `DriveSide::serve`.
+    pub fn serve(&self, key: SessionKey, pool: &PoolName) -> Result<(), AllocError> {
+        let mut side = self.side.lock(&self.rt);
+        let side: &mut DriveSide<D, N> = &mut side;
+        side.serve(key, pool)
+    }
+
+    /// The queue before the line's drive, into which the seats of its lanes push.
+    pub fn queue(&self) -> &LaneQueue<R>
+        ensures queue { result.now ≡ self.now.queue }
+        ensures here { self.now.queue.table ≡ N.table self.now.no }
+    {
+        &self.queue
+    }
+
+    // Pushes a piece by a lane's seat.
+    pub(crate) fn push(&self, seat: &mut LaneSeat, piece: Piece) -> Result<(), Piece>
+        requires { seat.old.table ≡ N.table self.now.no }
+        ensures ok { OnOk result (seat.new ≡ record seat.old { sent = seat.old.sent ++ piece ∷ [] }) }
+        ensures given_back { IfErr result (λ back. back ≡ piece) }
+        ensures err { OnErr result (seat.new ≡ seat.old) }
+        ensures was_full { OnErr result (WasFull seat.old.lanes self.now.queue.capacity
+            seat.old.lane seat.old.sent) }
+    {
+        seat.push(&self.queue, piece)
+    }
+
+    /// Takes the drive's lock. Each line's lock has its number; one that has another isn't handed
+    /// out.
+    pub fn lock(&self) -> Option<MutexGuard<'_, DriveSide<D, N>>>
+        ensures { IfSome result (λ side. (mutex_guard_value side).no ≡ self.now.no) }
+    {
+        let side = self.side.lock(&self.rt);
+        if side.no() == self.no {
+            Some(side)
+        } else {
+            None
+        }
+    }
+
+    /// A turn of the drive, with its lock held: as `DriveSide::turn_on`.
+    pub fn turn<G: Gate>(&self, gate: &G) -> Turned
+        ensures { MayTurn (λ d. D.meaning d) result }
+    {
+        let Some(mut side) = self.lock() else {
+            return Turned::nothing();
+        };
+        let side: &mut DriveSide<D, N> = &mut side;
+        side.turn_on(&self.queue, gate)
+    }
+
+    /// Answers an event of the operator, with the drive's lock held: as `DriveSide::operate_on`.
+    pub fn operate(&self, event: Event) -> Reply
+        ensures answers { MayOperate (λ d. D.meaning d) self.now.no event result }
+        ensures elsewhere { operated_at event ≢ Some self.now.no → result ≡ Refused BadCommand }
+    {
+        let Some(mut side) = self.lock() else {
+            return Reply::Refused(Refusal::BadCommand);
+        };
+        let side: &mut DriveSide<D, N> = &mut side;
+        side.operate_on(event)
+    }
+
+    /// The spans of a session, as far as it was placed when the drive's lock was held.
+    pub fn spans(&self, key: SessionKey) -> Result<Items<Span>, AllocError>
+        ensures { IfOk result (λ spans. (journal : List Entry)
+            × (spans ≡ spans_of key (placements journal))) }
+    {
+        let side = self.side.lock(&self.rt);
+        let side: &DriveSide<D, N> = &side;
+        side.drive().spans(key)
+    }
+
+    /// How far a session's blocks were when the drive's lock was held. Takes no memory.
+    pub fn progress(&self, key: SessionKey) -> Progress
+        ensures { (journal : List Entry) × (result ≡ progress_of key journal) }
+    {
+        let side = self.side.lock(&self.rt);
+        let side: &DriveSide<D, N> = &side;
+        side.drive().progress(key)
+    }
+
+    /// Reads a session back from its spans, with the drive's lock held all the time.
+    pub fn read<S: Sink>(
+        &self,
+        key: SessionKey,
+        spans: &[Span],
+        sink: &mut S,
+    ) -> Result<ReadEnd, Refusal>
+        ensures { (old : DriveIs D) × (new : DriveIs D) × ReadsDrive (λ d. D.meaning d) key spans.now
+            (S.got sink.old) (S.got sink.new) result old new }
+    {
+        let mut side = self.side.lock(&self.rt);
+        let side: &mut DriveSide<D, N> = &mut side;
+        side.read(key, spans, sink)
+    }
+}
+
+// The seats, each with the number of its line.
+fn name_seats<N: Naming>(no: DriveNo, lanes: Vec<LaneSeat>, seats: &mut Vec<Seat<N>>)
+    requires named { (k : ℕ) (seat : LaneSeatIs) → slice_get lanes.items k ≡ Some seat
+        → seat.table ≡ N.table no }
+    requires room { length lanes.items ≤ vec_capacity seats.old }
+    requires none { seats.old.items ≡ [] }
+    ensures { seats.new.items ≡ seats_at no lanes.items }
+{
+    for seat in lanes {
+        seats.push_reserved(Seat::new(no, seat));
+    }
+}

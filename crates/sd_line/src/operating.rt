@@ -1,0 +1,157 @@
+// What an operator does to the drive of a line, where no desk is.
+ghost use Rattle.std.specs.Prelude.{◌≡◌, ◌↔◌, ℕ, Some, IsTrue, MatchOption};
+ghost use Rattle.sd_drive.specs.Moves.{TakesBlocks, TakesOn};
+ghost use Rattle.sd_machine.specs.declared.event.Event.TheVariants.{Sync, Label, Adopt, Mount, Unmount, Seek};
+ghost use Rattle.sd_line.specs.Operates.{Operates, AnswersAlone, operated_at};
+ghost use Rattle.sd_volume.specs.Volume.{VolumeView};
+ghost use Rattle.sd_world.specs.Operators.{NeedsNone};
+
+use sd_base::{DriveNo, MediaName, PoolName, Refusal, VolName};
+use sd_desk::next_volume;
+use sd_drive::Drive;
+use sd_driver::Driver;
+use sd_machine::{Event, Reply};
+
+/// Answers an event that a line answers at the drive of this number. Any other is a bad command.
+pub(crate) fn operate<D: Driver>(drive: &mut Drive<D>, own: DriveNo, event: &Event) -> Reply
+    ensures { Operates (λ d. D.meaning d) own event.now result drive.old drive.new }
+{
+    if operated_at(event) != Some(own) {
+        return Reply::Refused(Refusal::BadCommand);
+    }
+    match event {
+        Event::Sync { .. } => sync(drive),
+        Event::Label {
+            name,
+            pool,
+            media,
+            moment,
+            ..
+        } => label(drive, name, pool, media, *moment),
+        Event::Adopt { name, .. } => adopt(drive, name),
+        Event::Mount { name, .. } => mount(drive, name),
+        Event::Unmount { .. } => unmount(drive),
+        Event::Seek { .. } => seek(drive),
+        _ => unreachable!(),
+    }
+}
+
+// The drive at which a line answers the event.
+fn operated_at(event: &Event) -> Option<DriveNo>
+    ensures { result ≡ operated_at event.now }
+{
+    match event {
+        Event::Sync { drive }
+        | Event::Label { drive, .. }
+        | Event::Adopt { drive, .. }
+        | Event::Mount { drive, .. }
+        | Event::Unmount { drive }
+        | Event::Seek { drive } => Some(*drive),
+        _ => None,
+    }
+}
+
+// Makes the blocks of the drive's loaded volume last.
+fn sync<D: Driver>(drive: &mut Drive<D>) -> Reply
+    ensures { (own : ℕ) → AnswersAlone (λ d. D.meaning d) own (Sync own) result
+        drive.old drive.new }
+{
+    match drive.sync() {
+        Ok(()) => Reply::Synced,
+        Err(why) => Reply::Refused(why),
+    }
+}
+
+// Labels a new volume.
+fn label<D: Driver>(
+    drive: &mut Drive<D>,
+    name: &VolName,
+    pool: &PoolName,
+    media: &MediaName,
+    moment: i64,
+) -> Reply
+    ensures { (own : ℕ) → AnswersAlone (λ d. D.meaning d) own
+        (Label own name.now pool.now media.now moment) result drive.old drive.new }
+{
+    match drive.label(name, pool, media, moment) {
+        Ok(()) => Reply::Labelled,
+        Err(why) => Reply::Refused(why),
+    }
+}
+
+// Takes over a volume that an earlier run left.
+fn adopt<D: Driver>(drive: &mut Drive<D>, name: &VolName) -> Reply
+    ensures { (own : ℕ) → AnswersAlone (λ d. D.meaning d) own (Adopt own name.now) result
+        drive.old drive.new }
+{
+    match drive.adopt(name) {
+        Ok(adopted) => Reply::Adopted {
+            end: adopted.end,
+            next: adopted.next_number,
+        },
+        Err(why) => Reply::Refused(why),
+    }
+}
+
+// Loads the drive's volume of that name in place of the one that is loaded.
+fn mount<D: Driver>(drive: &mut Drive<D>, name: &VolName) -> Reply
+    ensures { (own : ℕ) → AnswersAlone (λ d. D.meaning d) own (Mount own name.now) result
+        drive.old drive.new }
+{
+    match drive.mount(name) {
+        Ok(()) => Reply::Mounted { name: name.copy() },
+        Err(why) => Reply::Refused(why),
+    }
+}
+
+// Makes the blocks of the drive's loaded volume last, and takes it out.
+fn unmount<D: Driver>(drive: &mut Drive<D>) -> Reply
+    ensures { (own : ℕ) → AnswersAlone (λ d. D.meaning d) own (Unmount own) result
+        drive.old drive.new }
+{
+    match drive.unmount() {
+        Ok(()) => Reply::Unmounted,
+        Err(why) => Reply::Refused(why),
+    }
+}
+
+// Loads the first of the drive's volumes that takes blocks of its pool, if it needs one.
+fn seek<D: Driver>(drive: &mut Drive<D>) -> Reply
+    ensures { (own : ℕ) → AnswersAlone (λ d. D.meaning d) own (Seek own) result
+        drive.old drive.new }
+{
+    let Some(pool) = wanted(drive) else {
+        return Reply::NoNeed;
+    };
+    drive.know();
+    match next_volume(drive.volumes(), &pool) {
+        Some(name) => mount(drive, &name),
+        None => Reply::Requested,
+    }
+}
+
+// The pool of which the drive needs a volume.
+fn wanted<D: Driver>(drive: &Drive<D>) -> Option<PoolName>
+    ensures { MatchOption result (NeedsNone drive.now)
+        (λ pool. (TakesBlocks drive.now → ⊥) × (drive.now.pool ≡ Some pool)) }
+{
+    let Some(pool) = drive.pool() else {
+        return None;
+    };
+    if takes_blocks_of(drive, pool) {
+        return None;
+    }
+    Some(pool.copy())
+}
+
+// Whether the drive's loaded volume takes blocks of the pool.
+fn takes_blocks_of<D: Driver>(drive: &Drive<D>, pool: &PoolName) -> bool
+    ensures { IsTrue result ↔ ((at : ℕ) × (volume : VolumeView)
+        × TakesOn drive.now.volumes drive.now.loaded (Some pool.now) at volume) }
+{
+    let Some(at) = drive.loaded() else {
+        return false;
+    };
+    drive.know();
+    drive.volumes()[at].is_appendable_for(pool)
+}

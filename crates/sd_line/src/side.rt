@@ -1,0 +1,164 @@
+// What lies under the lock of a line.
+ghost use Rattle.std.specs.Prelude.{◌≡◌, Some, OnOk, OnErr};
+ghost use Rattle.sd_driver.specs.Shelf.{StillLasts};
+ghost use Rattle.sd_drive.specs.Shelf.{Kept};
+ghost use Rattle.sd_journal.specs.Journal.{with_key};
+ghost use Rattle.sd_line.specs.Operates.{Operates, OwnLast};
+ghost use Rattle.sd_line.specs.Side.{KeepsSide};
+ghost use Rattle.sd_line.specs.Turns.{Turns};
+ghost use Rattle.sd_world.specs.Devices.{GoesOn};
+ghost use Rattle.sd_world.specs.Reading.{ReadsDrive};
+
+use crate::gate::Gate;
+use crate::naming::Naming;
+use crate::operating;
+use crate::turning::{self, Turned};
+use sd_base::{DriveNo, PoolName, Refusal, SessionKey};
+use sd_drive::Drive;
+use sd_driver::Driver;
+use sd_machine::{Event, Reply};
+use sd_readback::{ReadEnd, Sink};
+use sd_ruled::{DriveSeat, LaneQueue};
+use sd_span::Span;
+use std::alloc::AllocError;
+use std::marker::{Model, PhantomData};
+use std::sync::Wait;
+
+/// A drive with its seat at the queue before it. In a contract it is a `SideIs`.
+///
+/// Its type keeps what `KeepsSide` says: the drive's journal and hand follow the pieces that the
+/// seat took.
+#[derive(Drop)]
+pub struct DriveSide<D: Driver, N: Naming> {
+    no: DriveNo,
+    drive: Drive<D>,
+    seat: DriveSeat,
+    of: PhantomData<N>,
+}
+
+impl<D: Driver, N: Naming> Model for DriveSide<D, N> {
+    ghost use Rattle.sd_line.specs.Side.{SideIs, KeepsSide};
+
+    ghost Value = { SideIs D };
+
+    ghost view = { λ s. record { no = s.no; drive = s.drive; seat = s.seat } };
+
+    ghost invariant = { λ s. KeepsSide (λ d. D.meaning d) N.table N.time
+        (record { no = s.no; drive = s.drive; seat = s.seat }) };
+}
+
+impl<D: Driver, N: Naming> DriveSide<D, N> {
+    pub(crate) fn new(no: DriveNo, drive: Drive<D>, seat: DriveSeat) -> Self
+        requires { KeepsSide (λ d. D.meaning d) N.table N.time
+            (record { no = no; drive = drive; seat = seat }) }
+        ensures { result ≡ record { no = no; drive = drive; seat = seat } }
+    {
+        DriveSide {
+            no,
+            drive,
+            seat,
+            of: PhantomData,
+        }
+    }
+
+    /// The number of the drive.
+    pub fn no(&self) -> DriveNo
+        ensures { result ≡ self.now.no }
+    {
+        self.no
+    }
+
+    pub fn drive(&self) -> &Drive<D>
+        ensures { result.now ≡ self.now.drive }
+    {
+        &self.drive
+    }
+
+    /// What holds whenever the lock is taken; and so, with an honest device, each synced block ends
+    /// at or below the stable length of its volume. Does nothing.
+    pub fn know(&self)
+        ensures side { KeepsSide (λ d. D.meaning d) N.table N.time self.now }
+        ensures drive { Kept (D.meaning self.now.drive.device) self.now.drive.volumes
+            self.now.drive.loaded self.now.drive.journal }
+    {
+        self.drive.know();
+    }
+
+    /// A turn: takes a piece from the queue where the drive's hand is empty, then places, and syncs
+    /// exactly where there was nothing to place or no volume for it. What lasted lasts, at each
+    /// moment in between too. Where memory is wanted for the place, the piece stays in the hand.
+    pub fn turn_on<R: Wait + Drop, G: Gate>(&mut self, queue: &LaneQueue<R>, gate: &G) -> Turned
+        requires { queue.now.table ≡ N.table self.old.no }
+        ensures turns { Turns (λ d. D.meaning d) result self.old self.new }
+        ensures lasts { StillLasts (D.meaning self.old.drive.device).shelf
+            (D.meaning self.new.drive.device).shelf }
+        ensures goes_on { GoesOn (λ _. Unit {0}) (D.meaning self.old.drive.device)
+            (D.meaning self.new.drive.device) }
+    {
+        let took = turning::take(&mut self.drive, &mut self.seat, queue);
+        let place = turning::place(&mut self.drive, gate);
+        let sync = turning::sync(&mut self.drive, turning::is_sync_due(&place));
+        Turned { took, place, sync }
+    }
+
+    /// Answers a label, an adoption, a mount, an unmount, a seek or a sync of this drive; any other
+    /// event, and one of another drive, is a bad command. No desk is asked: a name counts as
+    /// claimed where the drive has a volume of it, and a drive that needs a volume and has none
+    /// answers `Requested`. The pieces given so far stay. Of the drive's
+    /// volumes what lasted lasts, and so do whole blocks of an adopted one.
+    pub fn operate_on(&mut self, event: Event) -> Reply
+        ensures same { (self.new.no ≡ self.old.no) × (self.new.seat ≡ self.old.seat) }
+        ensures operates { Operates (λ d. D.meaning d) self.old.no event result
+            self.old.drive self.new.drive }
+        ensures own_last { OwnLast self.old.drive (D.meaning self.old.drive.device).shelf
+            (D.meaning self.new.drive.device).shelf }
+        ensures goes_on { GoesOn (λ _. Unit {0}) (D.meaning self.old.drive.device)
+            (D.meaning self.new.drive.device) }
+    {
+        operating::operate(&mut self.drive, self.no, &event)
+    }
+
+    /// Notes a session that was opened by a lane: its pool is the drive's from then on, and there is room for its next
+    /// placement.
+    pub fn serve(&mut self, key: SessionKey, pool: &PoolName) -> Result<(), AllocError>
+        ensures ok { OnOk result (self.new ≡ record self.old {
+          drive = record self.old.drive {
+            pool = Some pool.now;
+            ready = with_key key self.old.drive.ready;
+          };
+        }) }
+        ensures err { OnErr result (self.new ≡ self.old) }
+    {
+        self.drive.serve(key, pool)
+    }
+
+    /// Reads a session back from its spans, as the drive does. Nothing changes but its device, of which no volume does.
+    pub fn read<S: Sink>(
+        &mut self,
+        key: SessionKey,
+        spans: &[Span],
+        sink: &mut S,
+    ) -> Result<ReadEnd, Refusal>
+        ensures same { (self.new.no ≡ self.old.no) × (self.new.seat ≡ self.old.seat) }
+        ensures reads { ReadsDrive (λ d. D.meaning d) key spans.now (S.got sink.old) (S.got sink.new)
+            result self.old.drive self.new.drive }
+    {
+        read_drive(&mut self.drive, key, spans, sink)
+    }
+}
+
+// Reads a session back through the drive.
+fn read_drive<D: Driver, S: Sink>(
+    drive: &mut Drive<D>,
+    key: SessionKey,
+    spans: &[Span],
+    sink: &mut S,
+) -> Result<ReadEnd, Refusal>
+    ensures { ReadsDrive (λ d. D.meaning d) key spans.now (S.got sink.old) (S.got sink.new)
+        result drive.old drive.new }
+{
+    match drive.read(key, spans, sink) {
+        Ok(end) => Ok(end),
+        Err(fault) => Err(fault.refusal()),
+    }
+}

@@ -1,0 +1,3 @@
+pub mod Closes
+pub mod Ends
+pub mod Parts

@@ -1,0 +1,16 @@
+//! What threads have of a line without its lock: the end of a lane, with the sessions that used it, and the part of the
+//! session that uses it now.
+#![tactic(auto)]
+
+mod closing;
+mod lane_end;
+mod opening;
+mod part;
+mod pushing;
+mod seat_at;
+mod told;
+
+pub use closing::Closing;
+pub use lane_end::LaneEnd;
+pub use opening::NotParted;
+pub use part::SessionPart;
