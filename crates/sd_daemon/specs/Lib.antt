@@ -1,3 +1,4 @@
+pub mod Address
 pub mod Serve
 pub mod Served
 pub mod TalkPort

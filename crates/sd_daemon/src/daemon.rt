@@ -8,13 +8,14 @@ ghost use Rattle.sd_port.specs.Port.{IsOver};
 ghost use Rattle.sd_serve.specs.Talks.{HeldTalks};
 ghost use Rattle.sd_setup.specs.World.{OpensAs};
 
+use crate::address::address_of;
 use crate::files::{FilePort, Run, ServedPort};
 use sd_conf::Conf;
 use sd_serve::{Log, LogLine, LoggedPort, serve_talks, since_1970, time_of};
 use sd_setup::{FileWorld, open_world};
 use std::io::Write;
 use std::marker::Brand;
-use std::net::{Ipv4Addr, SocketAddr, TcpListener};
+use std::net::TcpListener;
 use std::snapshot::Snapshot;
 
 /// Why nothing is served.
@@ -43,8 +44,7 @@ pub fn serve<L: Write + Drop>(
     let Some(time) = time_now(rt) else {
         return Err(ServeFault::Time);
     };
-    let address = SocketAddr::from((Ipv4Addr::LOCALHOST, conf.port));
-    let Ok(listener) = TcpListener::bind(rt, address) else {
+    let Ok(listener) = TcpListener::bind(rt, address_of(conf)) else {
         return Err(ServeFault::Port);
     };
     serve_run::<Brand, L>(rt, conf, time, &listener, connections, log)

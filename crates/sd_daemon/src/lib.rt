@@ -2,6 +2,7 @@
 //! a port of this machine alone.
 #![tactic(auto)]
 
+mod address;
 mod conf_file;
 mod daemon;
 mod files;
