@@ -17,6 +17,8 @@ SDTOOL = ROOT / "crates" / "sdtool" / "out" / "sdtool"
 # Nothing is waited for longer, in seconds.
 WAIT = 30
 LISTENS = "0A"
+# The file that a daemon has locked in the folder of each drive.
+LOCK = ".lock~"
 # The ports in the order in which they are given out, so that none comes twice before all others came.
 ports = itertools.cycle(random.sample(range(20_000, 32_000), 12_000))
 # The datagrams' ports of those that were given out last.

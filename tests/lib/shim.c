@@ -35,6 +35,8 @@
    At the call of the number STOP_BEFORE the program ends before it, as by kill -9, and at that of STOP_AFTER behind it. The
    write of the number STOP_FAILS, of those alone, is done and fails.
 
+   Of both folders the file by which a daemon locks them is left out: each call on it goes on as it is.
+
    Connections.
      QUIET_SECONDS   a read or a write that may wait 300 seconds waits so many
      WIRE            a file that says at each connection how that is cut and what fails, in numbers: the most bytes of its first
@@ -174,15 +176,19 @@ __attribute__((destructor)) static void tell_counts(void)
 /* The open files that are watched: the last part of the path of each, "." for the folder itself. */
 static char planned[MOST_FILES][256], counted[MOST_FILES][256];
 
-/* The last part of a path of the folder that the environment names, "." for the folder; NULL for another path. */
+#define LOCK ".lock~"
+
+/* The last part of a path of the folder that the environment names, "." for the folder; NULL for another path, and for the
+   file by which the folder is locked. */
 static const char *name_in(const char *path, const char *place)
 {
-    const char *folder = getenv(place);
+    const char *folder = getenv(place), *name;
     size_t size = folder ? strlen(folder) : 0;
 
     if (!folder || !path || strncmp(path, folder, size) != 0 || (path[size] != '/' && path[size] != 0))
         return NULL;
-    return path[size] == '/' && path[size + 1] ? strrchr(path, '/') + 1 : ".";
+    name = path[size] == '/' && path[size + 1] ? strrchr(path, '/') + 1 : ".";
+    return strcmp(name, LOCK) == 0 ? NULL : name;
 }
 
 static const char *name_of(char names[][256], int file)

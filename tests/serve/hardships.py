@@ -1,5 +1,6 @@
-"""What a daemon may meet: clients that take nothing, that wait for each other; want of memory; a log that nobody reads
-or that isn't wanted; being stopped for a while; a limit of its files. No signal is masked here. tests/serve/run runs it.
+"""What a daemon may meet: clients that take nothing, that wait for each other; another daemon over its folder; want of
+memory; a log that nobody reads or that isn't wanted; being stopped for a while; a limit of its files. No signal is masked
+here. tests/serve/run runs it.
 """
 import collections
 import concurrent.futures
@@ -14,7 +15,7 @@ import subprocess
 import time
 
 from clients import client, say
-from daemon import SDTOOL, WAIT, Daemon, drive, free_port
+from daemon import LOCK, SDTOOL, WAIT, Daemon, drive, free_port, serve_status
 from shim import loaded
 
 # So much is neither kept by the system for a client that reads nothing, nor long to write.
@@ -206,6 +207,76 @@ def limited_files(checks, folder, _):
         place.serves(checks, "without the limit")
 
 
+def beside(place, *folders):
+    """The configuration of another daemon, over these folders, and its port."""
+    port = free_port()
+    conf = place.folder / f"conf-{port}"
+    conf.write_text(f"port = {port}\n" + "".join(drive("File", folder) for folder in folders))
+    return conf, port
+
+
+def holds(folder):
+    """What the files of a folder hold, and their modes."""
+    return {path.name: (path.read_bytes(), path.stat().st_mode & 0o777) for path in folder.iterdir()}
+
+
+def two_daemons(checks, folder, _):
+    """Another daemon over a folder that is served is refused, on a port of its own too, and changes nothing there. Once the
+    first one is killed it starts, and reads what was closed. The lock's file is no volume to the tool."""
+    place = Place(folder / "two_daemons")
+    free = place.folder / "free"
+    free.mkdir()
+    conf, port = beside(place, free, place.volumes)
+    with place.daemon() as daemon:
+        place.label(checks)
+        lines = place.job()
+        held = holds(place.volumes)
+        checks.same("the lock", held[LOCK], (b"", 0o600))
+        for _ in range(2):
+            checks.same("the second", serve_status(conf), (f"fault folder {place.volumes} locked\n", 1))
+        checks.same("the folder", holds(place.volumes), held)
+        place.serves(checks, "beside another")
+        for word in ("scan", "verify"):
+            done = subprocess.run([SDTOOL, word, place.volumes], capture_output=True, text=True, timeout=WAIT)
+            checks.check(word, done.returncode == 0 and "lock" not in done.stdout + done.stderr, done.stdout)
+        daemon.kill()
+    time.sleep(1.1)
+    with Daemon(conf, port=port):
+        checks.same("the first, behind it", serve_status(place.conf), (f"fault folder {place.volumes} locked\n", 1))
+        checks.same("adopted", say(port, "console", "adopt", "2", "Vol-0001")[1], 0)
+        place.port = port
+        checks.same("what was closed", place.read(lines), b"hello")
+
+
+def one_folder(checks, folder, _):
+    """Drives of one folder start, also where it is named in other ways; and no other daemon has it by any of its names."""
+    place = Place(folder / "one_folder")
+    link = place.folder / "link"
+    link.symlink_to(place.volumes)
+    names = (place.volumes, place.volumes, f"{place.volumes}/.", link, f"{link}/../volumes")
+    place.conf.write_text(f"port = {place.port}\n" + "".join(drive("File", name) for name in names))
+    with place.daemon():
+        for number, _ in enumerate(names, 1):
+            said = place.say("console", "label", str(number), f"Vol-{number}", "Default", "File")
+            checks.same(f"label on drive {number}", said, ("ok labelled\n", 0))
+        for name in names:
+            checks.same(f"as {name}", serve_status(beside(place, name)[0]), (f"fault folder {name} locked\n", 1))
+
+
+def without_lock(checks, folder, _):
+    """Where something else than a file has the name of the lock's, it stays as it is, and the daemon serves without a lock."""
+    kinds = {"folder": os.mkdir, "pipe": os.mkfifo, "link": lambda path: path.symlink_to("nothing")}
+    for kind, make in kinds.items():
+        place = Place(folder / f"without_lock-{kind}")
+        make(place.volumes / LOCK)
+        made = (place.volumes / LOCK).lstat().st_mode
+        with place.daemon():
+            place.label(checks)
+            place.serves(checks, f"beside a {kind}")
+        checks.same(f"the {kind}", (place.volumes / LOCK).lstat().st_mode, made)
+        checks.same("files", sorted(os.listdir(place.volumes)), [LOCK, "Vol-0001"])
+
+
 def want_of_memory(checks, folder, library):
     """Each allocation of a daemon that serves a label, a job, its reading and the status is refused in turn. The daemon
     says so before it listens, or refuses, or ends that talk. Given once more all goes well, and what was closed is read."""
@@ -286,4 +357,5 @@ def shown(place):
         return re.fullmatch(r"session \d+ closed 1", talk.console("status")[-2]) is not None
 
 
-GROUPS = (takes_nothing, two_wait, without_log, log_unread, stopped_a_while, limited_files, want_of_memory)
+GROUPS = (takes_nothing, two_wait, without_log, log_unread, stopped_a_while, limited_files, two_daemons, one_folder,
+          without_lock, want_of_memory)

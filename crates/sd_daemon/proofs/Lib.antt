@@ -1,1 +1,2 @@
+mod LockLemmas
 mod ServeLemmas

@@ -1,10 +1,14 @@
--- What some text holds.
-use Rattle.std.proofs.Common.{ℕ, List, [], Result, Ok, Err}
+-- What some text holds, and what is said of a folder.
+use Rattle.std.proofs.Common.{◌≡◌, ℕ, List, [], ◌++◌, Result, Ok, Err, codes}
+use Rattle.std.proofs.lemmas.List.{append_assoc}
 use Rattle.std.specs.Prelude.{IfErr, IfOk}
 use Rattle.sd_conf.specs.declared.conf.Conf.{Conf}
 use Rattle.sd_conf.specs.declared.fault.ConfFault.TheVariants.{Memory as NoMemory}
 use Rattle.sd_check.specs.Check.{Input}
-use Rattle.sd_daemon.specs.Serve.{IsConfOf, IsFaultOf}
+use Rattle.sd_printer.specs.Says.{SaidView, Says}
+use Rattle.sd_printer.proofs.SaysLemmas.{says_then}
+use Rattle.sd_words.specs.Lines.{line}
+use Rattle.sd_daemon.specs.Serve.{IsConfOf, IsFaultOf, folder_text}
 use Rattle.sd_check.specs.declared.check.CheckFault.{CheckFault}
 use Rattle.sd_check.specs.declared.check.CheckFault.TheVariants.{Input as NoInput, Conf as Bad}
 
@@ -25,3 +29,12 @@ no_memory = ([], tt)
 -- and any may be out of reach
 pub no_input : IsFaultOf NoInput
 no_input = ([], tt)
+
+-- the pieces of the line of a folder that is locked
+folder_pieces : (folder : List ℕ) → codes "fault folder " ++ (folder ++ (codes " locked" ++ codes "\n")) ≡ line (codes "fault folder " ++ folder ++ codes " locked")
+folder_pieces folder = simp append_assoc
+
+pub says_folder_line : (folder text : List ℕ) (a b c d e : SaidView) → text ≡ folder
+    → Says a b (codes "fault folder ") → Says b c text → Says c d (codes " locked") → Says d e (codes "\n") → Says a e (line (folder_text folder))
+says_folder_line folder text a b c d e text_is p q r s =
+    rw folder_pieces at (rw text_is at (says_then a b e _ _ p (says_then b c e _ _ q (says_then c d e _ _ r s))))

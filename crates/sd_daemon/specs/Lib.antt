@@ -1,4 +1,5 @@
 pub mod Address
+pub mod Locks
 pub mod Serve
 pub mod Served
 pub mod TalkPort

@@ -2,13 +2,14 @@
 ghost use Rattle.std.specs.Prelude.{◌≡◌, IfErr, IfOk};
 ghost use Rattle.sd_conf.specs.Conf.{IsWithinLimits};
 ghost use Rattle.sd_printer.specs.Says.{Says, said_view};
-ghost use Rattle.sd_daemon.specs.Serve.{IsConfOf, IsFaultOf, IsOutcomeOf, PrintsServe, outcome_lines, status_of};
+ghost use Rattle.sd_words.specs.Lines.{line};
+ghost use Rattle.sd_daemon.specs.Serve.{IsConfOf, IsFaultOf, IsOutcomeOf, PrintsServe, folder_text, outcome_lines, status_of, unserved_line};
 
 use crate::daemon::{ServeFault, serve};
 use crate::files::ServedPort;
 use crate::serve_line::ServeLine;
 use sd_check::{CheckFault, conf_in, print_conf_fault};
-use sd_conf::{Conf, ConfFault};
+use sd_conf::{Conf, ConfFault, Text};
 use sd_printer::Printer;
 use sd_serve::Log;
 use std::fs;
@@ -107,8 +108,30 @@ fn print_outcome<W: Write>(outcome: &Outcome, out: &mut Printer<W>)
         Outcome::Served(_) => {}
         Outcome::NoFile => out.line(ServeLine::NoFile),
         Outcome::NoConf(fault) => print_conf_fault(fault, out),
-        Outcome::NotServed(ServeFault::Time) => out.line(ServeLine::NoTime),
-        Outcome::NotServed(ServeFault::Port) => out.line(ServeLine::NoPort),
-        Outcome::NotServed(ServeFault::Memory) => out.line(ServeLine::NoMemory),
+        Outcome::NotServed(fault) => print_unserved(fault, out),
     }
+}
+
+// Prints the line of why nothing is served.
+fn print_unserved<W: Write>(fault: &ServeFault, out: &mut Printer<W>)
+    ensures { Says (said_view W.contents out.old) (said_view W.contents out.new)
+        (unserved_line fault.now) }
+{
+    match fault {
+        ServeFault::Time => out.line(ServeLine::NoTime),
+        ServeFault::Port => out.line(ServeLine::NoPort),
+        ServeFault::Folder(folder) => print_locked(folder, out),
+        ServeFault::Memory => out.line(ServeLine::NoMemory),
+    }
+}
+
+// Prints the line of a folder that another process has locked, piece by piece: it has any length.
+fn print_locked<W: Write>(folder: &Text, out: &mut Printer<W>)
+    ensures { Says (said_view W.contents out.old) (said_view W.contents out.new)
+        (line (folder_text folder.now)) }
+{
+    out.bytes(b"fault folder ");
+    out.bytes(folder.as_str().as_bytes());
+    out.bytes(b" locked");
+    out.bytes(b"\n");
 }

@@ -1,7 +1,9 @@
 // The daemon from its configuration on.
-ghost use Rattle.std.specs.Prelude.{◌≡◌, ◌≤◌, ℕ, [], IfOk, IfSome};
+ghost use Rattle.std.specs.Prelude.{◌≡◌, ◌≤◌, ℕ, [], IfErr, IfOk, IfSome};
+ghost use Rattle.std.specs.List.{AllZip};
 ghost use Rattle.sd_base.specs.Limits.{most_number};
 ghost use Rattle.sd_conf.specs.Conf.{IsWithinLimits};
+ghost use Rattle.sd_daemon.specs.Locks.{IsFaultAmong, IsLockOf};
 ghost use Rattle.sd_daemon.specs.Served.{IsPortOf, IsServed, most_connections};
 ghost use Rattle.sd_filedrive.specs.Drive.{meaning_of};
 ghost use Rattle.sd_port.specs.Port.{IsOver};
@@ -10,7 +12,8 @@ ghost use Rattle.sd_setup.specs.World.{OpensAs};
 
 use crate::address::address_of;
 use crate::files::{FilePort, Run, ServedPort};
-use sd_conf::Conf;
+use crate::locks::{FolderLock, lock_folders};
+use sd_conf::{Conf, Text};
 use sd_serve::{Log, LogLine, LoggedPort, serve_talks, since_1970, time_of};
 use sd_setup::{FileWorld, open_world};
 use std::io::Write;
@@ -19,19 +22,21 @@ use std::net::TcpListener;
 use std::snapshot::Snapshot;
 
 /// Why nothing is served.
-#[derive(Clone, Copy, Debug, PartialEq, Eq)]
+#[derive(Debug, Drop)]
 pub enum ServeFault {
     /// The clock's time is no time of a run.
     Time,
     /// The port can't be had.
     Port,
-    /// There is no memory for the world.
+    /// Another process has this folder of a drive locked.
+    Folder(Text),
+    /// There is no memory for the locks or for the world.
     Memory,
 }
 
 /// Serves one client after another, on the port of the configuration and on 127.0.0.1 alone, over a world of files that
-/// is new: its run's time is the clock's. Ends after so many connections; with 0 it goes on. Answers what the port then
-/// is, for contracts alone.
+/// is new: its run's time is the clock's. Meanwhile it has the folders of the drives locked. Ends after so many
+/// connections; with 0 it goes on. Answers what the port then is, for contracts alone.
 pub fn serve<L: Write + Drop>(
     rt: &HostRuntime,
     conf: &Conf,
@@ -39,7 +44,8 @@ pub fn serve<L: Write + Drop>(
     log: Log<L>,
 ) -> Result<Snapshot<ServedPort>, ServeFault>
     requires { IsWithinLimits conf.now }
-    ensures { IfOk result (λ served. IsServed conf.now connections served.value) }
+    ensures served { IfOk result (λ served. IsServed conf.now connections served.value) }
+    ensures fault { IfErr result (IsFaultAmong conf.now.drives) }
 {
     let Some(time) = time_now(rt) else {
         return Err(ServeFault::Time);
@@ -47,10 +53,14 @@ pub fn serve<L: Write + Drop>(
     let Ok(listener) = TcpListener::bind(rt, address_of(conf)) else {
         return Err(ServeFault::Port);
     };
-    serve_run::<Brand, L>(rt, conf, time, &listener, connections, log)
+    match lock_folders(rt, conf.drives.as_slice()) {
+        Ok(locks) => serve_run::<Brand, L>(rt, conf, time, &listener, connections, log, locks),
+        Err(fault) => Err(fault),
+    }
 }
 
-// Serves clients over the world of a configuration, which is new, in the run of this time.
+// Serves clients over the world of a configuration, which is new, in the run of this time. The locks of the drives' folders
+// are let go behind that.
 fn serve_run<N: Run, L: Write + Drop>(
     rt: &HostRuntime,
     conf: &Conf,
@@ -58,13 +68,16 @@ fn serve_run<N: Run, L: Write + Drop>(
     listener: &TcpListener,
     connections: u32,
     log: Log<L>,
+    locks: Vec<FolderLock>,
 ) -> Result<Snapshot<ServedPort>, ServeFault>
     requires within { IsWithinLimits conf.now }
+    requires locked { AllZip IsLockOf conf.now.drives locks.items }
     requires time_least { 1 ≤ time }
     requires time_most { time ≤ most_number }
     requires conf { N.conf ≡ conf.now }
     requires time { N.time ≡ time }
-    ensures { IfOk result (λ served. IsServed conf.now connections served.value) }
+    ensures served { IfOk result (λ served. IsServed conf.now connections served.value) }
+    ensures fault { IfErr result (IsFaultAmong conf.now.drives) }
 {
     let Ok(world) = open_world(rt, conf, time) else {
         return Err(ServeFault::Memory);
@@ -75,7 +88,9 @@ fn serve_run<N: Run, L: Write + Drop>(
         time,
     });
     let bound = bound_of(connections);
-    Ok(serve_world::<N, L>(rt, listener, bound, world, log))
+    let served = serve_world::<N, L>(rt, listener, bound, world, log);
+    drop(locks);
+    Ok(served)
 }
 
 // Serves clients over the world of a run.

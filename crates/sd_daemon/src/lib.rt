@@ -6,6 +6,7 @@ mod address;
 mod conf_file;
 mod daemon;
 mod files;
+mod locks;
 mod serve_line;
 
 pub use conf_file::{Outcome, serve_file};
