@@ -4,6 +4,7 @@ import itertools
 import os
 import pathlib
 import random
+import re
 import signal
 import socket
 import subprocess
@@ -103,6 +104,11 @@ class Daemon:
 
     def printed(self):
         return self.out.read_text(errors="replace")
+
+    def memory(self, kind="VmSize"):
+        """How many bytes of memory it has asked for; the most that it had, where the kind is VmPeak."""
+        status = pathlib.Path(f"/proc/{self.process.pid}/status").read_text()
+        return 1024 * int(re.search(rf"^{kind}:\s+(\d+) kB$", status, re.MULTILINE)[1])
 
     def kill(self):
         if self.process.poll() is None:

@@ -1,6 +1,6 @@
-"""What a daemon may meet: clients that take nothing, that wait for each other; another daemon over its folder; want of
-memory; a log that nobody reads or that isn't wanted; being stopped for a while; a limit of its files. No signal is masked
-here. tests/serve/run runs it.
+"""What a daemon may meet: clients that take nothing, that wait for each other, that send what is dropped; another daemon
+over its folder; want of memory; a log that nobody reads or that isn't wanted; being stopped for a while; a limit of its
+files. No signal is masked here. tests/serve/run runs it.
 """
 import collections
 import concurrent.futures
@@ -21,6 +21,14 @@ from shim import loaded
 # So much is neither kept by the system for a client that reads nothing, nor long to write.
 MORE_THAN_WAITS = 24_000_000
 WANT = "3960 Want of memory"
+# Lines in the place of a span, none of which is one: another word, a field too few or too many, a number that is none or out
+# of its range, a name that is none, another line of the text, two lines, no line, and what is no ASCII.
+NO_SPANS = (b"no span", b"span Vol-0001 1 1 1 92", b"span Vol-0001 1 1 1 92 259 7", b"span Vol-0001 01 1 1 92 259",
+            b"span Vol-0001 1 4294967296 1 92 259", b"span Vol~0001 1 1 1 92 259", b"session 1 1",
+            b"span Vol-0001 1 1 1 92 259\nspan Vol-0001 2 1 1 259 300", b"", "span V\u00f6l 1 1 1 92 259".encode())
+# What a client sends behind one of them, and what that may cost: less than a third of it.
+DROPPED = [client.packet(b"x" * 1_000_000)] * 30
+MOST_GROWN = 10_000_000
 HELLO = [client.packet(b"hello")]
 # At least so many allocations come before the daemon listens, and so many in the talks behind that.
 LEAST_ALLOCATIONS, LEAST_WANTS = 100, 10
@@ -277,6 +285,24 @@ def without_lock(checks, folder, _):
         checks.same("files", sorted(os.listdir(place.volumes)), [LOCK, "Vol-0001"])
 
 
+def dropped_spans(checks, folder, _):
+    """Behind a line that is no span, what a client sends of a read is dropped as it comes: the daemon's memory doesn't grow
+    with it. The refusal stands where the reply would, and the talk goes on."""
+    place = Place(folder / "dropped_spans")
+    with place.daemon() as daemon, place.talk() as talk:
+        checks.same("before", talk.console("requests"), ["ok requests 0"])
+        most = daemon.memory("VmPeak")
+        for line in NO_SPANS:
+            spans = (b"span Vol-0001 1 1 1 92 259", line)
+            talk.send(client.text_packet("read session Time=1 Id=1"), *map(client.packet, spans))
+            talk.send(*DROPPED)
+            talk.send(client.signal(client.END_OF_DATA))
+            checks.same(f"{line}", (talk.receive(), talk.receive()), (client.END_OF_DATA, b"3950 Bad span\n"))
+        grown = daemon.memory("VmPeak") - most
+        checks.check("memory", grown < MOST_GROWN, grown)
+        checks.same("behind it", talk.console("requests"), ["ok requests 0"])
+
+
 def want_of_memory(checks, folder, library):
     """Each allocation of a daemon that serves a label, a job, its reading and the status is refused in turn. The daemon
     says so before it listens, or refuses, or ends that talk. Given once more all goes well, and what was closed is read."""
@@ -358,4 +384,4 @@ def shown(place):
 
 
 GROUPS = (takes_nothing, two_wait, without_log, log_unread, stopped_a_while, limited_files, two_daemons, one_folder,
-          without_lock, want_of_memory)
+          without_lock, dropped_spans, want_of_memory)

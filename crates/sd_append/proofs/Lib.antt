@@ -4,6 +4,7 @@ pub mod HeaderLemmas
 pub mod LogLemmas
 pub mod OutLemmas
 pub mod ReadLemmas
+pub mod SpanLemmas
 pub mod StandingLemmas
 pub mod TakeLemmas
 pub mod TalkLemmas

@@ -1,5 +1,5 @@
 -- The packets of a talk, each taken as what it is.
-use Rattle.std.proofs.Common.{◌≡◌, ℕ, ℤ, refl, sym, ap, subst, ◌∙◌, inl, inr, Bool, true, false, List, [], ◌∷◌, ◌++◌, Option, Result, Err}
+use Rattle.std.proofs.Common.{◌≡◌, ℕ, ℤ, refl, sym, subst, inl, inr, Bool, true, false, List, [], ◌∷◌, ◌++◌, Option, Result, Err}
 use Rattle.std.specs.Prelude.{◌↔◌, ◌<◌, ◌&&◌, ◌==◌, nat_lt, not, All}
 use Rattle.std.specs.List.{AllByRecursion}
 use Rattle.std.proofs.lemmas.Bool.{and_parts, ltb-true}
@@ -113,16 +113,6 @@ one_line-small (c ∷ text) e =
 -- one line is ASCII
 pub one_line-ascii : (text : List ℕ) → is_one_line text ≡ true → All (λ c. c < 128) text
 one_line-ascii text e = All-from_recursion (λ c. c < 128) text (one_line-small text e)
-
-pub span_taken : (b : Bool) (own : Option Own) (text more slice longer : List ℕ) → b ≡ true → slice ≡ more → longer ≡ text ++ line slice
-    → TakesSpan b own text more [] [] (Spans own longer)
-span_taken b own text more slice longer is same made =
-    subst (λ (x : Bool). TakesSpan x own text more [] [] (Spans own longer)) (sym is)
-    (inl (refl, refl, ap (Spans own) (made ∙ ap (λ (l : List ℕ). text ++ line l) same)))
-
-pub span_lacks : (b : Bool) (own : Option Own) (text more : List ℕ) → b ≡ true → TakesSpan b own text more [] [] (BadSpans own refusals.Memory)
-span_lacks b own text more is =
-    subst (λ (x : Bool). TakesSpan x own text more [] [] (BadSpans own refusals.Memory)) (sym is) (inr (refl, refl, refl))
 
 pub span_refused : (b : Bool) (own : Option Own) (text more : List ℕ) → b ≡ false → TakesSpan b own text more [] [] (BadSpans own refusals.BadSpan)
 span_refused b own text more is =

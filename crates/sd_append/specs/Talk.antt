@@ -8,7 +8,7 @@ use Rattle.sd_base.specs.declared.number.SessionKey.{SessionKey}
 use Rattle.sd_words.specs.Lines.{line}
 use Rattle.sd_bnet.specs.declared.packet.Packet.{Packet}
 use Rattle.sd_bnet.specs.declared.packet.Packet.TheVariants.{Bytes, Signal}
-use Rattle.sd_span.specs.JobMedia.{IsJobMedia, session_text, span_text}
+use Rattle.sd_span.specs.JobMedia.{IsJobMedia, SpanFits, session_text, span_text}
 use Rattle.sd_span.specs.declared.span.Span.{Span}
 use Rattle.sd_machine.specs.declared.event.Event.TheVariants as events
 use Rattle.sd_machine.specs.declared.reply.Reply.{Reply}
@@ -193,10 +193,17 @@ ReadsBack own text asked out new =
     × Only (end_of_data ∷ refused BadSpan ∷ []) (Command own) asked out new)
     ⊎ Only (end_of_data ∷ refused Memory ∷ []) (Command own) asked out new
 
--- what a span's packet comes to: its line is added to the text; or it is no line; or memory is wanted for it
+-- the line says a span
+abbrev pub IsSpanLine : List ℕ → Type 0
+IsSpanLine text = (span : Span) × SpanFits span × (text ≡ span_text span)
+
+-- what a span's packet comes to: its line is added to the text; or it says no span, and from then on nothing of the spans
+-- is kept; or memory is wanted for it
 abbrev pub TakesSpan : Bool → Option Own → List ℕ → List ℕ → List Exchange → List Packet → Stage → Type 0
 TakesSpan true own text more asked out new =
-    Only [] (Spans own (text ++ line more)) asked out new ⊎ Only [] (BadSpans own Memory) asked out new
+    (IsSpanLine more × Only [] (Spans own (text ++ line more)) asked out new)
+    ⊎ ((IsSpanLine more → ⊥) × Only [] (BadSpans own BadSpan) asked out new)
+    ⊎ Only [] (BadSpans own Memory) asked out new
 TakesSpan false own text more asked out new = Only [] (BadSpans own BadSpan) asked out new
 
 -- Packets.

@@ -1,9 +1,10 @@
 // The spans of a read, as they come.
-ghost use Rattle.std.specs.Prelude.{◌≡◌, ◌++◌, List, Err, IfOk};
+ghost use Rattle.std.specs.Prelude.{◌≡◌, ◌++◌, List, true, Err, IfOk, OnOk};
 ghost use Rattle.sd_base.specs.declared.number.SessionKey.{SessionKey as SpecKey};
 ghost use Rattle.sd_span.specs.JobMedia.{IsJobMedia, session_text};
 ghost use Rattle.sd_span.specs.declared.span.Span.{Span as SpecSpan};
 ghost use Rattle.sd_words.specs.Lines.{line};
+ghost use Rattle.sd_append.specs.Talk.{IsSpanLine, is_one_line};
 
 use sd_base::SessionKey;
 use sd_span::{JobMediaFault, SessionSpans, read_jobmedia};
@@ -60,5 +61,21 @@ impl SpanText {
             Ok(whole) => read_jobmedia(alloc, &whole),
             Err(_) => Err(JobMediaFault::Memory),
         }
+    }
+}
+
+/// Reads a line by itself: whether it says a span. It is read as a text, behind the line of some session.
+pub(crate) fn read_span(alloc: Global, more: &str) -> Result<(), JobMediaFault>
+    requires { is_one_line more.now ≡ true }
+    ensures ok { OnOk result (IsSpanLine more.now) }
+    ensures bad_span { result ≡ Err JobMediaFault.BadSpan → IsSpanLine more.now → ⊥ }
+{
+    let some = SessionKey { time: 1, id: 1 };
+    let Ok(alone) = SpanText::new(alloc, some).with(more) else {
+        return Err(JobMediaFault::Memory);
+    };
+    match alone.read(alloc) {
+        Ok(_spans) => Ok(()),
+        Err(fault) => Err(fault),
     }
 }

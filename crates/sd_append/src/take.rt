@@ -1,9 +1,10 @@
 // What payloads come to.
-ghost use Rattle.std.specs.Prelude.{◌≡◌, [], true, false, IfSome, IfNone};
+ghost use Rattle.std.specs.Prelude.{◌≡◌, ◌⊎◌, ◌++◌, [], true, false, IfSome, IfNone};
 ghost use Rattle.sd_append.specs.Does.{Does};
 ghost use Rattle.sd_append.specs.Out.{out_view};
 ghost use Rattle.sd_append.specs.Talk.{Obeys, TakesBytes, TakesCommand, TakesSpan, is_one_line};
 ghost use Rattle.sd_append.specs.Text.{trimmed};
+ghost use Rattle.sd_words.specs.Lines.{line};
 
 use crate::answers::refuse;
 use crate::command::Command;
@@ -12,7 +13,7 @@ use crate::obey::{close, console, data, end, open};
 use crate::outbox::Outbox;
 use crate::port::SessionPort;
 use crate::read::read_command;
-use crate::spans::SpanText;
+use crate::spans::{SpanText, read_span};
 use crate::stage::{Own, Stage, is_running, own_with};
 use crate::text::{ascii_text, trimmed};
 use sd_base::Refusal;
@@ -66,15 +67,26 @@ fn obey<W: Write, P: SessionPort>(
     }
 }
 
-/// Takes a packet where a span is due.
-fn take_span(own: Option<Own>, text: SpanText, bytes: &[u8]) -> Stage
+/// Takes a packet where a span is due. Behind one that is none nothing is kept of those that came or come.
+fn take_span(alloc: Global, own: Option<Own>, text: SpanText, bytes: &[u8]) -> Stage
     ensures { TakesSpan (is_one_line (trimmed bytes.now)) own text (trimmed bytes.now)
         [] [] result }
 {
     let Some(line) = one_line(trimmed(bytes)) else {
         return Stage::BadSpans(own, Refusal::BadSpan);
     };
-    match text.with(line) {
+    match read_span(alloc, line) {
+        Ok(()) => add_span(own, text, line),
+        Err(fault) => Stage::BadSpans(own, fault.refusal()),
+    }
+}
+
+/// Adds the line of a span to the text.
+fn add_span(own: Option<Own>, text: SpanText, more: &str) -> Stage
+    ensures { (result ≡ Stage.Spans own (text ++ line more.now))
+        ⊎ (result ≡ Stage.BadSpans own Refusal.Memory) }
+{
+    match text.with(more) {
         Ok(longer) => Stage::Spans(own, longer),
         Err(_) => Stage::BadSpans(own, Refusal::Memory),
     }
@@ -120,7 +132,7 @@ pub(crate) fn take_bytes<W: Write, P: SessionPort>(
         Stage::Records(own, header) => take_record(own, header, payload, port),
         Stage::Refused(own, refusal) => Stage::Dropped(own, refusal),
         Stage::Dropped(own, refusal) => Stage::Dropped(own, refusal),
-        Stage::Spans(own, text) => take_span(own, text, payload.as_slice()),
+        Stage::Spans(own, text) => take_span(alloc, own, text, payload.as_slice()),
         Stage::BadSpans(own, refusal) => Stage::BadSpans(own, refusal),
         Stage::Over(own) => Stage::Over(own),
     }
