@@ -4,3 +4,4 @@ pub mod OperateLemmas
 pub mod SeekLemmas
 pub mod SideLemmas
 pub mod TurnLemmas
+pub mod SeatLemmas

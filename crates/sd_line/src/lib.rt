@@ -12,7 +12,7 @@ mod turning;
 mod worker;
 
 pub use gate::{Gate, Point};
-pub use line::{Line, NotLined};
+pub use line::{Line, LineParts, NotLined};
 pub use naming::Naming;
 pub use seat::Seat;
 pub use side::DriveSide;

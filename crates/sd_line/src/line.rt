@@ -9,7 +9,7 @@ ghost use Rattle.sd_drive.specs.View.{DriveIs};
 ghost use Rattle.sd_journal.specs.Journal.{Entry, placements, progress_of};
 ghost use Rattle.sd_lane.specs.Queue.{WasFull};
 ghost use Rattle.sd_line.specs.Operates.{MayOperate, operated_at};
-ghost use Rattle.sd_line.specs.Side.{seats_at};
+ghost use Rattle.sd_line.specs.Side.{SeatIs, seats_at};
 ghost use Rattle.sd_line.specs.Turns.{MayTurn};
 ghost use Rattle.sd_machine.specs.declared.reply.Reply.TheVariants.{Refused};
 ghost use Rattle.sd_ruled.specs.Seats.{LaneSeatIs, seats_of};
@@ -69,9 +69,20 @@ pub struct NotLined<D: Driver, R: Wait + Drop> {
     pub lanes: RuledLanes<R>,
 }
 
+/// What a line is made of, with the value of its lock, for who has the line alone.
+#[derive(Drop)]
+pub struct LineParts<D: Driver, N: Naming, R: Wait + Drop> {
+    rt: R,
+    pub no: DriveNo,
+    pub media: MediaName,
+    pub limits: Limits,
+    pub queue: LaneQueue<R>,
+    pub side: DriveSide<D, N>,
+}
+
 impl<D: Driver, N: Naming, R: Wait + Drop> Line<D, N, R> {
-    /// A line of a drive and of the queue before it, and the seats of the lanes 1, 2 and on. Where
-    /// memory is wanted drive and queue come back.
+    /// A line of a drive and of the queue before it, and the seats of the lanes 1, 2 and on, none of
+    /// which sent anything. Where memory is wanted drive and queue come back.
     pub fn new(
         rt: R,
         alloc: Global,
@@ -92,6 +103,8 @@ impl<D: Driver, N: Naming, R: Wait + Drop> Line<D, N, R> {
         }) }
         ensures seats { IfOk result (λ made. made.1.items
             ≡ seats_at no (seats_of lanes.table lanes.lanes [] lanes.lanes)) }
+        ensures new { IfOk result (λ made. (k : ℕ) (seat : SeatIs) → slice_get made.1.items k ≡ Some seat
+            → (seat.no ≡ no) × (seat.seat.sent ≡ [])) }
         ensures err { IfErr result (λ back. (back.drive ≡ drive) × (back.lanes ≡ lanes)) }
     {
         let Ok(mut seats) = Vec::with_capacity(alloc, MOST_LANES as usize) else {
@@ -118,6 +131,66 @@ impl<D: Driver, N: Naming, R: Wait + Drop> Line<D, N, R> {
             side,
         };
         Ok((line, seats))
+    }
+
+    /// What the line is made of. No lock is taken, since nobody else has the line.
+    pub fn into_parts(self) -> LineParts<D, N, R>
+        ensures line { self ≡ record {
+          no = result.no;
+          media = result.media;
+          limits = result.limits;
+          queue = result.queue;
+        } }
+        ensures here { result.queue.table ≡ N.table result.no }
+        ensures run { result.limits.time ≡ N.time result.no }
+        ensures limits { AreLimits result.limits }
+    {
+        let Line {
+            rt,
+            no,
+            media,
+            limits,
+            queue,
+            side,
+        } = self;
+        LineParts {
+            rt,
+            no,
+            media,
+            limits,
+            queue,
+            side: side.into_inner(),
+        }
+    }
+
+    /// The line that is made of these.
+    pub fn of_parts(parts: LineParts<D, N, R>) -> Self
+        requires here { parts.queue.table ≡ N.table parts.no }
+        requires run { parts.limits.time ≡ N.time parts.no }
+        requires limits { AreLimits parts.limits }
+        ensures { result ≡ record {
+          no = parts.no;
+          media = parts.media;
+          limits = parts.limits;
+          queue = parts.queue;
+        } }
+    {
+        let LineParts {
+            rt,
+            no,
+            media,
+            limits,
+            queue,
+            side,
+        } = parts;
+        Line {
+            rt,
+            no,
+            media,
+            limits,
+            queue,
+            side: Mutex::new(side),
+        }
     }
 
     /// The number of the line's drive.

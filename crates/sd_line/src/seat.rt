@@ -50,6 +50,15 @@ impl<N: Naming> Seat<N> {
         self.no
     }
 
+    /// The seat at the queue itself.
+    pub fn into_seat(self) -> LaneSeat
+        ensures seat { result ≡ self.seat }
+        ensures here { result.table ≡ N.table self.no }
+    {
+        let Seat { no: _, seat, of: _ } = self;
+        seat
+    }
+
     /// What holds of every seat: it is of the queue that is named for its number. Does nothing.
     pub fn know(&self)
         ensures { self.now.seat.table ≡ N.table self.now.no }

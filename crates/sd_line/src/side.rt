@@ -74,6 +74,28 @@ impl<D: Driver, N: Naming> DriveSide<D, N> {
         &self.drive
     }
 
+    /// How many lanes the queue before the drive has.
+    pub fn lanes(&self) -> u32
+        ensures { result ≡ self.now.seat.lanes }
+    {
+        self.seat.lanes()
+    }
+
+    /// Its drive and its seat, for who has it alone.
+    pub fn into_parts(self) -> (Drive<D>, DriveSeat)
+        ensures drive { result.0 ≡ self.drive }
+        ensures seat { result.1 ≡ self.seat }
+        ensures keeps { KeepsSide (λ d. D.meaning d) N.table N.time self }
+    {
+        let DriveSide {
+            no: _,
+            drive,
+            seat,
+            of: _,
+        } = self;
+        (drive, seat)
+    }
+
     /// What holds whenever the lock is taken; and so, with an honest device, each synced block ends
     /// at or below the stable length of its volume. Does nothing.
     pub fn know(&self)

@@ -1,5 +1,5 @@
 -- Lists of sessions and of pieces, and one more behind them.
-use Rattle.std.proofs.Common.{◌≡◌, ℕ, ◌+◌, refl, sym, ap, ◌∙◌, arith, List, [], ◌∷◌, ◌++◌, length, append_assoc, append-nil}
+use Rattle.std.proofs.Common.{◌≡◌, ℕ, zero, suc, ◌+◌, ◌-◌, refl, sym, ap, subst, ◌∙◌, arith, List, [], ◌∷◌, ◌++◌, Some, length, slice_get, append_assoc, append-nil}
 use Rattle.std.specs.List.{AllByRecursion}
 use Rattle.sd_base.specs.declared.number.SessionKey.{SessionKey}
 use Rattle.sd_lane.specs.declared.piece.Piece.{Piece}
@@ -113,3 +113,15 @@ pub last_is_over : (ss : List ToldSession) (s : ToldSession) → LastIsOver (ss 
 last_is_over [] s h = h
 last_is_over (x ∷ []) s h = h
 last_is_over (x ∷ y ∷ ss) s h = last_is_over (y ∷ ss) s h
+
+-- The last of the sessions, by its place.
+last_of : (ss : List ToldSession) (n : ℕ) (s : ToldSession) → length ss ≡ n + 1 → slice_get ss n ≡ Some s → (LastIsOver ss → IsOver s) × (IsOver s → LastIsOver ss)
+last_of [] n s many is = absurd (cc is)
+last_of (x ∷ []) zero s many is = let e : x ≡ s = cc is in (subst IsOver e, subst IsOver (sym e))
+last_of (x ∷ []) (suc n) s many is = absurd (cc is)
+last_of (x ∷ y ∷ ss) zero s many is = absurd (omega (arith, many))
+last_of (x ∷ y ∷ ss) (suc n) s many is = last_of (y ∷ ss) n s (omega (arith, many)) is
+
+pub last_at : (ss : List ToldSession) (s : ToldSession) → slice_get ss (length ss - 1) ≡ Some s → (LastIsOver ss → IsOver s) × (IsOver s → LastIsOver ss)
+last_at [] s is = absurd (cc is)
+last_at (x ∷ ss) s is = last_of (x ∷ ss) (length (x ∷ ss) - 1) s (omega arith) is

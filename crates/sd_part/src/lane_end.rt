@@ -1,5 +1,6 @@
 // The end of a lane, while no session uses it.
-ghost use Rattle.std.specs.Prelude.{◌≡◌, [], Some, IsSome, IfSome};
+ghost use Rattle.std.specs.Prelude.{◌≡◌, ◌↔◌, [], Some, IsTrue, IsSome, IfSome};
+ghost use Rattle.std.specs.Option.{option_map};
 ghost use Rattle.sd_spool.specs.Job.{state_of};
 ghost use Rattle.sd_part.specs.Ends.{KeepsEnd, LastIsOver, LastGivesBack, BringsStore, last_store};
 
@@ -41,6 +42,16 @@ impl<N: Naming, S: SpoolStore> Model for LaneEnd<N, S> {
     }) };
 }
 
+/// What the end of a lane is made of.
+#[derive(Drop)]
+pub struct EndParts<N: Naming, S: SpoolStore> {
+    pub seat: Seat<N>,
+    /// None while the session has it that used the lane last.
+    pub store: Option<S>,
+    /// Those that used the lane, in order.
+    pub sessions: Vec<Told<S>>,
+}
+
 impl<N: Naming, S: SpoolStore> LaneEnd<N, S> {
     /// The end of a lane that no session used, with the store for the spools of its sessions. Takes no memory.
     pub fn new(alloc: Global, seat: Seat<N>, store: S) -> Self
@@ -63,6 +74,49 @@ impl<N: Naming, S: SpoolStore> LaneEnd<N, S> {
         ensures { KeepsEnd N.time self.now }
     {
         let _ = &self.store;
+    }
+
+    /// The sessions that used the lane, in order.
+    pub fn sessions(&self) -> &[Told<S>]
+        ensures { result.now ≡ self.now.sessions }
+    {
+        self.sessions.as_slice()
+    }
+
+    /// Whether a session may be opened at it: the one that used the lane last, if one did, goes on no more.
+    pub fn is_over(&self) -> bool
+    where
+        S: Drop,
+        ensures { IsTrue result ↔ LastIsOver self.now.sessions }
+    {
+        let Some(last) = self.sessions.last() else {
+            return true;
+        };
+        match last.session.running() {
+            Ok(()) => false,
+            Err(_) => true,
+        }
+    }
+
+    /// What it is made of.
+    pub fn into_parts(self) -> EndParts<N, S>
+        ensures parts { self ≡ record {
+          seat = result.seat;
+          store = option_map (λ s. state_of (S.meaning s)) result.store;
+          sessions = result.sessions.items;
+        } }
+        ensures keeps { KeepsEnd N.time self }
+    {
+        let LaneEnd {
+            seat,
+            store,
+            sessions,
+        } = self;
+        EndParts {
+            seat,
+            store,
+            sessions,
+        }
     }
 
     // Takes the lane's store from the session that used the lane last, unless it lies here already.

@@ -11,6 +11,7 @@ mod seat_at;
 mod told;
 
 pub use closing::Closing;
-pub use lane_end::LaneEnd;
+pub use lane_end::{EndParts, LaneEnd};
 pub use opening::NotParted;
 pub use part::SessionPart;
+pub use told::Told;

@@ -7,9 +7,9 @@ use std::marker::Model;
 /// A session that used a lane, and the records that it took, of which nothing is held. In a contract it is a
 /// `ToldSession`.
 #[derive(Drop)]
-pub(crate) struct Told<S: SpoolStore> {
-    pub(crate) session: Session<S>,
-    pub(crate) told: Option<Seen<Rec>>,
+pub struct Told<S: SpoolStore> {
+    pub session: Session<S>,
+    pub told: Option<Seen<Rec>>,
 }
 
 impl<S: SpoolStore> Model for Told<S> {

@@ -1,0 +1,33 @@
+-- The seats of a new line, none of which sent anything.
+use Rattle.std.proofs.Common.{◌≡◌, ℕ, zero, suc, refl, sym, ap, subst, ◌∙◌, List, [], ◌∷◌, ◌++◌, Some}
+use Rattle.std.specs.Prelude.{slice_get, map}
+use Rattle.atomic_table.specs.Seated.{TableId}
+use Rattle.sd_lane.specs.declared.piece.Queued.{Queued}
+use Rattle.sd_line.specs.Side.{SeatIs, seats_at}
+use Rattle.sd_ruled.specs.Seats.{LaneSeatIs, seats_of, seat_of}
+
+-- the seat has this number, and sent nothing
+abbrev IsNew : ℕ → SeatIs → Type 0
+IsNew own s = (s.no ≡ own) × (s.seat.sent ≡ [])
+
+-- each of them is so
+abbrev AreNew : ℕ → List SeatIs → Type 0
+AreNew own [] = Unit {0}
+AreNew own (s ∷ ss) = IsNew own s × AreNew own ss
+
+new_behind : (own : ℕ) (ss : List LaneSeatIs) (s : LaneSeatIs) → AreNew own (seats_at own ss) → s.sent ≡ [] → AreNew own (seats_at own (ss ++ s ∷ []))
+new_behind own [] s h none = ((refl, none), tt)
+new_behind own (x ∷ ss) s h none = (h.0, new_behind own ss s h.1 none)
+
+all_new : (own : ℕ) (table : TableId) (lanes n : ℕ) → AreNew own (seats_at own (seats_of table lanes [] n))
+all_new own table lanes zero = tt
+all_new own table lanes (suc n) = new_behind own (seats_of table lanes [] n) (seat_of table lanes (suc n) []) (all_new own table lanes n) refl
+
+one_of : (own : ℕ) (ss : List SeatIs) (k : ℕ) (s : SeatIs) → AreNew own ss → slice_get ss k ≡ Some s → IsNew own s
+one_of own [] k s h is = absurd (cc is)
+one_of own (x ∷ ss) zero s h is = let e : x ≡ s = cc is in subst (IsNew own) e h.0
+one_of own (x ∷ ss) (suc k) s h is = one_of own ss k s h.1 is
+
+pub seats_new : (own : ℕ) (table : TableId) (lanes n : ℕ) (seats : List SeatIs) → seats ≡ seats_at own (seats_of table lanes [] n)
+    → (k : ℕ) (s : SeatIs) → slice_get seats k ≡ Some s → (s.no ≡ own) × (s.seat.sent ≡ [])
+seats_new own table lanes n seats is k s at = one_of own seats k s (subst (AreNew own) (sym is) (all_new own table lanes n)) at
