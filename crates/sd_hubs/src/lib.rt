@@ -1,8 +1,6 @@
-//! Tests of lines: a session's body on its way through one, and what an operator does to its drive.
+//! Tests of lines: what an operator does to the drive of one, beside a world.
 #![tactic(auto)]
 
-#[cfg(test)]
-mod closing;
 #[cfg(test)]
 mod making;
 #[cfg(test)]

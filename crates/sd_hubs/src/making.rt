@@ -1,25 +1,16 @@
-// Drives in memory, and what goes through the line before one.
+// Drives in memory, and a world of one.
 ghost use Rattle.std.specs.Prelude.{◌≡◌, ℕ, List, [], ◌∷◌, length, None, IfSome};
 ghost use Rattle.sd_core.specs.Conf.{AreQueues, AreStores};
 ghost use Rattle.sd_drive.specs.Limits.{AreLimits};
 ghost use Rattle.sd_lane.specs.Queue.{lanes_view};
 
-use sd_base::{Bytes, LEAST_BODY, MediaName, Name, PoolName, SessionKey, VolName};
+use sd_base::{MediaName, Name, PoolName, SessionKey};
 use sd_core::{World, WorldConf};
 use sd_drive::{Drive, Limits};
-use sd_lane::{Piece, PlainLanes};
-use sd_line::{Gate, Point};
+use sd_lane::PlainLanes;
 use sd_memdrive::MemDrive;
-use sd_pack::Body;
 use sd_spool::MemSpool;
 use std::alloc::Global;
-
-/// Nobody is held anywhere.
-pub struct Open;
-
-impl Gate for Open {
-    fn at(&self, _point: Point, _key: SessionKey) {}
-}
 
 /// The time of the run.
 pub const TIME: u32 = 1000;
@@ -121,20 +112,4 @@ fn one<T: Drop>(alloc: Global, value: T) -> Option<Vec<T>>
     };
     all.push_reserved(value);
     Some(all)
-}
-
-/// The first body of a session.
-pub fn make_piece(alloc: Global, key: SessionKey) -> Option<Piece> {
-    let bytes = vec![in alloc; 7; LEAST_BODY].ok()?;
-    let body = Body {
-        bytes: Bytes::from_vec(bytes),
-        first: 1,
-        last: 1,
-    };
-    Some(Piece { key, seq: 1, body })
-}
-
-/// The name of the first volume.
-pub fn first_name() -> Option<VolName> {
-    Name::parse("Vol-0001").ok()
 }

@@ -1,0 +1,185 @@
+// The life of a session's part, step by step.
+ghost use Rattle.std.specs.Prelude.{◌≡◌, ◌⊎◌, ◌≤◌, [], None};
+ghost use Rattle.sd_base.specs.Limits.{most_lanes};
+ghost use Rattle.sd_drive.specs.Limits.{AreLimits};
+
+use crate::making::{Made, make, mount_all, open_first};
+use crate::player::{Came, Step, make_step};
+use sd_base::{DriveNo, Refusal, Ticket};
+use sd_line::{Line, Naming};
+use sd_memdrive::{Call, Fail, MemDrive, When};
+use sd_part::SessionPart;
+use sd_session::{Despooled, Spooling};
+use sd_spool::MemSpool;
+use std::alloc::Global;
+use std::marker::Brand;
+use std::sync::Wait;
+use std::test::*;
+
+type Row = (Step, Came);
+
+// Without a spool, through a queue with room for one piece.
+static SENDS: [Row; 28] = [
+    (Step::Append(1, 5), Came::Taken(1)),
+    (Step::Append(3, 1), Came::Refused(Refusal::BadFileIndex)),
+    (Step::Spool, Came::Spooled(Spooling::NoSpool)),
+    (Step::Push, Came::Pushed(Despooled::Nothing)),
+    (Step::Append(2, 2000), Came::Taken(2)),
+    (Step::Append(3, 1), Came::Refused(Refusal::Busy)),
+    (Step::Close, Came::Refused(Refusal::SessionNotOpen)),
+    (Step::Push, Came::Pushed(Despooled::Sent)),
+    (Step::Push, Came::Pushed(Despooled::LaneFull)),
+    (Step::Append(3, 1), Came::Taken(3)),
+    (Step::Turn, Came::Turned(true, true, None)),
+    (Step::Push, Came::Pushed(Despooled::Sent)),
+    (Step::Push, Came::Pushed(Despooled::Nothing)),
+    (Step::End, Came::Ended),
+    (Step::Append(4, 1), Came::Refused(Refusal::SessionNotOpen)),
+    (Step::End, Came::Refused(Refusal::SessionNotOpen)),
+    (Step::Push, Came::Pushed(Despooled::LaneFull)),
+    (Step::Close, Came::NotYet),
+    (Step::Turn, Came::Turned(true, true, None)),
+    (Step::Push, Came::Pushed(Despooled::Sent)),
+    (Step::Turn, Came::Turned(true, true, None)),
+    (Step::Close, Came::NotYet),
+    (Step::Turn, Came::Turned(false, false, Some(true))),
+    (Step::Close, Came::Closed(3)),
+    (Step::Close, Came::Refused(Refusal::SessionNotOpen)),
+    (Step::Push, Came::Refused(Refusal::SessionNotOpen)),
+    (Step::Spool, Came::Refused(Refusal::SessionNotOpen)),
+    (Step::Cancel, Came::Refused(Refusal::SessionNotOpen)),
+];
+
+// With a spool for two bodies.
+static SPOOLS: [Row; 22] = [
+    (Step::Append(1, 2000), Came::Taken(1)),
+    (Step::Append(2, 1), Came::Refused(Refusal::Busy)),
+    (Step::Push, Came::Pushed(Despooled::NotDue)),
+    (Step::Spool, Came::Spooled(Spooling::Spooled)),
+    (Step::Spool, Came::Spooled(Spooling::Spooled)),
+    (Step::Spool, Came::Spooled(Spooling::Nothing)),
+    (Step::Append(2, 1), Came::Taken(2)),
+    (Step::End, Came::Ended),
+    (Step::Push, Came::Pushed(Despooled::NotDue)),
+    (Step::Spool, Came::Spooled(Spooling::SpoolFull)),
+    (Step::Push, Came::Pushed(Despooled::Sent)),
+    (Step::Push, Came::Pushed(Despooled::LaneFull)),
+    (Step::Spool, Came::Spooled(Spooling::SpoolFull)),
+    (Step::Turn, Came::Turned(true, true, None)),
+    (Step::Push, Came::Pushed(Despooled::Sent)),
+    (Step::Spool, Came::Spooled(Spooling::Spooled)),
+    (Step::Push, Came::Pushed(Despooled::LaneFull)),
+    (Step::Turn, Came::Turned(true, true, None)),
+    (Step::Push, Came::Pushed(Despooled::Sent)),
+    (Step::Turn, Came::Turned(true, true, None)),
+    (Step::Turn, Came::Turned(false, false, Some(true))),
+    (Step::Close, Came::Closed(3)),
+];
+
+// A session that is given up: what was sent of it is placed.
+static CANCELS: [Row; 9] = [
+    (Step::Append(1, 2000), Came::Taken(1)),
+    (Step::Push, Came::Pushed(Despooled::Sent)),
+    (Step::Cancel, Came::Cancelled),
+    (Step::Cancel, Came::Refused(Refusal::SessionCancelled)),
+    (Step::Append(2, 1), Came::Refused(Refusal::SessionCancelled)),
+    (Step::Push, Came::Refused(Refusal::SessionCancelled)),
+    (Step::End, Came::Refused(Refusal::SessionCancelled)),
+    (Step::Close, Came::Refused(Refusal::SessionCancelled)),
+    (Step::Turn, Came::Turned(true, true, None)),
+];
+
+// The sync of its block fails.
+static LOSES: [Row; 10] = [
+    (Step::Append(1, 5), Came::Taken(1)),
+    (Step::End, Came::Ended),
+    (Step::Push, Came::Pushed(Despooled::Sent)),
+    (Step::Turn, Came::Turned(true, true, None)),
+    (Step::Turn, Came::Turned(false, false, Some(false))),
+    (Step::Close, Came::Refused(Refusal::SessionFailed)),
+    (Step::Close, Came::Refused(Refusal::SessionFailed)),
+    (Step::Append(2, 1), Came::Refused(Refusal::SessionFailed)),
+    (Step::Push, Came::Refused(Refusal::SessionFailed)),
+    (Step::Cancel, Came::Refused(Refusal::SessionFailed)),
+];
+
+// Each label syncs once before it.
+static THIRD_SYNC: [Fail; 1] = [Fail {
+    call: Call::Sync,
+    nth: 3,
+    when: When::Before,
+}];
+
+// The first row that comes to something else, in a session's life at its line.
+fn first_other<N: Naming, R: Wait + Drop>(
+    alloc: Global,
+    line: &Line<MemDrive, N, R>,
+    part: SessionPart<N, MemSpool>,
+    rows: &[Row],
+) -> Option<usize>
+    requires { part.seat.no ≡ line.now.no }
+{
+    let mut part = part;
+    for at in 0..rows.len() {
+        let (what, wanted) = rows[at];
+        if make_step(alloc, line, &mut part, what) != wanted {
+            return Some(at);
+        }
+    }
+    None
+}
+
+// The same of a line that is made for it.
+fn live<N: Naming, R: Wait + Drop>(
+    rt: R,
+    alloc: Global,
+    no: DriveNo,
+    made: Made<R>,
+    rows: &[Row],
+) -> Option<Option<usize>>
+    requires named { (made.lanes.table ≡ N.table no) × (made.drive.limits.time ≡ N.time no) }
+    requires limits { AreLimits made.drive.limits × (made.lanes.lanes ≤ most_lanes) }
+    requires unused { (made.drive.journal ≡ []) × (made.drive.hand ≡ None) }
+    requires empty { (made.lanes.taken ≡ []) × (made.lanes.held ≡ []) }
+{
+    let Made { drive, lanes } = made;
+    let Ok((line, mut seats)) = Line::<MemDrive, N, R>::new(rt, alloc, no, drive, lanes) else {
+        return None;
+    };
+    mount_all(&line)?;
+    let part = open_first(alloc, &line, seats.pop()?, Ticket::new(1)?)?;
+    Some(first_other(alloc, &line, part, rows))
+}
+
+fn play<R: Wait + Drop + Copy>(
+    rt: R,
+    alloc: Global,
+    spool: u64,
+    device: &[Fail],
+    rows: &[Row],
+) -> Option<Option<usize>>
+    requires { (spool ≡ 0) ⊎ ((1024 ≤ spool) × (spool ≤ 1000000)) }
+{
+    let made = make(rt, alloc, device, spool, 1, 1)?;
+    live::<Brand, R>(rt, alloc, DriveNo::new(1)?, made, rows)
+}
+
+#[test]
+fn sends(rt: HostRuntime) {
+    assert_eq!(rt; play(rt, rt.alloc(), 0, &[], &SENDS), Some(None));
+}
+
+#[test]
+fn spools(rt: HostRuntime) {
+    assert_eq!(rt; play(rt, rt.alloc(), 2048, &[], &SPOOLS), Some(None));
+}
+
+#[test]
+fn cancels(rt: HostRuntime) {
+    assert_eq!(rt; play(rt, rt.alloc(), 0, &[], &CANCELS), Some(None));
+}
+
+#[test]
+fn loses_block(rt: HostRuntime) {
+    assert_eq!(rt; play(rt, rt.alloc(), 0, &THIRD_SYNC, &LOSES), Some(None));
+}
