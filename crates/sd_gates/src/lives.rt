@@ -10,6 +10,7 @@ use sd_line::{Line, Naming};
 use sd_memdrive::{Call, Fail, MemDrive, When};
 use sd_part::SessionPart;
 use sd_session::{Despooled, Spooling};
+use sd_span::Progress;
 use sd_spool::MemSpool;
 use std::alloc::Global;
 use std::marker::Brand;
@@ -74,6 +75,32 @@ static SPOOLS: [Row; 22] = [
     (Step::Turn, Came::Turned(true, true, None)),
     (Step::Turn, Came::Turned(false, false, Some(true))),
     (Step::Close, Came::Closed(3)),
+];
+
+// Its only block is placed, and not synced yet.
+const PLACED: Progress = Progress {
+    placed: 1,
+    synced: 0,
+    failed: false,
+};
+
+// It is synced.
+const SYNCED: Progress = Progress {
+    placed: 1,
+    synced: 1,
+    failed: false,
+};
+
+// Its only body is placed by one turn and synced by the next, and only then is it closed.
+static CLOSES: [Row; 8] = [
+    (Step::End, Came::Ended),
+    (Step::Push, Came::Pushed(Despooled::Sent)),
+    (Step::Turn, Came::Turned(true, true, None)),
+    (Step::Look, Came::Stands(PLACED, false)),
+    (Step::Close, Came::NotYet),
+    (Step::Turn, Came::Turned(false, false, Some(true))),
+    (Step::Look, Came::Stands(SYNCED, true)),
+    (Step::Close, Came::Closed(1)),
 ];
 
 // A session that is given up: what was sent of it is placed.
@@ -160,8 +187,13 @@ fn play<R: Wait + Drop + Copy>(
 ) -> Option<Option<usize>>
     requires { (spool ≡ 0) ⊎ ((1024 ≤ spool) × (spool ≤ 1000000)) }
 {
-    let made = make(rt, alloc, device, spool, 1, 1)?;
+    let made = make(rt, alloc, device, spool)?;
     live::<Brand, R>(rt, alloc, DriveNo::new(1)?, made, rows)
+}
+
+#[test]
+fn close_line(rt: HostRuntime) {
+    assert_eq!(rt; play(rt, rt.alloc(), 0, &[], &CLOSES), Some(None));
 }
 
 #[test]

@@ -1,15 +1,14 @@
 // Drives in memory, the lines before them, and sessions at their lanes.
-ghost use Rattle.std.specs.Prelude.{◌≡◌, ◌⊎◌, ◌≤◌, [], None, IfSome, MatchResult};
+ghost use Rattle.std.specs.Prelude.{◌≡◌, ◌⊎◌, ◌≤◌, [], None, IfSome};
 ghost use Rattle.sd_base.specs.Limits.{most_lanes};
 ghost use Rattle.sd_drive.specs.Limits.{AreLimits};
-ghost use Rattle.sd_part.specs.Ends.{LastIsOver};
 
 use sd_base::{JobId, Name, SessionKey, Ticket};
 use sd_drive::{Drive, Limits};
 use sd_line::{Gate, Line, Naming, Point, Seat};
 use sd_machine::{Event, Reply};
 use sd_memdrive::{Fail, MemDrive};
-use sd_part::{LaneEnd, NotParted, SessionPart};
+use sd_part::{LaneEnd, SessionPart};
 use sd_ruled::RuledLanes;
 use sd_spool::MemSpool;
 use std::alloc::Global;
@@ -32,17 +31,9 @@ pub struct Made<R: Wait + Drop> {
     pub lanes: RuledLanes<R>,
 }
 
-/// A drive over a device whose calls fail by this plan, and a queue of so many lanes with room for so many pieces.
-pub fn make<R: Wait + Drop>(
-    rt: R,
-    alloc: Global,
-    plan: &[Fail],
-    spool: u64,
-    lanes: u32,
-    queue: usize,
-) -> Option<Made<R>>
-    requires lanes { (1 ≤ lanes) × (lanes ≤ most_lanes) × (1 ≤ queue) }
-    requires spool { (spool ≡ 0) ⊎ ((1024 ≤ spool) × (spool ≤ 1000000)) }
+/// A drive over a device whose calls fail by this plan, and a queue of one lane with room for one piece.
+pub fn make<R: Wait + Drop>(rt: R, alloc: Global, plan: &[Fail], spool: u64) -> Option<Made<R>>
+    requires { (spool ≡ 0) ⊎ ((1024 ≤ spool) × (spool ≤ 1000000)) }
     ensures limits { IfSome result (λ m. AreLimits m.drive.limits × (m.drive.limits.time ≡ 1000)) }
     ensures unused { IfSome result (λ m. (m.drive.journal ≡ []) × (m.drive.hand ≡ None)) }
     ensures lanes { IfSome result (λ m. m.lanes.lanes ≤ most_lanes) }
@@ -59,7 +50,7 @@ pub fn make<R: Wait + Drop>(
     let Ok(drive) = Drive::new(alloc, device, Name::parse("File").ok()?, limits) else {
         return None;
     };
-    let lanes = RuledLanes::new(rt, alloc, lanes, queue).ok()?;
+    let lanes = RuledLanes::new(rt, alloc, 1, 1).ok()?;
     Some(Made { drive, lanes })
 }
 
@@ -89,22 +80,6 @@ fn label<N: Naming, R: Wait + Drop>(line: &Line<MemDrive, N, R>, name: &str) -> 
     Some(())
 }
 
-/// A session of this number at the end of a lane; or the end, where there is none.
-pub fn open_session<N: Naming, R: Wait + Drop>(
-    alloc: Global,
-    line: &Line<MemDrive, N, R>,
-    end: LaneEnd<N, MemSpool>,
-    id: Ticket,
-) -> Option<Result<SessionPart<N, MemSpool>, NotParted<N, MemSpool>>>
-    requires { (end.seat.no ≡ line.now.no) × LastIsOver end.sessions }
-    ensures { IfSome result (λ opened. MatchResult opened (λ part. part.seat.no ≡ line.now.no)
-        (λ back. back.end.seat.no ≡ line.now.no)) }
-{
-    let job = JobId::new(7)?;
-    let pool = Name::parse("Default").ok()?;
-    Some(SessionPart::open(alloc, line, end, id, job, pool, 0))
-}
-
 /// A session of this number at a lane that no session used.
 pub fn open_first<N: Naming, R: Wait + Drop>(
     alloc: Global,
@@ -116,5 +91,7 @@ pub fn open_first<N: Naming, R: Wait + Drop>(
     ensures { IfSome result (λ part. part.seat.no ≡ line.now.no) }
 {
     let end = LaneEnd::new(alloc, seat, MemSpool::new(alloc));
-    open_session(alloc, line, end, id)?.ok()
+    let job = JobId::new(7)?;
+    let pool = Name::parse("Default").ok()?;
+    SessionPart::open(alloc, line, end, id, job, pool, 0).ok()
 }

@@ -2,12 +2,13 @@
 ghost use Rattle.std.specs.Prelude.{◌≡◌};
 
 use crate::making::Open;
-use sd_base::{Bytes, Rec, Refusal};
+use sd_base::{Bytes, Rec, Refusal, SessionKey};
 use sd_drive::Placed;
 use sd_line::{DriveWorker, Line, Naming};
 use sd_memdrive::MemDrive;
 use sd_part::{Closing, SessionPart};
 use sd_session::{Despooled, Spooling};
+use sd_span::Progress;
 use sd_spool::MemSpool;
 use std::alloc::Global;
 use std::sync::Wait;
@@ -23,6 +24,8 @@ pub enum Step {
     Turn,
     Close,
     Cancel,
+    /// A look at the drive, at which nothing happens.
+    Look,
 }
 
 /// What came of one.
@@ -38,6 +41,8 @@ pub enum Came {
     Closed(u64),
     NotYet,
     Cancelled,
+    /// How far the session's blocks are, and whether the drive gives a receipt for one block.
+    Stands(Progress, bool),
     Refused(Refusal),
     NoMemory,
 }
@@ -87,7 +92,14 @@ fn answer<N: Naming, R: Wait + Drop>(
             part.cancel()?;
             Ok(Came::Cancelled)
         }
+        Step::Look => Ok(look(line, part.session().key()).unwrap_or(Came::NoMemory)),
     }
+}
+
+// How far a session is by its drive.
+fn look<N: Naming, R: Wait + Drop>(line: &Line<MemDrive, N, R>, key: SessionKey) -> Option<Came> {
+    let receipt = line.lock()?.drive().receipt(key, 1).ok()?;
+    Some(Came::Stands(line.progress(key), receipt.is_some()))
 }
 
 fn turn<N: Naming, R: Wait + Drop>(line: &Line<MemDrive, N, R>) -> Came {
@@ -104,8 +116,8 @@ fn turn<N: Naming, R: Wait + Drop>(line: &Line<MemDrive, N, R>) -> Came {
     )
 }
 
-/// A record of so many bytes.
-pub fn make_record(alloc: Global, index: u32, size: usize) -> Option<Rec> {
+// A record of so many bytes.
+fn make_record(alloc: Global, index: u32, size: usize) -> Option<Rec> {
     let bytes = vec![in alloc; 0x78u8; size].ok()?;
     Rec::new(index, 2, Bytes::from_vec(bytes))
 }
