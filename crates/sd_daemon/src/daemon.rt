@@ -54,13 +54,13 @@ pub fn serve<L: Write + Drop>(
         return Err(ServeFault::Port);
     };
     match lock_folders(rt, conf.drives.as_slice()) {
-        Ok(locks) => serve_run::<Brand, L>(rt, conf, time, &listener, connections, log, locks),
+        Ok(locks) => serve_run::<Brand, L>(rt, conf, time, &listener, connections, log, &locks),
         Err(fault) => Err(fault),
     }
 }
 
-// Serves clients over the world of a configuration, which is new, in the run of this time. The locks of the drives' folders
-// are let go behind that.
+// Serves clients over the world of a configuration, which is new, in the run of this time. It is lent the locks of the
+// drives' folders, so that they are let go behind it.
 fn serve_run<N: Run, L: Write + Drop>(
     rt: &HostRuntime,
     conf: &Conf,
@@ -68,10 +68,10 @@ fn serve_run<N: Run, L: Write + Drop>(
     listener: &TcpListener,
     connections: u32,
     log: Log<L>,
-    locks: Vec<FolderLock>,
+    _locks: &[FolderLock],
 ) -> Result<Snapshot<ServedPort>, ServeFault>
     requires within { IsWithinLimits conf.now }
-    requires locked { AllZip IsLockOf conf.now.drives locks.items }
+    requires locked { AllZip IsLockOf conf.now.drives _locks.now }
     requires time_least { 1 ≤ time }
     requires time_most { time ≤ most_number }
     requires conf { N.conf ≡ conf.now }
@@ -88,9 +88,7 @@ fn serve_run<N: Run, L: Write + Drop>(
         time,
     });
     let bound = bound_of(connections);
-    let served = serve_world::<N, L>(rt, listener, bound, world, log);
-    drop(locks);
-    Ok(served)
+    Ok(serve_world::<N, L>(rt, listener, bound, world, log))
 }
 
 // Serves clients over the world of a run.
