@@ -51,6 +51,7 @@ STANDING = [
 # What a load answers, inside a mount or an adoption; the look at the name, its opening and the look at the open file.
 LOADS = [
     ("look", "fail", errno.ENOENT, NOT_THERE), ("look", "fail", errno.EACCES, FAULT), ("look", "elsewhere", 0, FAULT),
+    ("look", "abroad", 0, FAULT),
     ("open", "fail", errno.ENOENT, NOT_THERE), ("open", "fail", errno.EACCES, FAULT), ("open", "fail", errno.EIO, FAULT),
     ("stat", "fail", errno.EIO, FAULT),
 ]

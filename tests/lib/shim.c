@@ -26,6 +26,7 @@
      full       the same of a write; the next one fails with NUMBER
      on         the NTH call and each behind it fails with NUMBER
      elsewhere  a look at a path tells of another file than stands there
+     abroad     it tells of the file of that number on another device
    The kinds are open, look (at a path), stat (of an open file), read, write, truncate, datasync, sync and unlink.
 
    Each call that changes or syncs a file below the folder STOP_FOLDER, or syncs that folder, is counted from 1 on, and once it
@@ -202,7 +203,7 @@ static void keep(char names[][256], int file, const char *name)
         snprintf(names[file], sizeof names[file], "%s", name ? name : "");
 }
 
-enum how { GOES, FAILS, SHORT, FULL, ELSEWHERE };
+enum how { GOES, FAILS, SHORT, FULL, ELSEWHERE, ABROAD };
 
 static long serial = -1, count;
 static char full_kind[16];
@@ -241,6 +242,8 @@ static enum how struck(const char *kind, const char *name)
         return SHORT;
     if (strcmp(how, "elsewhere") == 0)
         return ELSEWHERE;
+    if (strcmp(how, "abroad") == 0)
+        return ABROAD;
     if (strcmp(how, "full") == 0) {
         strcpy(full_kind, kind);
         return SHORT;
@@ -431,7 +434,7 @@ int unlink(const char *path) { return given_up(AT_FDCWD, path, 0); }
 int unlinkat(int folder, const char *path, int flags) { return given_up(folder, path, flags); }
 
 /* Of a look at a path. */
-#define LOOKS(call, number) \
+#define LOOKS(call, number, device) \
     { \
         enum how how = struck("look", name_in(path, "FAULTS_FOLDER")); \
         int answer; \
@@ -440,6 +443,8 @@ int unlinkat(int folder, const char *path, int flags) { return given_up(folder, 
         answer = call; \
         if (how == ELSEWHERE) \
             into->number++; \
+        if (how == ABROAD) \
+            into->device++; \
         return answer; \
     }
 
@@ -451,14 +456,14 @@ int unlinkat(int folder, const char *path, int flags) { return given_up(folder, 
 
 int fstat(int file, struct stat *into) ASKS(NEXT(fstat)(file, into))
 int fstat64(int file, struct stat64 *into) ASKS(NEXT(fstat64)(file, into))
-int stat(const char *path, struct stat *into) LOOKS(NEXT(stat)(path, into), st_ino)
-int stat64(const char *path, struct stat64 *into) LOOKS(NEXT(stat64)(path, into), st_ino)
-int lstat(const char *path, struct stat *into) LOOKS(NEXT(lstat)(path, into), st_ino)
-int lstat64(const char *path, struct stat64 *into) LOOKS(NEXT(lstat64)(path, into), st_ino)
+int stat(const char *path, struct stat *into) LOOKS(NEXT(stat)(path, into), st_ino, st_dev)
+int stat64(const char *path, struct stat64 *into) LOOKS(NEXT(stat64)(path, into), st_ino, st_dev)
+int lstat(const char *path, struct stat *into) LOOKS(NEXT(lstat)(path, into), st_ino, st_dev)
+int lstat64(const char *path, struct stat64 *into) LOOKS(NEXT(lstat64)(path, into), st_ino, st_dev)
 int fstatat(int folder, const char *path, struct stat *into, int flags)
-    LOOKS(NEXT(fstatat)(folder, path, into, flags), st_ino)
+    LOOKS(NEXT(fstatat)(folder, path, into, flags), st_ino, st_dev)
 int fstatat64(int folder, const char *path, struct stat64 *into, int flags)
-    LOOKS(NEXT(fstatat64)(folder, path, into, flags), st_ino)
+    LOOKS(NEXT(fstatat64)(folder, path, into, flags), st_ino, st_dev)
 
 int statx(int file, const char *path, int flags, unsigned mask, struct statx *into)
 {
@@ -466,7 +471,7 @@ int statx(int file, const char *path, int flags, unsigned mask, struct statx *in
         return fails_with(EIO);
     if (!path[0])
         ASKS(NEXT(statx)(file, path, flags, mask, into))
-    LOOKS(NEXT(statx)(file, path, flags, mask, into), stx_ino)
+    LOOKS(NEXT(statx)(file, path, flags, mask, into), stx_ino, stx_dev_minor)
 }
 
 /* --- Connections ---------------------------------------------------------------------------------------------------- */
