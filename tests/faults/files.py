@@ -202,7 +202,7 @@ def readings(site):
 
 def jobs(site):
     """A job whose calls fail in turn, with two volumes of its pool; then another job of that pool. What is closed reads
-    whole."""
+    whole, also while a shorter volume is loaded, which has nothing of it."""
     for at, (*call, places, status) in enumerate(JOBS):
         names = {f"Job{letter}-{at}": letter for letter in "AB"}
         site.say("unmount 1")
@@ -217,8 +217,14 @@ def jobs(site):
         next_lines = site.job(RECORDS, f"Jobs{at}")
         where = [names[line.split(" ")[1]] for line in next_lines[1:]]
         yield from differs(f"job behind {said(*call)}", where, ["A" if status == "append" else "B"])
-        for one in [next_lines] + ([lines] if places != "lost" else []):
+        closed = [next_lines] + ([lines] if places != "lost" else [])
+        for one in closed:
             yield from differs(f"reading behind {said(*call)}", site.read(one), (RECORDS, whole(RECORDS)))
+        site.say("unmount 1")
+        yield from differs("label", site.say(f"label 1 JobC-{at} Jobs{at} File"), OK_LABEL)
+        yield from differs("mount", site.say(f"mount 1 JobC-{at}"), "ok mounted")
+        for one in closed:
+            yield from differs(f"reading beside another, {said(*call)}", site.read(one), (RECORDS, whole(RECORDS)))
 
 
 def cut_volumes(site):
