@@ -246,7 +246,7 @@ def spooling(folder, shim):
         yield from differs("spools", found, {"spool~1~1": 0o600})
     yield from differs("jobs", set(day.closed), {"first", "many", "third"})
     kinds = collections.Counter(line.split(" ")[0] for line in calls)
-    bodies, fillings = bodies_of(FILLINGS), kinds.pop("truncate")
+    bodies, fillings = bodies_of(FILLINGS), kinds.pop("truncate", 0)
     yield from differs("calls", dict(kinds), {"write": bodies, "read": bodies})
     if not sum(map(len, FILLINGS)) // SPOOL < fillings < bodies:
         yield f"{fillings} fillings for {bodies} bodies"
