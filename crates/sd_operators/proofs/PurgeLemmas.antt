@@ -1,5 +1,5 @@
 -- A volume of a drive is emptied, and the sessions that had a block on it are purged.
-use Rattle.std.proofs.Common.{◌≡◌, ◌≢◌, ◌⊎◌, ℕ, ◌<◌, ◌≤◌, ◌==◌, ◌&&◌, not, Bool, true, false, true≢false, refl, sym, ap, subst, ◌∙◌, ap₂, arith, inl, inr, Option, Some, None, All, List, [], ◌∷◌, ◌++◌, length, take, drop, map, get_or, slice_get, slice_set, Err}
+use Rattle.std.proofs.Common.{◌≡◌, ◌≢◌, ◌⊎◌, ℕ, ◌<◌, ◌≤◌, ◌==◌, ◌&&◌, Bool, true, false, true≢false, refl, sym, ap, subst, ◌∙◌, ap₂, arith, inl, inr, Option, Some, None, All, List, [], ◌∷◌, ◌++◌, length, take, drop, map, get_or, slice_get, slice_set, Err}
 use Rattle.std.specs.Prelude.{IsErrOf, if◌then◌else◌}
 use Rattle.std.specs.List.{list_any}
 use Rattle.std.specs.Str.{bytes_eq}
@@ -24,17 +24,16 @@ use Rattle.sd_machine.specs.declared.reply.Reply.TheVariants.{Refused}
 use Rattle.sd_session.specs.declared.status.Status.TheVariants as session
 use Rattle.sd_volume.specs.Device.{Counted}
 use Rattle.sd_volume.specs.declared.volume.VolumeStatus.{VolumeStatus}
-use Rattle.sd_world.specs.Drives.{PurgesNamed, PurgesNone, PurgesVolume, is_on, is_kept, is_kept_by, keeps_lane, due_or_kept, purge_due_in, purged_sessions}
+use Rattle.sd_world.specs.Drives.{PurgesNamed, PurgesNone, PurgesVolume, is_on, is_kept, due_or_kept, purge_due_in, purged_sessions}
 use Rattle.sd_world.specs.Moves.{Moves}
 use Rattle.sd_world.specs.Operators.{NotesPurge}
 use Rattle.sd_world.specs.Rules.{IsWorld}
-use Rattle.sd_world.specs.World.{WorldView, WorldSession, LaneView, BayView, IsOnline, with_drive, session_at, is_done}
+use Rattle.sd_world.specs.World.{WorldView, WorldSession, BayView, IsOnline, with_drive}
 use Rattle.sd_world.proofs.LaneSteps.{running_keeps}
 use Rattle.sd_world.proofs.Lookups.{found_by_number}
-use Rattle.sd_world.proofs.PurgeSteps.{lane_done}
+use Rattle.sd_world.proofs.PurgeSteps.{on_done}
 use Rattle.sd_operators.specs.Purging.{Empties, NoneGoesOn, is_emptied}
 use Rattle.sd_operators.proofs.CallLemmas.{recounted}
-use Rattle.sd_operators.proofs.LosingLemmas.{seat_is}
 
 -- The drive.
 
@@ -98,14 +97,6 @@ module _ {D T : Type 0} (meaning : D → Meaning) (name : List ℕ) (at : ℕ) (
     | inr q ↦ inr (inr (why, refl, stays q.0 q.1))
   ]
 
--- Who keeps a lane.
-
--- the session that was found by the ticket
-pub kept_by : (sessions : List WorldSession) (journal : List Entry) (name : List ℕ) (holder : Option ℕ) (ticket : ℕ) (e : WorldSession)
-    → holder ≡ Some ticket → session_at ticket sessions ≡ Some e
-    → is_kept_by sessions journal name holder ≡ (not (is_done journal e.session) && has_on e.session.key name journal)
-kept_by sessions journal name holder ticket e is found = ap (is_kept_by sessions journal name) is ∙ ap (keeps_lane journal name) found
-
 -- The sessions.
 
 -- the one that is looked at is as it was
@@ -122,17 +113,14 @@ all_over f xs ys i past becomes =
     becomes ∙ ap (λ l. map f l ++ drop i xs) (take_all i xs past) ∙ ap (λ l. map f xs ++ l) (drop_all i xs past) ∙ append-nil (map f xs)
 
 -- none of those that are purged goes on
-pub none_goes_on : {D : Type 0} (w : WorldView D) (drive at : ℕ) (bay : BayView D) (d : DriveIs D) (name : List ℕ) → IsWorld w → IsOnline w drive at bay d
-    → purge_due_in w.sessions bay d name ≡ None → All (NoneGoesOn drive name d.journal) w.sessions
-none_goes_on {D} w drive at bay d name world on due = λ i other below is running. (
+pub none_goes_on : {D : Type 0} (w : WorldView D) (drive : ℕ) (d : DriveIs D) (name : List ℕ) → IsWorld w
+    → purge_due_in w.sessions drive d name ≡ None → All (NoneGoesOn drive name d.journal) w.sessions
+none_goes_on {D} w drive d name world due = λ i other below is running. (
     let e = get_or w.sessions i other in
     let there : slice_get w.sessions i ≡ Some e = slice_get-get_or w.sessions i other below in
     let found = found_by_number w.limits.time 1 w.next w.sessions i e world.numbers there in
-    let seat = world.seated e.session.key.id e found in
     let parts = both (e.drive == drive) (has_on e.session.key name d.journal) is in
-    let one : bay ≡ seat.bay = seat_is w drive at bay d e seat.at seat.bay on (eqb-true e.drive drive parts.0) seat.drive_is seat.bay_there in
-    let stands = subst (λ (b : BayView D). slice_get b.lanes seat.place ≡ Some seat.lane) (sym one) seat.lane_there in
-    let done = lane_done w.sessions bay d name e.session.key.id seat.place e seat.lane due found stands (seat.holds running) parts.1 in
+    let done = on_done w.sessions drive d name e.session.key.id e due found (eqb-true e.drive drive parts.0) parts.1 in
     true≢false (sym done ∙ running_keeps e.session.status _ running)
     )
   where
@@ -141,11 +129,11 @@ none_goes_on {D} w drive at bay d name world on due = λ i other below is runnin
     both false b is = absurd (true≢false (sym is))
 
 -- the refusal that is due, as it was read
-pub due_there : {D : Type 0} (w : WorldView D) (drive at : ℕ) (bay : BayView D) (d : DriveIs D) (name : List ℕ) (sessions : List WorldSession) (lanes : List LaneView) (due : Option Refusal)
-    → IsOnline w drive at bay d → sessions ≡ w.sessions → lanes ≡ bay.lanes → due_or_kept (purge_due d name) (is_kept sessions d.journal name lanes) ≡ due
-    → purge_due_in w.sessions bay d name ≡ due
-due_there w drive at bay d name sessions lanes due on had laned is =
-    ap₂ (λ (es : List WorldSession) (ls : List LaneView). due_or_kept (purge_due d name) (is_kept es d.journal name ls)) (sym had) (sym laned) ∙ is
+pub due_there : {D : Type 0} (w : WorldView D) (drive at : ℕ) (bay : BayView D) (d : DriveIs D) (name : List ℕ) (sessions : List WorldSession) (due : Option Refusal)
+    → IsOnline w drive at bay d → sessions ≡ w.sessions → due_or_kept (purge_due d name) (is_kept drive name d.journal sessions) ≡ due
+    → purge_due_in w.sessions drive d name ≡ due
+due_there w drive at bay d name sessions due on had is =
+    ap (λ (es : List WorldSession). due_or_kept (purge_due d name) (is_kept drive name d.journal es)) (sym had) ∙ is
 
 -- the drive's own is due before any
 pub own_due : (o : Option Refusal) (kept : Bool) → due_or_kept o kept ≡ None → o ≡ None
@@ -160,7 +148,7 @@ on_still drive name volume journal e =
 -- The world.
 
 module _ {D : Type 0} (meaning : D → Meaning) (w : WorldView D) (drive at : ℕ) (bay : BayView D) (d after : DriveIs D) (name : List ℕ) (reply : Reply)
-    (on : IsOnline w drive at bay d) (due : purge_due_in w.sessions bay d name ≡ None) (empties : Empties meaning name reply d after) where
+    (on : IsOnline w drive at bay d) (due : purge_due_in w.sessions drive d name ≡ None) (empties : Empties meaning name reply d after) where
   -- who is on the volume, by the journal as it is now
   same_on : is_emptied reply ≡ true → (e : WorldSession) → is_on drive name after.journal e ≡ is_on drive name d.journal e
   same_on told e = elim empties [
@@ -173,7 +161,7 @@ module _ {D : Type 0} (meaning : D → Meaning) (w : WorldView D) (drive at : �
       named volume is = ap (λ journal. is_on drive name journal e) is ∙ on_still drive name volume d.journal e
 
   pub none_goes_on_there : IsWorld w → is_emptied reply ≡ true → All (NoneGoesOn drive name after.journal) w.sessions
-  none_goes_on_there world told = λ i other below is. none_goes_on w drive at bay d name world on due i other below (sym (same_on told (get_or w.sessions i other)) ∙ is)
+  none_goes_on_there world told = λ i other below is. none_goes_on w drive d name world due i other below (sym (same_on told (get_or w.sessions i other)) ∙ is)
 
   same_sessions : is_emptied reply ≡ true → (es : List WorldSession) → purged_sessions drive name after.journal es ≡ purged_sessions drive name d.journal es
   same_sessions told [] = refl

@@ -2,22 +2,22 @@
 ghost use Rattle.std.specs.Prelude.{◌≡◌, ℕ, None, Some, All, OnOk, IfErr};
 ghost use Rattle.sd_drive.specs.Moves.{purge_due};
 ghost use Rattle.sd_machine.specs.declared.event.Event.TheVariants.{Purge};
-ghost use Rattle.sd_world.specs.Drives.{due_or_kept, is_kept, is_kept_by, purged_if_on, purged_sessions};
+ghost use Rattle.sd_world.specs.Drives.{due_or_kept, is_kept, is_on, keeps_volume, purged_if_on, purged_sessions};
 ghost use Rattle.sd_world.specs.Moves.{Moves};
-ghost use Rattle.sd_world.specs.Rules.{IsWorld, NumbersRise};
+ghost use Rattle.sd_world.specs.Rules.{IsWorld};
 ghost use Rattle.sd_parts.specs.View.{world_of};
 ghost use Rattle.sd_operators.specs.Purging.{Empties, is_emptied, NoneGoesOn};
 
-use sd_base::{DriveNo, Refusal, Ticket, VolName};
+use sd_base::{DriveNo, Refusal, VolName};
 use sd_drive::Drive;
 use sd_driver::Driver;
 use sd_lane::Lanes;
 use sd_machine::Reply;
-use sd_parts::{Entry, LaneSlot, Parts, find, is_done};
+use sd_parts::{Entry, Parts, is_done};
 use sd_spool::SpoolStore;
 
 /// Takes all blocks from a full volume of the drive, for good, so that it takes blocks again. Refused as the drive says; and
-/// as in use, while a session that keeps its lane from being free has a block on the volume. The sessions of the drive that
+/// as in use, while a session of the drive that keeps its lane from being free has a block on the volume. The sessions of the drive that
 /// had a block on it are purged, also where the device failed. Looks at all sessions.
 pub fn purge<D: Driver, Q: Lanes, S: SpoolStore + Drop>(
     parts: &mut Parts<D, Q, S>,
@@ -34,7 +34,7 @@ pub fn purge<D: Driver, Q: Lanes, S: SpoolStore + Drop>(
     let Some(at) = &mut bay.drive else {
         return Reply::Refused(Refusal::DriveOffline);
     };
-    if let Err(why) = may_purge(&parts.sessions, at, &bay.lanes, name) {
+    if let Err(why) = may_purge(&parts.sessions, drive, at, name) {
         return Reply::Refused(why);
     }
     let reply = empty(at, name);
@@ -70,60 +70,61 @@ fn is_emptied(reply: &Reply) -> bool
 // Whether the volume may be purged, before the device is asked.
 fn may_purge<D: Driver, S: SpoolStore + Drop>(
     sessions: &[Entry<S>],
-    drive: &Drive<D>,
-    lanes: &[LaneSlot<S>],
+    drive: DriveNo,
+    at: &Drive<D>,
     name: &VolName,
 ) -> Result<(), Refusal>
-    requires rise { (time : ℕ) × (next : ℕ) × NumbersRise time 1 next sessions.now }
-    ensures due { IfErr result (λ why. due_or_kept (purge_due drive.now name.now)
-        (is_kept sessions.now drive.now.journal name.now lanes.now) ≡ Some why) }
-    ensures none { OnOk result (due_or_kept (purge_due drive.now name.now)
-        (is_kept sessions.now drive.now.journal name.now lanes.now) ≡ None) }
+    ensures due { IfErr result (λ why. due_or_kept (purge_due at.now name.now)
+        (is_kept drive name.now at.now.journal sessions.now) ≡ Some why) }
+    ensures none { OnOk result (due_or_kept (purge_due at.now name.now)
+        (is_kept drive name.now at.now.journal sessions.now) ≡ None) }
 {
-    drive.may_purge(name)?;
-    if is_kept(sessions, drive, lanes, name) {
+    at.may_purge(name)?;
+    if is_kept(sessions, drive, at, name) {
         return Err(Refusal::InUse);
     }
     Ok(())
 }
 
-// Whether a session that keeps one of the lanes from being free has a block on the volume.
+// Whether a session of the drive that keeps its lane from being free has a block on the volume.
 fn is_kept<D: Driver, S: SpoolStore + Drop>(
     sessions: &[Entry<S>],
-    drive: &Drive<D>,
-    lanes: &[LaneSlot<S>],
+    drive: DriveNo,
+    at: &Drive<D>,
     name: &VolName,
 ) -> bool
-    requires rise { (time : ℕ) × (next : ℕ) × NumbersRise time 1 next sessions.now }
-    ensures { result ≡ is_kept sessions.now drive.now.journal name.now lanes.now }
+    ensures { result ≡ is_kept drive name.now at.now.journal sessions.now }
 {
-    for lane in lanes {
-        if is_kept_by(sessions, drive, lane.holder, name) {
+    for entry in sessions {
+        if keeps_volume(entry, drive, at, name) {
             return true;
         }
     }
     false
 }
 
-// The same of one lane, by the session that used it last.
-fn is_kept_by<D: Driver, S: SpoolStore + Drop>(
-    sessions: &[Entry<S>],
-    drive: &Drive<D>,
-    holder: Option<Ticket>,
+// Whether this one does.
+fn keeps_volume<D: Driver, S: SpoolStore + Drop>(
+    entry: &Entry<S>,
+    drive: DriveNo,
+    at: &Drive<D>,
     name: &VolName,
 ) -> bool
-    requires rise { (time : ℕ) × (next : ℕ) × NumbersRise time 1 next sessions.now }
-    ensures { result ≡ is_kept_by sessions.now drive.now.journal name.now holder }
+    ensures { result ≡ keeps_volume drive name.now at.now.journal entry.now }
 {
-    let Some(ticket) = holder else {
-        return false;
-    };
-    let Some(at) = find(sessions, ticket) else {
-        return false;
-    };
-    let entry = &sessions[at];
-    let session = &entry.session;
-    !is_done(session, drive) && drive.has_on(session.key(), name)
+    is_on(entry, drive, at, name) && !is_done(&entry.session, at)
+}
+
+// Whether the session is of the drive, and had a block on the volume.
+fn is_on<D: Driver, S: SpoolStore + Drop>(
+    entry: &Entry<S>,
+    drive: DriveNo,
+    at: &Drive<D>,
+    name: &VolName,
+) -> bool
+    ensures { result ≡ is_on drive name.now at.now.journal entry.now }
+{
+    entry.drive.get() == drive.get() && at.has_on(entry.session.key(), name)
 }
 
 // The sessions of the drive that had a block on the volume are purged; none of them goes on.
@@ -151,8 +152,7 @@ fn purge_if_on<D: Driver, S: SpoolStore + Drop>(
     requires over { NoneGoesOn drive name.now at.now.journal entry.old }
     ensures { entry.new ≡ purged_if_on drive name.now at.now.journal entry.old }
 {
-    let key = entry.session.key();
-    if entry.drive.get() == drive.get() && at.has_on(key, name) {
+    if is_on(entry, drive, at, name) {
         entry.session.purge();
     }
 }

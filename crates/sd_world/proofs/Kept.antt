@@ -137,7 +137,7 @@ bay_there {D} w w' place bay bay' stood bays tells ticket e at b d found closed 
 over_placed : {D : Type 0} (w : WorldView D) (e : WorldSession) (d : DriveIs D) → (seat : IsSeated w e) → seat.bay.drive ≡ Some d → IsClosedOrPurged e.session.status
     → placed_of e.session.key d.journal ≡ e.session.sent
 over_placed w e d seat on (inl closed) = seat.closed closed d on
-over_placed w e d seat on (inr purged) = seat.left (inl purged) d on
+over_placed w e d seat on (inr purged) = seat.purged purged d on
 
 -- the drive keeps the pieces of others, and a closed or purged session has none in the hand
 pub closed_placed : {D : Type 0} (w : WorldView D) (place : ℕ) (bay : BayView D) (d after : DriveIs D) (ticket : ℕ) (e : WorldSession) → IsWorld w

@@ -1,5 +1,5 @@
 -- Lanes and those who hold them: a session that goes on keeps its lane busy.
-use Rattle.std.proofs.Common.{◌≡◌, ◌≢◌, ◌⊎◌, ℕ, zero, suc, ◌≤◌, ◌==◌, refl, sym, ap, subst, ◌∙◌, arith, inl, inr, true, false, true≢false, Bool, cond, not, Option, Some, None, List, [], ◌∷◌, count_by, slice_get}
+use Rattle.std.proofs.Common.{◌≡◌, ◌≢◌, ℕ, zero, suc, ◌≤◌, ◌==◌, refl, sym, ap, subst, ◌∙◌, arith, inl, inr, true, false, true≢false, Bool, cond, not, Option, Some, List, [], ◌∷◌, count_by, slice_get}
 use Rattle.std.proofs.lemmas.Bool.{eqb-true}
 use Rattle.std.proofs.lemmas.List.Sums.{sum_by-cons}
 use Rattle.sd_drive.specs.View.{DriveIs}
@@ -8,7 +8,7 @@ use Rattle.sd_session.specs.Session.{IsRunning}
 use Rattle.sd_session.specs.declared.status.Status.{Status}
 use Rattle.sd_session.specs.declared.status.Status.TheVariants.{Active, Ended, Closed, Cancelled, Failed, Purged}
 use Rattle.sd_world.specs.World.{WorldSession, BayView, LaneView, session_at, is_done, is_done_of, leaves_lane, lane_is_free, free_lanes, busy_lanes}
-use Rattle.sd_world.proofs.Lookups.{one_or_two, session_id}
+use Rattle.sd_world.proofs.Lookups.{session_id}
 use Rattle.sd_world.proofs.Pairs.{PairAt, WithOne, pair_after}
 use Rattle.sd_world.proofs.Seats.{Sits, AreLanes, lane_stays}
 use Rattle.sd_world.proofs.Views.{StoreStays}
@@ -59,29 +59,11 @@ done_placed Cancelled sent placed done closed purged = sym (eqb-true sent placed
 done_placed Failed sent placed done closed purged = sym (eqb-true sent placed done)
 done_placed Purged sent placed done closed purged = purged refl
 
--- the lane is the ticket's, or not
-holder_cases : (holder : Option ℕ) (ticket : ℕ) → (holder ≡ Some ticket) ⊎ (holder ≢ Some ticket)
-holder_cases None ticket = inr (λ is. cc is)
-holder_cases (Some other) ticket = elim (one_or_two other ticket) [
-  | inl same ↦ inl (ap Some same)
-  | inr apart ↦ inr (λ is. apart (cc is))
-]
-
--- Each piece is placed of a session that is done where its lane is its own.
+-- Each piece is placed of a session that is done.
 pub all_placed : {D : Type 0} (e : WorldSession) (bay : BayView D) (d : DriveIs D) (lane : LaneView) → bay.drive ≡ Some d → Sits e bay lane
-    → (lane.holder ≡ Some e.session.key.id → is_done d.journal e.session ≡ true) → placed_of e.session.key d.journal ≡ e.session.sent
-all_placed e bay d lane on sits done = elim (holder_cases lane.holder e.session.key.id) [
-  | inl holds ↦ done_placed e.session.status e.session.sent (placed_of e.session.key d.journal) (done holds) (λ c. sits.closed c d on) (λ p. sits.left (inl p) d on)
-  | inr other ↦ sits.left (inr other) d on
-]
-
--- so it is where its lane is free
-pub free_placed : {D : Type 0} (sessions : List WorldSession) (ticket : ℕ) (e : WorldSession) (bay : BayView D) (d : DriveIs D) (lane : LaneView)
-    → session_at ticket sessions ≡ Some e → bay.drive ≡ Some d → lane_is_free sessions d.journal lane.holder ≡ true → Sits e bay lane
-    → placed_of e.session.key d.journal ≡ e.session.sent
-free_placed sessions ticket e bay d lane at on free sits = all_placed e bay d lane on sits (λ holds.
-    sym (ap (lane_is_free sessions d.journal) holds ∙ ap (λ n. is_done_of d.journal (session_at n sessions)) (session_id ticket sessions e at) ∙ ap (is_done_of d.journal) at)
-    ∙ free)
+    → is_done d.journal e.session ≡ true → placed_of e.session.key d.journal ≡ e.session.sent
+all_placed e bay d lane on sits done =
+    done_placed e.session.status e.session.sent (placed_of e.session.key d.journal) done (λ c. sits.closed c d on) (λ p. sits.purged p d on)
 
 -- the session lodges where it did, with the lane's store if it had it
 abbrev pub Lodges : WorldSession → WorldSession → Type 0

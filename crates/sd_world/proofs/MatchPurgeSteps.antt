@@ -1,5 +1,5 @@
 -- A purge is a step of the list machine, which strikes the sessions with Purged that have a block on the volume.
-use Rattle.std.proofs.Common.{◌≡◌, ℕ, ◌+◌, cond, refl, sym, ap, ap₂, subst, ◌∙◌, arith, inl, inr, suc, Bool, true, false, true≢false, Some, List, [], ◌∷◌, ◌++◌, map, option_to_list, append_assoc, slice_get, slice_set}
+use Rattle.std.proofs.Common.{◌≡◌, ℕ, ◌+◌, cond, refl, sym, ap, ap₂, subst, ◌∙◌, inl, inr, suc, Bool, true, false, true≢false, Some, List, [], ◌∷◌, ◌++◌, map, option_to_list, append_assoc, slice_get, slice_set}
 use Rattle.std.specs.Prelude.{◌&&◌, ◌||◌, not}
 use Rattle.std.specs.List.{list_any}
 use Rattle.std.specs.Str.{bytes_eq}
@@ -29,7 +29,7 @@ use Rattle.sd_world.specs.World.{WorldView, WorldSession, BayView, session_at}
 use Rattle.sd_world.proofs.LaneSteps.{running_keeps}
 use Rattle.sd_world.proofs.Lookups.{found_by_number}
 use Rattle.sd_world.proofs.Pairs.{pair_after}
-use Rattle.sd_world.proofs.PurgeSteps.{PurgesIn, PurgedOrStays, purges_in, purged_one, purged_pairs, lane_done, refuses_purge}
+use Rattle.sd_world.proofs.PurgeSteps.{PurgesIn, PurgedOrStays, purges_in, purged_one, purged_pairs, on_done, refuses_purge}
 use Rattle.sd_world.specs.Matches.{Matches, IsUnsynced, bodies_with, sent_body, sent_bodies, sent_to, queued_bodies, given_to, body_of_piece}
 use Rattle.sd_world.specs.MachineSteps.{StepsTo, newly_struck}
 use Rattle.sd_world.proofs.Bodies.{bodies_with-append, placed_bodies}
@@ -186,14 +186,10 @@ module _ {D : Type 0} {meaning : D → Meaning} {old new : WorldView D} {drive :
       ])
 
   -- a session that goes on has no block on the volume
-  running_off : IsWorld old → (x : WorldSession) → session_at x.session.key.id old.sessions ≡ Some x → x.drive ≡ drive
+  running_off : (x : WorldSession) → session_at x.session.key.id old.sessions ≡ Some x → x.drive ≡ drive
       → has_on x.session.key name m.d.journal ≡ true → IsRunning x.session.status → ⊥
-  running_off rules x there own on running =
-      let seat = rules.seated x.session.key.id x there in
-      let at : seat.at ≡ m.at = omega (arith, seat.drive_is, own, m.online.number) in
-      let bay : seat.bay ≡ m.bay = cc (sym seat.bay_there ∙ ap (slice_get old.bays) at ∙ m.online.there) in
-      let lane = subst (λ (b : BayView D). slice_get b.lanes seat.place ≡ Some seat.lane) bay seat.lane_there in
-      let done = lane_done old.sessions m.bay m.d name x.session.key.id seat.place x seat.lane m.due there lane (seat.holds running) on in
+  running_off x there own on running =
+      let done = on_done old.sessions drive m.d name x.session.key.id x m.due there own on in
       true≢false (sym done ∙ running_keeps x.session.status _ running)
 
   pairs : (es : List WorldSession)
@@ -215,7 +211,7 @@ module _ {D : Type 0} {meaning : D → Meaning} {old new : WorldView D} {drive :
       → Matches meaning old machine → StepsTo meaning machine old (Purge drive name) reply new
   purged_step machine reply rules turns may h =
       let es' = purged_sessions drive name m.d.journal old.sessions in
-      let all = pairs old.sessions (λ at x there. running_off rules x (found_by_number old.limits.time 1 old.next old.sessions at x rules.numbers there)) in
+      let all = pairs old.sessions (λ at x there. running_off x (found_by_number old.limits.time 1 old.next old.sessions at x rules.numbers there)) in
       subst (λ w. StepsTo meaning machine old (Purge drive name) reply w) (sym m.new_is)
       (struck_step IsPurge meaning old after_purge machine (Purge drive name) reply refl refl rules.numbers all turns
       (may (newly_struck old.sessions es') (machine_purges meaning old machine (newly_struck old.sessions es') h
@@ -239,7 +235,7 @@ purge_refused : {D : Type 0} (meaning : D
     → PurgeRefused meaning old drive name why new → Matches meaning old m
     → StepsTo meaning m old (Purge drive name) (Refused why) new
 purge_refused meaning old new drive name why m rules (inl p) h = missing meaning old new m (Purge drive name) drive why p.0 (λ r no. inl no) refl refl h p.1
-purge_refused meaning old new drive name why m rules (inr (inl p)) h = elim (refuses_purge old.sessions p.1 p.2 name why p.4) [
+purge_refused meaning old new drive name why m rules (inr (inl p)) h = elim (refuses_purge old.sessions drive p.2 name why p.4) [
   | inl is ↦ refused meaning old new m (Purge drive name) why VolumeNotOnShelf is (inr (inl refl)) refl h p.5
   | inr (inl is) ↦ refused meaning old new m (Purge drive name) why VolumeNotFull is (inr (inr (inl refl))) refl h p.5
   | inr (inr is) ↦ refused meaning old new m (Purge drive name) why InUse is (inr (inr (inr (inl refl)))) refl h p.5

@@ -1,12 +1,12 @@
 -- A world keeps its rules where a session is opened, and where one isn't for want of memory or of its lane's store.
-use Rattle.std.proofs.Common.{◌≡◌, ◌≢◌, ◌⊎◌, ℕ, zero, suc, ◌+◌, refl, sym, ap, subst, ◌∙◌, arith, inl, inr, true, false, Bool, true≢false, Option, Some, None, IsSome, List, [], ◌∷◌, ◌++◌, length, slice_get, slice_set, option_map}
+use Rattle.std.proofs.Common.{◌≡◌, ℕ, zero, suc, ◌+◌, refl, sym, ap, subst, ◌∙◌, arith, inl, inr, true, false, Bool, true≢false, Some, None, IsSome, List, [], ◌∷◌, ◌++◌, length, slice_get, slice_set, option_map}
 use Rattle.std.proofs.lemmas.List.{length-set}
 use Rattle.std.proofs.lemmas.Option.{IfSome_then, MatchOption-at_some, slice_get-map}
 use Rattle.sd_base.specs.declared.number.SessionKey.{SessionKey}
 use Rattle.sd_drive.specs.View.{DriveIs, items}
-use Rattle.sd_journal.specs.Journal.{items_of, placements, placed_of, fails, has_purged, with_key}
+use Rattle.sd_journal.specs.Journal.{items_of, placements, fails, has_purged, with_key}
 use Rattle.sd_session.specs.Session.{SessionView, IsRunning, store_of, home_of, unused_store, new_spool}
-use Rattle.sd_session.specs.declared.status.Status.TheVariants.{Active, Purged}
+use Rattle.sd_session.specs.declared.status.Status.TheVariants.{Active}
 use Rattle.sd_spool.specs.Job.{StoreState}
 use Rattle.sd_spool.specs.Meaning.{Meaning as StoreMeaning}
 use Rattle.sd_world.specs.World.{WorldView, WorldSession, BayView, LaneView, session_at, with_session, items_before, items_with, lane_is_free}
@@ -15,7 +15,7 @@ use Rattle.sd_world.specs.Sessions.{TakesStore, Reserves, OpensSession, OpensNot
 use Rattle.sd_world.specs.Honest.{StoreIsTrue}
 use Rattle.sd_world.proofs.Lookups.{one_or_two, session_id, session_at-front, session_at-behind, session_at-push, get_set-same, get_set-other, get_set-tells}
 use Rattle.sd_world.proofs.Items.{in_hand, in_queue, items_with-next, fails-next, gone-next, of_opened-front}
-use Rattle.sd_world.proofs.LaneSteps.{not_free, free_placed}
+use Rattle.sd_world.proofs.LaneSteps.{not_free}
 use Rattle.sd_world.proofs.Pairs.{PairAt, WithOne, pair_after, pair_before, same_pair, with_pairs, is_numbered, numbers_with, numbers_push, none_next}
 use Rattle.sd_world.proofs.Seats.{sits_session, sits_kept, seated_with, lane_stays, WorldStays, IsInBay, inside_same, bay_with}
 use Rattle.sd_world.proofs.Views.{SessionStays, StoreStays, StaysTrue, same_stays, gives_back}
@@ -128,13 +128,12 @@ opens_not {D} w w' pool media why h o =
           let holder : lane'.holder ≡ lane.holder = ap (λ (l : LaneView). l.holder) (sym one) in (
             lane',
             ap (slice_get lanes') same ∙ get_set-same o.bay.lanes o.place lane' o.lane stands,
-            sits_kept y o.bay bay' o.d after lane lane' on refl refl refl (λ r. holder ∙ s.holds r)
-                (λ c. s.left (subst (λ (n : Option ℕ). (y.session.status ≡ Purged) ⊎ (n ≢ Some y.session.key.id)) holder c) o.d on) s,
+            sits_kept y o.bay bay' o.d after lane lane' on refl refl refl (λ r. holder ∙ s.holds r) s,
           )
       | inr apart ↦ (
         lane,
         get_set-other o.bay.lanes o.place place lane' apart ∙ seat,
-        sits_kept y o.bay bay' o.d after lane lane on refl refl refl s.holds (λ c. s.left c o.d on) s,
+        sits_kept y o.bay bay' o.d after lane lane on refl refl refl s.holds s,
       )
     ])
     (λ b lane elsewhere sits. sits_session x y b lane p.2.stays sits))
@@ -242,10 +241,7 @@ opens {D} w w' job pool media moment ticket drive h o =
       lost_none = λ r x is. let one : after ≡ x = cc is in subst (λ (y : DriveIs D). fails o.session.key y.journal ≡ false) one none_lost;
       closed = λ c. absurd (cc (sym fresh.active ∙ c));
       some_sent = λ c. absurd (cc (sym fresh.active ∙ c));
-      left = λ c. elim c [
-        | inl purged ↦ absurd (cc (sym fresh.active ∙ purged))
-        | inr other ↦ absurd (other (ap Some (sym f_id)))
-      ];
+      purged = λ c. absurd (cc (sym fresh.active ∙ c));
       none_gone = λ n x is. let one : after ≡ x = cc is in subst (λ (y : DriveIs D). has_purged o.session.key y.journal ≡ false) one none_gone;
     } in
     subst IsWorld (sym o.new_is)
@@ -264,17 +260,15 @@ opens {D} w w' job pool media moment ticket drive h o =
                 let one : lane ≡ o.lane = cc (sym seat ∙ ap (slice_get o.bay.lanes) same ∙ stands) in
                 let own_free : lane_is_free w.sessions o.d.journal lane.holder ≡ true = ap (λ (l : LaneView). lane_is_free w.sessions o.d.journal l.holder) one ∙ free in
                 let over : IsRunning y.session.status → ⊥ = λ r.
-                true≢false (sym own_free ∙ not_free w.sessions o.d.journal number x lane.holder p.1 (p.2.stays.running r) (sits.holds (p.2.stays.running r))) in
-                let placed = free_placed w.sessions number x o.bay o.d lane p.1 on own_free sits in (
+                true≢false (sym own_free ∙ not_free w.sessions o.d.journal number x lane.holder p.1 (p.2.stays.running r) (sits.holds (p.2.stays.running r))) in (
                   lane',
                   ap (slice_get lanes') same ∙ get_set-same o.bay.lanes o.place lane' o.lane stands,
-                  sits_kept y o.bay bay' o.d after lane lane' on refl refl refl (λ r. absurd (over r))
-                      (λ c. ap (λ k. placed_of k o.d.journal) p.2.stays.key_is ∙ placed ∙ sym p.2.stays.sent_is) s,
+                  sits_kept y o.bay bay' o.d after lane lane' on refl refl refl (λ r. absurd (over r)) s,
                 )
             | inr apart ↦ (
               lane,
               get_set-other o.bay.lanes o.place place lane' apart ∙ seat,
-              sits_kept y o.bay bay' o.d after lane lane on refl refl refl s.holds (λ c. s.left c o.d on) s,
+              sits_kept y o.bay bay' o.d after lane lane on refl refl refl s.holds s,
             )
           ])
           (λ b lane elsewhere sits. sits_session x y b lane p.2.stays sits)

@@ -1,5 +1,5 @@
 -- A volume of a drive is purged: what becomes of the drive, of each session, and that the world keeps its rules.
-use Rattle.std.proofs.Common.{◌≡◌, ◌≢◌, ◌⊎◌, ℕ, zero, suc, ◌+◌, ◌≤◌, ◌==◌, cond, refl, sym, ap, subst, ◌∙◌, arith, inl, inr, true, false, true≢false, Bool, not, Option, Some, None, is_some, List, [], ◌∷◌, slice_get, slice_set}
+use Rattle.std.proofs.Common.{◌≡◌, ◌≢◌, ◌⊎◌, ℕ, ◌+◌, ◌≤◌, ◌==◌, cond, refl, sym, ap, subst, ◌∙◌, arith, inl, inr, true, false, true≢false, Bool, not, Option, Some, None, is_some, List, [], ◌∷◌, slice_get, slice_set}
 use Rattle.std.specs.Prelude.{◌||◌, ◌&&◌}
 use Rattle.std.specs.List.{list_any}
 use Rattle.std.proofs.lemmas.Bool.{eqb-true, eq-eqb, and_parts}
@@ -18,13 +18,12 @@ use Rattle.sd_volume.specs.Volume.{VolumeView}
 use Rattle.sd_volume.specs.declared.volume.VolumeStatus.{VolumeStatus}
 use Rattle.std.specs.Option.{option_and_then}
 use Rattle.sd_world.specs.World.{WorldView, WorldSession, BayView, LaneView, IsOnline, session_at, is_done}
-use Rattle.sd_world.specs.Drives.{PurgesVolume, keeps_lane, is_kept_by, is_kept, due_or_kept, purge_due_in, is_on, purged_if_on, purged_sessions}
+use Rattle.sd_world.specs.Drives.{PurgesVolume, keeps_volume, is_kept, due_or_kept, purge_due_in, is_on, purged_if_on, purged_sessions}
 use Rattle.sd_world.specs.Operators.{NotesPurge}
 use Rattle.sd_world.specs.Rules.{NumbersRise, IsWorld}
 use Rattle.sd_world.proofs.DriveMoves.{noted_claims}
 use Rattle.sd_world.proofs.DriveSteps.{DrivePurges, empties}
 use Rattle.sd_world.proofs.LaneSteps.{Lodges, lodges_same, lanes_lodge, all_placed}
-use Rattle.sd_world.proofs.Lookups.{session_id}
 use Rattle.sd_world.proofs.Pairs.{PairOf, PairAt, pair_before}
 use Rattle.sd_world.proofs.Seats.{Sits, WorldStays, sits_drive, seated_with, bay_drive}
 use Rattle.sd_world.proofs.Views.{purged_not_running}
@@ -38,7 +37,7 @@ pub record PurgesIn {D : Type 0} (meaning : D → Meaning) (old : WorldView D) (
   pub after : DriveIs D
   pub desk : DeskView
   pub online : IsOnline old drive at bay d
-  pub due : purge_due_in old.sessions bay d name ≡ None
+  pub due : purge_due_in old.sessions drive d name ≡ None
   pub place : ℕ
   pub volume : VolumeView
   pub status : VolumeStatus
@@ -106,14 +105,14 @@ due_kept None true why is = inr (cc is)
 due_kept None false why is = absurd (cc is)
 due_kept (Some other) kept why is = inl is
 
-pub refuses_purge : {D : Type 0} (sessions : List WorldSession) (bay : BayView D) (d : DriveIs D) (name : List ℕ) (why : Refusal)
-    → purge_due_in sessions bay d name ≡ Some why → RefusesPurge why
-refuses_purge sessions bay d name why is = elim (due_kept (purge_due d name) (is_kept sessions d.journal name bay.lanes) why is) [
+pub refuses_purge : {D : Type 0} (sessions : List WorldSession) (drive : ℕ) (d : DriveIs D) (name : List ℕ) (why : Refusal)
+    → purge_due_in sessions drive d name ≡ Some why → RefusesPurge why
+refuses_purge sessions drive d name why is = elim (due_kept (purge_due d name) (is_kept drive name d.journal sessions) why is) [
   | inl own ↦ due_of d.loaded (option_and_then (slice_get d.volumes) (place_of d.volumes name)) why own
   | inr used ↦ inr (inr used)
 ]
 
--- Who has a lane.
+-- Who keeps a lane.
 
 none_due : (o : Option Refusal) (kept : Bool) → due_or_kept o kept ≡ None → kept ≡ false
 none_due None true is = absurd (cc is)
@@ -124,27 +123,31 @@ or_none : (a b : Bool) → (a || b) ≡ false → (a ≡ false) × (b ≡ false)
 or_none true b is = absurd (true≢false is)
 or_none false b is = (refl, is)
 
-none_at : (p : LaneView → Bool) (lanes : List LaneView) (place : ℕ) (lane : LaneView) → list_any p lanes ≡ false
-    → slice_get lanes place ≡ Some lane → p lane ≡ false
-none_at p [] place lane none there = absurd (cc there)
-none_at p (l ∷ ls) zero lane none there = let is : l ≡ lane = cc there in ap p (sym is) ∙ (or_none (p l) (list_any p ls) none).0
-none_at p (l ∷ ls) (suc k) lane none there = none_at p ls k lane (or_none (p l) (list_any p ls) none).1 there
+none_at : (p : WorldSession → Bool) (es : List WorldSession) (ticket : ℕ) (e : WorldSession) → list_any p es ≡ false
+    → session_at ticket es ≡ Some e → p e ≡ false
+none_at p [] ticket e none at = absurd (cc at)
+none_at p (x ∷ es) ticket e none at =
+    let parts = or_none (p x) (list_any p es) none in
+    from (x.session.key.id == ticket) parts.0 (λ rest. none_at p es ticket e parts.1 rest) at
+  where
+    from : (own : Bool) → p x ≡ false → (session_at ticket es ≡ Some e → p e ≡ false) → cond own (Some x) (session_at ticket es) ≡ Some e → p e ≡ false
+    from true here later is = let same : x ≡ e = cc is in ap p (sym same) ∙ here
+    from false here later is = later is
 
-and_not : (done on : Bool) → (not done && on) ≡ false → on ≡ true → done ≡ true
-and_not true on none is = refl
-and_not false on none is = absurd (true≢false (sym is ∙ none))
+not_kept : (here on done : Bool) → ((here && on) && not done) ≡ false → here ≡ true → on ≡ true → done ≡ true
+not_kept true true true none is at = refl
+not_kept true true false none is at = absurd (true≢false none)
+not_kept true false done none is at = absurd (true≢false (sym at))
+not_kept false on done none is at = absurd (true≢false (sym is))
 
--- where a purge isn't refused, a session that has its lane and a block on the volume is done
-pub lane_done : {D : Type 0} (sessions : List WorldSession) (bay : BayView D) (d : DriveIs D) (name : List ℕ) (ticket place : ℕ) (e : WorldSession) (lane : LaneView)
-    → purge_due_in sessions bay d name ≡ None → session_at ticket sessions ≡ Some e → slice_get bay.lanes place ≡ Some lane
-    → lane.holder ≡ Some e.session.key.id
+-- where a purge isn't refused, a session of the drive that has a block on the volume is done
+pub on_done : {D : Type 0} (sessions : List WorldSession) (drive : ℕ) (d : DriveIs D) (name : List ℕ) (ticket : ℕ) (e : WorldSession)
+    → purge_due_in sessions drive d name ≡ None → session_at ticket sessions ≡ Some e → e.drive ≡ drive
     → has_on e.session.key name d.journal ≡ true → is_done d.journal e.session ≡ true
-lane_done sessions bay d name ticket place e lane due at there holds on =
-    let none = none_at (λ (l : LaneView). is_kept_by sessions d.journal name l.holder) bay.lanes place lane
-    (none_due (purge_due d name) (is_kept sessions d.journal name bay.lanes) due) there in
-    let found : session_at e.session.key.id sessions ≡ Some e = ap (λ n. session_at n sessions) (session_id ticket sessions e at) ∙ at in
-    and_not (is_done d.journal e.session) (has_on e.session.key name d.journal)
-    (sym (ap (is_kept_by sessions d.journal name) holds ∙ ap (keeps_lane d.journal name) found) ∙ none) on
+on_done sessions drive d name ticket e due at here on =
+    let none = none_at (keeps_volume drive name d.journal) sessions ticket e
+    (none_due (purge_due d name) (is_kept drive name d.journal sessions) due) at in
+    not_kept (e.drive == drive) (has_on e.session.key name d.journal) (is_done d.journal e.session) none (eq-eqb e.drive drive here) on
 
 -- Sessions.
 
@@ -219,7 +222,7 @@ sits_purged {D} x bay d lane on placed h = record {
   lost_none = λ r. absurd (purged_not_running r);
   closed = λ c. absurd (cc c);
   some_sent = λ c. absurd (cc c);
-  left = λ c z is. let one : d ≡ z = cc (sym on ∙ is) in subst (λ (y : DriveIs D). placed_of x.session.key y.journal ≡ x.session.sent) one placed;
+  purged = λ c z is. let one : d ≡ z = cc (sym on ∙ is) in subst (λ (y : DriveIs D). placed_of x.session.key y.journal ≡ x.session.sent) one placed;
   none_gone = λ n. absurd (n refl);
 }
 
@@ -271,7 +274,7 @@ purges_world {D} meaning w w' drive name h m =
       lane,
       stands,
       sits_here drive name x y m.bay d after lane on (here ∙ sym m.online.number) purges
-          (λ own. all_placed x m.bay d lane on sits (λ holds. lane_done w.sessions m.bay d name ticket place x lane m.due p.1 stands holds own)) p.2 sits,
+          (λ own. all_placed x m.bay d lane on sits (on_done w.sessions drive d name ticket x m.due p.1 (here ∙ sym m.online.number) own)) p.2 sits,
     ))
     (λ b lane elsewhere sits. sits_there drive name d.journal x y b lane (λ here. elsewhere (here ∙ m.online.number)) p.2 sits))
     (bay_drive w v m.at m.bay d after stays old on purges.stays (claimed_on w m.at m.bay d after m.desk h there on purges.names claims)

@@ -129,7 +129,7 @@ purged_in {D} {meaning} {w} {w'} drive name reply (inr is) m = from (subst (λ r
   where
     from : PurgeRefused meaning w drive name DeviceFault w' → PurgesIn meaning w drive name w'
     from (inl p) = absurd (missing_not w drive p.0)
-    from (inr (inl p)) = absurd (elim (refuses_purge w.sessions p.1 p.2 name DeviceFault p.4) [
+    from (inr (inl p)) = absurd (elim (refuses_purge w.sessions drive p.2 name DeviceFault p.4) [
       | inl why ↦ cc why
       | inr (inl why) ↦ cc why
       | inr (inr why) ↦ cc why

@@ -53,7 +53,7 @@ takes_piece {D} w w' drive ticket seq h t =
     (λ place lane here in_lane stands sits. (
       lane,
       stands,
-      sits_kept e t.bay bay' t.d after lane lane on refl refl same sits.holds (λ c. sits.left c t.d on) sits,
+      sits_kept e t.bay bay' t.d after lane lane on refl refl same sits.holds sits,
     ))
     (λ b lane elsewhere sits. sits))
     (bay_with w v t.at t.bay bay' stays (h.bays t.at t.bay there) (record { media_is = refl; lanes_are = refl; queue_lanes = refl; capacity_is = refl })
@@ -123,10 +123,7 @@ sits_sent e t bay queue' piece lane ln sends sits = record {
   lost_none = λ r x is. ap (λ k. fails k x.journal) sends.key_is ∙ sits.lost_none sends.running x is;
   closed = λ c. absurd (not_closed e.session.status sends.running (sym sends.status_is ∙ c));
   some_sent = λ c. absurd (not_closed e.session.status sends.running (sym sends.status_is ∙ c));
-  left = λ c x is. elim c [
-    | inl purged ↦ absurd (not_purged e.session.status sends.running (sym sends.status_is ∙ purged))
-    | inr other ↦ absurd (other (sits.holds sends.running ∙ ap (λ (k : SessionKey). Some k.id) (sym sends.key_is)))
-  ];
+  purged = λ c. absurd (not_purged e.session.status sends.running (sym sends.status_is ∙ c));
   none_gone = λ n x is. ap (λ k. has_purged k x.journal) sends.key_is ∙ sits.none_gone (not_purged e.session.status sends.running) x is;
 }
 
@@ -144,7 +141,7 @@ sits_unsent x bay queue' piece lane ln other held sits = record {
   lost_none = sits.lost_none;
   closed = sits.closed;
   some_sent = sits.some_sent;
-  left = sits.left;
+  purged = sits.purged;
   none_gone = sits.none_gone;
 }
 
@@ -248,10 +245,7 @@ closes_world {D} w w' ticket key spans h c =
       lost_none = λ r. absurd (closed_not_running r);
       closed = λ q x there. let one : c.d ≡ x = cc (sym on ∙ there) in subst (λ (y : DriveIs D). placed_of e.session.key y.journal ≡ e.session.sent) one placed;
       some_sent = λ q. c.closes.may.some_sent;
-      left = λ q x there. elim q [
-        | inl purged ↦ absurd (cc purged)
-        | inr other ↦ absurd (other (seat.holds (inr c.closes.may.ended)))
-      ];
+      purged = λ q. absurd (cc q);
       none_gone = λ n. seat.none_gone (not_purged e.session.status (inr c.closes.may.ended));
     }) in
     let own : IsSeated v f = seated_on w v e f seat refl refl (ap (λ (s : SessionView). s.lane) is) sits in
@@ -290,7 +284,7 @@ retires_world {D} w w' drive h t =
         lost_none = λ r x is. absurd (cc is);
         closed = λ c x is. absurd (cc is);
         some_sent = sits.some_sent;
-        left = λ c x is. absurd (cc is);
+        purged = λ c x is. absurd (cc is);
         none_gone = λ n x is. absurd (cc is);
       },
     ))

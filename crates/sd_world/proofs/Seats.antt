@@ -23,10 +23,6 @@ use Rattle.sd_world.proofs.Items.{none_in_hand, items_before-items, of_opened-mo
 
 -- Seats.
 
--- the session was purged, or no longer has the lane
-abbrev pub HasLeft : WorldSession → LaneView → Type 0
-HasLeft e lane = (e.session.status ≡ Purged) ⊎ (lane.holder ≢ Some e.session.key.id)
-
 -- what the world keeps of a session, by its bay and its lane
 pub record Sits {D : Type 0} (e : WorldSession) (bay : BayView D) (lane : LaneView) : Type 0 where
   pub sent_is : (d : DriveIs D) → bay.drive ≡ Some d
@@ -36,7 +32,7 @@ pub record Sits {D : Type 0} (e : WorldSession) (bay : BayView D) (lane : LaneVi
   pub lost_none : IsRunning e.session.status → (d : DriveIs D) → bay.drive ≡ Some d → fails e.session.key d.journal ≡ false
   pub closed : e.session.status ≡ Closed → (d : DriveIs D) → bay.drive ≡ Some d → placed_of e.session.key d.journal ≡ e.session.sent
   pub some_sent : e.session.status ≡ Closed → 1 ≤ e.session.sent
-  pub left : HasLeft e lane → (d : DriveIs D) → bay.drive ≡ Some d → placed_of e.session.key d.journal ≡ e.session.sent
+  pub purged : e.session.status ≡ Purged → (d : DriveIs D) → bay.drive ≡ Some d → placed_of e.session.key d.journal ≡ e.session.sent
   pub none_gone : e.session.status ≢ Purged → (d : DriveIs D) → bay.drive ≡ Some d → has_purged e.session.key d.journal ≡ false
 
 pub sits_of : {D : Type 0} (w : WorldView D) (e : WorldSession) → (h : IsSeated w e) → Sits e h.bay h.lane
@@ -47,7 +43,7 @@ sits_of w e h = record {
   lost_none = h.lost_none;
   closed = h.closed;
   some_sent = h.some_sent;
-  left = h.left;
+  purged = h.purged;
   none_gone = h.none_gone;
 }
 
@@ -70,7 +66,7 @@ seat_in w e at place bay lane drive in_lane there stands sits = record {
   lost_none = sits.lost_none;
   closed = sits.closed;
   some_sent = sits.some_sent;
-  left = sits.left;
+  purged = sits.purged;
   none_gone = sits.none_gone;
 }
 
@@ -110,10 +106,6 @@ seated_with {D} w w' at bay bay' e e' h there bays drive lane here elsewhere =
           (ap (λ bs. slice_get bs h.at) bays ∙ get_set-other w.bays at h.at bay' apart ∙ h.bay_there) h.lane_there sits
     ]
 
-left_before : (e e' : WorldSession) (lane : LaneView) → SessionStays e.session e'.session → HasLeft e' lane → HasLeft e lane
-left_before e e' lane stays (inl purged) = inl (stays.was_purged purged)
-left_before e e' lane stays (inr other) = inr (λ holds. other (holds ∙ ap (λ (k : SessionKey). Some k.id) (sym stays.key_is)))
-
 -- the session changes, and keeps what it sits by
 pub sits_session : {D : Type 0} (e e' : WorldSession) (bay : BayView D) (lane : LaneView) → SessionStays e.session e'.session → Sits e bay lane → Sits e' bay lane
 sits_session e e' bay lane stays h = record {
@@ -123,7 +115,7 @@ sits_session e e' bay lane stays h = record {
   lost_none = λ r d on. ap (λ k. fails k d.journal) stays.key_is ∙ h.lost_none (stays.running r) d on;
   closed = λ c d on. ap (λ k. placed_of k d.journal) stays.key_is ∙ h.closed (stays.was_closed c) d on ∙ sym stays.sent_is;
   some_sent = λ c. subst (λ (n : ℕ). 1 ≤ n) (sym stays.sent_is) (h.some_sent (stays.was_closed c));
-  left = λ c d on. ap (λ k. placed_of k d.journal) stays.key_is ∙ h.left (left_before e e' lane stays c) d on ∙ sym stays.sent_is;
+  purged = λ c d on. ap (λ k. placed_of k d.journal) stays.key_is ∙ h.purged (stays.was_purged c) d on ∙ sym stays.sent_is;
   none_gone = λ n d on. ap (λ k. has_purged k d.journal) stays.key_is ∙ h.none_gone (λ p. n (stays.stays_purged p)) d on;
 }
 
@@ -181,16 +173,16 @@ sits_drive {D} e bay d after lane on stays fail gone h =
       lost_none = λ r x is. ap (fails key) (sym (journal x is)) ∙ fail r (h.lost_none r d on);
       closed = λ c x is. ap (placed_of key) (sym (journal x is)) ∙ placed (h.closed c d on);
       some_sent = h.some_sent;
-      left = λ c x is. ap (placed_of key) (sym (journal x is)) ∙ placed (h.left c d on);
+      purged = λ c x is. ap (placed_of key) (sym (journal x is)) ∙ placed (h.purged c d on);
       none_gone = λ n x is. ap (has_purged key) (sym (journal x is)) ∙ gone n (h.none_gone n d on);
     }
 
 -- the drive has its journal, and the pieces that were given to it or are before it stay
 pub sits_kept : {D : Type 0} (e : WorldSession) (bay bay' : BayView D) (d after : DriveIs D) (lane lane' : LaneView) → bay.drive ≡ Some d → bay'.drive ≡ Some after
     → after.journal ≡ d.journal → items_before after bay'.queue ≡ items_before d bay.queue
-    → (IsRunning e.session.status → lane'.holder ≡ Some e.session.key.id) → (HasLeft e lane' → placed_of e.session.key d.journal ≡ e.session.sent)
+    → (IsRunning e.session.status → lane'.holder ≡ Some e.session.key.id)
     → Sits e bay lane → Sits e bay' lane'
-sits_kept {D} e bay bay' d after lane lane' on now same items holds left h =
+sits_kept {D} e bay bay' d after lane lane' on now same items holds h =
     let key = e.session.key in
     let journal : (x : DriveIs D) → bay'.drive ≡ Some x → x.journal ≡ d.journal = λ x is.
     let one : after ≡ x = cc (sym now ∙ is) in ap (λ (y : DriveIs D). y.journal) (sym one) ∙ same in
@@ -202,7 +194,7 @@ sits_kept {D} e bay bay' d after lane lane' on now same items holds left h =
       lost_none = λ r x is. ap (fails key) (journal x is) ∙ h.lost_none r d on;
       closed = λ c x is. ap (placed_of key) (journal x is) ∙ h.closed c d on;
       some_sent = h.some_sent;
-      left = λ c x is. ap (placed_of key) (journal x is) ∙ left c;
+      purged = λ c x is. ap (placed_of key) (journal x is) ∙ h.purged c d on;
       none_gone = λ n x is. ap (has_purged key) (journal x is) ∙ h.none_gone n d on;
     }
 

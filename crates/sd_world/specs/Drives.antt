@@ -24,7 +24,7 @@ use Rattle.sd_volume.specs.Volume.{VolumeView}
 use Rattle.sd_volume.specs.declared.volume.VolumeStatus.{VolumeStatus}
 use Rattle.sd_volume.specs.declared.volume.VolumeStatus.TheVariants.{Error}
 use Rattle.sd_world.specs.Operators.{NotesPurge}
-use Rattle.sd_world.specs.World.{WorldView, WorldSession, LaneView, BayView, IsOnline, session_at, with_bay, with_drive, is_done, busy_lanes}
+use Rattle.sd_world.specs.World.{WorldView, WorldSession, LaneView, BayView, IsOnline, with_bay, with_drive, is_done, busy_lanes}
 use Rattle.sd_world.specs.Stations.{Outcome, Calls}
 use Rattle.sd_world.specs.DriveMoves.{DriveMoves}
 
@@ -135,33 +135,27 @@ was_purged Cancelled = false
 was_purged Failed = false
 was_purged Purged = true
 
--- this session keeps its lane from being free, and has a block on the volume
-abbrev pub keeps_lane : List Entry → List ℕ → Option WorldSession → Bool
-keeps_lane journal name None = false
-keeps_lane journal name (Some e) = not (is_done journal e.session) && has_on e.session.key name journal
+-- the session is of the drive, and a block of it was placed on the volume
+abbrev pub is_on : ℕ → List ℕ → List Entry → WorldSession → Bool
+is_on drive name journal e = (e.drive == drive) && has_on e.session.key name journal
 
--- so does the one of this ticket, if there is one
-abbrev pub is_kept_by : List WorldSession → List Entry → List ℕ → Option ℕ → Bool
-is_kept_by sessions journal name None = false
-is_kept_by sessions journal name (Some ticket) = keeps_lane journal name (session_at ticket sessions)
+-- such a session still keeps its lane from being free
+abbrev pub keeps_volume : ℕ → List ℕ → List Entry → WorldSession → Bool
+keeps_volume drive name journal e = is_on drive name journal e && not (is_done journal e.session)
 
--- a session that keeps one of these lanes from being free has a block on the volume
-abbrev pub is_kept : List WorldSession → List Entry → List ℕ → List LaneView → Bool
-is_kept sessions journal name lanes = list_any (λ (l : LaneView). is_kept_by sessions journal name l.holder) lanes
+-- one of these sessions does
+abbrev pub is_kept : ℕ → List ℕ → List Entry → List WorldSession → Bool
+is_kept drive name journal sessions = list_any (keeps_volume drive name journal) sessions
 
 -- the drive's own refusal, or else in use, where this is so
 abbrev pub due_or_kept : Option Refusal → Bool → Option Refusal
 due_or_kept (Some why) kept = Some why
 due_or_kept None kept = if kept then Some InUse else None
 
--- Which refusal of a purge is due before the device is asked: the drive's own; or a session that keeps its lane from being free
--- has a block on the volume.
-abbrev pub purge_due_in : {D : Type 0} → List WorldSession → BayView D → DriveIs D → List ℕ → Option Refusal
-purge_due_in sessions bay d name = due_or_kept (purge_due d name) (is_kept sessions d.journal name bay.lanes)
-
--- the session is of the drive, and a block of it was placed on the volume
-abbrev pub is_on : ℕ → List ℕ → List Entry → WorldSession → Bool
-is_on drive name journal e = (e.drive == drive) && has_on e.session.key name journal
+-- Which refusal of a purge is due before the device is asked: the drive's own; or a session of the drive that keeps its lane from being
+-- free has a block on the volume.
+abbrev pub purge_due_in : {D : Type 0} → List WorldSession → ℕ → DriveIs D → List ℕ → Option Refusal
+purge_due_in sessions drive d name = due_or_kept (purge_due d name) (is_kept drive name d.journal sessions)
 
 -- such a session is purged; any other is as it was
 abbrev pub purged_if_on : ℕ → List ℕ → List Entry → WorldSession → WorldSession
@@ -207,7 +201,7 @@ pub record PurgesVolume {D : Type 0} (meaning : D → Meaning) (fault : Type 0) 
   pub bay : BayView D
   pub d : DriveIs D
   pub online : IsOnline old drive at bay d
-  pub due : purge_due_in old.sessions bay d name ≡ None
+  pub due : purge_due_in old.sessions drive d name ≡ None
   pub after : DriveIs D
   pub purges : PurgesNamed meaning fault status name d after
   pub desk : DeskView
@@ -224,7 +218,7 @@ pub record LeavesVolume {D : Type 0} (meaning : D → Meaning) (old : WorldView 
   pub bay : BayView D
   pub d : DriveIs D
   pub online : IsOnline old drive at bay d
-  pub due : purge_due_in old.sessions bay d name ≡ None
+  pub due : purge_due_in old.sessions drive d name ≡ None
   pub after : DriveIs D
   pub none : PurgesNone meaning why d after
   pub new_is : new ≡ with_drive at bay after old
@@ -235,6 +229,6 @@ abbrev pub PurgeRefused : {D : Type 0} → (D → Meaning) → WorldView D → �
 PurgeRefused {D} meaning old drive name why new =
     (DriveMissing old drive why × (new ≡ old))
     ⊎ ((at : ℕ) × (bay : BayView D) × (d : DriveIs D) × IsOnline old drive at bay d
-    × (purge_due_in old.sessions bay d name ≡ Some why) × (new ≡ old))
+    × (purge_due_in old.sessions drive d name ≡ Some why) × (new ≡ old))
     ⊎ LeavesVolume meaning old drive name why new
     ⊎ ((why ≡ DeviceFault) × PurgesVolume meaning (Unit {0}) Error old drive name new)

@@ -1,5 +1,5 @@
 -- What every world keeps, whatever happens to it.
-use Rattle.std.specs.Prelude.{◌≡◌, ◌≢◌, ◌⊎◌, ℕ, ◌+◌, ◌≤◌, ◌<◌, false, Some, None, IfSome, IsSome, List, [], ◌∷◌, length, slice_get}
+use Rattle.std.specs.Prelude.{◌≡◌, ◌≢◌, ℕ, ◌+◌, ◌≤◌, ◌<◌, false, Some, None, IfSome, IsSome, List, [], ◌∷◌, length, slice_get}
 use Rattle.sd_base.specs.Limits.{most_number, most_drives, most_lanes}
 use Rattle.sd_desk.specs.Desk.{claimed_by}
 use Rattle.sd_drive.specs.Limits.{AreLimits}
@@ -29,8 +29,8 @@ AreOfOpened time next (i ∷ is) = IsOfOpened time next i × AreOfOpened time ne
 
 -- The session's drive and lane are there. Where the drive is online: as many pieces were given to it or are before it as
 -- were sent of the session. A session that goes on has its lane, on a drive that is online and lost none of its blocks.
--- Each piece of a closed session is placed, of which there is one at least. So is each piece of a session that was purged, or no
--- longer has its lane. No block is gone of a session that wasn't purged.
+-- Each piece of a closed session is placed, of which there is one at least. So is each piece of a session that was purged. No block is
+-- gone of a session that wasn't purged.
 pub record IsSeated {D : Type 0} (w : WorldView D) (e : WorldSession) : Type 0 where
   pub at : ℕ
   pub place : ℕ
@@ -47,8 +47,7 @@ pub record IsSeated {D : Type 0} (w : WorldView D) (e : WorldSession) : Type 0 w
   pub lost_none : IsRunning e.session.status → (d : DriveIs D) → bay.drive ≡ Some d → fails e.session.key d.journal ≡ false
   pub closed : e.session.status ≡ Closed → (d : DriveIs D) → bay.drive ≡ Some d → placed_of e.session.key d.journal ≡ e.session.sent
   pub some_sent : e.session.status ≡ Closed → 1 ≤ e.session.sent
-  pub left : (e.session.status ≡ Purged) ⊎ (lane.holder ≢ Some e.session.key.id) → (d : DriveIs D) → bay.drive ≡ Some d
-      → placed_of e.session.key d.journal ≡ e.session.sent
+  pub purged : e.session.status ≡ Purged → (d : DriveIs D) → bay.drive ≡ Some d → placed_of e.session.key d.journal ≡ e.session.sent
   pub none_gone : e.session.status ≢ Purged → (d : DriveIs D) → bay.drive ≡ Some d → has_purged e.session.key d.journal ≡ false
 
 -- The lane's store lies in the lane, or the session that used the lane last has it; that session is of this lane.

@@ -26,7 +26,7 @@ returns-in-Err g c =
     let w = world_of c.args.parts.now in
     let bay = read_bay w c.args.drive c.get.result _ _ _ c.args.parts.now.bays.ok.0 c.get.ensures.value c.get.ensures.least (c.in-Some.ensures.variant.0 refl) c.in-Some.ensures.value c.bay.view_is in
     let on = online_in w c.args.drive _ _ _ bay c.in-Some-drive.is in
-    let due = due_there w c.args.drive _ _ _ c.args.name.now _ _ (Some c.in-Err.why) on c.deref.ensures.value c.deref-2.ensures.value c.in-Err.ensures.due in
+    let due = due_there w c.args.drive _ _ _ c.args.name.now _ (Some c.in-Err.why) on c.deref.ensures.value c.in-Err.ensures.due in
     record { moves = inr (inl (_, _, _, on, due, drive_stays w c.args.drive _ _ _ _ on refl)) }
 
 pub empty-reply-requires-clause-due : goal.empty-reply-requires-clause-due
@@ -37,7 +37,7 @@ returns-then-not-is_emptied g c =
     let w = world_of c.args.parts.now in
     let bay = read_bay w c.args.drive c.get.result _ _ _ c.args.parts.now.bays.ok.0 c.get.ensures.value c.get.ensures.least (c.in-Some.ensures.variant.0 refl) c.in-Some.ensures.value c.bay.view_is in
     let on = online_in w c.args.drive _ _ _ bay c.in-Some-drive.is in
-    let due = due_there w c.args.drive _ _ _ c.args.name.now _ _ None on c.deref.ensures.value c.deref-2.ensures.value c.in_default-may_purge.ensures.none in
+    let due = due_there w c.args.drive _ _ _ c.args.name.now _ None on c.deref.ensures.value c.in_default-may_purge.ensures.none in
     record {
       moves = leaves (λ d. g.D.Driver.meaning d) w c.args.drive _ _ _ _ c.args.name.now c.empty-reply.result on due c.empty-reply.ensures _
           (sym c.is_emptied.ensures ∙ c.if-not-is_emptied.true) refl;
@@ -48,7 +48,7 @@ purge_sessions-requires-clause-over g c κs within =
     let w = world_of c.args.parts.now in
     let bay = read_bay w c.args.drive c.get.result _ _ _ c.args.parts.now.bays.ok.0 c.get.ensures.value c.get.ensures.least (c.in-Some.ensures.variant.0 refl) c.in-Some.ensures.value c.bay.view_is in
     let on = online_in w c.args.drive _ _ _ bay c.in-Some-drive.is in
-    let due = due_there w c.args.drive _ _ _ c.args.name.now _ _ None on c.deref.ensures.value c.deref-2.ensures.value c.in_default-may_purge.ensures.none in
+    let due = due_there w c.args.drive _ _ _ c.args.name.now _ None on c.deref.ensures.value c.in_default-may_purge.ensures.none in
     subst (λ (es : List WorldSession). All (NoneGoesOn c.args.drive c.args.name.now c.empty-reply.new.at.journal) es) (sym c.deref_mut.ensures.value)
     (none_goes_on_there (λ d. g.D.Driver.meaning d) w c.args.drive _ _ _ _ c.args.name.now c.empty-reply.result on due c.empty-reply.ensures c.requires.world
     (sym c.is_emptied.ensures ∙ c.if-not-is_emptied.false))
@@ -58,7 +58,7 @@ returns g c =
     let w = world_of c.args.parts.now in
     let bay = read_bay w c.args.drive c.get.result _ _ _ c.args.parts.now.bays.ok.0 c.get.ensures.value c.get.ensures.least (c.in-Some.ensures.variant.0 refl) c.in-Some.ensures.value c.bay.view_is in
     let on = online_in w c.args.drive _ _ _ bay c.in-Some-drive.is in
-    let due = due_there w c.args.drive _ _ _ c.args.name.now _ _ None on c.deref.ensures.value c.deref-2.ensures.value c.in_default-may_purge.ensures.none in
+    let due = due_there w c.args.drive _ _ _ c.args.name.now _ None on c.deref.ensures.value c.in_default-may_purge.ensures.none in
     let same = c.purge_sessions.auto.sessions in
     let len = c.deref_mut.ensures.len in
     let sessions = with_items_is c.args.parts.now.sessions c.purge_sessions.new.sessions (omega (arith, same, len)) ∙ c.purge_sessions.ensures ∙ ap (purged_sessions c.args.drive c.args.name.now c.empty-reply.new.at.journal) c.deref_mut.ensures.value in
