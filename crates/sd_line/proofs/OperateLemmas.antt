@@ -18,6 +18,7 @@ use Rattle.sd_machine.specs.declared.event.Event.TheVariants.{Take, Place, Sync,
 use Rattle.sd_machine.specs.declared.reply.Reply.{Reply}
 use Rattle.sd_machine.specs.declared.reply.Reply.TheVariants.{Refused, Synced, Labelled, Adopted, Mounted, Unmounted, Requested, NoNeed}
 use Rattle.sd_volume.specs.Volume.{VolumeView}
+use Rattle.sd_world.proofs.DriveSteps.{fails_to_sync}
 use Rattle.sd_world.proofs.GrowLemmas.{device_goes_on}
 use Rattle.sd_world.proofs.StationShapes as shape
 use Rattle.sd_world.proofs.StationShapes.{DeviceStays, StationShape, station_shape, called}
@@ -67,11 +68,15 @@ shaped : {D : Type 0} (meaning : D → Meaning) (own : ℕ) (event : Event) (rep
 shaped {D} meaning own event reply s o none (shape.rests is) = unmoved meaning s.drive o.drive (ap (λ (x : Outcome D). x.drive) is)
 shaped meaning own event reply s o none (shape.takes ticket seq t) = absurd (let held = t.held_is in cc (none, held))
 shaped meaning own event reply s o none (shape.goes g) =
-    record { stays = record { limits = g.goes.stays.limits_are; keeps = g.keeps }; device = g.device }
+    record { stays = record { limits = g.goes.stays.limits_are; gone = g.goes.gone; keeps = g.keeps }; device = g.device }
 shaped meaning own event reply s o none (shape.gets g) =
-    record { stays = record { limits = g.adds.stays.limits_are; keeps = g.keeps }; device = g.device }
+    record { stays = record { limits = g.adds.stays.limits_are; gone = g.adds.gone; keeps = g.keeps }; device = g.device }
 shaped {D} meaning own event reply s o none (shape.loses of_sync fault l) = record {
-  stays = record { limits = ap (λ (x : DriveIs D). x.limits) l.fails.becomes; keeps = l.calls.keeps };
+  stays = record {
+    limits = ap (λ (x : DriveIs D). x.limits) l.fails.becomes;
+    gone = (fails_to_sync s.drive o.drive l.fails).gone;
+    keeps = l.calls.keeps;
+  };
   device = called meaning _ _ s.drive o.drive l.calls;
 }
 shaped {D} meaning own event reply s o none (shape.knows claims is) = unmoved meaning s.drive o.drive (ap (λ (x : Outcome D). x.drive) is)

@@ -1,8 +1,7 @@
 -- The seats of a new line, none of which sent anything.
-use Rattle.std.proofs.Common.{◌≡◌, ℕ, zero, suc, refl, sym, ap, subst, ◌∙◌, List, [], ◌∷◌, ◌++◌, Some}
-use Rattle.std.specs.Prelude.{slice_get, map}
+use Rattle.std.proofs.Common.{◌≡◌, ℕ, zero, suc, refl, sym, subst, List, [], ◌∷◌, ◌++◌, Some}
+use Rattle.std.specs.Prelude.{slice_get}
 use Rattle.atomic_table.specs.Seated.{TableId}
-use Rattle.sd_lane.specs.declared.piece.Queued.{Queued}
 use Rattle.sd_line.specs.Side.{SeatIs, seats_at}
 use Rattle.sd_ruled.specs.Seats.{LaneSeatIs, seats_of, seat_of}
 

@@ -1,28 +1,84 @@
 -- What the value under a lock keeps through a call of its drive.
-use Rattle.std.proofs.Common.{◌≡◌, ℕ, sym, ap, subst, ◌∙◌}
+use Rattle.std.proofs.Common.{◌≡◌, ℕ, Bool, true, false, sym, ap, subst, ◌∙◌, List, [], ◌∷◌, ◌++◌, map, None, Some}
+use Rattle.std.proofs.lemmas.List.{append-nil, map-append}
 use Rattle.std.specs.Prelude.{IsTrue}
 use Rattle.atomic_table.specs.Seated.{TableId}
+use Rattle.sd_base.specs.declared.number.SessionKey.{SessionKey}
 use Rattle.sd_driver.specs.Meaning.{Meaning, IsHonest}
 use Rattle.sd_drive.specs.Limits.{AreLimits}
-use Rattle.sd_drive.specs.Shelf.{KeepsPieces}
-use Rattle.sd_drive.specs.View.{DriveIs}
+use Rattle.sd_driver.specs.Shelf.{Shelf}
+use Rattle.sd_drive.specs.Shelf.{KeepsPieces, blocks, block_of_entry}
+use Rattle.sd_drive.specs.View.{DriveIs, items, item_of_piece, block_of_piece}
 use Rattle.sd_drive.specs.declared.limits.Limits.{Limits}
-use Rattle.sd_line.specs.Side.{SideIs, KeepsSide}
+use Rattle.sd_journal.specs.Journal.{Entry, items_of, placements}
+use Rattle.sd_lane.specs.Queue.{queued}
+use Rattle.sd_lane.specs.declared.piece.Piece.{Piece}
+use Rattle.sd_lane.specs.declared.piece.Queued.{Queued}
+use Rattle.sd_line.specs.Side.{SideIs, KeepsSide, items_taken, blocks_taken}
+use Rattle.sd_line.specs.Turns.{Takes, Turns, is_sync_due}
+use Rattle.sd_line.specs.declared.turning.Turned.{Turned}
+use Rattle.sd_line.proofs.TurnLemmas.{places_limits, places_gone, syncs_stay}
 use Rattle.sd_ruled.specs.Seats.{DriveSeatIs}
+use Rattle.sd_world.proofs.Seats.{GoneStays}
 
 -- the side of a drive and of its seat
 abbrev pub side_of : {D : Type 0} → ℕ → DriveIs D → DriveSeatIs → SideIs D
 side_of own d seat = record { no = own; drive = d; seat = seat }
 
 module _ {D : Type 0} (meaning : D → Meaning) (table : ℕ → TableId) (time : ℕ → ℕ) (own : ℕ) where
-  -- a call of the drive that keeps its pieces keeps what the lock keeps
+  -- a call of the drive that keeps its pieces, of which no block is gone by it, keeps what the lock keeps
   pub calls_keep : (d after : DriveIs D) (seat : DriveSeatIs) → after.limits ≡ d.limits
       → KeepsPieces (meaning d.device) (meaning after.device) d.journal after.journal d.hand after.hand
-      → KeepsSide meaning table time (side_of own d seat) → KeepsSide meaning table time (side_of own after seat)
-  calls_keep d after seat limits keeps h = record {
+      → ((key : SessionKey) → GoneStays key d after) → KeepsSide meaning table time (side_of own d seat) → KeepsSide meaning table time (side_of own after seat)
+  calls_keep d after seat limits keeps gone h = record {
     here = h.here;
+    lanes = h.lanes;
     run = ap (λ (l : Limits). l.time) limits ∙ h.run;
     limits = subst AreLimits (sym limits) h.limits;
     follows = keeps.items ∙ h.follows;
+    none_gone = λ key. gone key (h.none_gone key);
     holds = λ honest. let was : IsHonest (meaning d.device) = subst IsTrue keeps.honest honest in keeps.blocks was ∙ h.holds was;
   }
+
+  -- the piece that was taken is the last of the items and of the blocks
+  hand_items : (journal : List Entry) (piece : Piece) → items journal (Some piece) ≡ items journal None ++ item_of_piece piece ∷ []
+  hand_items journal piece = ap (λ l. l ++ item_of_piece piece ∷ []) (sym (append-nil (items_of (placements journal))))
+
+  hand_blocks : (shelf : Shelf) (journal : List Entry) (piece : Piece) → blocks shelf journal (Some piece) ≡ blocks shelf journal None ++ Some (block_of_piece piece) ∷ []
+  hand_blocks shelf journal piece = ap (λ l. l ++ Some (block_of_piece piece) ∷ []) (sym (append-nil (map (block_of_entry shelf) journal)))
+
+  -- so does a take
+  takes_keep : (done : Bool) (d held : DriveIs D) (seat seat' : DriveSeatIs) → Takes done d seat held seat'
+      → KeepsSide meaning table time (side_of own d seat) → KeepsSide meaning table time (side_of own held seat')
+  takes_keep false d held seat seat' (is, is', empty) h =
+      subst (λ (x : DriveIs D). KeepsSide meaning table time (side_of own x seat')) (sym is)
+      (subst (λ (x : DriveSeatIs). KeepsSide meaning table time (side_of own d x)) (sym is') h)
+  takes_keep true d held seat seat' (none, lane, least, most, piece, is, is') h =
+      let q = queued lane piece in
+      let without : items d.journal None ≡ items_taken seat.taken = ap (items d.journal) (sym none) ∙ h.follows in
+      subst (λ (x : DriveIs D). KeepsSide meaning table time (side_of own x seat')) (sym is)
+      (subst (λ (x : DriveSeatIs). KeepsSide meaning table time (side_of own (record d { hand = Some piece }) x)) (sym is') (record {
+        here = h.here;
+        lanes = h.lanes;
+        run = h.run;
+        limits = h.limits;
+        follows = hand_items d.journal piece ∙ ap (λ l. l ++ item_of_piece piece ∷ []) without
+            ∙ sym (map-append (λ (x : Queued). item_of_piece x.piece) seat.taken (q ∷ []));
+        none_gone = h.none_gone;
+        holds = λ honest.
+            let shelf = (meaning d.device).shelf in
+            let before : blocks shelf d.journal None ≡ blocks_taken seat.taken = ap (blocks shelf d.journal) (sym none) ∙ h.holds honest in
+            hand_blocks shelf d.journal piece ∙ ap (λ l. l ++ Some (block_of_piece piece) ∷ []) before
+            ∙ sym (map-append (λ (x : Queued). Some (block_of_piece x.piece)) seat.taken (q ∷ []));
+      }))
+
+  -- and a turn
+  pub turn_keeps : (did : Turned) (old new : DriveIs D) (seat seat' : DriveSeatIs) → Turns meaning did (side_of own old seat) (side_of own new seat')
+      → KeepsSide meaning table time (side_of own old seat) → KeepsSide meaning table time (side_of own new seat')
+  turn_keeps did old new seat seat' t h =
+      let taken = takes_keep did.took old t.held seat seat' t.takes h in
+      let calls = t.places.calls in
+      let placed = calls_keep t.held t.after seat' (places_limits did.place t.held t.after t.places.places) calls.keeps
+      (places_gone did.place t.held t.after t.places.places calls.keeps.items) taken in
+      let synced = syncs_stay meaning (is_sync_due did.place) did.sync t.after new t.syncs in
+      calls_keep t.after new seat' synced.limits synced.keeps synced.gone placed

@@ -1,18 +1,22 @@
 -- What the parts of a turn leave of the drive and of its device.
 use Rattle.std.proofs.Common.{◌≡◌, ℕ, ◌≤◌, Bool, true, false, None, Some, Option, Result, Ok, Err, List, refl, sym, ap, subst, ◌∙◌, arith, inl}
+use Rattle.sd_base.specs.declared.number.SessionKey.{SessionKey}
 use Rattle.sd_base.specs.declared.refusal.Refusal.{Refusal}
 use Rattle.sd_driver.specs.Meaning.{Meaning}
 use Rattle.sd_driver.specs.Shelf.{StillLasts}
 use Rattle.sd_drive.specs.Moves.{Places, PlacesPiece}
 use Rattle.sd_drive.specs.Shelf.{KeepsPieces}
-use Rattle.sd_drive.specs.View.{DriveIs}
+use Rattle.sd_drive.specs.View.{DriveIs, items}
 use Rattle.sd_drive.specs.declared.place.Placed.{Placed}
 use Rattle.sd_drive.specs.declared.place.Placed.TheVariants.{At, NeedVolume, VolumeFull, VolumeError, Idle}
+use Rattle.sd_journal.specs.Journal.{has_purged}
 use Rattle.sd_line.specs.Side.{SideIs}
 use Rattle.sd_line.specs.Turns.{Takes, SyncsBy, Turns}
 use Rattle.sd_line.specs.declared.turning.Turned.{Turned}
 use Rattle.sd_ruled.specs.Seats.{DriveSeatIs}
+use Rattle.sd_world.proofs.DriveSteps.{syncs, fails_to_sync, places}
 use Rattle.sd_world.proofs.GrowLemmas.{device_goes_on}
+use Rattle.sd_world.proofs.Seats.{GoneStays}
 use Rattle.sd_world.specs.Devices.{GoesOn}
 use Rattle.sd_world.specs.Stations.{Calls}
 
@@ -29,21 +33,32 @@ places_limits (Ok VolumeError) old new h = piece_limits _ old new h
 places_limits {D} (Ok Idle) old new h = ap (λ (d : DriveIs D). d.limits) h.1
 places_limits (Err error) old new h = piece_limits _ old new h
 
+-- no block is gone by a place
+pub places_gone : {D E : Type 0} (result : Result Placed E) (old new : DriveIs D) → Places result old new
+    → items new.journal new.hand ≡ items old.journal old.hand → (key : SessionKey) → GoneStays key old new
+places_gone (Ok (At p)) old new h kept key = (places _ old new h kept).gone key
+places_gone {D} (Ok NeedVolume) old new h kept key = λ none. ap (λ (d : DriveIs D). has_purged key d.journal) h.2 ∙ none
+places_gone (Ok VolumeFull) old new h kept key = (places _ old new h kept).gone key
+places_gone (Ok VolumeError) old new h kept key = (places _ old new h kept).gone key
+places_gone {D} (Ok Idle) old new h kept key = λ none. ap (λ (d : DriveIs D). has_purged key d.journal) h.1 ∙ none
+places_gone (Err error) old new h kept key = (places _ old new h kept).gone key
+
 -- What a sync leaves.
 
--- the pieces given so far, and the limits
+-- the pieces given so far, and the limits; no block is gone by it
 pub record Stays {D : Type 0} (meaning : D → Meaning) (old new : DriveIs D) : Type 0 where
   pub limits : new.limits ≡ old.limits
+  pub gone : (key : SessionKey) → GoneStays key old new
   pub keeps : KeepsPieces (meaning old.device) (meaning new.device) old.journal new.journal old.hand new.hand
 
 pub rests : {D : Type 0} (meaning : D → Meaning) (d : DriveIs D) → Stays meaning d d
-rests meaning d = record { limits = refl; keeps = record { honest = refl; items = refl; blocks = λ honest. refl } }
+rests meaning d = record { limits = refl; gone = λ key none. none; keeps = record { honest = refl; items = refl; blocks = λ honest. refl } }
 
 pub syncs_stay : {D T : Type 0} (meaning : D → Meaning) (due : Bool) (result : Option (Result T Refusal)) (old new : DriveIs D)
     → SyncsBy meaning due result old new → Stays meaning old new
 syncs_stay meaning due None old new h = subst (Stays meaning old) (sym h.1) (rests meaning old)
-syncs_stay {D} meaning due (Some (Ok done)) old new h = record { limits = ap (λ (d : DriveIs D). d.limits) h.1; keeps = h.3.keeps }
-syncs_stay {D} meaning due (Some (Err why)) old new h = record { limits = ap (λ (d : DriveIs D). d.limits) h.2.becomes; keeps = h.3.keeps }
+syncs_stay {D} meaning due (Some (Ok done)) old new h = record { limits = ap (λ (d : DriveIs D). d.limits) h.1; gone = (syncs old new h.1).gone; keeps = h.3.keeps }
+syncs_stay {D} meaning due (Some (Err why)) old new h = record { limits = ap (λ (d : DriveIs D). d.limits) h.2.becomes; gone = (fails_to_sync old new h.2).gone; keeps = h.3.keeps }
 
 -- The device.
 

@@ -1,12 +1,14 @@
 -- What contracts see of a line, and what the value under its lock keeps.
-use Rattle.std.specs.Prelude.{◌≡◌, ℕ, List, [], ◌∷◌, ◌++◌, map, Option, Some}
+use Rattle.std.specs.Prelude.{◌≡◌, ◌≤◌, ℕ, false, List, [], ◌∷◌, ◌++◌, map, Option, Some}
 use Rattle.atomic_table.specs.Seated.{TableId}
+use Rattle.sd_base.specs.Limits.{most_lanes}
+use Rattle.sd_base.specs.declared.number.SessionKey.{SessionKey}
 use Rattle.sd_driver.specs.Meaning.{Meaning, IsHonest}
 use Rattle.sd_drive.specs.Limits.{AreLimits}
 use Rattle.sd_drive.specs.Shelf.{blocks}
 use Rattle.sd_drive.specs.View.{DriveIs, items, item_of_piece, block_of_piece}
 use Rattle.sd_drive.specs.declared.limits.Limits.{Limits}
-use Rattle.sd_journal.specs.Journal.{Item}
+use Rattle.sd_journal.specs.Journal.{Item, has_purged}
 use Rattle.sd_lane.specs.declared.piece.Piece.{Piece}
 use Rattle.sd_lane.specs.declared.piece.Queued.{Queued}
 use Rattle.sd_ruled.specs.Seats.{QueueIs, LaneSeatIs, DriveSeatIs}
@@ -52,13 +54,16 @@ abbrev pub blocks_taken : List Queued → List (Option Block)
 blocks_taken taken = map (λ q. Some (block_of_piece q.piece)) taken
 
 -- What the value under the lock keeps, whatever threads do. Its seat is of the queue that is named
--- for its number, and its drive of the run; the drive's limits are such as a drive may have. The
--- drive's journal and then its hand follow the pieces that the seat took: they have, in order, each
--- one's key, indexes and length. And while the device is honest, the block that stands at each
--- placement, and then the one of the piece in the hand, has that piece's key and body.
+-- for its number, which has so many lanes at most, and its drive of the run; the drive's limits are
+-- such as a drive may have. The drive's journal and then its hand follow the pieces that the seat
+-- took: they have, in order, each one's key, indexes and length. No block is gone, since no line
+-- purges a volume. And while the device is honest, the block that stands at each placement, and then
+-- the one of the piece in the hand, has that piece's key and body.
 pub record KeepsSide {D : Type 0} (meaning : D → Meaning) (table : ℕ → TableId) (time : ℕ → ℕ) (s : SideIs D) : Type 0 where
   pub here : s.seat.table ≡ table s.no
+  pub lanes : s.seat.lanes ≤ most_lanes
   pub run : s.drive.limits.time ≡ time s.no
   pub limits : AreLimits s.drive.limits
   pub follows : items s.drive.journal s.drive.hand ≡ items_taken s.seat.taken
+  pub none_gone : (key : SessionKey) → has_purged key s.drive.journal ≡ false
   pub holds : IsHonest (meaning s.drive.device) → blocks (meaning s.drive.device).shelf s.drive.journal s.drive.hand ≡ blocks_taken s.seat.taken

@@ -1,5 +1,6 @@
 // What lies under the lock of a line.
-ghost use Rattle.std.specs.Prelude.{◌≡◌, Some, OnOk, OnErr};
+ghost use Rattle.std.specs.Prelude.{◌≡◌, ◌≤◌, Some, OnOk, OnErr};
+ghost use Rattle.sd_base.specs.Limits.{most_lanes};
 ghost use Rattle.sd_driver.specs.Shelf.{StillLasts};
 ghost use Rattle.sd_drive.specs.Shelf.{Kept};
 ghost use Rattle.sd_journal.specs.Journal.{with_key};
@@ -76,7 +77,8 @@ impl<D: Driver, N: Naming> DriveSide<D, N> {
 
     /// How many lanes the queue before the drive has.
     pub fn lanes(&self) -> u32
-        ensures { result ≡ self.now.seat.lanes }
+        ensures lanes { result ≡ self.now.seat.lanes }
+        ensures most { result ≤ most_lanes }
     {
         self.seat.lanes()
     }

@@ -7,7 +7,7 @@ pub invariant_of-self : goal.invariant_of-self
 invariant_of-self g c =
     let meaning : g.row.D.Denot → Meaning = λ d. g.D.Driver.meaning d in
     let l = operated meaning _ _ _ _ _ c.operate.ensures in
-    calls_keep meaning _ _ _ _ _ _ l.stays.limits l.stays.keeps c.self.invariant
+    calls_keep meaning _ _ _ _ _ _ l.stays.limits l.stays.keeps l.stays.gone c.self.invariant
 
 pub returns-clause-operates : goal.returns-clause-operates
 returns-clause-operates g c = rw (← c.self.view_is) c.operate.ensures

@@ -1,5 +1,4 @@
-use Rattle.std.proofs.Common.{rules, ◌≡◌, ◌-◌, false, true, refl, sym, subst, length, slice_get, Some}
-use Rattle.std.specs.Prelude.{IsTrue}
+use Rattle.std.proofs.Common.{rules, ◌≡◌, ◌-◌, refl, sym, subst, length, slice_get, Some}
 use Rattle.sd_part.specs.Ends.{IsOver}
 use Rattle.sd_part.proofs.Sequences.{last_at}
 use Rattle.sd_part.proofs.lane_end.LaneEnd.is_over.Goals as goal
