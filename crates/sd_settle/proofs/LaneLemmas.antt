@@ -53,7 +53,7 @@ unsettled_to journal own most at ends key below (place, s, there, same, unsettle
 
 -- Keys.
 
-to_more : (own most : ℕ) (ends : List EndIs) → sessions_to own (most + 1) ends ≡ sessions_to own most ends ++ sessions_at own (most + 1) ends
+pub to_more : (own most : ℕ) (ends : List EndIs) → sessions_to own (most + 1) ends ≡ sessions_to own most ends ++ sessions_at own (most + 1) ends
 to_more own most ends =
     let e : suc most ≡ most + 1 = omega arith in
     subst (λ (n : ℕ). sessions_to own n ends ≡ sessions_to own most ends ++ sessions_at own n ends) e refl

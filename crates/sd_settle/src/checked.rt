@@ -1,7 +1,8 @@
 // A line that may be settled.
-ghost use Rattle.std.specs.Prelude.{◌≡◌};
-ghost use Rattle.sd_settle.specs.Settles.{Settles};
+ghost use Rattle.std.specs.Prelude.{◌≡◌, length};
+ghost use Rattle.sd_settle.specs.Settles.{Settles, SettlesNot, sessions_of};
 
+use crate::checks::count_all;
 use crate::fault::{NotSettled, SettleFault};
 use crate::gather::{Gathered, gather};
 use crate::settled::Settled;
@@ -62,12 +63,19 @@ impl<D: Driver, N: Naming, R: Wait + Drop, S: SpoolStore + Drop> Checked<D, N, R
         self.ends.as_slice()
     }
 
-    /// What was handed in, as it was, for this cause.
-    pub fn give_back(self, fault: SettleFault) -> NotSettled<D, N, R, S>
+    /// How many sessions its lanes have. Their number fits, since each lane's does.
+    pub fn count(&self) -> u128
+        ensures { result ≡ length (sessions_of self.now) }
+    {
+        count_all(self.parts.no, self.parts.side.lanes(), self.ends.as_slice())
+    }
+
+    /// What was handed in, as it was, for want of memory.
+    pub fn give_back(self) -> NotSettled<D, N, R, S>
         ensures line { result.line ≡ self.line }
         ensures ends { result.ends.items ≡ self.ends }
-        ensures receipts { result.receipts.items ≡ self.receipts }
-        ensures fault { result.fault ≡ fault }
+        ensures why { SettlesNot (λ d. D.meaning d) N.table N.time self.line self.ends self.receipts
+            result.fault result.receipts.items }
     {
         let Checked {
             parts,
@@ -75,11 +83,12 @@ impl<D: Driver, N: Naming, R: Wait + Drop, S: SpoolStore + Drop> Checked<D, N, R
             receipts,
             room: _,
         } = self;
+        parts.side.know();
         NotSettled {
             line: Line::of_parts(parts),
             ends,
             receipts,
-            fault,
+            fault: SettleFault::Memory,
         }
     }
 

@@ -1,5 +1,5 @@
 // What keeps the sessions of a line from being settled; it is found without memory.
-ghost use Rattle.std.specs.Prelude.{◌≡◌, ◌↔◌, ◌<◌, IfSome, IfNone, IsTrue};
+ghost use Rattle.std.specs.Prelude.{◌≡◌, ◌↔◌, ◌<◌, IfSome, IfNone, IsTrue, length};
 ghost use Rattle.sd_base.specs.Choice.{NoneOf};
 ghost use Rattle.sd_base.specs.Key.{is_key};
 ghost use Rattle.sd_settle.specs.Settles.{AreDistinct, AreSettled, HasUnsettled, IsUnsettled, times_of, sessions_to};
@@ -78,6 +78,21 @@ fn count<S: SpoolStore + Drop>(sessions: &[Told<S>], key: SessionKey) -> usize
         }
     }
     many
+}
+
+/// How many sessions these lanes have. Their number fits, since each lane's does.
+pub(crate) fn count_all<N: Naming, S: SpoolStore + Drop>(
+    no: DriveNo,
+    lanes: u32,
+    ends: &[LaneEnd<N, S>],
+) -> u128
+    ensures { result ≡ length (sessions_to no lanes ends.now) }
+{
+    let mut all = 0;
+    for at in 0..lanes {
+        all += sessions_at(no, at + 1, ends).len() as u128;
+    }
+    all
 }
 
 // Whether the session has the key.

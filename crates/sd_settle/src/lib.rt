@@ -14,4 +14,4 @@ mod settling;
 pub use checked::Checked;
 pub use fault::{NotSettled, SettleFault};
 pub use settled::{Settled, SettledLane};
-pub use settling::{check, settle};
+pub use settling::check;

@@ -3,7 +3,7 @@ ghost use Rattle.std.specs.Prelude.{◌≡◌, ◌≤◌, [], List, IfErr, IfNon
 ghost use Rattle.std.specs.Vec.{vec_capacity};
 ghost use Rattle.sd_drive.specs.Receipt.{ReceiptIs};
 ghost use Rattle.sd_line.specs.Side.{LineIs};
-ghost use Rattle.sd_settle.specs.Settles.{CheckedIs, FaultOf, HasSynced, Passes, Settles, SettlesNot, checked_of};
+ghost use Rattle.sd_settle.specs.Settles.{FaultOf, HasSynced, Passes, SettlesNot, checked_of};
 
 use crate::checked::Checked;
 use crate::checks::{double_key, unsynced};
@@ -11,7 +11,6 @@ use crate::ends::missing_lane;
 use crate::fault::{NotSettled, SettleFault};
 use crate::gather::Gathered;
 use crate::receipts::foreign;
-use crate::settled::Settled;
 use sd_base::DriveNo;
 use sd_drive::Receipt;
 use sd_driver::Driver;
@@ -20,26 +19,6 @@ use sd_part::LaneEnd;
 use sd_spool::SpoolStore;
 use std::alloc::Global;
 use std::sync::Wait;
-
-/// Takes a line apart that nobody else uses any more: the drive, its queue with all seats, and what used the lanes; where no
-/// fault is found by `check`. Else all that was handed in comes back.
-pub fn settle<D: Driver, N: Naming, R: Wait + Drop, S: SpoolStore + Drop>(
-    alloc: Global,
-    line: Line<D, N, R>,
-    ends: Vec<LaneEnd<N, S>>,
-    receipts: Vec<Receipt>,
-) -> Result<Settled<D, R, S>, NotSettled<D, N, R, S>>
-    ensures ok { IfOk result (λ settled. (c : CheckedIs D) × (c.line ≡ line) × (c.ends ≡ ends.items)
-        × (c.receipts ≡ receipts.items) × Settles (λ d. D.meaning d) N.table N.time c settled) }
-    ensures err { IfErr result (λ back. (back.line ≡ line) × (back.ends.items ≡ ends.items)
-        × SettlesNot (λ d. D.meaning d) N.table N.time line ends.items receipts.items back.fault
-        back.receipts.items) }
-{
-    match check(alloc, line, ends, receipts) {
-        Ok(checked) => Ok(checked.take_apart()),
-        Err(back) => Err(back),
-    }
-}
 
 /// Looks whether a line may be settled. The end of each lane has to be there, no two sessions may have one key, of a closed
 /// session all that it sent has to be placed and synced, and each receipt has to be one that the drive gives; the first

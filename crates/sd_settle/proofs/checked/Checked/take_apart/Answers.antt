@@ -6,7 +6,7 @@ use Rattle.sd_settle.proofs.checked.Checked.take_apart.Goals as goal
 
 pub gather-seats-requires-clause-there : goal.gather-seats-requires-clause-there
 gather-seats-requires-clause-there g c κs within =
-    subst (λ (n : ℕ). AllThere c.self.inside.parts.no n c.self.inside.ends.items) (sym c.lanes-lanes.ensures) c.self.invariant.passes.synced.keys.lanes.there
+    subst (λ (n : ℕ). AllThere c.self.inside.parts.no n c.self.inside.ends.items) (sym c.lanes-lanes.ensures.lanes) c.self.invariant.passes.synced.keys.lanes.there
 
 pub join-queue-requires-clause-drive : goal.join-queue-requires-clause-drive
 join-queue-requires-clause-drive g c =
@@ -16,7 +16,7 @@ join-queue-requires-clause-drive g c =
 
 pub join-queue-requires-clause-count : goal.join-queue-requires-clause-count
 join-queue-requires-clause-count g c =
-    c.gather-seats.ensures.seats_are ∙ (c.lanes-lanes.ensures ∙ ap (λ (s : DriveSeatIs). s.lanes) (sym c.into_parts-drive.ensures.seat))
+    c.gather-seats.ensures.seats_are ∙ (c.lanes-lanes.ensures.lanes ∙ ap (λ (s : DriveSeatIs). s.lanes) (sym c.into_parts-drive.ensures.seat))
 
 pub join-queue-requires-clause-seats : goal.join-queue-requires-clause-seats
 join-queue-requires-clause-seats g c =
@@ -35,4 +35,4 @@ returns g c =
     let out : SettledIs _ = record { drive = c.into_parts-drive.result.0; queue = c.join-queue.result; lanes = c.gather-seats.result.lanes.items } in
     subst (λ (x : CheckedIs _). Settles (λ d. g.D.Driver.meaning d) g.N.Naming.table g.N.Naming.time x out) c.self.view_is
     (settles (λ d. g.D.Driver.meaning d) g.N.Naming.table g.N.Naming.time own c.lanes-lanes.result c.gather-seats.result.seats.items out i.passes parts.keeps parts.drive
-    (j.taken ∙ ap (λ (s : DriveSeatIs). s.taken) parts.seat) j.queue (j.lanes ∙ ap (λ (s : DriveSeatIs). s.lanes) parts.seat) c.lanes-lanes.ensures j.of_lanes c.gather-seats.ensures seats j.follows)
+    (j.taken ∙ ap (λ (s : DriveSeatIs). s.taken) parts.seat) j.queue (j.lanes ∙ ap (λ (s : DriveSeatIs). s.lanes) parts.seat) c.lanes-lanes.ensures.lanes j.of_lanes c.gather-seats.ensures seats j.follows)
