@@ -6,7 +6,9 @@ ghost use Rattle.sd_machine.specs.Machine.{empty_machine};
 ghost use Rattle.sd_machine.specs.declared.event.Event.TheVariants.{Append};
 ghost use Rattle.sd_world.specs.Matches.{Matches};
 ghost use Rattle.sd_world.specs.Deeds.{IsRead};
+ghost use Rattle.sd_world.specs.Rules.{IsWorld};
 ghost use Rattle.sd_world.specs.Steps.{IsSound, IsStep, StepsAlong};
+ghost use Rattle.sd_parts.specs.View.{world_of};
 ghost use Rattle.sd_core.specs.Conf.{IsConf, AreQueues, AreStores, limits_of};
 ghost use Rattle.sd_core.specs.Fresh.{IsFresh, StaysDevice};
 ghost use Rattle.sd_core.specs.View.{status_at, devices_of, running_tickets, view_of};
@@ -123,6 +125,16 @@ impl<D: Driver + Drop, Q: Lanes + Drop, S: SpoolStore + Drop> World<D, Q, S> {
                 spools,
             }),
         }
+    }
+
+    /// A world of these parts, which keep the rules of worlds.
+    pub fn of_parts(parts: Parts<D, Q, S>) -> Self
+        requires rules { IsWorld (world_of parts) }
+        ensures parts { result ≡ world_of parts }
+        ensures sound { IsSound (λ d. D.meaning d) result }
+    {
+        know_drives(&parts.bays);
+        World { parts }
     }
 
     /// The devices of the drives that are online, by rising number. For want of memory the world comes back as it was.
