@@ -1,0 +1,11 @@
+pub mod Pieces
+pub mod Lanes
+pub mod Lines
+pub mod Entries
+pub mod Numbers
+pub mod Drives
+pub mod Holders
+pub mod Settled
+pub mod WorldRules
+pub mod WorldMatches
+pub mod SettledWorlds
