@@ -1,0 +1,4 @@
+pub mod EachLemmas
+pub mod EndLemmas
+pub mod GoLemmas
+pub mod StopLemmas

@@ -1,0 +1,70 @@
+// What a thread is to do with the part of a session, and what it came to.
+use sd_base::{Rec, Refusal};
+use sd_drive::Receipt;
+use sd_line::Naming;
+use sd_part::{LaneEnd, SessionPart};
+use sd_spool::SpoolStore;
+use std::marker::Model;
+
+/// What a thread is to do: to give these records to the part, to end its session, and to close it. In a contract it is a
+/// `JobIs`.
+#[derive(Drop)]
+pub struct Job<N: Naming, S: SpoolStore> {
+    /// Where the part's line stands among the lines.
+    pub line: usize,
+    pub part: SessionPart<N, S>,
+    pub recs: Vec<Rec>,
+    /// The moment of the session's end label.
+    pub moment: i64,
+}
+
+impl<N: Naming, S: SpoolStore> Model for Job<N, S> {
+    ghost use Rattle.sd_jobs.specs.Jobs.{JobIs};
+
+    ghost Value = { JobIs };
+
+    ghost view = { λ j. record {
+      line = j.line;
+      part = j.part;
+      recs = j.recs.items;
+      moment = j.moment;
+    } };
+}
+
+/// Why a job does nothing more.
+#[derive(Clone, Copy, Debug, PartialEq, Eq)]
+pub enum Stop {
+    /// Its session is closed.
+    Done,
+    /// It had no turn left.
+    OutOfTurns,
+    /// A step of its part was refused so.
+    Refused(Refusal),
+    /// No thread could be made for it. Its session is cancelled.
+    NoThread,
+}
+
+/// What a job came to. In a contract it is a `JobEndIs`.
+#[derive(Drop)]
+pub struct JobEnd<N: Naming, S: SpoolStore> {
+    /// The end of its lane, with its session behind those before.
+    pub lane_end: LaneEnd<N, S>,
+    /// How many of its records were taken.
+    pub taken: u64,
+    /// There exactly where the job is done.
+    pub receipt: Option<Receipt>,
+    pub stop: Stop,
+}
+
+impl<N: Naming, S: SpoolStore> Model for JobEnd<N, S> {
+    ghost use Rattle.sd_jobs.specs.Jobs.{JobEndIs};
+
+    ghost Value = { JobEndIs };
+
+    ghost view = { λ e. record {
+      lane_end = e.lane_end;
+      taken = e.taken;
+      receipt = e.receipt;
+      stop = e.stop;
+    } };
+}

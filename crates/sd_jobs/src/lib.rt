@@ -1,0 +1,17 @@
+//! Jobs: a thread for each, which gives records to the part of a session until that is closed; and a worker for each line,
+//! which places what they send.
+#![tactic(auto)]
+
+mod adding;
+mod finishing;
+mod job;
+mod jobs;
+mod place;
+mod running;
+mod sends;
+mod starting;
+mod steps;
+mod working;
+
+pub use job::{Job, JobEnd, Stop};
+pub use jobs::{have_lines, run_jobs};
