@@ -20,7 +20,7 @@ use Rattle.sd_world.specs.World.{WorldView, WorldSession, BayView, IsOnline, ses
 use Rattle.sd_world.specs.Matches.{Matches, SessionsMatch}
 use Rattle.sd_world.proofs.Sessions.{found_session}
 use Rattle.sd_world.specs.Stands.{StandsClosed}
-use Rattle.sd_world.specs.Deeds.{Deed, IsRead, LeadsTo}
+use Rattle.sd_world.specs.Deeds.{Deed, IsRead, LeadsTo, StaysFrom}
 use Rattle.sd_world.specs.Reading.{is_gone}
 use Rattle.sd_world.specs.Reads.{HasCancelled, ReadsToFront}
 use Rattle.sd_world.specs.Stays.{AreClaimed}
@@ -33,7 +33,7 @@ use Rattle.sd_theorem.specs.Told.{WereAsked}
 use Rattle.sd_theorem.proofs.Deeds.{given_at}
 use Rattle.sd_theorem.proofs.Fresh.{made_honest}
 use Rattle.sd_theorem.proofs.Read.{world_gives, world_refuses, world_purged, own_gone, counts_small}
-use Rattle.sd_theorem.proofs.Stood.{honest_drive, is_then, told_of, told_stood}
+use Rattle.sd_theorem.proofs.Stood.{ToldOf, honest_drive, is_then, told_of, told_stood}
 
 module _ {D : Type 0} (meaning : D → Meaning) (w : WorldView D) (m : Machine) (sound : IsSound meaning w) (honest : AreHonest meaning w) (pairs : Matches meaning w m)
     (key : SessionKey) (spans : List Span) (after : WorldView D) (got got' : List Record) (result : Result ReadEnd Refusal) (read : IsRead meaning key spans got got' result w after) where
@@ -108,15 +108,11 @@ module _ {D : Type 0} (meaning : D → Meaning) (w : WorldView D) (m : Machine) 
         });
       }
 
-  pub reads_cancelled : {first : WorldView D} (m0 : Machine) (deeds : List Deed) → IsSound meaning first → AreHonest meaning first → Matches meaning first m0 → LeadsTo meaning first deeds w
-      → WereAsked key spans deeds → spans ≢ [] → HasStatus m key Cancelled → ReadsCancelled meaning w m key spans got got' result
-  reads_cancelled {first} m0 deeds sound0 honest0 pairs0 leads given some has =
-      let event = Media key.id in
-      let reply = Spans spans in
-      let g = given_at meaning first w event reply deeds leads given in
-      let t = is_then meaning first w event reply m0 sound0 honest0 pairs0 g in
-      let told = told_of meaning g.asked g.now key spans t.sound g.step in
-      let seat = t.stays.seats key.id told.e told.there in
+  -- by spans that were told of the session at any moment before, while its volumes were claimed
+  pub reads_told : (then : WorldView D) (deeds : List Deed) → StaysFrom meaning deeds then w → ToldOf then key spans → spans ≢ [] → HasStatus m key Cancelled
+      → ReadsCancelled meaning w m key spans got got' result
+  reads_told then deeds stays told some has =
+      let seat = stays.seats key.id told.e told.there in
       let e = seat.0 in
       let f = found_session meaning w key.id w.sessions m.sessions e pairs.sessions seat.1 in
       let one : f.session ≡ has.s = cc (sym f.there ∙ has.there) in
@@ -124,10 +120,10 @@ module _ {D : Type 0} (meaning : D → Meaning) (w : WorldView D) (m : Machine) 
       let own : e.session.key ≡ key = sym f.matches.key_is ∙ ap (λ (x : MachineSession). x.key) one ∙ has.key_is in
       let was : told.e.session.key ≡ key = sym seat.2.key_is ∙ own in
       let claimed : AreClaimed w.desk e.drive spans =
-      subst (λ n. AreClaimed w.desk n spans) (sym seat.2.drive_is) (λ at s within. t.stays.claims _ told.e.drive (told.claimed at s within)) in
+      subst (λ n. AreClaimed w.desk n spans) (sym seat.2.drive_is) (λ at s within. stays.claims _ told.e.drive (told.claimed at s within)) in
       let gone : HasCancelled w key = record { e = e; there = seat.1; key_is = own; cancelled = cancelled } in
       let place = sound.rules.seated key.id e seat.1 in
-      let At : SessionKey → Type 0 = λ k. session_at k.id g.now.sessions ≡ Some told.e in
+      let At : SessionKey → Type 0 = λ k. session_at k.id then.sessions ≡ Some told.e in
       let C : SessionKey → Type 0 = λ k. HasCancelled w k in
       let whether : (o : Option (DriveIs D)) → place.bay.drive ≡ o → ReadsCancelled meaning w m key spans got got' result = λ o.
       elim o as (λ o. place.bay.drive ≡ o → ReadsCancelled meaning w m key spans got got' result) [
@@ -142,11 +138,21 @@ module _ {D : Type 0} (meaning : D → Meaning) (w : WorldView D) (m : Machine) 
             let there : IsOnline w told.e.drive place.at place.bay d = subst (λ n. IsOnline w n place.at place.bay d) seat.2.drive_is online in
             let F : SessionKey → Type 0 = λ k. (bodies : List (List ℕ)) × ReadsToFront (volumes_on (meaning d.device).shelf) m k bodies spans in
             let front = subst F was
-            (told_spans_read meaning g.now w m told.e spans place.at place.bay d (subst At (sym was) told.there) told.spans_are some t.stays.seats t.stays.grow sound.rules pairs (subst C (sym was) gone)
+            (told_spans_read meaning then w m told.e spans place.at place.bay d (subst At (sym was) told.there) told.spans_are some stays.seats stays.grow sound.rules pairs (subst C (sym was) gone)
             (honest_drive meaning w told.e.drive place.at place.bay d sound honest there)) in
             reads_front e front.0 place.at place.bay d seat.1 (own_gone w key spans e sound.rules seat.1 own ∙ ap was_purged cancelled) online claimed front.1
       ] in
       whether place.bay.drive refl
+
+  -- by those that were asked for in deeds since
+  pub reads_cancelled : {first : WorldView D} (m0 : Machine) (deeds : List Deed) → IsSound meaning first → AreHonest meaning first → Matches meaning first m0 → LeadsTo meaning first deeds w
+      → WereAsked key spans deeds → spans ≢ [] → HasStatus m key Cancelled → ReadsCancelled meaning w m key spans got got' result
+  reads_cancelled {first} m0 deeds sound0 honest0 pairs0 leads given some has =
+      let event = Media key.id in
+      let reply = Spans spans in
+      let g = given_at meaning first w event reply deeds leads given in
+      let t = is_then meaning first w event reply m0 sound0 honest0 pairs0 g in
+      reads_told g.now g.after t.stays (told_of meaning g.asked g.now key spans t.sound g.step) some has
 
 -- a world that was just made matches the empty machine
 pub made_matches : {D Q S Z : Type 0} (is : Meanings D Q S) (start : Start D Q S Z) (w : WorldView D) → IsMadeOf is start w → Matches is.device w (empty_machine start.time)

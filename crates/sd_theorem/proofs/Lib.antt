@@ -2,6 +2,7 @@ pub mod Deeds
 pub mod Fresh
 pub mod Head
 pub mod Read
+pub mod Returns
 pub mod Runs
 pub mod Stood
 pub mod Stops

@@ -104,7 +104,7 @@ one_list {D} meaning w key others spans s told = elim s.spans_are [
 ]
 
 -- when spans were asked for after it was closed
-asked_stood : {D : Type 0} (meaning : D → Meaning) (old new : WorldView D) (m : Machine) (key : SessionKey) (spans others : List Span) (deeds : List Deed) → IsSound meaning old → AreHonest meaning old
+pub asked_stood : {D : Type 0} (meaning : D → Meaning) (old new : WorldView D) (m : Machine) (key : SessionKey) (spans others : List Span) (deeds : List Deed) → IsSound meaning old → AreHonest meaning old
     → Matches meaning old m → StandsClosed old key others → LeadsTo meaning old deeds new → WereAsked key spans deeds → StandsClosed new key spans
 asked_stood {D} meaning old new m key spans others deeds sound honest pairs stood leads given =
     let event = Media key.id in

@@ -1,0 +1,227 @@
+-- What was closed comes back, in whatever world it was closed.
+use Rattle.std.proofs.Common.{◌≡◌, ◌≤◌, ◌<◌, ◌+◌, ℕ, sym, ap, subst, ◌∙◌, inl, inr, arith, true, None, Some, List, ◌++◌, All, Result, get_or, slice_get}
+use Rattle.std.specs.Option.{option_map}
+use Rattle.sd_base.specs.Record.{Record}
+use Rattle.sd_base.specs.declared.number.SessionKey.{SessionKey}
+use Rattle.sd_base.specs.declared.refusal.Refusal.{Refusal}
+use Rattle.sd_desk.specs.Desk.{claimed_by}
+use Rattle.sd_desk.specs.declared.claim.Claim.{Claim}
+use Rattle.sd_driver.specs.Meaning.{Meaning}
+use Rattle.sd_driver.specs.Shelf.{Shelf, AfterStop, low_mark}
+use Rattle.sd_drive.specs.View.{DriveIs}
+use Rattle.sd_machine.specs.Machine.{Machine}
+use Rattle.sd_machine.specs.declared.event.Event.TheVariants.{Adopt}
+use Rattle.sd_machine.specs.declared.reply.Reply.TheVariants.{Adopted}
+use Rattle.sd_readback.specs.Reading.{Reads, volumes_on}
+use Rattle.sd_readback.specs.declared.read.ReadEnd.{ReadEnd}
+use Rattle.sd_readback.proofs.ReadingLemmas.{kept_read, reads_one}
+use Rattle.sd_restore.specs.Lasting.{SpansLast}
+use Rattle.sd_restore.proofs.LastLemmas.{lasting_spans_stay, lasting_spans_mark, lasting_spans_kept}
+use Rattle.sd_session.specs.declared.status.Status.TheVariants.{Closed}
+use Rattle.sd_span.specs.declared.span.Span.{Span}
+use Rattle.sd_world.specs.Deeds.{Deed, IsRead, LeadsTo, NonePurges}
+use Rattle.sd_world.specs.Drives.{MovesDrive}
+use Rattle.sd_world.specs.Honest.{AreHonest}
+use Rattle.sd_world.specs.Kept.{IsClosedAt}
+use Rattle.sd_world.specs.Matches.{Matches}
+use Rattle.sd_world.specs.Reads.{HasHonestDrive, ReadsToAll}
+use Rattle.sd_world.specs.Sessions.{SpansAt}
+use Rattle.sd_world.specs.Stands.{StandsClosed}
+use Rattle.sd_world.specs.Stays.{AreClaimed}
+use Rattle.sd_world.specs.Steps.{IsSound}
+use Rattle.sd_world.specs.World.{WorldView, WorldSession, BayView, IsOnline, session_at}
+use Rattle.sd_world.proofs.ClaimLemmas.{closed_is_found}
+use Rattle.sd_world.proofs.DeedLemmas.{leads_keep}
+use Rattle.sd_world.proofs.ReadLemmas.{closed_is_countable, closed_reads, closed_spans_last}
+use Rattle.sd_world.proofs.SpanLemmas.{closed_has_span}
+use Rattle.sd_theorem.specs.Gives.{GivesAll}
+use Rattle.sd_theorem.specs.Headline.{HasStatus}
+use Rattle.sd_theorem.specs.Runs.{RunsOn, RunsStop, NonePurgesOf}
+use Rattle.sd_theorem.specs.Start.{Meanings}
+use Rattle.sd_theorem.specs.Told.{WereAdopted}
+use Rattle.sd_theorem.proofs.Deeds.{given_at}
+use Rattle.sd_theorem.proofs.Read.{world_gives, foreign_gone}
+use Rattle.sd_theorem.proofs.Runs.{Survive, run_keeps, run_honest, found_stable, survive_stop, survive_runs}
+use Rattle.sd_theorem.proofs.Stood.{honest_drive}
+use Rattle.sd_theorem.proofs.Unpurged.{none_noted, still_closed}
+
+-- what is one and the same
+pub some_one : {A : Type 0} {a b : A} → Some a ≡ Some b → a ≡ b
+some_one is = cc is
+
+-- and nothing isn't
+none_some : {A : Type 0} {a : A} → None ≡ Some a → ⊥
+none_some is = cc is
+
+-- Adopted volumes.
+
+-- a volume that a drive adopts is claimed for it
+adopted_by : {D : Type 0} (meaning : D → Meaning) (w w' : WorldView D) (drive : ℕ) (name : List ℕ) (end next : ℕ)
+    → MovesDrive meaning w drive (Adopt drive name) (Adopted end next) w' → claimed_by w'.desk name ≡ Some drive
+adopted_by meaning w w' drive name end next (inl m) = absurd (cc m.1)
+adopted_by {D} meaning w w' drive name end next (inr a) = ap (λ (x : WorldView D). claimed_by x.desk name) a.new_is ∙ ap (option_map (λ (c : Claim). c.drive)) a.moves.claims.claimed
+
+-- volumes that a run adopted are claimed for the drive
+adopted_claimed : {D Q S : Type 0} (Z : Type 0) (is : Meanings D Q S) (found : Shelf) (w : WorldView D) (r : RunsOn Z is found w) (drive : ℕ) (spans : List Span)
+    → WereAdopted drive spans r.deeds → AreClaimed w.desk drive spans
+adopted_claimed {D} Z is found w r drive spans adopted at s within =
+    let name = (get_or spans at s).volume in
+    let a = adopted at s within in
+    let g = given_at is.device r.first w (Adopt drive name) (Adopted a.0 a.1) r.deeds r.leads a.2 in
+    let now : claimed_by g.now.desk name ≡ Some drive = adopted_by is.device g.asked g.now drive name a.0 a.1 g.step.moves in
+    (leads_keep is.device g.now w g.after g.step.sound g.goes_on).1.claims name drive now
+
+-- Closed sessions.
+
+-- In a sound world, which matches a machine and whose devices and stores are honest, a session is closed with these spans. From
+-- there deeds led to the world now, none of which purged a volume of the spans; and the session's drive is still online.
+pub record WentOn {D : Type 0} (meaning : D → Meaning) (key : SessionKey) (spans : List Span) (w : WorldView D) : Type 0 where
+  pub at_close : WorldView D
+  pub sound : IsSound meaning at_close
+  pub honest : AreHonest meaning at_close
+  pub m : Machine
+  pub matches : Matches meaning at_close m
+  pub closed : IsClosedAt at_close key spans
+  pub after : List Deed
+  pub goes_on : LeadsTo meaning at_close after w
+  pub unpurged : NonePurgesOf spans after
+  pub e : WorldSession
+  pub there : session_at key.id w.sessions ≡ Some e
+  pub at : ℕ
+  pub bay : BayView D
+  pub d : DriveIs D
+  pub online : IsOnline w e.drive at bay d
+
+-- a closed session stands closed
+pub stands_closed : {D : Type 0} (meaning : D → Meaning) (w : WorldView D) (key : SessionKey) (spans : List Span) → IsSound meaning w → IsClosedAt w key spans → StandsClosed w key spans
+stands_closed meaning w key spans sound c =
+    let s = c.spans_are in
+    record {
+      e = c.e;
+      there = c.there;
+      key_is = c.key_is;
+      stands = inl c.closed;
+      some = closed_has_span w key spans sound.rules c;
+      claimed = closed_is_found meaning w key spans s.0 s.1 s.2 sound.rules c s.3 (sound.drives s.0 s.1 s.2 s.3.there s.3.online);
+      spans_are = inl s;
+    }
+
+-- What comes back of it, by the machine that the world now matches: from the moment of the close on, the low marks; what the spans
+-- read to after any stops; and what a later run gives.
+pub record Returns {D Q S : Type 0} (Z : Type 0) (is : Meanings D Q S) (key : SessionKey) (spans : List Span) (w : WorldView D) (c : WentOn is.device key spans w)
+    (m : Machine) : Type 0 where
+  pub has : HasStatus m key Closed
+  pub bay_then : BayView D
+  pub d_then : DriveIs D
+  pub online_then : IsOnline c.at_close c.e.drive c.at bay_then d_then
+  pub mark : All (λ (s : Span). s.end ≤ low_mark (is.device c.d.device).shelf (is.device d_then.device).shelf.moment s.volume) spans
+  pub survives : (left last : Shelf) (others : List Shelf)
+      → AfterStop (is.device d_then.device).shelf.moment (is.device c.d.device).shelf left
+      → RunsStop Z is spans left others last
+      → Reads (volumes_on last) key spans has.s.records true
+  pub comes_back : (left last : Shelf) (others : List Shelf) (again after : WorldView D) (got got' : List Record) (result : Result ReadEnd Refusal)
+      → AfterStop (is.device d_then.device).shelf.moment (is.device c.d.device).shelf left
+      → RunsStop Z is spans left others last
+      → (runs : RunsOn Z is last again)
+      → WereAdopted (runs.at + 1) spans runs.deeds
+      → key.time < again.limits.time
+      → NonePurgesOf spans runs.deeds
+      → IsRead is.device key spans got got' result again after
+      → GivesAll has.s.records true got got' result
+
+module _ {D Q S : Type 0} (Z : Type 0) (is : Meanings D Q S) (key : SessionKey) (spans : List Span) (w : WorldView D) (c : WentOn is.device key spans w)
+    (m : Machine) (pairs : Matches is.device w m) where
+  -- The session's drive was online, and its spans last since.
+  record SpansStood : Type 0 where
+    bay : BayView D
+    d : DriveIs D
+    online : IsOnline c.at_close c.e.drive c.at bay d
+    moment : (is.device d.device).shelf.moment ≤ (is.device c.d.device).shelf.moment
+    all : ReadsToAll (volumes_on (is.device d.device).shelf) c.m key spans
+    last : SpansLast (is.device d.device).shelf.moment (volumes_on (is.device d.device).shelf) (is.device c.d.device).shelf spans
+
+  stood : SpansStood
+  stood =
+      let kept = leads_keep is.device c.at_close w c.after c.sound c.goes_on in
+      let p = kept.1.devices c.e.drive c.at c.bay c.d c.online in
+      let seat = kept.1.seats key.id c.closed.e c.closed.there in
+      let one : seat.0 ≡ c.e = cc (sym seat.1 ∙ c.there) in
+      let drive : c.e.drive ≡ c.closed.e.drive = ap (λ (y : WorldSession). y.drive) (sym one) ∙ seat.2.drive_is in
+      let h : HasHonestDrive is.device c.at_close c.closed.e.drive c.at p.0 p.1 =
+      honest_drive is.device c.at_close c.closed.e.drive c.at p.0 p.1 c.sound c.honest (subst (λ n. IsOnline c.at_close n c.at p.0 p.1) drive p.2) in
+      let shelf = (is.device p.1.device).shelf in
+      let last = closed_spans_last is.device c.at_close c.m key spans c.at p.0 p.1 c.matches c.closed h in
+      record {
+        bay = p.0;
+        d = p.1;
+        online = p.2;
+        moment = p.3.moment;
+        all = closed_reads is.device c.at_close c.m key spans c.at p.0 p.1 c.matches c.closed h;
+        last = lasting_spans_stay (NonePurges c.after) shelf.moment (volumes_on shelf) shelf (is.device c.d.device).shelf spans (p.3.blocks h.honest.device) c.unpurged last;
+      }
+
+  -- It is closed still, and reads to the records of the machine of now, which are those that it had.
+  record StandsNow : Type 0 where
+    all : ReadsToAll (volumes_on (is.device c.d.device).shelf) m key spans
+    same : stood.all.s.records ≡ all.s.records
+
+  now : StandsNow
+  unfolding stands_closed
+  now =
+      let t = stood in
+      let kept = leads_keep is.device c.at_close w c.after c.sound c.goes_on in
+      let first = stands_closed is.device c.at_close key spans c.sound c.closed in
+      let still = still_closed is.device c.at_close w c.after key spans c.sound c.goes_on first c.closed.closed c.unpurged in
+      let s = still.0 in
+      let one : s.e ≡ c.e = some_one (sym s.there ∙ c.there) in
+      let drive : s.e.drive ≡ c.e.drive = ap (λ (y : WorldSession). y.drive) one in
+      let online : IsOnline w s.e.drive c.at c.bay c.d = subst (λ n. IsOnline w n c.at c.bay c.d) (sym drive) c.online in
+      let spans_are : SpansAt w s.e spans = elim s.spans_are [
+        | inl is_so ↦ is_so
+        | inr off ↦
+            let here : off.0 ≡ c.at = omega (arith, off.2, online.number) in
+            let bay : off.1 ≡ c.bay = some_one (sym off.3 ∙ ap (slice_get w.bays) here ∙ online.there) in
+            absurd (none_some (sym off.4 ∙ ap (λ (y : BayView D). y.drive) bay ∙ online.online))
+      ] in
+      let closed : IsClosedAt w key spans = record { e = s.e; there = s.there; key_is = s.key_is; closed = still.1; spans_are = spans_are } in
+      let h = honest_drive is.device w s.e.drive c.at c.bay c.d kept.0 (kept.1.honest c.honest) online in
+      let all = closed_reads is.device w m key spans c.at c.bay c.d pairs closed h in
+      let shelf = (is.device c.d.device).shelf in
+      let kept_now = lasting_spans_kept (is.device t.d.device).shelf.moment (volumes_on (is.device t.d.device).shelf) shelf shelf spans t.last (λ name bytes lasts. lasts.now) in
+      record {
+        all = all;
+        same = (reads_one (volumes_on shelf) key spans t.all.s.records all.s.records true true
+            (kept_read (volumes_on (is.device t.d.device).shelf) (volumes_on shelf) key spans t.all.s.records true kept_now t.all.reads) all.reads).0;
+      }
+
+  -- over stops
+  survive : (left last : Shelf) (others : List Shelf) → AfterStop (is.device stood.d.device).shelf.moment (is.device c.d.device).shelf left → RunsStop Z is spans left others last
+      → Survive (volumes_on (is.device stood.d.device).shelf) spans last
+  survive left last others stop runs =
+      let then = (is.device stood.d.device).shelf in
+      survive_runs Z is (volumes_on then) spans left last others runs (survive_stop then.moment (volumes_on then) spans (is.device c.d.device).shelf left stood.last stop)
+
+  pub returns : Returns Z is key spans w c m
+  returns = record {
+    has = record { s = now.all.s; there = now.all.there; key_is = now.all.key_is; status_is = now.all.closed };
+    bay_then = stood.bay;
+    d_then = stood.d;
+    online_then = stood.online;
+    mark = lasting_spans_mark (is.device stood.d.device).shelf.moment (volumes_on (is.device stood.d.device).shelf) (is.device c.d.device).shelf spans stood.moment stood.last;
+    survives = λ left last others stop runs.
+        kept_read (volumes_on (is.device stood.d.device).shelf) (volumes_on last) key spans now.all.s.records true (survive left last others stop runs).kept
+        (subst (λ l. Reads (volumes_on (is.device stood.d.device).shelf) key spans l true) now.same stood.all.reads);
+    comes_back = λ left last others again after got got' result stop runs r adopted later none read.
+        let then = (is.device stood.d.device).shelf in
+        let shelf = (is.device r.d.device).shelf in
+        let lasts = run_keeps Z is (volumes_on then) spans last again r none ((survive left last others stop runs).last (found_stable Z is last again r)) in
+        let kept = lasting_spans_kept last.moment (volumes_on then) shelf shelf spans lasts (λ name bytes here. here.now) in
+        let reads = kept_read (volumes_on then) (volumes_on shelf) key spans now.all.s.records true kept
+        (subst (λ l. Reads (volumes_on then) key spans l true) now.same stood.all.reads) in
+        let world = leads_keep is.device r.first again r.deeds r.begins.sound r.leads in
+        let kept_here = foreign_gone again key spans world.0.rules (λ same. absurd (omega (arith, later, same)))
+        (none_noted is.device r.first again r.deeds spans r.begins.sound r.leads r.begins.fresh.no_claim none) in
+        let countable = closed_is_countable (volumes_on (is.device c.d.device).shelf) m key spans now.all in
+        (world_gives is.device again after key spans now.all.s.records true got got' result (r.at + 1) r.at r.bay r.d r.online
+        (adopted_claimed Z is last again r (r.at + 1) spans adopted) (run_honest Z is last again r) kept_here reads countable.0 countable.1 read.reads).gives;
+  }
