@@ -74,6 +74,18 @@ keeps_lane time own run ends qs at l e found is sent same of_lane sent_are earli
       stored = stored;
     })
 
+-- the sessions of the lanes of a settled line are those of the ends that were handed in
+pub all_of_ends : {D : Type 0} (meaning : D → Meaning) (table : ℕ → TableId) (time : ℕ → ℕ) (c : CheckedIs D) (s : SettledIs D) → Settles meaning table time c s
+    → sessions_to c.line.no (length s.lanes) c.ends ≡ lane_sessions s.lanes
+all_of_ends meaning table time c s h =
+    let own = c.line.no in
+    let at_ends : (at : ℕ) (l : SettledLaneIs) → slice_get s.lanes at ≡ Some l → sessions_at own (suc (0 + at)) c.ends ≡ l.sessions =
+    λ at l there. (let k = h.lanes_are at l there in
+    let e : suc (0 + at) ≡ suc at = omega arith in
+    ap (λ (m : ℕ). sessions_at own m c.ends) e ∙ ap (λ (o : Option EndIs). in_end o) k.end_is ∙ sym (ap (λ (x : SettledLaneIs). x.sessions) k.lane_is)) in
+    let none : 0 + length s.lanes ≡ length s.lanes = omega arith in
+    ap (λ (m : ℕ). sessions_to own m c.ends) (sym none) ∙ sessions_are own c.ends 0 s.lanes at_ends
+
 -- so a line that is settled keeps its lanes
 pub keeps_lanes : {D : Type 0} (meaning : D → Meaning) (table : ℕ → TableId) (time : ℕ → ℕ) (c : CheckedIs D) (s : SettledIs D) → Settles meaning table time c s
     → KeepsLanes s.drive.limits.time s.drive.journal (s.queue.taken ++ s.queue.held) s.lanes
@@ -81,12 +93,7 @@ keeps_lanes {D} meaning table time c s h =
     let own = c.line.no in
     let run : time own ≡ s.drive.limits.time = ap time (sym h.passes.synced.keys.lanes.no_is) ∙ sym h.keeps.run ∙ sym (ap (λ (d : DriveIs D). d.limits.time) h.drive_is) in
     let many : c.side.seat.lanes ≡ length s.lanes = sym h.count_is.1 in
-    let at_ends : (at : ℕ) (l : SettledLaneIs) → slice_get s.lanes at ≡ Some l → sessions_at own (suc (0 + at)) c.ends ≡ l.sessions =
-    λ at l there. (let k = h.lanes_are at l there in
-    let e : suc (0 + at) ≡ suc at = omega arith in
-    ap (λ (m : ℕ). sessions_at own m c.ends) e ∙ ap (λ (o : Option EndIs). in_end o) k.end_is ∙ sym (ap (λ (x : SettledLaneIs). x.sessions) k.lane_is)) in
-    let none : 0 + length s.lanes ≡ c.side.seat.lanes = omega (arith, many) in
-    let all : sessions_to own c.side.seat.lanes c.ends ≡ lane_sessions s.lanes = ap (λ (m : ℕ). sessions_to own m c.ends) (sym none) ∙ sessions_are own c.ends 0 s.lanes at_ends in
+    let all : sessions_to own c.side.seat.lanes c.ends ≡ lane_sessions s.lanes = ap (λ (m : ℕ). sessions_to own m c.ends) many ∙ all_of_ends meaning table time c s h in
     record {
       of_lanes = subst (λ (n : ℕ). AreOfLanes n (s.queue.taken ++ s.queue.held)) (h.count_is.0 ∙ many) h.of_lanes;
       each = λ at l there. (let k = h.lanes_are at l there in

@@ -1,0 +1,4 @@
+pub mod Since
+pub mod State
+pub mod Stops
+pub mod Threads
