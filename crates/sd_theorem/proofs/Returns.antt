@@ -1,5 +1,5 @@
 -- What was closed comes back, in whatever world it was closed.
-use Rattle.std.proofs.Common.{◌≡◌, ◌≤◌, ◌<◌, ◌+◌, ℕ, sym, ap, subst, ◌∙◌, inl, inr, arith, true, None, Some, List, ◌++◌, All, Result, get_or, slice_get}
+use Rattle.std.proofs.Common.{◌≡◌, ◌≤◌, ◌<◌, ◌+◌, ℕ, sym, ap, subst, ◌∙◌, inl, inr, arith, true, None, Some, List, All, Result, get_or, slice_get}
 use Rattle.std.specs.Option.{option_map}
 use Rattle.sd_base.specs.Record.{Record}
 use Rattle.sd_base.specs.declared.number.SessionKey.{SessionKey}

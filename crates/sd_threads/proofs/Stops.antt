@@ -1,5 +1,5 @@
 -- The stop theorem for running threads.
-use Rattle.std.proofs.Common.{◌≡◌, ℕ, refl, sym, ap, subst, ◌∙◌, inl, inr, arith, Some, None, List, [], ◌∷◌, ◌++◌, slice_get}
+use Rattle.std.proofs.Common.{◌≡◌, ℕ, sym, ap, subst, ◌∙◌, inl, inr, arith, Some, None, List, [], ◌∷◌, ◌++◌, slice_get}
 use Rattle.std.specs.Prelude.{◌⊎◌}
 use Rattle.atomic_table.specs.Seated.{TableId}
 use Rattle.sd_base.specs.declared.number.SessionKey.{SessionKey}

@@ -1,26 +1,24 @@
 -- The theorem of running threads.
 use Rattle.std.proofs.Common.{◌≡◌, ℕ, sym, ap, subst, ◌∙◌, inl, inr, List, length}
-use Rattle.std.specs.Prelude.{◌⊎◌, IsPermutation}
+use Rattle.std.specs.Prelude.{IsPermutation}
 use Rattle.atomic_table.specs.Seated.{TableId}
 use Rattle.sd_base.specs.declared.number.SessionKey.{SessionKey}
 use Rattle.sd_driver.specs.Meaning.{Meaning}
 use Rattle.sd_drive.specs.Receipt.{ReceiptIs}
+use Rattle.sd_drive.specs.View.{DriveIs}
 use Rattle.sd_line.specs.Side.{LineIs}
 use Rattle.sd_part.specs.Ends.{EndIs, ToldSession}
-use Rattle.sd_session.specs.declared.status.Status.TheVariants.{Closed}
 use Rattle.sd_settle.specs.Settles.{LaneSettles, sessions_to}
 use Rattle.sd_settled.specs.Worlds.{IsSettledFrom, lane_sessions, machine_of}
 use Rattle.sd_settled.proofs.Entries.{distinct_moved}
 use Rattle.sd_settled.proofs.Lines.{all_of_ends}
 use Rattle.sd_span.specs.declared.span.Span.{Span}
-use Rattle.sd_theorem.specs.Headline.{HasStatus}
-use Rattle.sd_theorem.specs.Told.{WereAsked, WereToldClosed}
 use Rattle.sd_theorem.proofs.Head.{reads_cancelled, reads_closed, reads_told}
 use Rattle.sd_theorem.proofs.Returns.{stands_closed}
 use Rattle.sd_theorem.proofs.Stood.{asked_stood, told_stood}
-use Rattle.sd_threads.specs.Since.{HasReceipt, IsOfListsSince, WereToldOfClosed}
-use Rattle.sd_threads.specs.State.{HasLanes, HasReceipts, HasState}
-use Rattle.sd_threads.specs.Threads.{StandsSettled, ThreadTheorem}
+use Rattle.sd_threads.specs.Since.{IsOfListsSince, WereToldOfClosed}
+use Rattle.sd_threads.specs.State.{GivesReceipts, HasPieces, HasState}
+use Rattle.sd_threads.specs.Threads.{ThreadTheorem}
 use Rattle.sd_threads.proofs.Closed.{began, closed_here, closed_with, given, settled_world, told_by}
 use Rattle.sd_world.specs.Deeds.{Deed, LeadsTo}
 use Rattle.sd_world.specs.Honest.{AreHonest}
@@ -34,7 +32,7 @@ module _ {D : Type 0} (meaning : D → Meaning) (table : ℕ → TableId) (time 
     (from : IsSettledFrom meaning table time line ends receipts w) where
   -- What the world is.
 
-  has_state : HasState meaning line ends from.settled from.told w
+  has_state : HasState meaning time line ends from.settled from.told w
   has_state =
       let own = ap (λ (l : LineIs). l.no) from.line_is in
       let n = length from.settled.lanes in
@@ -45,11 +43,13 @@ module _ {D : Type 0} (meaning : D → Meaning) (table : ℕ → TableId) (time 
         all = subst (λ (ss : List ToldSession). IsPermutation ss from.told) (sym all) from.becomes.all;
         rise = from.becomes.rise;
         distinct = distinct_moved (lane_sessions from.settled.lanes) from.told from.becomes.all (settled_world meaning table time line ends receipts w from).lanes.distinct;
+        run_is = ap (λ l. l.time) from.becomes.limits_are ∙ ap (λ (d : DriveIs D). d.limits.time) from.settles.drive_is ∙ from.settles.keeps.run
+            ∙ ap time from.settles.passes.synced.keys.lanes.no_is ∙ ap time own;
         matches = began meaning table time line ends receipts w from;
       }
 
-  has_lanes : HasLanes meaning time line ends from.settled w
-  has_lanes =
+  has_pieces : HasPieces meaning time line ends from.settled w
+  has_pieces =
       let h = settled_world meaning table time line ends receipts w from in
       record {
         bays_are = from.becomes.bays_are;
@@ -61,8 +61,8 @@ module _ {D : Type 0} (meaning : D → Meaning) (table : ℕ → TableId) (time 
             (subst (λ (l : LineIs). LaneSettles time l.no from.checked.ends from.settled.queue at lane) from.line_is (from.settles.lanes_are at lane there));
       }
 
-  has_receipts : HasReceipts from.settled receipts w
-  has_receipts = record {
+  gives_receipts : GivesReceipts from.settled receipts w
+  gives_receipts = record {
     given = given meaning table time line ends receipts w from;
     none_out = λ ticket e there closed out.
         let f = found_session meaning w ticket w.sessions (machine_of from.settled from.told).sessions e (began meaning table time line ends receipts w from).sessions there in
@@ -104,7 +104,7 @@ module _ {D : Type 0} (meaning : D → Meaning) (table : ℕ → TableId) (time 
 pub thread_theorem : {D : Type 0} → ThreadTheorem D
 thread_theorem meaning table time line ends receipts w from sound = record {
   state = has_state meaning table time line ends receipts w from;
-  lanes = has_lanes meaning table time line ends receipts w from;
-  receipts_are = has_receipts meaning table time line ends receipts w from;
+  pieces = has_pieces meaning table time line ends receipts w from;
+  given = gives_receipts meaning table time line ends receipts w from;
   goes_on = λ deeds now leads. of_lists meaning table time line ends receipts w from sound deeds now leads;
 }

@@ -40,8 +40,8 @@ WereToldOf began receipts key spans deeds = WereAsked key spans deeds ⊎ (HasSe
 
 -- The events of these deeds and the replies to them are a run of the list machine, from the one that the first world matches to one
 -- that the world matches now. While every device and every store of the first world is honest, a closed session is read to its
--- records, and a cancelled one to the first of them. Of a new world, which matches the empty machine and has no receipts, this is
--- what `IsOfLists` says: no session was closed, or there, before its deeds.
+-- records, and a cancelled one to the first of them. Of a new world, which matches the empty machine, and with no receipts
+-- this is what `IsOfLists` says: there was no session before its deeds, and the world is honest where all is that it was made of.
 pub record IsOfListsSince {D : Type 0} (meaning : D → Meaning) (first : WorldView D) (began : Machine) (receipts : List ReceiptIs)
     (deeds : List Deed) (w : WorldView D) : Type 0 where
   pub m : Machine

@@ -7,7 +7,7 @@ use Rattle.sd_line.specs.Side.{LineIs}
 use Rattle.sd_part.specs.Ends.{EndIs}
 use Rattle.sd_settled.specs.Worlds.{IsSettledFrom, machine_of}
 use Rattle.sd_threads.specs.Since.{IsOfListsSince}
-use Rattle.sd_threads.specs.State.{HasLanes, HasReceipts, HasState}
+use Rattle.sd_threads.specs.State.{GivesReceipts, HasPieces, HasState}
 use Rattle.sd_world.specs.Deeds.{Deed, LeadsTo}
 use Rattle.sd_world.specs.Steps.{IsSound}
 use Rattle.sd_world.specs.World.{WorldView}
@@ -18,9 +18,9 @@ use Rattle.sd_world.specs.World.{WorldView}
 -- those of the list machine, and what is closed, before or since, is read back.
 pub record StandsSettled {D : Type 0} (meaning : D → Meaning) (table : ℕ → TableId) (time : ℕ → ℕ) (line : LineIs) (ends : List EndIs) (receipts : List ReceiptIs)
     (w : WorldView D) (from : IsSettledFrom meaning table time line ends receipts w) : Type 0 where
-  pub state : HasState meaning line ends from.settled from.told w
-  pub lanes : HasLanes meaning time line ends from.settled w
-  pub receipts_are : HasReceipts from.settled receipts w
+  pub state : HasState meaning time line ends from.settled from.told w
+  pub pieces : HasPieces meaning time line ends from.settled w
+  pub given : GivesReceipts from.settled receipts w
   pub goes_on : (deeds : List Deed) (now : WorldView D) → LeadsTo meaning w deeds now
       → IsOfListsSince meaning w (machine_of from.settled from.told) receipts deeds now
 
