@@ -71,6 +71,13 @@ impl<R: Wait + Drop> RuledLanes<R> {
         })
     }
 
+    /// For how many pieces it has room.
+    pub fn capacity(&self) -> usize
+        ensures { result ≡ self.now.capacity }
+    {
+        self.ring.capacity()
+    }
+
     // Adds a piece behind the others, where there is room.
     fn push(&mut self, lane: LaneNo, piece: Piece) -> Result<(), Piece>
         requires least { 1 ≤ lane }
