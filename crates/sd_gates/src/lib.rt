@@ -1,9 +1,23 @@
-//! Tests of sessions for threads of their own: a session's part at its line.
+//! Tests of sessions for threads of their own: a session's part at its line, and jobs in threads.
 #![tactic(auto)]
 
 #[cfg(test)]
+mod gates;
+#[cfg(test)]
+mod holding;
+#[cfg(test)]
+mod jobs;
+#[cfg(test)]
 mod lives;
+#[cfg(test)]
+mod loads;
 #[cfg(test)]
 mod making;
 #[cfg(test)]
+mod own;
+#[cfg(test)]
 mod player;
+#[cfg(test)]
+mod strays;
+#[cfg(test)]
+mod telling;

@@ -1,9 +1,7 @@
 // The life of a session's part, step by step.
-ghost use Rattle.std.specs.Prelude.{◌≡◌, ◌⊎◌, ◌≤◌, [], None};
-ghost use Rattle.sd_base.specs.Limits.{most_lanes};
-ghost use Rattle.sd_drive.specs.Limits.{AreLimits};
+ghost use Rattle.std.specs.Prelude.{◌≡◌, ◌⊎◌, ◌≤◌};
 
-use crate::making::{Made, make, mount_all, open_first};
+use crate::making::{Made, begin_line, make, open_first};
 use crate::player::{Came, Step, make_step};
 use sd_base::{DriveNo, Refusal, Ticket};
 use sd_line::{Line, Naming};
@@ -160,21 +158,19 @@ fn first_other<N: Naming, R: Wait + Drop>(
 fn live<N: Naming, R: Wait + Drop>(
     rt: R,
     alloc: Global,
-    no: DriveNo,
     made: Made<R>,
     rows: &[Row],
 ) -> Option<Option<usize>>
-    requires named { (made.lanes.table ≡ N.table no) × (made.drive.limits.time ≡ N.time no) }
-    requires limits { AreLimits made.drive.limits × (made.lanes.lanes ≤ most_lanes) }
-    requires unused { (made.drive.journal ≡ []) × (made.drive.hand ≡ None) }
-    requires empty { (made.lanes.taken ≡ []) × (made.lanes.held ≡ []) }
+    requires { (made ≡ N.table 1) × (N.time 1 ≡ 1000) }
 {
-    let Made { drive, lanes } = made;
-    let Ok((line, mut seats)) = Line::<MemDrive, N, R>::new(rt, alloc, no, drive, lanes) else {
-        return None;
-    };
-    mount_all(&line)?;
-    let part = open_first(alloc, &line, seats.pop()?, Ticket::new(1)?)?;
+    let (line, mut seats) = begin_line::<N, R>(rt, alloc, DriveNo::new(1)?, made)?;
+    let part = open_first(
+        alloc,
+        &line,
+        seats.pop()?,
+        MemSpool::new(alloc),
+        Ticket::new(1)?,
+    )?;
     Some(first_other(alloc, &line, part, rows))
 }
 
@@ -187,8 +183,7 @@ fn play<R: Wait + Drop + Copy>(
 ) -> Option<Option<usize>>
     requires { (spool ≡ 0) ⊎ ((1024 ≤ spool) × (spool ≤ 1000000)) }
 {
-    let made = make(rt, alloc, device, spool)?;
-    live::<Brand, R>(rt, alloc, DriveNo::new(1)?, made, rows)
+    live::<Brand, R>(rt, alloc, make(rt, alloc, device, spool, 1, 1)?, rows)
 }
 
 #[test]

@@ -1,7 +1,7 @@
 // What a session's part answers, step by step.
 ghost use Rattle.std.specs.Prelude.{◌≡◌};
 
-use crate::making::Open;
+use crate::holding::Open;
 use sd_base::{Bytes, Rec, Refusal, SessionKey};
 use sd_drive::Placed;
 use sd_line::{DriveWorker, Line, Naming};
