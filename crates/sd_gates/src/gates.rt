@@ -9,6 +9,8 @@ use std::test::*;
 pub const FOUR: Case = Case {
     lines: 2,
     lanes: 2,
+    first: 1,
+    next: 1,
     queue: 2,
     spool: 0,
     records: 40,

@@ -9,6 +9,7 @@ use crate::own::draw_records;
 use sd_base::{DriveNo, Ticket};
 use sd_jobs::{Job, JobEnd, have_lines, run_jobs};
 use sd_line::{Gate, Line, Naming, Seat};
+use sd_machine::{Event, Reply};
 use sd_memdrive::{Fail, MemDrive};
 use sd_spool::{MemSpool, SpoolFail};
 use std::alloc::Global;
@@ -21,6 +22,9 @@ use std::time::Clock;
 pub struct Case {
     pub lines: u32,
     pub lanes: u32,
+    /// The number of the first session, and how much greater that of the next is.
+    pub first: u32,
+    pub next: u32,
     /// The room of each queue.
     pub queue: usize,
     /// The limit of each spool; 0 for none.
@@ -96,7 +100,7 @@ fn number_behind(before: usize) -> Option<DriveNo>
     DriveNo::new(no)
 }
 
-// A line of this drive, with volumes, and a job more for each of its lanes.
+// A line of this drive, with volumes of which none is mounted, and a job more for each of its lanes.
 fn begin<N: Naming, R: Wait + Copy + Drop>(
     rt: R,
     alloc: Global,
@@ -108,6 +112,9 @@ fn begin<N: Naming, R: Wait + Copy + Drop>(
     requires { (made ≡ N.table no) × (N.time no ≡ 1000) }
 {
     let (line, seats) = begin_line::<N, R>(rt, alloc, no, made)?;
+    let Reply::Unmounted = line.operate(Event::Unmount { drive: no }) else {
+        return None;
+    };
     make_jobs(
         alloc,
         &line,
@@ -148,7 +155,8 @@ fn make_job<N: Naming, R: Wait + Drop>(
     requires { (seat.no ≡ line.now.no) × (seat.seat.sent ≡ []) }
 {
     let before = line.no().get().wrapping_sub(1).wrapping_mul(case.lanes);
-    let id = before.wrapping_add(seat.lane().get());
+    let place = before.wrapping_add(seat.lane().get().wrapping_sub(1));
+    let id = case.first.wrapping_add(place.wrapping_mul(case.next));
     let mut plan = Vec::new(alloc);
     if id == 1
         && let Some(fail) = case.store

@@ -18,6 +18,10 @@ mod own;
 #[cfg(test)]
 mod player;
 #[cfg(test)]
+mod settled;
+#[cfg(test)]
+mod settling;
+#[cfg(test)]
 mod strays;
 #[cfg(test)]
 mod telling;

@@ -1,4 +1,4 @@
-use Rattle.std.proofs.Common.{◌≡◌, sym, ap, ◌∙◌, slice_get}
+use Rattle.std.proofs.Common.{sym, ap, ◌∙◌, slice_get}
 use Rattle.sd_gates.proofs.jobs.run.Goals as goal
 
 pub run_jobs-requires-after_bounds : goal.run_jobs-requires-after_bounds

@@ -1,4 +1,4 @@
-use Rattle.std.proofs.Common.{◌≡◌, sym, ap, ◌∙◌}
+use Rattle.std.proofs.Common.{sym, ap, ◌∙◌}
 use Rattle.sd_line.specs.Side.{LineIs}
 use Rattle.sd_gates.proofs.making.begin_line.Goals as goal
 
