@@ -1,2 +1,7 @@
 mod PlacedLemmas
 mod SpanLemmas
+mod SayLemmas
+mod FoundLemmas
+mod ReportLemmas
+mod ClosedLemmas
+mod ToldLemmas

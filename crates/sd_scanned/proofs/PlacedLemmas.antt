@@ -1,5 +1,5 @@
 -- The blocks of a volume that is laid out, found one behind another.
-use Rattle.std.proofs.Common.{◌≡◌, if◌then◌else◌, inl, inr, ℕ, ◌+◌, Bool, true, false, List, [], ◌∷◌, ◌++◌, length, map, refl, sym, ap, ap₂, subst, ◌∙◌, arith, Some}
+use Rattle.std.proofs.Common.{◌≡◌, if◌then◌else◌, inl, inr, ℕ, ◌+◌, Bool, true, false, List, [], ◌∷◌, ◌++◌, length, map, refl, sym, ap, ap₂, subst, subst₂, ◌∙◌, arith, Some}
 use Rattle.std.proofs.lemmas.List.{append_assoc, append-nil, length-append, take_at}
 use Rattle.std.specs.Str.{bytes_eq}
 use Rattle.std.proofs.lemmas.Slice.Eq.{bytes_eq-Decides}
@@ -7,17 +7,19 @@ use Rattle.sd_base.specs.Limits.{block_header}
 use Rattle.sd_block.specs.Image.{block_image}
 use Rattle.sd_block.proofs.ImageLemmas.{length-block_image}
 use Rattle.sd_drive.specs.Shelf.{IsLaidOut, LieBehind, block_at, blocks_on, placements_on}
-use Rattle.sd_driver.specs.Shelf.{BeginsWith, Held, Shelf}
+use Rattle.sd_drive.proofs.Places.{some_is}
+use Rattle.sd_driver.specs.Shelf.{BeginsWith, Shelf}
 use Rattle.sd_found.specs.Found.{Found, blocks_in}
 use Rattle.sd_label.specs.declared.label.VolumeLabel.{VolumeLabel}
+use Rattle.sd_readback.specs.Reading.{bytes_of, volumes_on}
 use Rattle.sd_scan.specs.Run.{found_from}
 use Rattle.sd_scan.specs.Volume.{FindsImage, FindsOn}
 use Rattle.sd_scanned.specs.Placed.{FindsPlaced, LieAt, LiesAt, PlacedBlocksAreFound}
 use Rattle.sd_span.specs.declared.placement.Placement.{Placement}
 use Rattle.sd_volume.specs.Adopt.{IsLabelled}
-use Rattle.sd_volume.specs.Image.{Block, VolumeImage, images, label_block, volume_end}
+use Rattle.sd_volume.specs.Image.{AreImages, Block, VolumeImage, images, label_block, volume_end}
 use Rattle.sd_volume.specs.Volume.{VolumeView}
-use Rattle.sd_volume.proofs.ImageLemmas.{goes_on_behind, label_in_front, volume_end-more}
+use Rattle.sd_volume.proofs.ImageLemmas.{AreImages-behind, goes_on_behind, label_in_front, volume_end-more}
 
 -- ---- blocks one behind another
 
@@ -48,11 +50,11 @@ blocks_found name start (b ∷ bs) = ap (λ (l : List Block). b ∷ l) (blocks_f
 -- ---- placements
 
 -- they are all on that volume
-abbrev AllOn : List ℕ → List Placement → Type 0
+abbrev pub AllOn : List ℕ → List Placement → Type 0
 AllOn name [] = Unit {0}
 AllOn name (p ∷ ps) = (p.volume ≡ name) × AllOn name ps
 
-all_on : (name : List ℕ) (ps : List Placement) → AllOn name (placements_on name ps)
+pub all_on : (name : List ℕ) (ps : List Placement) → AllOn name (placements_on name ps)
 all_on name [] = tt
 all_on name (p ∷ ps) = from (bytes_eq p.volume name) refl (all_on name ps)
   where
@@ -91,42 +93,60 @@ labelled name bytes label blocks tail image same = record {
       (take_at (label_block label) (images 1 blocks ++ tail) (length (label_block label)) refl);
 }
 
-same_held : (a b : Held) → Some a ≡ Some b → a ≡ b
-same_held a b h = cc
+-- What is found on a volume, and where that stood: what it had when it came to the drive, and what stands whole in its tail.
+pub record FindsLaid (shelf : Shelf) (ps : List Placement) (v : VolumeView) (found : List Found) (laid : IsLaidOut shelf ps v) : Type 0 where
+  pub finds : FindsPlaced shelf ps v found
+  pub earlier_are : blocks_in finds.earlier ≡ laid.earlier
+  pub rest : List ℕ
+  pub behind_are : AreImages v.next_number (blocks_in finds.behind)
+  pub tail_is : laid.tail ≡ images v.next_number (blocks_in finds.behind) ++ rest
 
-found_on_image : (shelf : Shelf) (ps : List Placement) (v : VolumeView) (held : Held) (found : List Found) (end : ℕ) → (laid : IsLaidOut shelf ps v)
-    → VolumeImage held.bytes laid.label (laid.earlier ++ blocks_on shelf v.name ps) laid.tail → FindsImage v.name held.bytes found end
-    → FindsPlaced shelf ps v found
-found_on_image shelf ps v held found end laid image finds =
+found_on_image : (shelf : Shelf) (ps : List Placement) (v : VolumeView) (bytes : List ℕ) (found : List Found) (end : ℕ) → (laid : IsLaidOut shelf ps v)
+    → VolumeImage bytes laid.label (laid.earlier ++ blocks_on shelf v.name ps) laid.tail → FindsImage v.name bytes found end → FindsLaid shelf ps v found laid
+found_on_image shelf ps v bytes found end laid image finds =
     let own : List Block = blocks_on shelf v.name ps in
-    let to = goes_on_behind held.bytes laid.label finds.label (laid.earlier ++ own) finds.blocks laid.tail finds.tail image finds.whole in
+    let before : List Block = laid.earlier ++ own in
+    let to = goes_on_behind bytes laid.label finds.label before finds.blocks laid.tail finds.tail image finds.whole in
     let more = to.on.more in
     let front : ℕ = volume_end laid.label [] in
     let all_are : finds.blocks ≡ laid.earlier ++ (own ++ more) = to.on.all_are ∙ append_assoc laid.earlier own more in
     let starts : length (label_block finds.label) ≡ front = ap (λ l. length (label_block l)) (sym to.label_is) ∙ sym (end_of_none laid.label) in
     let first = found_behind v.name laid.label [] laid.earlier (own ++ more) in
     let second = found_behind v.name laid.label laid.earlier own more in
+    let last : List Found = found_from v.name (volume_end laid.label before) more in
+    let last_are : blocks_in last ≡ more = blocks_found v.name (volume_end laid.label before) more in
+    let next : 1 + length before ≡ v.next_number = sym laid.stands.next_is in
+    let are : AreImages (1 + length before) more = AreImages-behind 1 before more (subst (AreImages 1) to.on.all_are finds.whole.image.blocks_are) in
     record {
-      earlier = found_from v.name front laid.earlier;
-      own = found_from v.name (volume_end laid.label laid.earlier) own;
-      behind = found_from v.name (volume_end laid.label (laid.earlier ++ own)) more;
-      found_is = finds.found_is ∙ ap₂ (λ n (l : List Block). found_from v.name n l) starts all_are ∙ first
-          ∙ ap (λ (l : List Found). found_from v.name front laid.earlier ++ l) second;
-      blocks_are = blocks_found v.name (volume_end laid.label laid.earlier) own;
-      lie = lie_found shelf v.name laid.label laid.earlier (placements_on v.name ps) (all_on v.name ps) laid.lie;
-      none_behind = λ append.
-          (let none = no_images (1 + length (laid.earlier ++ own)) more finds.tail (sym (laid.stands.no_tail append) ∙ to.on.rest_is) in
-          ap (λ (l : List Block). found_from v.name (volume_end laid.label (laid.earlier ++ own)) l) none);
+      finds = record {
+        earlier = found_from v.name front laid.earlier;
+        own = found_from v.name (volume_end laid.label laid.earlier) own;
+        behind = last;
+        found_is = finds.found_is ∙ ap₂ (λ n (l : List Block). found_from v.name n l) starts all_are ∙ first
+            ∙ ap (λ (l : List Found). found_from v.name front laid.earlier ++ l) second;
+        blocks_are = blocks_found v.name (volume_end laid.label laid.earlier) own;
+        lie = lie_found shelf v.name laid.label laid.earlier (placements_on v.name ps) (all_on v.name ps) laid.lie;
+        none_behind = λ append.
+            (let none = no_images (1 + length before) more finds.tail (sym (laid.stands.no_tail append) ∙ to.on.rest_is) in
+            ap (λ (l : List Block). found_from v.name (volume_end laid.label before) l) none);
+      };
+      earlier_are = blocks_found v.name front laid.earlier;
+      rest = finds.tail;
+      behind_are = subst₂ AreImages next (sym last_are) are;
+      tail_is = to.on.rest_is ∙ ap₂ (λ n (l : List Block). images n l ++ finds.tail) next (sym last_are);
     }
 
-pub placed_blocks_are_found : PlacedBlocksAreFound
-placed_blocks_are_found shelf ps v held found end laid there finds =
+-- so it is of whatever bytes stand there
+pub found_laid : (shelf : Shelf) (ps : List Placement) (v : VolumeView) (bytes : List ℕ) (found : List Found) (end : ℕ) → (laid : IsLaidOut shelf ps v)
+    → volumes_on shelf v.name ≡ Some bytes → FindsOn v.name bytes found end → FindsLaid shelf ps v found laid
+found_laid shelf ps v bytes found end laid there finds =
     let s = laid.stands in
-    let same : s.held ≡ held = same_held s.held held (sym s.there ∙ there) in
-    let image : VolumeImage held.bytes laid.label (laid.earlier ++ blocks_on shelf v.name ps) laid.tail =
-    subst (λ h. VolumeImage h.bytes laid.label (laid.earlier ++ blocks_on shelf v.name ps) laid.tail) same s.image in
-    from image finds
+    let same : s.held.bytes ≡ bytes = some_is (sym (ap bytes_of s.there) ∙ there) in
+    from (subst (λ (b : List ℕ). VolumeImage b laid.label (laid.earlier ++ blocks_on shelf v.name ps) laid.tail) same s.image) finds
   where
-    from : VolumeImage held.bytes laid.label (laid.earlier ++ blocks_on shelf v.name ps) laid.tail → FindsOn v.name held.bytes found end → FindsPlaced shelf ps v found
-    from image (inl finds) = found_on_image shelf ps v held found end laid image finds
-    from image (inr none) = absurd (none.0 laid.label (labelled v.name held.bytes laid.label _ laid.tail image laid.stands.name_is))
+    from : VolumeImage bytes laid.label (laid.earlier ++ blocks_on shelf v.name ps) laid.tail → FindsOn v.name bytes found end → FindsLaid shelf ps v found laid
+    from image (inl finds) = found_on_image shelf ps v bytes found end laid image finds
+    from image (inr none) = absurd (none.0 laid.label (labelled v.name bytes laid.label _ laid.tail image laid.stands.name_is))
+
+pub placed_blocks_are_found : PlacedBlocksAreFound
+placed_blocks_are_found shelf ps v held found end laid there finds = (found_laid shelf ps v held.bytes found end laid (ap bytes_of there) finds).finds

@@ -1,15 +1,21 @@
 -- The placements of a session that are told of what is found, and those of the journal.
-use Rattle.std.proofs.Common.{◌≡◌, ℕ, List, [], ◌∷◌, ◌++◌, refl, sym, ap, ap₂, subst, ◌∙◌}
+use Rattle.std.proofs.Common.{◌≡◌, if◌then◌else◌, ℕ, Bool, true, false, List, [], ◌∷◌, ◌++◌, map, refl, sym, ap, ap₂, subst, ◌∙◌}
 use Rattle.std.proofs.lemmas.List.{append-nil}
+use Rattle.std.proofs.lemmas.List.Elements.{recursion_from_All}
+use Rattle.std.specs.List.{AllByRecursion}
+use Rattle.std.specs.Str.{bytes_eq}
+use Rattle.sd_base.specs.Key.{is_key}
 use Rattle.sd_base.specs.declared.number.SessionKey.{SessionKey}
-use Rattle.sd_drive.specs.Shelf.{placements_on}
+use Rattle.sd_drive.specs.Shelf.{block_at, placements_on}
 use Rattle.sd_driver.specs.Shelf.{Shelf}
-use Rattle.sd_found.specs.Found.{ArePlacements, Found, IsPlacementOf}
+use Rattle.sd_found.specs.Found.{ArePlacements, Found, IsPlacementOf, blocks_in}
 use Rattle.sd_found.proofs.TableLemmas.{none_placed}
-use Rattle.sd_scanned.specs.Placed.{FindOwn, FindsOwn, LieAt, LiesAt, SayIndexes, SaysIndexes, ScanTellsSpans, placements_over}
+use Rattle.sd_restore.proofs.ReachLemmas.{of_if}
+use Rattle.sd_scanned.specs.Placed.{FindOwn, FindsOwn, LieAt, LiesAt, SaysIndexes, ScanTellsSpans, placements_over}
 use Rattle.sd_span.specs.Spans.{numbered_from, placements_of, stretches}
 use Rattle.sd_span.specs.declared.placement.Placement.{Placement}
 use Rattle.sd_span.proofs.SpanLemmas.{placements_of-append}
+use Rattle.sd_volume.specs.Image.{Block}
 use Rattle.sd_volume.specs.Volume.{VolumeView}
 
 -- the placements of blocks, parted where these are
@@ -49,40 +55,88 @@ one_placement f p q lies says is =
     ∙ ap (λ n. record q { key = p.key; volume = p.volume; start = p.start; length = p.length; first = n }) first
     ∙ ap (λ n. record p { last = n }) last
 
-same_placements : (own : List Found) (ps qs : List Placement) → LieAt own ps → SayIndexes own ps → ArePlacements own qs → qs ≡ ps
-same_placements [] [] [] lie say are = refl
-same_placements [] [] (q ∷ qs) lie say are = absurd are
-same_placements [] (p ∷ ps) qs lie say are = absurd lie
-same_placements (f ∷ own) [] qs lie say are = absurd lie
-same_placements (f ∷ own) (p ∷ ps) [] lie say are = absurd are
-same_placements (f ∷ own) (p ∷ ps) (q ∷ qs) lie say are =
-    ap₂ (λ (a : Placement) (l : List Placement). a ∷ l) (one_placement f p q lie.0 say.0 are.0) (same_placements own ps qs lie.1 say.1 are.1)
+-- the placement says the FileIndexes of the body that stands there
+abbrev pub Says : Shelf → Placement → Type 0
+Says shelf p = SaysIndexes (block_at shelf p).body p
+
+-- the session's placements of blocks that are found are those of the journal
+own_placements : (key : SessionKey) (shelf : Shelf) (own : List Found) (ps qs : List Placement) → LieAt own ps → blocks_in own ≡ map (block_at shelf) ps
+    → AllByRecursion (Says shelf) (placements_of key ps) → ArePlacements own qs → placements_of key qs ≡ placements_of key ps
+own_placements key shelf [] [] [] lie blocks say are = refl
+own_placements key shelf [] [] (q ∷ qs) lie blocks say are = absurd are
+own_placements key shelf [] (p ∷ ps) qs lie blocks say are = absurd lie
+own_placements key shelf (f ∷ own) [] qs lie blocks say are = absurd lie
+own_placements key shelf (f ∷ own) (p ∷ ps) [] lie blocks say are = absurd are
+own_placements key shelf (f ∷ own) (p ∷ ps) (q ∷ qs) lie blocks say are =
+    from (is_key key p.key) refl say (λ rest. own_placements key shelf own ps qs lie.1 (rest_are blocks) rest are.1)
+  where
+    head_is : {A : Type 0} {a b : A} {l m : List A} → a ∷ l ≡ b ∷ m → a ≡ b
+    head_is e = cc
+
+    rest_are : {A : Type 0} {a b : A} {l m : List A} → a ∷ l ≡ b ∷ m → l ≡ m
+    rest_are e = cc
+
+    same_key : q.key ≡ p.key
+    same_key = are.0.key_is ∙ sym lie.0.key_is
+
+    from : (b : Bool) → is_key key p.key ≡ b → AllByRecursion (Says shelf) (placements_of key (p ∷ ps))
+        → (AllByRecursion (Says shelf) (placements_of key ps) → placements_of key qs ≡ placements_of key ps) → placements_of key (q ∷ qs) ≡ placements_of key (p ∷ ps)
+    from true is all same =
+        let says = subst (AllByRecursion (Says shelf)) (of_if key p ps true is) all in
+        let one : q ≡ p = one_placement f p q lie.0 (subst (λ (b : Block). SaysIndexes b.body p) (sym (head_is blocks)) says.0) are.0 in
+        of_if key q qs true (ap (is_key key) same_key ∙ is) ∙ ap₂ (λ (a : Placement) (l : List Placement). a ∷ l) one (same says.1) ∙ sym (of_if key p ps true is)
+    from false is all same =
+        of_if key q qs false (ap (is_key key) same_key ∙ is) ∙ same (subst (AllByRecursion (Says shelf)) (of_if key p ps false is) all) ∙ sym (of_if key p ps false is)
+
+-- what is so of each of a session's placements is so of those on a volume
+own_on : (P : Placement → Type 0) (key : SessionKey) (name : List ℕ) (ps : List Placement) → AllByRecursion P (placements_of key ps)
+    → AllByRecursion P (placements_of key (placements_on name ps))
+own_on P key name [] all = tt
+own_on P key name (p ∷ ps) all = from (bytes_eq p.volume name) (λ rest. own_on P key name ps rest)
+  where
+    Others : Type 0
+    Others = AllByRecursion P (placements_of key ps) → AllByRecursion P (placements_of key (placements_on name ps))
+
+    each : (own : Bool) → Others → AllByRecursion P (if own then p ∷ placements_of key ps else placements_of key ps)
+        → AllByRecursion P (if own then p ∷ placements_of key (placements_on name ps) else placements_of key (placements_on name ps))
+    each true others all = (all.0, others all.1)
+    each false others all = others all
+
+    later : (own : Bool) → AllByRecursion P (if own then p ∷ placements_of key ps else placements_of key ps) → AllByRecursion P (placements_of key ps)
+    later true all = all.1
+    later false all = all
+
+    from : (on : Bool) → Others → AllByRecursion P (placements_of key (if on then p ∷ placements_on name ps else placements_on name ps))
+    from true others = each (is_key key p.key) others all
+    from false others = others (later (is_key key p.key) all)
 
 -- the placements of a session among those of what is found on a volume
-on_one : (key : SessionKey) (shelf : Shelf) (ps qs : List Placement) (v : VolumeView) (found : List Found) → FindsOwn key shelf ps v found → ArePlacements found qs
-    → placements_of key qs ≡ placements_of key (placements_on v.name ps)
-on_one key shelf ps qs v found own are =
+on_one : (key : SessionKey) (shelf : Shelf) (ps qs : List Placement) (v : VolumeView) (found : List Found) → FindsOwn key shelf ps v found
+    → AllByRecursion (Says shelf) (placements_of key ps) → ArePlacements found qs → placements_of key qs ≡ placements_of key (placements_on v.name ps)
+on_one key shelf ps qs v found own say are =
     let f = own.finds in
     let outer = parted_at f.earlier (f.own ++ f.behind) qs (subst (λ (l : List Found). ArePlacements l qs) f.found_is are) in
     let inner = parted_at f.own f.behind outer.back outer.back_are in
     let none = none_placed f.earlier outer.front key outer.front_are own.none_earlier in
     let none' = none_placed f.behind inner.back key inner.back_are own.none_behind in
-    let same = same_placements f.own (placements_on v.name ps) inner.front f.lie own.say inner.front_are in
+    let here = own_on (Says shelf) key v.name ps say in
+    let same = own_placements key shelf f.own (placements_on v.name ps) inner.front f.lie f.blocks_are here inner.front_are in
     ap (placements_of key) outer.all_are ∙ placements_of-append key outer.front outer.back
     ∙ ap₂ (λ (x y : List Placement). x ++ y) none (ap (placements_of key) inner.all_are ∙ placements_of-append key inner.front inner.back)
-    ∙ ap₂ (λ (x y : List Placement). placements_of key x ++ y) same none' ∙ append-nil (placements_of key (placements_on v.name ps))
+    ∙ ap₂ (λ (x y : List Placement). x ++ y) same none' ∙ append-nil (placements_of key (placements_on v.name ps))
 
 -- and among those of what is found on volumes
 over_all : (key : SessionKey) (shelf : Shelf) (ps qs : List Placement) (vs : List VolumeView) (found : List Found) → FindOwn key shelf ps vs found
-    → ArePlacements found qs → placements_of key qs ≡ placements_over key ps vs
-over_all key shelf ps [] [] found own are = refl
-over_all key shelf ps (q ∷ qs) [] found own are = absurd (subst (λ (l : List Found). ArePlacements l (q ∷ qs)) own are)
-over_all key shelf ps qs (v ∷ vs) found own are =
+    → AllByRecursion (Says shelf) (placements_of key ps) → ArePlacements found qs → placements_of key qs ≡ placements_over key ps vs
+over_all key shelf ps [] [] found own say are = refl
+over_all key shelf ps (q ∷ qs) [] found own say are = absurd (subst (λ (l : List Found). ArePlacements l (q ∷ qs)) own are)
+over_all key shelf ps qs (v ∷ vs) found own say are =
     let parted = parted_at own.0 own.1 qs (subst (λ (l : List Found). ArePlacements l qs) own.2 are) in
     ap (placements_of key) parted.all_are ∙ placements_of-append key parted.front parted.back
-    ∙ ap₂ (λ (x y : List Placement). x ++ y) (on_one key shelf ps parted.front v own.0 own.3 parted.front_are)
-    (over_all key shelf ps parted.back vs own.1 own.4 parted.back_are)
+    ∙ ap₂ (λ (x y : List Placement). x ++ y) (on_one key shelf ps parted.front v own.0 own.3 say parted.front_are)
+    (over_all key shelf ps parted.back vs own.1 own.4 say parted.back_are)
 
 pub scan_tells_spans : ScanTellsSpans
-scan_tells_spans key shelf ps qs vs found own over are =
-    ap (λ (l : List Placement). numbered_from 1 (stretches l)) (over_all key shelf ps qs vs found own are ∙ over)
+scan_tells_spans key shelf ps qs vs found own say over are =
+    let says = recursion_from_All (Says shelf) (placements_of key ps) say in
+    ap (λ (l : List Placement). numbered_from 1 (stretches l)) (over_all key shelf ps qs vs found own says are ∙ over)

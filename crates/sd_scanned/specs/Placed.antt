@@ -1,8 +1,8 @@
 -- What a scan finds on the volumes of a drive, beside what the drive's journal says of them.
-use Rattle.std.specs.Prelude.{◌≡◌, ℕ, ◌+◌, List, [], ◌∷◌, ◌++◌, length, Some}
+use Rattle.std.specs.Prelude.{◌≡◌, ℕ, ◌+◌, List, [], ◌∷◌, ◌++◌, length, All, Some}
 use Rattle.sd_base.specs.Limits.{block_header}
 use Rattle.sd_base.specs.declared.number.SessionKey.{SessionKey}
-use Rattle.sd_drive.specs.Shelf.{IsLaidOut, blocks_on, placements_on}
+use Rattle.sd_drive.specs.Shelf.{IsLaidOut, block_at, blocks_on, placements_on}
 use Rattle.sd_driver.specs.Shelf.{Held, Shelf}
 use Rattle.sd_found.specs.Found.{ArePlacements, Found, blocks_in, bodies_of}
 use Rattle.sd_pack.specs.Body.{first_file_index, last_file_index}
@@ -53,19 +53,15 @@ pub record SaysIndexes (body : List ℕ) (p : Placement) : Type 0 where
   pub first_is : p.first ≡ first_file_index fragments
   pub last_is : p.last ≡ last_file_index fragments
 
--- so does each placement of the block that lies there
-abbrev pub SayIndexes : List Found → List Placement → Type 0
-SayIndexes [] ps = Unit {0}
-SayIndexes (f ∷ fs) [] = Unit {0}
-SayIndexes (f ∷ fs) (p ∷ ps) = SaysIndexes f.block.body p × SayIndexes fs ps
+-- so does each placement of the session, of the body that stands there
+abbrev pub SayIndexes : SessionKey → Shelf → List Placement → Type 0
+SayIndexes key shelf ps = All (λ (p : Placement). SaysIndexes (block_at shelf p).body p) (placements_of key ps)
 
--- What is found on a volume has no block of the session but those that the drive placed there, of which the placements say the
--- FileIndexes.
+-- what is found on a volume has no block of the session but those that the drive placed there
 pub record FindsOwn (key : SessionKey) (shelf : Shelf) (ps : List Placement) (v : VolumeView) (found : List Found) : Type 0 where
   pub finds : FindsPlaced shelf ps v found
   pub none_earlier : bodies_of key finds.earlier ≡ []
   pub none_behind : bodies_of key finds.behind ≡ []
-  pub say : SayIndexes finds.own (placements_on v.name ps)
 
 -- so it is on each of these volumes, on which all these blocks are found, one volume after another
 abbrev pub FindOwn : SessionKey → Shelf → List Placement → List VolumeView → List Found → Type 0
@@ -78,8 +74,9 @@ abbrev pub placements_over : SessionKey → List Placement → List VolumeView �
 placements_over key ps [] = []
 placements_over key ps (v ∷ vs) = placements_of key (placements_on v.name ps) ++ placements_over key ps vs
 
--- Where the volumes come in the order in which the session's blocks were placed on them, the spans that a scan tells of it are
--- those of the placements.
+-- Where the volumes come in the order in which the session's blocks were placed on them, and its placements say the FileIndexes of
+-- their bodies, the spans that a scan tells of it are those of the placements.
 abbrev pub ScanTellsSpans : Type 0
 ScanTellsSpans = (key : SessionKey) (shelf : Shelf) (ps qs : List Placement) (vs : List VolumeView) (found : List Found)
-    → FindOwn key shelf ps vs found → placements_over key ps vs ≡ placements_of key ps → ArePlacements found qs → spans_of key qs ≡ spans_of key ps
+    → FindOwn key shelf ps vs found → SayIndexes key shelf ps → placements_over key ps vs ≡ placements_of key ps → ArePlacements found qs
+    → spans_of key qs ≡ spans_of key ps
