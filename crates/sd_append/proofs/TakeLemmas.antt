@@ -69,11 +69,11 @@ close_obeyed moment own command ticket named next before after old new is same d
     (subst (λ (n : Result Own (Option Own)). Does (λ asked out. ObeysClose n asked out next) before after old new) same does)
 
 pub console_obeyed : (moment : ℤ) (own : Option Own) (command : Asked) (text slice : List ℕ) (next : Stage) (before after : List Exchange) (old new : OutView)
-    → command ≡ commands.Console text → slice ≡ text → Does (λ asked out. ObeysConsole own slice asked out next) before after old new
+    → command ≡ commands.Console text → slice ≡ text → Does (λ asked out. ObeysConsole moment own slice asked out next) before after old new
     → Does (λ asked out. Obeys moment own command asked out next) before after old new
 console_obeyed moment own command text slice next before after old new is same does =
     obeys_as moment own command (commands.Console text) next before after old new is
-    (subst (λ (t : List ℕ). Does (λ asked out. ObeysConsole own t asked out next) before after old new) same does)
+    (subst (λ (t : List ℕ). Does (λ asked out. ObeysConsole moment own t asked out next) before after old new) same does)
 
 pub read_obeyed : (moment : ℤ) (own : Option Own) (command : Asked) (key : SessionKey) (text : List ℕ) (asked : List Exchange) (v : OutView)
     → command ≡ commands.Read key → text ≡ line (session_text key) → Does (λ more out. Obeys moment own command more out (Spans own text)) asked asked v v

@@ -56,7 +56,8 @@ MayEnd (Ok WriteFault) stage rest ended = Unit {0}
 MayEnd (Err e) stage rest ended = Unit {0}
 
 -- A conversation: packets came, with these bytes behind them, and there the input may have ended; the port was asked
--- this and answered so, where each open and each end bears this moment; these packets went out; and the talk ended so.
+-- this and answered so, where each open, each end and each line of a console bears this moment; these packets went out;
+-- and the talk ended so.
 pub record Conversation (moment : ℤ) (packets : List Packet) (rest : List ℕ) (ended : Type 0) (asked : List Exchange) (out : List Packet) (end : Result TalkEnd AllocError) : Type 0 where
   pub last : Stage
   pub before : List Exchange

@@ -8,7 +8,7 @@ use Rattle.sd_append.specs.declared.log.Seen.TheVariants as seen
 abbrev pub exchange_of : Seen → Exchange
 exchange_of (seen.Stepped event reply) = Stepped event.value reply.value
 exchange_of (seen.WasRead key spans records answer) = WasRead key spans records answer.value
-exchange_of (seen.Said line answer) = Said line answer.value
+exchange_of (seen.Said moment line answer) = Said moment line answer.value
 
 -- all exchanges that were seen
 abbrev pub asked_of : List Seen → List Exchange

@@ -124,20 +124,20 @@ ObeysClose (Ok it) asked out new =
     (reply : Reply) × (asked ≡ Stepped (events.Close it.ticket) reply ∷ [])
     × (out ≡ close_said reply) × (new ≡ Command (Some (by_reply it reply)))
 
--- a console's line
-abbrev pub ObeysConsole : Option Own → List ℕ → List Exchange → List Packet → Stage → Type 0
-ObeysConsole own text asked out new =
-    (answer : Result (List (List ℕ)) Refusal) × (asked ≡ Said text answer ∷ [])
+-- a console's line, said at this moment
+abbrev pub ObeysConsole : ℤ → Option Own → List ℕ → List Exchange → List Packet → Stage → Type 0
+ObeysConsole moment own text asked out new =
+    (answer : Result (List (List ℕ)) Refusal) × (asked ≡ Said moment text answer ∷ [])
     × (out ≡ console_said answer) × (new ≡ Command own)
 
--- what a command comes to at this moment: an open and an end bear it
+-- what a command comes to at this moment: an open, an end and a console's line bear it
 abbrev pub Obeys : ℤ → Option Own → Asked → List Exchange → List Packet → Stage → Type 0
 Obeys moment own (commands.Open job pool media) asked out new = ObeysOpen moment (is_running own) own job pool media asked out new
 Obeys moment own (commands.Data ticket) asked out new = ObeysData (own_with own ticket) asked out new
 Obeys moment own (commands.End ticket) asked out new = ObeysEnd moment (own_with own ticket) asked out new
 Obeys moment own (commands.Close ticket) asked out new = ObeysClose (own_with own ticket) asked out new
 Obeys moment own (commands.Read key) asked out new = Only [] (Spans own (line (session_text key))) asked out new
-Obeys moment own (commands.Console text) asked out new = ObeysConsole own text asked out new
+Obeys moment own (commands.Console text) asked out new = ObeysConsole moment own text asked out new
 
 -- what a packet comes to at this moment where a command is due: a command; or one but for its names; or none
 abbrev pub TakesCommand : ℤ → Option Own → List ℕ → List Exchange → List Packet → Stage → Type 0

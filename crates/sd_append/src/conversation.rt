@@ -1,5 +1,5 @@
 // A talk with a client: reads its packets, takes them one after another, and writes what answers them.
-ghost use Rattle.std.specs.Prelude.{◌≡◌, ◌⊎◌, ◌<◌, ◌≤◌, ◌++◌, [], ℕ, List, Option, length, IsNone, IfOk, false};
+ghost use Rattle.std.specs.Prelude.{◌≡◌, ◌⊎◌, ◌+◌, ◌<◌, ◌≤◌, ◌++◌, [], ℕ, List, Option, length, IsNone, IfOk, false};
 ghost use Rattle.std.specs.Io.KnownBytes.{Consumes};
 ghost use Rattle.sd_bnet.specs.Stream.{stream_of};
 ghost use Rattle.sd_append.specs.Conversation.{GivesUpLast, end_says};
@@ -10,6 +10,7 @@ ghost use Rattle.sd_append.specs.Talks.{IsCutOff, IsWithin, Talks};
 
 use crate::answers::refuse;
 use crate::end::TalkEnd;
+use crate::granted::GrantedReader;
 use crate::obey::give_up;
 use crate::outbox::{OUT_BYTES, Outbox};
 use crate::port::SessionPort;
@@ -56,8 +57,8 @@ impl Buffers {
 /// before each read and at the end; the writer isn't flushed. An `Err` of a read or of a write ends the
 /// talk, whatever its kind.
 ///
-/// However a talk ends, its session, where by the replies so far it is active or ended, is cancelled. Its opens and
-/// its ends bear the moment that the port is set to, which stays.
+/// However a talk ends, its session, where by the replies so far it is active or ended, is cancelled. Its opens, its
+/// ends and its lines of a console bear the moment that the port is set to, which stays.
 pub fn talk<R: Read, W: Write, P: SessionPort>(
     alloc: Global,
     reader: &mut R,
@@ -84,33 +85,35 @@ pub fn talk<R: Read, W: Write, P: SessionPort>(
         stage: Stage::Command(None),
         outbox: Outbox::new(writer, waiting),
     };
-    take_turns(alloc, reader, input.as_mut_slice(), standing, port, turns)
+    let mut granted = GrantedReader::new(reader, turns);
+    take_turns(alloc, &mut granted, input.as_mut_slice(), standing, port)
 }
 
-/// Takes turns until the talk ends or they run out, and ends it.
+/// Takes turns until the talk ends or no read is left, and ends it.
 fn take_turns<R: Read, W: Write, P: SessionPort>(
     alloc: Global,
-    reader: &mut R,
+    granted: &mut GrantedReader<'_, R>,
     input: &mut [u8],
     standing: Standing<W>,
     port: &mut P,
-    turns: u64,
 ) -> Talked<W>
     requires { length input.old ≡ 65536 }
     ensures talks { (start : Around) → start.out.waiting ≡ [] → start.out.failed ≡ false
         → Stands (P.clock port.old) start
-        (around (R.remaining reader.old) (P.asked port.old) (out_view W.contents standing.outbox))
+        (around (R.remaining granted.old.reader.now) (P.asked port.old)
+        (out_view W.contents standing.outbox))
         standing.feeder standing.stage []
         → (bytes : List ℕ)
-        × Talks (P.clock port.old) start.left (R.remaining reader.new)
+        × Talks (P.clock port.old) start.left (R.remaining granted.new.reader.now)
         start.asked (P.asked port.new) start.out.written
         (W.contents result.writer) result.end bytes
-        × IsWithin turns result.end bytes }
+        × IsWithin granted.old.left result.end bytes }
+    ensures same_reader { granted.new.reader.ghost_name ≡ granted.old.reader.ghost_name }
     ensures clock { P.clock port.new ≡ P.clock port.old }
 {
     let mut standing = standing;
-    for _done in 0..turns {
-        let turned = turn(alloc, reader, input, standing, port);
+    for _done in 0..granted.left() {
+        let turned = turn(alloc, granted, input, standing, port);
         standing = turned.standing;
         if let Some(end) = turned.end {
             return finish(standing, end, port);
@@ -119,25 +122,29 @@ fn take_turns<R: Read, W: Write, P: SessionPort>(
     finish(standing, Ok(TalkEnd::OutOfTurns), port)
 }
 
-/// Writes out what waits, reads once, and takes what was read.
+/// Writes out what waits, reads at most once, and takes what was read. Nothing is read where something still waits.
 fn turn<R: Read, W: Write, P: SessionPort>(
     alloc: Global,
-    reader: &mut R,
+    granted: &mut GrantedReader<'_, R>,
     input: &mut [u8],
     standing: Standing<W>,
     port: &mut P,
 ) -> Turned<W>
-    requires { 0 < length input.old }
+    requires left { 0 < granted.old.left }
+    requires room { 0 < length input.old }
     ensures comes { (start : Around) (bytes : List ℕ)
         → Stands (P.clock port.old) start
-        (around (R.remaining reader.old) (P.asked port.old) (out_view W.contents standing.outbox))
+        (around (R.remaining granted.old.reader.now) (P.asked port.old)
+        (out_view W.contents standing.outbox))
         standing.feeder standing.stage bytes
         → (piece : List ℕ) × (length piece ≤ length input.old)
         × (IsNone result.end → 0 < length piece)
         × Comes (P.clock port.old) result.end start
-        (around (R.remaining reader.new) (P.asked port.new)
+        (around (R.remaining granted.new.reader.now) (P.asked port.new)
         (out_view W.contents result.standing.outbox))
         result.standing.feeder result.standing.stage (bytes ++ piece) }
+    ensures one_read { granted.old.left ≤ granted.new.left + 1 }
+    ensures same_reader { granted.new.reader.ghost_name ≡ granted.old.reader.ghost_name }
     ensures clock { P.clock port.new ≡ P.clock port.old }
 {
     let mut standing = standing;
@@ -148,7 +155,7 @@ fn turn<R: Read, W: Write, P: SessionPort>(
             end: Some(fault_end(fault)),
         };
     }
-    match reader.read(input) {
+    match granted.read(&standing.outbox, input) {
         Ok(0) => {
             let end = input_end(&standing.feeder, &standing.stage);
             Turned {

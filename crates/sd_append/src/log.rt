@@ -16,7 +16,7 @@ use std::snapshot::Snapshot;
 pub(crate) enum Seen {
     Stepped(Snapshot<Event>, Snapshot<Reply>),
     WasRead(SessionKey, Shown<Span>, Shown<Rec>, Snapshot<Result<ReadEnd, Refusal>>),
-    Said(Shown<u8>, Snapshot<Result<Items<Payload>, Refusal>>),
+    Said(i64, Shown<u8>, Snapshot<Result<Items<Payload>, Refusal>>),
 }
 
 /// What a port was asked so far, with the answers, for its `asked`. In a contract it is that list; it takes no
@@ -73,12 +73,12 @@ impl Log {
         }
     }
 
-    /// The log with a console's line.
+    /// The log with a console's line that was said at this moment.
     #[tactic(auto, using(crate::proofs::LogLemmas::asked_more))]
-    pub fn said(&self, line: &[u8], answer: &Result<Items<Payload>, Refusal>) -> Self
-        ensures { result ≡ self.now ++ Said line.now answer.now ∷ [] }
+    pub fn said(&self, moment: i64, line: &[u8], answer: &Result<Items<Payload>, Refusal>) -> Self
+        ensures { result ≡ self.now ++ Said moment line.now answer.now ∷ [] }
     {
-        let seen = Seen::Said(Shown::of(line), Snapshot::of(answer));
+        let seen = Seen::Said(moment, Shown::of(line), Snapshot::of(answer));
         Log {
             seen: self.seen.with(&seen),
         }

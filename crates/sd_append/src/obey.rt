@@ -136,7 +136,8 @@ pub(crate) fn console<W: Write, P: SessionPort>(
     port: &mut P,
     outbox: &mut Outbox<W>,
 ) -> Stage
-    ensures does { Does (λ asked out. ObeysConsole own line.now asked out result)
+    ensures does { Does (λ asked out.
+        ObeysConsole (P.clock port.old) own line.now asked out result)
         (P.asked port.old) (P.asked port.new)
         (out_view W.contents outbox.old) (out_view W.contents outbox.new) }
     ensures clock { P.clock port.new ≡ P.clock port.old }

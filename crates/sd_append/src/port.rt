@@ -37,13 +37,15 @@ pub trait SessionPort {
             result.answer ∷ []) }
         ensures clock { clock self.new ≡ clock self.old };
 
-    /// The lines that answer a console's line, each with its newline, or the refusal.
+    /// The lines that answer a console's line, each with its newline, or the refusal. The line bears the moment that the
+    /// port is set to.
     fn console(&mut self, line: &[u8]) -> Result<Items<Payload>, Refusal>
         ensures lines { IfOk result (λ lines. All IsLine lines) }
-        ensures asked { asked self.new ≡ asked self.old ++ Said line.now result ∷ [] }
+        ensures asked { asked self.new ≡ asked self.old ++ Said (clock self.old) line.now
+            result ∷ [] }
         ensures clock { clock self.new ≡ clock self.old };
 
-    /// The moment that the port is set to, which an open and an end bear, in microseconds.
+    /// The moment that the port is set to, which an open, an end and a console's line bear, in microseconds.
     fn moment(&self) -> i64
         ensures { result ≡ clock self.now };
 }

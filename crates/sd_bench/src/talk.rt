@@ -177,7 +177,7 @@ impl SessionPort for Counting {
 
     fn console(&mut self, line: &[u8]) -> std::result::Result<Items<Payload>, Refusal> {
         let answer = Err(Refusal::BadCommand);
-        self.log = self.log.said(line, &answer);
+        self.log = self.log.said(0, line, &answer);
         answer
     }
 

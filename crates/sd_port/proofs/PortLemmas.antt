@@ -14,7 +14,7 @@ deed_leads : {D : Type 0} (meaning : D → Meaning) (syncing : Syncing) (rounds 
     → LeadsTo meaning a (world_deeds d) b
 deed_leads meaning syncing rounds (Exchanged (Stepped e reply) es rs) a b p = (steps_lead meaning a b es rs (answers_along meaning syncing rounds e reply a b es rs p)).0
 deed_leads meaning syncing rounds (Exchanged (WasRead key spans records answer) es rs) a b p = (b, p.2, refl)
-deed_leads meaning syncing rounds (Exchanged (Said text answer) es rs) a b p = (steps_lead meaning a b es rs (line_along meaning syncing p.0 text answer es rs a b p.1)).0
+deed_leads meaning syncing rounds (Exchanged (Said moment text answer) es rs) a b p = (steps_lead meaning a b es rs (line_along meaning syncing moment text answer es rs a b p)).0
 deed_leads meaning syncing rounds (Played es rs) a b p = (steps_lead meaning a b es rs p.1).0
 
 pub port_leads : {D : Type 0} (meaning : D → Meaning) (syncing : Syncing) (rounds : ℕ) (a b : WorldView D) (ds : List PortDeed) → PortLeadsTo meaning syncing rounds a ds b

@@ -45,7 +45,7 @@ asked_in (Played events replies ∷ deeds) = asked_in deeds
 abbrev pub world_deeds : PortDeed → List Deed
 world_deeds (Exchanged (Stepped event reply) events replies) = answered events replies
 world_deeds (Exchanged (WasRead key spans records answer) events replies) = ReadBack key spans [] records answer ∷ []
-world_deeds (Exchanged (Said text answer) events replies) = answered events replies
+world_deeds (Exchanged (Said moment text answer) events replies) = answered events replies
 world_deeds (Played events replies) = answered events replies
 
 -- the world's deeds in these, one after another
@@ -54,14 +54,14 @@ world_deeds_in [] = []
 world_deeds_in (d ∷ deeds) = world_deeds d ++ world_deeds_in deeds
 
 -- From the one world a deed leads to the other: an event is answered, in at most so many rounds; a session is read back,
--- for which the world is given no event; a console's line is obeyed, at some moment; or a round is played.
+-- for which the world is given no event; a console's line is obeyed, at the moment that it bears; or a round is played.
 abbrev pub IsPortDeed : {D : Type 0} → (D → Meaning) → Syncing → ℕ → PortDeed → WorldView D → WorldView D → Type 0
 IsPortDeed meaning syncing rounds (Exchanged (Stepped event reply) events replies) old new =
     Answers meaning syncing rounds old event reply events replies new
 IsPortDeed meaning syncing rounds (Exchanged (WasRead key spans records answer) events replies) old new =
     (events ≡ []) × (replies ≡ []) × IsRead meaning key spans [] records answer old new
-IsPortDeed meaning syncing rounds (Exchanged (Said text answer) events replies) old new =
-    (moment : ℤ) × LineDoes meaning syncing moment text answer events replies old new
+IsPortDeed meaning syncing rounds (Exchanged (Said moment text answer) events replies) old new =
+    LineDoes meaning syncing moment text answer events replies old new
 IsPortDeed meaning syncing rounds (Played events replies) old new = PlaysAs meaning old events replies new
 
 -- from the one world these deeds lead to the other, one after another, and nothing else

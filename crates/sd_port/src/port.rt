@@ -137,10 +137,11 @@ impl<D: Driver + Drop, Q: Lanes, S: SpoolStore + Drop> WorldPort<D, Q, S> {
             × LineDoes (λ d. D.meaning d) self.old.syncing self.old.moment line.now result
             events replies self.old.world self.new.world }
         ensures lines { IfOk result (λ lines. All IsLine lines) }
-        ensures port { self.new ≡ behind (Said line.now result) self.new.world self.old }
+        ensures port { self.new ≡ behind (Said self.old.moment line.now result) self.new.world
+            self.old }
     {
         let answer = obey_line(self.alloc, &mut self.world, self.syncing, self.moment, line);
-        self.log = self.log.said(line, &answer);
+        self.log = self.log.said(self.moment, line, &answer);
         answer
     }
 

@@ -8,7 +8,8 @@ use std::alloc::AllocError;
 /// The port of a server, which holds one talk after another over it. What a talk asks of it is told by `asked`; that a
 /// talk begins or has ended adds nothing to that. What begins a talk sets the moment, and nothing else does.
 pub trait ServerPort: SessionPort {
-    /// A talk begins, at this moment in microseconds: that of its opens and its ends.
+    /// A talk begins, at this moment in microseconds: that of its opens, its ends and its lines of a
+    /// console.
     fn begin(&mut self, moment: i64)
         ensures asked { Self.asked self.new ≡ Self.asked self.old }
         ensures clock { Self.clock self.new ≡ moment };
@@ -21,7 +22,7 @@ pub trait ServerPort: SessionPort {
 
 /// A port with a clock that is set, and rounds that are played. Neither adds to what was asked of it.
 pub trait RoundPort: SessionPort {
-    /// From now on this is the moment of opens and ends, in microseconds.
+    /// From now on this is the moment of opens, ends and lines of a console, in microseconds.
     fn set_moment(&mut self, moment: i64)
         ensures asked { Self.asked self.new ≡ Self.asked self.old }
         ensures clock { Self.clock self.new ≡ moment };

@@ -1,4 +1,4 @@
-use Rattle.std.proofs.Common.{[], ap, ◌∙◌}
+use Rattle.std.proofs.Common.{[], ap, ◌∙◌, rules}
 use Rattle.std.specs.Prelude.{is_some}
 use Rattle.sd_append.specs.Out.{out_view}
 use Rattle.sd_append.specs.Standing.{around}
@@ -12,7 +12,8 @@ returns-in_default-clause-talks g c =
 
 pub returns-clause-talks : goal.returns-clause-talks
 returns-clause-talks g c =
-    let start = around (g.R.Read.remaining c.args.reader.now) (g.P.SessionPort.asked c.args.port.now) (out_view g.W.Write.contents c.new-3.result) in
-    talks_of_writer (g.P.SessionPort.clock c.args.port.now) (g.W.Write.contents c.new-3.result.writer) (g.W.Write.contents c.args.writer) _ _ _ _ _ _ _ (ap g.W.Write.contents c.new-3.ensures.writer)
+    let start = around (g.R.Read.remaining c.new-granted.result.reader.now) (g.P.SessionPort.asked c.args.port.now) (out_view g.W.Write.contents c.new-3.result) in
+    let talked = rw (c.new-granted.ensures.reader, c.new-granted.ensures.left) at (talks_of_writer (g.P.SessionPort.clock c.args.port.now) (g.W.Write.contents c.new-3.result.writer) (g.W.Write.contents c.args.writer) _ _ _ _ _ _ _ (ap g.W.Write.contents c.new-3.ensures.writer)
     (c.take_turns.ensures.talks start (c.new-3.ensures.waiting ∙ c.in-Ok.ensures.waiting) (ap is_some c.new-3.ensures.fault)
-    (stands_first (g.P.SessionPort.clock c.args.port.now) (g.R.Read.remaining c.args.reader.now) (g.P.SessionPort.asked c.args.port.now) (out_view g.W.Write.contents c.new-3.result) c.new-2.result c.new-2.ensures))
+    (stands_first (g.P.SessionPort.clock c.args.port.now) (g.R.Read.remaining c.new-granted.result.reader.now) (g.P.SessionPort.asked c.args.port.now) (out_view g.W.Write.contents c.new-3.result) c.new-2.result c.new-2.ensures))) in
+    search rules
