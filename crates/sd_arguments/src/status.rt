@@ -1,5 +1,5 @@
-// The status of a program that only prints help, its version, or what is wrong with its command line.
-ghost use Rattle.std.specs.Prelude.{◌≡◌, ◌≢◌, ◌⊎◌};
+// What a program does that only prints help, its version, or what is wrong with its command line.
+ghost use Rattle.std.specs.Prelude.{◌≡◌, ◌≢◌, ◌⊎◌, ◌↔◌, IsTrue};
 ghost use Rattle.clap.specs.Values.{kind_of};
 
 use clap::Error;
@@ -16,4 +16,11 @@ pub fn status_of(told: &Error) -> u8
         → kind_of told.now ≢ ErrorKind.DisplayVersion → result ≡ 2 }
 {
     if told.use_stderr() { USAGE } else { 0 }
+}
+
+/// Whether there was no memory to read a command line.
+pub(crate) fn lacks_memory(fault: &Error) -> bool
+    ensures { IsTrue result ↔ (kind_of fault.now ≡ ErrorKind.OutOfMemory) }
+{
+    fault.kind() == ErrorKind::OutOfMemory
 }

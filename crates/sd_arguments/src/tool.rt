@@ -1,5 +1,12 @@
 // The command line of the tool.
-use clap::error::ErrorKind;
+ghost use Rattle.std.specs.Prelude.{◌≡◌, IfErr, IfOk, Some, [], codes, false, map, string_bytes};
+ghost use Rattle.clap.specs.Words.{HasKind, app_of, fault_of, first_of, found_of, rows_of, rule_of, shape_of};
+ghost use Rattle.clap.specs.declared.builder.command.Command.TheViews.{out-Command as fields_of};
+ghost use Rattle.sd_arguments.specs.Lines.{IsGiven, command_shape, flag_rule, required_rule};
+ghost use Rattle.sd_arguments.specs.Tool.{AsksTool, HasItsWords, IsProgress, IsToolCommand, IsToolTask, list_shape, read_shape};
+ghost use Rattle.sd_arguments.specs.Tool.{scan_shape, texts_at, tool_line, verify_shape, volumes_rule};
+
+use crate::status::lacks_memory;
 use clap::{Arg, ArgAction, ArgMatches, Command, Error};
 use sd_progress::Progress;
 use std::alloc::{AllocError, Global};
@@ -47,41 +54,65 @@ const VOLUMES: &str = "VOLUMES";
 const PROGRESS: &str = "progress";
 
 /// What `words`, the program's name first, ask for.
-pub fn tool_task<'a>(alloc: Global, words: &'a [String]) -> ToolTask<'a> {
+pub fn tool_task<'a>(alloc: Global, words: &'a [String]) -> ToolTask<'a>
+    ensures { AsksTool (map string_bytes words.entry.now) result }
+{
     match parse(alloc, words) {
         Ok(task) => task,
-        Err(fault) if fault.kind() == ErrorKind::OutOfMemory => ToolTask::NoMemory,
+        Err(fault) if lacks_memory(&fault) => ToolTask::NoMemory,
         Err(fault) => ToolTask::Print(fault),
     }
 }
 
-fn parse<'a>(alloc: Global, words: &'a [String]) -> Result<ToolTask<'a>, Error> {
+fn parse<'a>(alloc: Global, words: &'a [String]) -> Result<ToolTask<'a>, Error>
+    ensures ok { IfOk result (AsksTool (map string_bytes words.entry.now)) }
+    ensures err { IfErr result (HasKind (fault_of tool_line (map string_bytes words.entry.now))) }
+{
     let matches = command(alloc)?.try_get_matches_from(words)?;
-    Ok(match matches.subcommand() {
-        Some(("ls", given)) => ToolTask::List {
+    match matches.subcommand() {
+        Some((name, given)) => Ok(task_of(alloc, name, given)?),
+        None => Ok(ToolTask::Run),
+    }
+}
+
+/// The task of the subcommand `name`, with what the words have for its arguments.
+fn task_of<'a>(
+    alloc: Global,
+    name: &str,
+    given: &ArgMatches<'a>,
+) -> Result<ToolTask<'a>, AllocError>
+    requires known { IsToolCommand name.now }
+    requires words { HasItsWords name.now (rows_of (found_of given.now)) }
+    ensures { IfOk result (IsToolTask name.now (rows_of (found_of given.now))) }
+{
+    match name {
+        "ls" => Ok(ToolTask::List {
             volume: word(given, VOLUME),
             progress: progress_of(given),
-        },
-        Some(("read", given)) => ToolTask::Read {
+        }),
+        "read" => Ok(ToolTask::Read {
             spans: word(given, SPANS),
             folder: word(given, FOLDER),
             progress: progress_of(given),
-        },
-        Some(("scan", given)) => ToolTask::Scan {
+        }),
+        "scan" => Ok(ToolTask::Scan {
             folder: word(given, FOLDER),
             volumes: words_of(alloc, given, VOLUMES)?,
             progress: progress_of(given),
-        },
-        Some(("verify", given)) => ToolTask::Verify {
+        }),
+        "verify" => Ok(ToolTask::Verify {
             folder: word(given, FOLDER),
-        },
-        _ => ToolTask::Run,
-    })
+        }),
+        _ => Ok(ToolTask::Run),
+    }
 }
 
-/// The word that was given for an argument. Each of them is required, so there is one.
-fn word<'a>(given: &ArgMatches<'a>, argument: &str) -> &'a str {
-    given.get_str(argument).unwrap_or("")
+/// The word that was given for an argument.
+fn word<'a>(given: &ArgMatches<'a>, argument: &str) -> &'a str
+    requires { IsGiven argument.now (rows_of (found_of given.now)) }
+    ensures { first_of argument.now (rows_of (found_of given.now)) ≡ Some result.now }
+{
+    given.get_str(argument).unwrap()
 }
 
 /// The words that were given for an argument, if there are any.
@@ -89,14 +120,19 @@ fn words_of<'a>(
     alloc: Global,
     given: &ArgMatches<'a>,
     argument: &str,
-) -> Result<Vec<&'a str>, AllocError> {
+) -> Result<Vec<&'a str>, AllocError>
+    ensures { IfOk result (λ v.
+        map (λ w. w.now) v.items ≡ texts_at argument.now (rows_of (found_of given.now))) }
+{
     match given.get_strs(argument) {
         Some(words) => Vec::from_slice(alloc, words),
         None => Ok(Vec::new(alloc)),
     }
 }
 
-fn progress_of(given: &ArgMatches<'_>) -> Progress {
+fn progress_of(given: &ArgMatches<'_>) -> Progress
+    ensures { IsProgress (rows_of (found_of given.now)) result }
+{
     if given.get_flag(PROGRESS) {
         Progress::Told
     } else {
@@ -104,7 +140,14 @@ fn progress_of(given: &ArgMatches<'_>) -> Progress {
     }
 }
 
-fn command<'a>(alloc: Global) -> Result<Command<'a>, AllocError> {
+fn command<'a>(alloc: Global) -> Result<Command<'a>, AllocError>
+    ensures { IfOk result (λ c. app_of c ≡ tool_line) }
+{
+    let run = run_command(alloc);
+    let list = list_command(alloc)?;
+    let read = read_command(alloc)?;
+    let scan = scan_command(alloc)?;
+    let verify = verify_command(alloc)?;
     Command::new(alloc, "sdtool")
         .version("0.1.0")
         .about(
@@ -112,62 +155,98 @@ fn command<'a>(alloc: Global) -> Result<Command<'a>, AllocError> {
         )
         .subcommand_required(true)
         .arg_required_else_help(true)
-        .subcommand(run_command(alloc))?
-        .subcommand(list_command(alloc)?)?
-        .subcommand(read_command(alloc)?)?
-        .subcommand(scan_command(alloc)?)?
-        .subcommand(verify_command(alloc)?)
+        .subcommand(run)?
+        .subcommand(list)?
+        .subcommand(read)?
+        .subcommand(scan)?
+        .subcommand(verify)
 }
 
-fn run_command<'a>(alloc: Global) -> Command<'a> {
+fn run_command<'a>(alloc: Global) -> Command<'a>
+    ensures shape { shape_of result ≡ command_shape (codes "run") [] }
+    ensures local { (fields_of result).has_globals ≡ false }
+{
     Command::new(alloc, "run").about(
         "Runs the script on standard input, and prints what each line of it comes to",
     )
 }
 
-fn list_command<'a>(alloc: Global) -> Result<Command<'a>, AllocError> {
+fn list_command<'a>(alloc: Global) -> Result<Command<'a>, AllocError>
+    ensures shape { IfOk result (λ c. shape_of c ≡ list_shape) }
+    ensures local { IfOk result (λ c. (fields_of c).has_globals ≡ false) }
+{
+    let volume = required(alloc, VOLUME, "The file of the volume");
+    let progress = progress(alloc);
     Command::new(alloc, "ls")
         .about("Lists a volume: its label, its blocks, and how many bytes stand behind them")
-        .arg(required(alloc, VOLUME, "The file of the volume"))?
-        .arg(progress(alloc))
+        .arg(volume)?
+        .arg(progress)
 }
 
-fn read_command<'a>(alloc: Global) -> Result<Command<'a>, AllocError> {
+fn read_command<'a>(alloc: Global) -> Result<Command<'a>, AllocError>
+    ensures shape { IfOk result (λ c. shape_of c ≡ read_shape) }
+    ensures local { IfOk result (λ c. (fields_of c).has_globals ≡ false) }
+{
+    let spans = required(alloc, SPANS, "The file of the session's JobMedia text");
+    let folder = required(alloc, FOLDER, "The folder of the volumes");
+    let progress = progress(alloc);
     Command::new(alloc, "read")
         .about("Reads a session back from its volumes, and writes its records")
-        .arg(required(alloc, SPANS, "The file of the session's JobMedia text"))?
-        .arg(required(alloc, FOLDER, "The folder of the volumes"))?
-        .arg(progress(alloc))
+        .arg(spans)?
+        .arg(folder)?
+        .arg(progress)
 }
 
-fn scan_command<'a>(alloc: Global) -> Result<Command<'a>, AllocError> {
-    let volumes = Arg::new(alloc, VOLUMES)
-        .value_name("VOLUME")
-        .num_args(0..)
-        .action(ArgAction::Append)
-        .help("The volumes, in the order of their use; all of the folder where none is named");
+fn scan_command<'a>(alloc: Global) -> Result<Command<'a>, AllocError>
+    ensures shape { IfOk result (λ c. shape_of c ≡ scan_shape) }
+    ensures local { IfOk result (λ c. (fields_of c).has_globals ≡ false) }
+{
+    let folder = required(alloc, FOLDER, "The folder of the volumes");
+    let volumes = volumes(alloc);
+    let progress = progress(alloc);
     Command::new(alloc, "scan")
         .about(
             "Finds the sessions on whole volumes, and writes the JobMedia texts that they are read by",
         )
-        .arg(required(alloc, FOLDER, "The folder of the volumes"))?
+        .arg(folder)?
         .arg(volumes)?
-        .arg(progress(alloc))
+        .arg(progress)
 }
 
-fn verify_command<'a>(alloc: Global) -> Result<Command<'a>, AllocError> {
+fn verify_command<'a>(alloc: Global) -> Result<Command<'a>, AllocError>
+    ensures shape { IfOk result (λ c. shape_of c ≡ verify_shape) }
+    ensures local { IfOk result (λ c. (fields_of c).has_globals ≡ false) }
+{
+    let folder = required(alloc, FOLDER, "The folder of the volumes");
     Command::new(alloc, "verify")
         .about(
             "Looks for damage on all volumes of a folder, and for sessions of which not all is there",
         )
-        .arg(required(alloc, FOLDER, "The folder of the volumes"))
+        .arg(folder)
 }
 
-fn required<'a>(alloc: Global, name: &'a str, help: &'a str) -> Arg<'a> {
+fn required<'a>(alloc: Global, name: &'a str, help: &'a str) -> Arg<'a>
+    ensures rule { rule_of result ≡ required_rule name.entry.now }
+    ensures local { result.global ≡ false }
+{
     Arg::new(alloc, name).required(true).help(help)
 }
 
-fn progress<'a>(alloc: Global) -> Arg<'a> {
+fn volumes<'a>(alloc: Global) -> Arg<'a>
+    ensures rule { rule_of result ≡ volumes_rule }
+    ensures local { result.global ≡ false }
+{
+    Arg::new(alloc, VOLUMES)
+        .value_name("VOLUME")
+        .num_args(0..)
+        .action(ArgAction::Append)
+        .help("The volumes, in the order of their use; all of the folder where none is named")
+}
+
+fn progress<'a>(alloc: Global) -> Arg<'a>
+    ensures rule { rule_of result ≡ flag_rule (codes "progress") }
+    ensures local { result.global ≡ false }
+{
     Arg::new(alloc, PROGRESS)
         .long(PROGRESS)
         .action(ArgAction::SetTrue)

@@ -1,0 +1,6 @@
+pub mod BuildingLemmas
+pub mod LineLemmas
+pub mod GivenLemmas
+pub mod ValueLemmas
+pub mod DaemonLemmas
+pub mod ToolLemmas
