@@ -1,0 +1,4 @@
+pub mod SlotLemmas
+pub mod LineLemmas
+pub mod ViewLemmas
+pub mod BoardLemmas

@@ -1,0 +1,4 @@
+pub mod Slots
+pub mod Lines
+pub mod Board
+pub mod Opening

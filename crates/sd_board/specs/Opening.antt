@@ -1,0 +1,76 @@
+-- Which drive and which lane a new session gets.
+use Rattle.std.specs.Prelude.{◌≡◌, ◌≢◌, ◌⊎◌, ℕ, ◌+◌, true, Option, Some, None, List, [], ◌∷◌, ◌++◌, length, slice_get, slice_set}
+use Rattle.sd_base.specs.Choice.{FirstOf, NoneOf}
+use Rattle.sd_base.specs.Limits.{most_number}
+use Rattle.sd_base.specs.declared.refusal.Refusal.{Refusal}
+use Rattle.sd_base.specs.declared.refusal.Refusal.TheVariants.{NoSessionNumberLeft, NoDriveOfMedia, NoFreeLane, Memory}
+use Rattle.sd_part.specs.Ends.{EndIs}
+use Rattle.sd_reserve.specs.Reserve.{TakesMedia, IsCandidate, Precedes}
+use Rattle.sd_reserve.specs.declared.drive.DriveView.{DriveView}
+use Rattle.sd_board.specs.Board.{BoardIs}
+use Rattle.sd_board.specs.Lines.{new_line}
+use Rattle.sd_board.specs.Slots.{DriveLanesIs, TakesLowest, busy_lanes}
+use Rattle.sd_board.specs.declared.seen.DriveSeen.{DriveSeen}
+
+-- the pool of the volume that was seen loaded, if the drive was looked at
+abbrev pub loaded_in : Option DriveSeen → Option (List ℕ)
+loaded_in None = None
+loaded_in (Some s) = s.loaded
+
+-- the pool of the session that was seen reserved last, if the drive was looked at
+abbrev pub pool_in : Option DriveSeen → Option (List ℕ)
+pool_in None = None
+pool_in (Some s) = s.pool
+
+-- What decides whether a drive takes a session: its media and its lanes, and the pools that were seen there. Each drive is
+-- online.
+abbrev pub view_of : DriveLanesIs → Option DriveSeen → DriveView
+view_of d seen = record {
+  media = d.media;
+  online = true;
+  loaded = loaded_in seen;
+  pool = pool_in seen;
+  sessions = busy_lanes d;
+  lanes = length d.slots;
+}
+
+-- the same of each drive; of one that wasn't looked at no pool is known
+abbrev pub views_of : List DriveLanesIs → List DriveSeen → List DriveView
+views_of [] seen = []
+views_of (d ∷ ds) [] = view_of d None ∷ views_of ds []
+views_of (d ∷ ds) (s ∷ seen) = view_of d (Some s) ∷ views_of ds seen
+
+-- the drive at this place takes the session
+abbrev pub IsFirst : List DriveView → List ℕ → List ℕ → ℕ → Type 0
+IsFirst views pool media place = FirstOf (IsCandidate pool media) (Precedes pool) views place
+
+-- no drive takes the session: none is of the media, or none of those has a free lane and no session, or sessions of the pool
+abbrev pub NoneTakes : List DriveView → List ℕ → List ℕ → Refusal → Type 0
+NoneTakes views pool media why =
+    (NoneOf (TakesMedia media) views × (why ≡ NoDriveOfMedia))
+    ⊎ ((NoneOf (TakesMedia media) views → ⊥) × NoneOf (IsCandidate pool media) views × (why ≡ NoFreeLane))
+
+-- A session is opened: its ticket is the number behind the last one, its drive the first that may take it, its lane the lowest
+-- of that drive that is free. The end of the lane leaves its slot, and the session has a line behind the others.
+pub record OpensLane (b : BoardIs) (seen : List DriveSeen) (pool media : List ℕ) (ticket drive : ℕ) (e : EndIs) (b' : BoardIs) : Type 0 where
+  pub ticket_is : ticket ≡ b.last + 1
+  pub place : ℕ
+  pub drive_is : drive ≡ place + 1
+  pub first : IsFirst (views_of b.drives seen) pool media place
+  pub lanes : DriveLanesIs
+  pub lanes' : DriveLanesIs
+  pub there : slice_get b.drives place ≡ Some lanes
+  pub takes : TakesLowest lanes e lanes'
+  pub is : b' ≡ record b {
+    drives = slice_set b.drives place lanes';
+    last = ticket;
+    sessions = b.sessions ++ new_line ticket drive e.seat.seat.lane ∷ [];
+  }
+
+-- None is opened: no number is left; or no drive takes it; or one does, and there is no memory for its line. The tests are made
+-- in this order.
+abbrev pub OpensNone : BoardIs → List DriveSeen → List ℕ → List ℕ → Refusal → Type 0
+OpensNone b seen pool media why =
+    ((b.last ≡ most_number) × (why ≡ NoSessionNumberLeft))
+    ⊎ ((b.last ≢ most_number) × NoneTakes (views_of b.drives seen) pool media why)
+    ⊎ ((b.last ≢ most_number) × (why ≡ Memory) × (place : ℕ) × IsFirst (views_of b.drives seen) pool media place)

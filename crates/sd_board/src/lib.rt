@@ -1,0 +1,27 @@
+//! What lies under the lock of a daemon's desk: the desk, the ends of the lanes that no session uses, the number that was
+//! given last, and a line for each session. None of its calls touches a device
+//! (as: Bacula Main manual, storage daemon, reservation of drives).
+#![tactic(auto)]
+
+mod adding;
+mod board;
+mod choosing;
+mod desking;
+mod finding;
+mod lanes;
+mod leaving;
+mod opening;
+mod place;
+mod posted;
+mod posting;
+mod resting;
+mod seen;
+mod sent;
+mod slot;
+
+pub use adding::NotAdded;
+pub use board::Board;
+pub use opening::Opened;
+pub use posted::Posted;
+pub use seen::DriveSeen;
+pub use sent::Sent;

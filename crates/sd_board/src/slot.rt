@@ -1,0 +1,90 @@
+// The slot of a lane: where the lane's end lies while no session uses it.
+ghost use Rattle.std.specs.Prelude.{◌≡◌, None, Some, is_none};
+ghost use Rattle.sd_board.specs.Slots.{IsFree, arrived, is_free, new_slot, slot_with};
+
+use crate::sent::Sent;
+use sd_line::Naming;
+use sd_part::LaneEnd;
+use sd_spool::SpoolStore;
+use std::marker::Model;
+
+/// A lane at the desk. In a contract it is a `SlotIs`.
+#[derive(Drop)]
+pub(crate) struct LaneSlot<N: Naming, S: SpoolStore> {
+    // None while a session uses the lane.
+    end: Option<LaneEnd<N, S>>,
+    // Of the session that used the lane last, while pieces that it sent may be on their way to a volume.
+    on_its_way: Option<Sent>,
+}
+
+impl<N: Naming, S: SpoolStore> Model for LaneSlot<N, S> {
+    ghost use Rattle.sd_board.specs.Slots.{SlotIs};
+
+    ghost Value = { SlotIs };
+
+    ghost view = { λ s. record { end = s.end; on_its_way = s.on_its_way } };
+}
+
+impl<N: Naming, S: SpoolStore + Drop> LaneSlot<N, S> {
+    /// The slot of a lane that no session used, with its end.
+    pub(crate) fn new(end: LaneEnd<N, S>) -> Self
+        ensures { result ≡ new_slot end }
+    {
+        LaneSlot {
+            end: Some(end),
+            on_its_way: None,
+        }
+    }
+
+    /// Whether the lane is free: its end lies here, and nothing of its last session is on its way.
+    pub(crate) fn is_free(&self) -> bool
+        ensures { result ≡ is_free self.now }
+    {
+        self.end.is_some() && self.on_its_way.is_none()
+    }
+
+    /// Whether no end lies here.
+    pub(crate) fn is_empty(&self) -> bool
+        ensures { result ≡ is_none self.now.end }
+    {
+        self.end.is_none()
+    }
+
+    /// What may be on its way of the session that used the lane last.
+    pub(crate) fn on_its_way(&self) -> Option<Sent>
+        ensures { result ≡ self.now.on_its_way }
+    {
+        self.on_its_way
+    }
+
+    /// Takes the end of a lane that is free.
+    pub(crate) fn take_end(&mut self) -> LaneEnd<N, S>
+        requires { IsFree self.old }
+        ensures end { self.old.end ≡ Some result }
+        ensures left { self.new ≡ record self.old { end = None } }
+    {
+        self.end.take().unwrap()
+    }
+
+    /// The end that lies here, if one does.
+    pub(crate) fn into_end(self) -> Option<LaneEnd<N, S>>
+        ensures { result ≡ self.end }
+    {
+        self.end
+    }
+
+    /// The end lies here from now on.
+    pub(crate) fn lay(&mut self, end: LaneEnd<N, S>, on_its_way: Option<Sent>)
+        ensures { self.new ≡ slot_with end on_its_way }
+    {
+        self.end = Some(end);
+        self.on_its_way = on_its_way;
+    }
+
+    /// Nothing of the session that used the lane last is on its way any more.
+    pub(crate) fn arrived(&mut self)
+        ensures { self.new ≡ arrived self.old }
+    {
+        self.on_its_way = None;
+    }
+}
