@@ -1,0 +1,223 @@
+// What the worker of a drive and the talks of its sessions tell one another, so that none of them has to look again and
+// again whether something moved.
+use std::sync::{Condvar, Mutex, Wait};
+use std::time::{Clock, Duration};
+
+/// How long a talk waits at once, in seconds. Then it tries again, whether something moved or not.
+const PIECE_SECONDS: u64 = 1;
+
+/// How often something had moved at a drive when that was asked.
+#[derive(Clone, Copy, Debug, PartialEq, Eq)]
+pub struct Moves(u64);
+
+/// What a talk waited for.
+#[derive(Clone, Copy, Debug, PartialEq, Eq)]
+pub enum Waited {
+    /// Something moved at the drive, or may have: what was refused may be tried again.
+    Moved,
+    /// The drive tried since, and can't place what is in its hand.
+    Halted,
+}
+
+/// What a worker has to do.
+#[derive(Clone, Copy, Debug, PartialEq, Eq)]
+pub(crate) enum Task {
+    /// A turn of its drive.
+    Turn,
+    /// Nothing more: no talk comes, and all that can be placed is placed and synced.
+    Leave,
+}
+
+/// What came of a worker's turn.
+#[derive(Clone, Copy, Debug, PartialEq, Eq)]
+pub(crate) enum Headway {
+    /// A piece was placed, or a volume is full or failed, or one was mounted. Whether a piece is in the hand.
+    Moved { holding: bool },
+    /// Nothing is in the hand, nothing was queued, and all that was placed is synced.
+    AtRest,
+    /// What is in the hand can't be placed now.
+    Halted,
+}
+
+// How a drive stands, by what its worker and the talks told.
+#[derive(Drop)]
+struct Standing {
+    // How many pieces were pushed, and how many were taken. One may be taken before its push is told.
+    pushed: u64,
+    taken: u64,
+    // Whether a piece is in the drive's hand.
+    holding: bool,
+    // Whether it can't be placed until something is done at the drive.
+    halted: bool,
+    // Whether what was placed is to be synced once the queue is empty.
+    rests: bool,
+    // Whether no talk comes any more.
+    closing: bool,
+    // How often something moved, and how often the drive halted.
+    moves: u64,
+    halts: u64,
+}
+
+impl Standing {
+    fn is_turn_due(&self) -> bool {
+        !self.halted && (self.pushed > self.taken || self.holding || self.rests)
+    }
+
+    fn has_task(&self) -> bool {
+        self.closing || self.is_turn_due()
+    }
+
+    fn moved(&mut self) {
+        self.halted = false;
+        self.moves = self.moves.wrapping_add(1);
+    }
+}
+
+/// The standing of a drive under a lock of its own, and who waits for a change of it.
+#[derive(Drop)]
+pub(crate) struct Watch {
+    standing: Mutex<Standing>,
+    // The worker waits here for a task, and talks here for something that moves.
+    due: Condvar,
+    changed: Condvar,
+}
+
+impl Watch {
+    /// Nothing is queued, and nothing in the drive's hand.
+    pub(crate) fn new() -> Self {
+        let standing = Standing {
+            pushed: 0,
+            taken: 0,
+            holding: false,
+            halted: false,
+            rests: false,
+            closing: false,
+            moves: 0,
+            halts: 0,
+        };
+        Watch {
+            standing: Mutex::new(standing),
+            due: Condvar::new(),
+            changed: Condvar::new(),
+        }
+    }
+
+    /// Waits until the worker has something to do.
+    pub(crate) fn next_task<R: Wait>(&self, rt: &R) -> Task {
+        let standing = self.due.wait_while(
+            rt,
+            self.standing.lock(rt),
+            |standing| !standing.has_task(),
+        );
+        if standing.is_turn_due() {
+            Task::Turn
+        } else {
+            Task::Leave
+        }
+    }
+
+    /// Tells what came of a turn, in which a piece was taken or none.
+    pub(crate) fn turned<R: Wait>(&self, rt: &R, took: bool, headway: Headway) {
+        let mut standing = self.standing.lock(rt);
+        let standing = &mut *standing;
+        if took {
+            standing.taken = standing.taken.wrapping_add(1);
+        }
+        match headway {
+            Headway::Moved { holding } => {
+                standing.holding = holding;
+                standing.moved();
+            }
+            Headway::AtRest => {
+                standing.holding = false;
+                standing.rests = false;
+                standing.moved();
+            }
+            Headway::Halted => {
+                standing.holding = true;
+                standing.halted = true;
+                standing.halts = standing.halts.wrapping_add(1);
+            }
+        }
+        self.changed.notify_all();
+    }
+
+    /// Tells that a piece was pushed.
+    pub(crate) fn pushed<R: Wait>(&self, rt: &R) {
+        let mut standing = self.standing.lock(rt);
+        standing.pushed = standing.pushed.wrapping_add(1);
+        self.due.notify_one();
+    }
+
+    /// Tells that something was done at the drive, so that what could not be placed may be placed now.
+    pub(crate) fn operated<R: Wait>(&self, rt: &R) {
+        let mut standing = self.standing.lock(rt);
+        let standing = &mut *standing;
+        standing.moved();
+        self.due.notify_one();
+        self.changed.notify_all();
+    }
+
+    /// Asks that what was placed is synced once the queue is empty.
+    pub(crate) fn rest<R: Wait>(&self, rt: &R) {
+        let mut standing = self.standing.lock(rt);
+        standing.rests = true;
+        self.due.notify_one();
+    }
+
+    /// Tells that no talk comes any more. What could not be placed is tried once more.
+    pub(crate) fn close<R: Wait>(&self, rt: &R) {
+        let mut standing = self.standing.lock(rt);
+        let standing = &mut *standing;
+        standing.closing = true;
+        standing.rests = true;
+        standing.halted = false;
+        self.due.notify_one();
+    }
+
+    /// How often something has moved.
+    pub(crate) fn moves<R: Wait>(&self, rt: &R) -> Moves {
+        Moves(self.standing.lock(rt).moves)
+    }
+
+    /// Waits until something has moved since. Where the drive halted before, it is told to try once more; if it halts
+    /// again before anything moves, that is the answer.
+    pub(crate) fn wait<R: Wait + Clock>(&self, rt: &R, since: Moves) -> Waited {
+        let mut standing = self.standing.lock(rt);
+        let halts = try_again(&mut standing, &self.due);
+        let piece = Duration::from_secs(PIECE_SECONDS);
+        let (standing, _) = self
+            .changed
+            .wait_timeout_while(rt, standing, piece, |standing| {
+                standing.moves == since.0 && standing.halts == halts
+            });
+        if standing.moves == since.0 && standing.halts != halts {
+            Waited::Halted
+        } else {
+            Waited::Moved
+        }
+    }
+
+    /// Waits so long at most until something has moved since, whether the drive halts or not. Whether something has.
+    pub(crate) fn wait_for_change<R: Wait + Clock>(
+        &self,
+        rt: &R,
+        since: Moves,
+        most: Duration,
+    ) -> bool {
+        let standing = self.standing.lock(rt);
+        let (standing, _) = self
+            .changed
+            .wait_timeout_while(rt, standing, most, |standing| standing.moves == since.0);
+        standing.moves != since.0
+    }
+}
+
+// Has a drive that halted try once more. How often it has halted so far.
+fn try_again(standing: &mut Standing, due: &Condvar) -> u64 {
+    if standing.halted {
+        standing.halted = false;
+        due.notify_one();
+    }
+    standing.halts
+}
