@@ -6,7 +6,7 @@
      CLOCK_FILE                         it says what stands in that file, a struct timespec
 
    Memory, by malloc, calloc and realloc.
-     FAIL_ALLOC     the allocation of that number, from 1 on, is refused, and no other
+     FAIL_ALLOC     the allocation of that number, from 1 on, is refused, and no other; those of all threads are counted
      COUNT_ALLOC    a file, in which at the end stands a line for each write to standard output: how many allocations came
                     before it and behind the last one; and then how many came behind all of them
 
@@ -116,20 +116,21 @@ extern void *__libc_malloc(size_t size);
 extern void *__libc_calloc(size_t count, size_t size);
 extern void *__libc_realloc(void *old, size_t size);
 
-static unsigned long allocated;
+/* The number of the allocation that is refused, 0 for none; less than that before it was read. */
+static long refused = -1;
+/* Threads allocate at once, so each sum is an atomic one. */
+static unsigned long allocated, since;
 static unsigned long before[WRITES];
 static unsigned writes_told;
-static unsigned long since;
 
 static int refuses(void)
 {
-    static long number = -1;
+    unsigned long number = __atomic_add_fetch(&allocated, 1, __ATOMIC_SEQ_CST);
 
-    if (number < 0)
-        number = number_in("FAIL_ALLOC");
-    allocated++;
-    since++;
-    if (number == 0 || allocated != (unsigned long)number)
+    __atomic_add_fetch(&since, 1, __ATOMIC_SEQ_CST);
+    if (refused < 0)
+        refused = number_in("FAIL_ALLOC");
+    if (refused == 0 || number != (unsigned long)refused)
         return 0;
     errno = ENOMEM;
     return 1;
@@ -154,8 +155,11 @@ __attribute__((destructor)) static void tell_counts(void)
 {
     unsigned long last = since;
     const char *path = getenv("COUNT_ALLOC");
-    FILE *file = path ? fopen(path, "w") : NULL;
+    FILE *file;
 
+    /* What is allocated here is none of the program's. */
+    refused = 0;
+    file = path ? fopen(path, "w") : NULL;
     if (file) {
         for (unsigned at = 0; at < writes_told; at++)
             fprintf(file, "%lu\n", before[at]);
@@ -168,6 +172,14 @@ __attribute__((destructor)) static void tell_counts(void)
         fprintf(file, "%ld %ld\n", reads, writes);
         fclose(file);
     }
+}
+
+/* A program with threads ends by this call, behind which nothing is told. */
+void _exit(int status)
+{
+    tell_counts();
+    for (;;)
+        syscall(SYS_exit_group, status);
 }
 
 /* --- The files of a folder ------------------------------------------------------------------------------------------ */
@@ -373,8 +385,7 @@ ssize_t write(int file, const void *bytes, size_t size)
     ssize_t answer;
 
     if (file == STDOUT_FILENO && writes_told < WRITES) {
-        before[writes_told++] = since;
-        since = 0;
+        before[writes_told++] = __atomic_exchange_n(&since, 0, __ATOMIC_SEQ_CST);
     }
     if (file == STDOUT_FILENO && is_counted_out("FAIL_WRITE", ++writes))
         return fails_with(EIO);
