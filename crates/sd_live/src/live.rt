@@ -14,10 +14,10 @@ use sd_machine::Event;
 use sd_part::{LaneEnd, SessionPart};
 use sd_session::Status;
 use sd_spool::SpoolStore;
-use sd_stations::Station;
+use sd_stations::{Moves, Patience, Station};
 use std::marker::Model;
 use std::sync::Wait;
-use std::time::{Clock, Duration};
+use std::time::Clock;
 
 /// The part of a session, and the station of its drive. In a contract it is the part, a `PartIs`.
 #[derive(Drop)]
@@ -67,20 +67,39 @@ impl<'h, D: Driver, N: Naming, R: Wait + Clock + Drop, S: SpoolStore + Drop> Liv
 
     /// Adds a record, and says how many the session has then. While a closed body waits, that is sent on first; where the
     /// queue before the drive is full, what moves at the drive is waited for. Where the drive has no volume for what is in
-    /// its hand, one is waited for so long at most, and then the session is busy.
-    pub fn add(&mut self, rt: &R, rec: &Rec, patience: Duration) -> Result<u64, Refusal>
+    /// its hand, one is waited for as long as the patience lasts, and then the session is busy.
+    pub fn add<P: Patience>(&mut self, rt: &R, rec: &Rec, patience: &P) -> Result<u64, Refusal>
         ensures ok { IfOk result (λ n. GoesOn self.old (rec.now ∷ []) self.new
             × (n ≡ self.new.session.count)) }
         ensures err { IfErr result (λ why. GoesOn self.old [] self.new
             × StopsShort (Refused why) self.new.session) }
     {
+        let mut halted = None;
         for _tried in rt.forever() {
             match self.part.append(rec) {
-                Err(Refusal::Busy) => send_on(rt, self.station, &mut self.part, patience)?,
+                Err(Refusal::Busy) => {}
                 answer => return answer,
             }
+            if let Some(moves) = halted {
+                if !self.station.wait_for_change(rt, moves, patience) {
+                    return Err(Refusal::Busy);
+                }
+            }
+            halted = self.send_on(rt)?;
         }
         unreachable!()
+    }
+
+    // Sends a body on. Where the drive has no volume for what is in its hand, how often something had moved there: what lies
+    // ready may have made room all the same. A spool that fails has failed the session.
+    fn send_on(&mut self, rt: &R) -> Result<Option<Moves>, Refusal>
+        ensures goes_on { GoesOn self.old [] self.new }
+        ensures err { IfErr result (λ why. StopsShort (Refused why) self.new.session) }
+    {
+        match send_on(rt, self.station, &mut self.part) {
+            Err(Refusal::SpoolFault) => Err(Refusal::SessionFailed),
+            answer => answer,
+        }
     }
 
     /// Adds the end label, as `SessionPart::end`.
@@ -105,8 +124,8 @@ impl<'h, D: Driver, N: Naming, R: Wait + Clock + Drop, S: SpoolStore + Drop> Liv
 
     /// Sends all that an ended session has, and closes it once all of it is placed: the drive is synced for that, so that
     /// no close waits for what others send. What is on its way is waited for; where the drive has no volume for what is in
-    /// its hand, one is waited for so long at most, and then the answer is 'not yet'.
-    pub fn close(&mut self, rt: &R, patience: Duration) -> Result<Shut, Refusal>
+    /// its hand, one is waited for as long as the patience lasts, and then the answer is 'not yet'.
+    pub fn close<P: Patience>(&mut self, rt: &R, patience: &P) -> Result<Shut, Refusal>
         ensures goes_on { GoesOn self.old [] self.new }
         ensures ok { IfOk result (λ s. IsReceiptOf self.new.session s.receipt
             × (s.spans ≡ s.receipt.spans)) }
@@ -131,13 +150,15 @@ impl<'h, D: Driver, N: Naming, R: Wait + Clock + Drop, S: SpoolStore + Drop> Liv
         unreachable!()
     }
 
-    // Sends all that the session has, which is ended. Where it can't be sent now, it can't be closed yet.
-    fn send_rest(&mut self, rt: &R, patience: Duration) -> Result<(), Refusal>
+    // Sends all that the session has, which is ended. Where it can't be sent now, it can't be closed yet; a spool that fails
+    // has failed the session.
+    fn send_rest<P: Patience>(&mut self, rt: &R, patience: &P) -> Result<(), Refusal>
         ensures goes_on { GoesOn self.old [] self.new }
         ensures err { IfErr result (λ why. StopsShort (Refused why) self.new.session) }
     {
         match send_rest(rt, self.station, &mut self.part, patience) {
             Err(Refusal::Busy) => Err(Refusal::NotYet),
+            Err(Refusal::SpoolFault) => Err(Refusal::SessionFailed),
             answer => answer,
         }
     }

@@ -2,8 +2,10 @@
 //! another.
 #![tactic(auto)]
 
+mod patience;
 mod station;
 mod watch;
 
+pub use patience::Patience;
 pub use station::{Station, Worked};
 pub use watch::{Moves, Waited};

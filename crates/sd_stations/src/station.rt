@@ -4,15 +4,16 @@ ghost use Rattle.sd_line.specs.Operates.{MayOperate, operated_at};
 ghost use Rattle.sd_machine.specs.declared.reply.Reply.TheVariants.{Refused};
 ghost use Rattle.sd_base.specs.declared.refusal.Refusal.TheVariants.{BadCommand};
 
+use crate::patience::Patience;
 use crate::watch::{Headway, Moves, Task, Waited, Watch};
-use sd_base::{PoolName, SessionKey};
+use sd_base::{PoolName, Refusal, SessionKey, VolName};
 use sd_drive::Placed;
 use sd_driver::Driver;
-use sd_line::{DriveWorker, Gate, Line, Naming, Point, Turned};
+use sd_line::{DriveSide, DriveWorker, Gate, Line, Naming, Point, Turned};
 use sd_machine::{Event, Reply};
 use std::marker::Model;
 use std::sync::Wait;
-use std::time::{Clock, Duration};
+use std::time::Clock;
 
 /// A drive that threads share: its line, and what its worker and the talks of its sessions tell one another. In a contract
 /// it is the line, a `LineIs`.
@@ -35,12 +36,43 @@ impl<D: Driver, N: Naming, R: Wait + Drop> Model for Station<D, N, R> {
 pub enum Worked {
     /// It made a turn.
     Turned,
-    /// It mounted a volume that its drive needed.
-    Mounted,
+    /// The loaded volume takes no more, since it is full.
+    Full(VolName),
+    /// The loaded volume takes no more, since its device failed.
+    Failed(VolName),
+    /// It mounted this volume, which its drive needed.
+    Mounted(VolName),
     /// Its drive needs a volume of this pool, and has none.
     NeedsVolume(PoolName),
     /// No talk comes any more, and all that can be placed is placed and synced.
     Left,
+}
+
+// What a turn tells of the loaded volume.
+#[derive(Clone, Copy, PartialEq, Eq)]
+enum Told {
+    Nothing,
+    Full,
+    Failed,
+}
+
+impl Told {
+    // What the sync of a turn tells, if there was one.
+    fn of_sync(sync: &Option<Result<(), Refusal>>) -> Self {
+        match sync {
+            Some(Err(_)) => Told::Failed,
+            _ => Told::Nothing,
+        }
+    }
+
+    // What is told of the volume that was loaded.
+    fn of_volume(self, loaded: Option<VolName>) -> Worked {
+        match loaded {
+            Some(volume) if self == Told::Full => Worked::Full(volume),
+            Some(volume) if self == Told::Failed => Worked::Failed(volume),
+            _ => Worked::Turned,
+        }
+    }
 }
 
 // A gate that holds nobody.
@@ -75,32 +107,52 @@ impl<D: Driver, N: Naming, R: Wait + Clock + Drop> Station<D, N, R> {
         line
     }
 
-    /// Waits until the worker has something to do, and does it: a turn; and where the drive needs a volume, it seeks one.
+    /// Waits until the worker has something to do, and does it.
     pub fn work(&self, rt: &R) -> Worked {
-        let Task::Turn = self.watch.next_task(rt) else {
-            return Worked::Left;
-        };
-        let Turned { took, place, .. } = DriveWorker::turn(&self.line, &NoGate);
-        let headway = match place {
-            Ok(Placed::Idle) => Headway::AtRest,
-            Ok(Placed::At(_)) => Headway::Moved { holding: false },
-            Ok(Placed::VolumeFull | Placed::VolumeError) => Headway::Moved { holding: true },
+        match self.watch.next_task(rt) {
+            Task::Turn => self.turn(rt),
+            Task::Tell(volume) => Worked::Failed(volume),
+            Task::Leave => Worked::Left,
+        }
+    }
+
+    // A turn; and where the drive needs a volume, it seeks one.
+    fn turn(&self, rt: &R) -> Worked {
+        // A volume that fails is loaded no more.
+        let loaded = self.loaded();
+        let Turned { took, place, sync } = DriveWorker::turn(&self.line, &NoGate);
+        let (headway, told) = match place {
+            Ok(Placed::Idle) => (Headway::AtRest, Told::of_sync(&sync)),
+            Ok(Placed::At(_)) => (Headway::Moved { holding: false }, Told::Nothing),
+            Ok(Placed::VolumeFull) => (Headway::Moved { holding: true }, Told::Full),
+            Ok(Placed::VolumeError) => (Headway::Moved { holding: true }, Told::Failed),
             Ok(Placed::NeedVolume) => return self.seek(rt, took),
             // For want of memory, which may be there once somebody else has given some back.
-            Err(_) => Headway::Halted,
+            Err(_) => (Headway::Halted, Told::Nothing),
         };
         self.watch.turned(rt, took, headway);
-        Worked::Turned
+        told.of_volume(loaded)
+    }
+
+    // The name of the loaded volume.
+    fn loaded(&self) -> Option<VolName> {
+        let side = self.line.lock()?;
+        let side: &DriveSide<D, N> = &side;
+        let drive = side.drive();
+        drive.know();
+        let at = drive.loaded()?;
+        Some(drive.volumes()[at].name().copy())
     }
 
     // Seeks a volume that the drive needs, after a turn in which a piece was taken or none.
     fn seek(&self, rt: &R, took: bool) -> Worked {
         let drive = self.line.no();
-        match self.line.operate(Event::Seek { drive }) {
-            Reply::Mounted { .. } => {
+        let reply = self.line.operate(Event::Seek { drive });
+        match &reply {
+            Reply::Mounted { name } => {
                 self.watch
                     .turned(rt, took, Headway::Moved { holding: true });
-                Worked::Mounted
+                Worked::Mounted(name.copy())
             }
             Reply::Requested => {
                 let pool = self.pool();
@@ -128,9 +180,31 @@ impl<D: Driver, N: Naming, R: Wait + Clock + Drop> Station<D, N, R> {
         ensures answers { MayOperate (λ d. D.meaning d) self.now.no event result }
         ensures elsewhere { operated_at event ≢ Some self.now.no → result ≡ Refused BadCommand }
     {
+        let loaded = self.to_sync(&event);
         let reply = self.line.operate(event);
         self.watch.operated(rt);
+        self.tell_sync(rt, loaded, &reply);
         reply
+    }
+
+    // The loaded volume, where the event has it synced. One that fails is loaded no more.
+    fn to_sync(&self, event: &Event) -> Option<VolName> {
+        match event {
+            Event::Sync { .. } | Event::Unmount { .. } => self.loaded(),
+            _ => None,
+        }
+    }
+
+    // Has the worker tell of a volume that was to be synced, where the device failed.
+    fn tell_sync(&self, rt: &R, synced: Option<VolName>, reply: &Reply) {
+        if let (Some(volume), Reply::Refused(Refusal::DeviceFault)) = (synced, reply) {
+            self.watch.failed(rt, volume);
+        }
+    }
+
+    /// Waits until the drive has tried all that it has, and no longer than a second.
+    pub fn wait_for_rest(&self, rt: &R) {
+        self.watch.wait_for_rest(rt);
     }
 
     /// Tells the worker that a piece was pushed.
@@ -158,8 +232,8 @@ impl<D: Driver, N: Naming, R: Wait + Clock + Drop> Station<D, N, R> {
         self.watch.wait(rt, since)
     }
 
-    /// Waits so long at most until something has moved since. Whether something has.
-    pub fn wait_for_change(&self, rt: &R, since: Moves, most: Duration) -> bool {
-        self.watch.wait_for_change(rt, since, most)
+    /// Waits until something has moved since, or until the patience ends. Whether something has moved.
+    pub fn wait_for_change<P: Patience>(&self, rt: &R, since: Moves, patience: &P) -> bool {
+        self.watch.wait_for_change(rt, since, patience)
     }
 }

@@ -1,5 +1,7 @@
 // What the worker of a drive and the talks of its sessions tell one another, so that none of them has to look again and
 // again whether something moved.
+use crate::patience::Patience;
+use sd_base::VolName;
 use std::sync::{Condvar, Mutex, Wait};
 use std::time::{Clock, Duration};
 
@@ -20,10 +22,12 @@ pub enum Waited {
 }
 
 /// What a worker has to do.
-#[derive(Clone, Copy, Debug, PartialEq, Eq)]
+#[derive(Drop)]
 pub(crate) enum Task {
     /// A turn of its drive.
     Turn,
+    /// To tell that the device failed with this volume, while somebody else synced it.
+    Tell(VolName),
     /// Nothing more: no talk comes, and all that can be placed is placed and synced.
     Leave,
 }
@@ -53,6 +57,8 @@ struct Standing {
     rests: bool,
     // Whether no talk comes any more.
     closing: bool,
+    // The volume that failed while it was synced for somebody else, until the worker tells of it.
+    failed: Option<VolName>,
     // How often something moved, and how often the drive halted.
     moves: u64,
     halts: u64,
@@ -64,7 +70,7 @@ impl Standing {
     }
 
     fn has_task(&self) -> bool {
-        self.closing || self.is_turn_due()
+        self.closing || self.failed.is_some() || self.is_turn_due()
     }
 
     fn moved(&mut self) {
@@ -92,6 +98,7 @@ impl Watch {
             halted: false,
             rests: false,
             closing: false,
+            failed: None,
             moves: 0,
             halts: 0,
         };
@@ -104,16 +111,27 @@ impl Watch {
 
     /// Waits until the worker has something to do.
     pub(crate) fn next_task<R: Wait>(&self, rt: &R) -> Task {
-        let standing = self.due.wait_while(
+        let mut standing = self.due.wait_while(
             rt,
             self.standing.lock(rt),
             |standing| !standing.has_task(),
         );
+        let standing = &mut *standing;
+        if let Some(volume) = standing.failed.take() {
+            return Task::Tell(volume);
+        }
         if standing.is_turn_due() {
             Task::Turn
         } else {
             Task::Leave
         }
+    }
+
+    /// Has the worker tell that the device failed with this volume.
+    pub(crate) fn failed<R: Wait>(&self, rt: &R, volume: VolName) {
+        let mut standing = self.standing.lock(rt);
+        standing.failed = Some(volume);
+        self.due.notify_one();
     }
 
     /// Tells what came of a turn, in which a piece was taken or none.
@@ -137,6 +155,10 @@ impl Watch {
                 standing.holding = true;
                 standing.halted = true;
                 standing.halts = standing.halts.wrapping_add(1);
+                // The queue has room for one piece more than before.
+                if took {
+                    standing.moves = standing.moves.wrapping_add(1);
+                }
             }
         }
         self.changed.notify_all();
@@ -175,6 +197,16 @@ impl Watch {
         self.due.notify_one();
     }
 
+    /// Waits until no turn is due, and no longer than a piece of time.
+    pub(crate) fn wait_for_rest<R: Wait + Clock>(&self, rt: &R) {
+        let piece = Duration::from_secs(PIECE_SECONDS);
+        let _ = self
+            .changed
+            .wait_timeout_while(rt, self.standing.lock(rt), piece, |standing| {
+                standing.is_turn_due()
+            });
+    }
+
     /// How often something has moved.
     pub(crate) fn moves<R: Wait>(&self, rt: &R) -> Moves {
         Moves(self.standing.lock(rt).moves)
@@ -198,17 +230,33 @@ impl Watch {
         }
     }
 
-    /// Waits so long at most until something has moved since, whether the drive halts or not. Whether something has.
-    pub(crate) fn wait_for_change<R: Wait + Clock>(
+    /// Waits until something has moved since, whether the drive halts or not, or until the patience ends, which is asked in
+    /// each second. Whether something has moved.
+    pub(crate) fn wait_for_change<R: Wait + Clock, P: Patience>(
         &self,
         rt: &R,
         since: Moves,
-        most: Duration,
+        patience: &P,
     ) -> bool {
+        for pieces in 0..u64::MAX {
+            let waited = Duration::from_secs(pieces.saturating_mul(PIECE_SECONDS));
+            if !patience.lasts(waited) {
+                return false;
+            }
+            if self.moves_within(rt, since) {
+                return true;
+            }
+        }
+        false
+    }
+
+    // Waits a piece of time at most until something has moved since. Whether something has.
+    fn moves_within<R: Wait + Clock>(&self, rt: &R, since: Moves) -> bool {
         let standing = self.standing.lock(rt);
+        let piece = Duration::from_secs(PIECE_SECONDS);
         let (standing, _) = self
             .changed
-            .wait_timeout_while(rt, standing, most, |standing| standing.moves == since.0);
+            .wait_timeout_while(rt, standing, piece, |standing| standing.moves == since.0);
         standing.moves != since.0
     }
 }

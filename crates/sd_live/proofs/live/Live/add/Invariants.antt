@@ -1,10 +1,7 @@
-use Rattle.std.proofs.Common.{◌≡◌, []}
+use Rattle.std.proofs.Common.{[]}
 use Rattle.sd_jobs.specs.Jobs.{GoesOn}
 use Rattle.sd_live.proofs.live.Live.add.Given as goal
 
 -- the part so far, which took no record
 abbrev pub invariant-loop-tried : goal.invariant-loop-tried
-invariant-loop-tried g l = record {
-  goes : GoesOn l.fn.self [] l.self-inside.part;
-  no : l.self-inside.part.seat.no ≡ l.self-inside.station.now.no;
-}
+invariant-loop-tried g l = record { goes : GoesOn l.fn.self [] l.self }
