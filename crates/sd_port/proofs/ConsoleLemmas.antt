@@ -84,10 +84,10 @@ all_lines : (texts : List (List ℕ)) → All IsLine (map line texts)
 all_lines [] = All-nil IsLine
 all_lines (t ∷ ts) = All-cons IsLine (line t) (map line ts) (t, refl) (all_lines ts)
 
-one_line : (text : List ℕ) → All IsLine (line text ∷ [])
+pub one_line : (text : List ℕ) → All IsLine (line text ∷ [])
 one_line text = All-cons IsLine (line text) [] (text, refl) (All-nil IsLine)
 
-shown_lines : (text : List ℕ) (answer : Answer) → Shows text answer → AreLines answer
+pub shown_lines : (text : List ℕ) (answer : Answer) → Shows text answer → AreLines answer
 shown_lines text answer (inl p) = subst (λ (a : Answer). AreLines a) (sym p) (all_lines (lines_of text))
 shown_lines text answer (inr (inl p)) = subst (λ (a : Answer). AreLines a) (sym p) tt
 shown_lines text answer (inr (inr p)) = subst (λ (a : Answer). AreLines a) (sym p.0) tt
@@ -101,7 +101,7 @@ adopted_lines (Refused why) = tt
 adopted_lines (Adopted end next) = one_line (reply_line (Adopted end next))
 adopted_lines reply = tt
 
-told_lines : (key : SessionKey) (reply : Reply) (answer : Answer) → TellsReply key reply answer → AreLines answer
+pub told_lines : (key : SessionKey) (reply : Reply) (answer : Answer) → TellsReply key reply answer → AreLines answer
 told_lines key (Refused why) answer p = subst (λ (a : Answer). AreLines a) (sym p) tt
 told_lines key reply answer p = shown_lines (reply_lines key reply) answer p
 

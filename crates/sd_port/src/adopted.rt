@@ -14,33 +14,33 @@ const LINE_BYTES: usize = 128;
 
 /// Room for the line, made before the volume is taken over.
 #[derive(Drop)]
-pub(crate) struct Room {
+pub struct AdoptedLine {
     bytes: Vec<u8>,
     lines: Vec<Payload>,
 }
 
-impl Room {
-    pub(crate) fn new(alloc: Global) -> Result<Self, AllocError>
+impl AdoptedLine {
+    pub fn new(alloc: Global) -> Result<Self, AllocError>
         ensures empty { IfOk result (λ room. room.bytes.items ≡ []) }
         ensures bytes { IfOk result (λ room. 128 ≤ vec_capacity room.bytes) }
         ensures none { IfOk result (λ room. room.lines.items ≡ []) }
         ensures lines { IfOk result (λ room. 1 ≤ vec_capacity room.lines) }
     {
-        Ok(Room {
+        Ok(AdoptedLine {
             bytes: Vec::with_capacity(alloc, LINE_BYTES)?,
             lines: Vec::with_capacity(alloc, 1)?,
         })
     }
 
     /// The line: where the volume's blocks end, and the number of its next one. Takes no memory.
-    pub(crate) fn tell(self, end: u64, next: u32) -> Items<Payload>
+    pub fn tell(self, end: u64, next: u32) -> Items<Payload>
         requires empty { self.bytes.items ≡ [] }
         requires bytes { 128 ≤ vec_capacity self.bytes }
         requires none { self.lines.items ≡ [] }
         requires lines { 1 ≤ vec_capacity self.lines }
         ensures { result ≡ line (reply_line (Adopted end next)) ∷ [] }
     {
-        let Room {
+        let AdoptedLine {
             mut bytes,
             mut lines,
         } = self;

@@ -12,7 +12,7 @@ ghost use Rattle.sd_console.specs.Status.{status_lines};
 ghost use Rattle.sd_port.specs.Console.{AsksSpans, CommandDoes, LineDoes, Operates, TellsReply, purge_refusal, told_adopted, told_done};
 ghost use Rattle.sd_port.specs.Lines.{Shows};
 
-use crate::adopted::Room;
+use crate::adopted::AdoptedLine;
 use crate::lines::{one_line, show};
 use crate::syncing::Syncing;
 use sd_base::{DriveNo, Items, Refusal, SessionKey, Ticket, VolName};
@@ -168,7 +168,7 @@ fn adopt<D: Driver + Drop, Q: Lanes, S: SpoolStore + Drop>(
         × Operates (λ d. D.meaning d) (Adopt drive name) told_adopted result events replies
         world.old world.new }
 {
-    let Ok(room) = Room::new(alloc) else {
+    let Ok(room) = AdoptedLine::new(alloc) else {
         return Err(Refusal::Memory);
     };
     match world.step(Event::Adopt { drive, name }) {
@@ -196,7 +196,7 @@ fn tell_spans<D: Driver + Drop, Q: Lanes, S: SpoolStore + Drop>(
 }
 
 /// Tells all lines of a reply, or its refusal.
-fn tell(alloc: Global, key: SessionKey, reply: &Reply) -> Result<Items<Payload>, Refusal>
+pub fn tell(alloc: Global, key: SessionKey, reply: &Reply) -> Result<Items<Payload>, Refusal>
     ensures { TellsReply key reply.now result }
 {
     if let Reply::Refused(why) = reply {

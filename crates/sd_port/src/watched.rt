@@ -15,7 +15,7 @@ use std::alloc::AllocError;
 use std::marker::{Brand, Model, PhantomData};
 
 /// What a sink had got before a reading.
-pub(crate) trait Before {
+pub trait Before {
     ghost before: { List Record };
 }
 
@@ -28,7 +28,7 @@ impl Before for Brand {
 /// A sink, and the records that were handed over to it since a reading began. Its type keeps that the sink got just
 /// those. They are seen by contracts alone, and none is held.
 #[derive(Drop)]
-pub(crate) struct Watched<B: Before, K: Sink> {
+pub struct Watched<B: Before, K: Sink> {
     sink: K,
     handed: Shown<Rec>,
     of: PhantomData<B>,
@@ -43,6 +43,33 @@ impl<B: Before, K: Sink> Model for Watched<B, K> {
     ghost view = { λ w. record { sink = w.sink; handed = w.handed } };
 
     ghost invariant = { λ w. K.got w.sink ≡ B.before ++ w.handed };
+}
+
+impl<B: Before, K: Sink> Watched<B, K> {
+    /// A sink to which nothing was handed over yet.
+    pub fn new(sink: K) -> Self
+        requires { K.got sink ≡ B.before }
+        ensures { result ≡ record { sink = sink; handed = [] } }
+    {
+        Watched {
+            sink,
+            handed: Shown::nothing(),
+            of: PhantomData,
+        }
+    }
+
+    /// The sink, and the records that were handed over to it.
+    pub fn into_parts(self) -> (K, Shown<Rec>)
+        ensures parts { self ≡ record { sink = result.0; handed = result.1 } }
+        ensures got { K.got result.0 ≡ B.before ++ result.1 }
+    {
+        let Watched {
+            sink,
+            handed,
+            of: _,
+        } = self;
+        (sink, handed)
+    }
 }
 
 impl<B: Before, K: Sink> Sink for Watched<B, K> {
@@ -76,17 +103,9 @@ pub(crate) fn read_watched<B: Before, D: Driver, Q: Lanes, S: SpoolStore + Drop,
     ensures reads { IsRead (λ d. D.meaning d) key spans.now [] result.handed result.answer
         world.old world.new }
 {
-    let mut watched: Watched<B, K> = Watched {
-        sink,
-        handed: Shown::nothing(),
-        of: PhantomData,
-    };
+    let mut watched: Watched<B, K> = Watched::new(sink);
     let answer = world.read(key, spans, &mut watched);
-    let Watched {
-        sink,
-        handed,
-        of: _,
-    } = watched;
+    let (sink, handed) = watched.into_parts();
     Reading {
         sink,
         handed,

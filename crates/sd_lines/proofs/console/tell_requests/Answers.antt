@@ -1,0 +1,5 @@
+use Rattle.sd_port.proofs.ConsoleLemmas.{shown_lines}
+use Rattle.sd_lines.proofs.console.tell_requests.Goals as goal
+
+pub returns-in-Ok : goal.returns-in-Ok
+returns-in-Ok g c = shown_lines c.deref-in-Ok.result.now c.show.result c.show.ensures

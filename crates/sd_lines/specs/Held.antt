@@ -1,0 +1,101 @@
+-- What an event does to the session that a talk opened last.
+use Rattle.std.specs.Prelude.{◌≡◌, ◌⊎◌, ℕ, ℤ, List, [], ◌∷◌, Option, None, Some}
+use Rattle.std.specs.Option.{option_or}
+use Rattle.sd_base.specs.Record.{Record}
+use Rattle.sd_base.specs.declared.refusal.Refusal.{Refusal}
+use Rattle.sd_base.specs.declared.refusal.Refusal.TheVariants.{BadCommand, SessionNotOpen}
+use Rattle.sd_jobs.specs.Jobs.{GoesOn, StopsShort}
+use Rattle.sd_jobs.specs.declared.job.Stop.TheVariants as stops
+use Rattle.sd_journal.specs.Journal.{Entry, placements}
+use Rattle.sd_machine.specs.declared.event.Event.{Event}
+use Rattle.sd_machine.specs.declared.event.Event.TheVariants as events
+use Rattle.sd_machine.specs.declared.reply.Reply.{Reply}
+use Rattle.sd_machine.specs.declared.reply.Reply.TheVariants.{Refused, Opened, Taken, Ended, Closed, Cancelled}
+use Rattle.sd_part.specs.Parts.{PartIs, with_session}
+use Rattle.sd_session.specs.Session.{CancelsSession, EndsSession, EndRefused, NotRunning}
+use Rattle.sd_session.specs.declared.status.Status.TheVariants as status
+use Rattle.sd_span.specs.Spans.{spans_of}
+
+-- what a talk has of the session that it opened last: its part, while that goes on; or what its part was at its end
+pub record HeldIs : Type 0 where
+  pub live : Option PartIs
+  pub over : Option PartIs
+
+-- the one of them
+abbrev pub last_of : HeldIs → Option PartIs
+last_of h = option_or h.live h.over
+
+-- the records that the session took which was opened last
+abbrev pub told_in : Option PartIs → List Record
+told_in None = []
+told_in (Some p) = p.told
+
+-- the session of this number is the one that was opened last
+abbrev pub IsLast : ℕ → Option PartIs → Type 0
+IsLast ticket None = ⊥
+IsLast ticket (Some p) = p.session.key.id ≡ ticket
+
+-- a session begins with this number at this drive, and took nothing yet
+pub record Begins (ticket drive : ℕ) (p : PartIs) : Type 0 where
+  pub id_is : p.session.key.id ≡ ticket
+  pub drive_is : p.seat.no ≡ drive
+  pub active : p.session.status ≡ status.Active
+  pub told_is : p.told ≡ []
+
+-- what an open comes to: a session begins; or it is refused, and the session opened before it is the last
+abbrev pub AnswersOpen : Reply → Option PartIs → Option PartIs → Type 0
+AnswersOpen (Opened ticket drive) old new = (p : PartIs) × (new ≡ Some p) × Begins ticket drive p
+AnswersOpen (Refused why) old new = new ≡ old
+AnswersOpen reply old new = ⊥
+
+-- what a record comes to: it is taken, and is the last of those that were; or it isn't, and the others stay
+abbrev pub Appends : Record → Reply → PartIs → PartIs → Type 0
+Appends r (Taken count) p q = GoesOn p (r ∷ []) q × (count ≡ q.session.count)
+Appends r (Refused why) p q = GoesOn p [] q × StopsShort (stops.Refused why) q.session
+Appends r reply p q = ⊥
+
+-- what an end comes to
+abbrev pub Ends : ℤ → Reply → PartIs → PartIs → Type 0
+Ends moment Ended p q = EndsSession p.session moment q.session × (q ≡ with_session p q.session)
+Ends moment (Refused why) p q = EndRefused p.session why × (q ≡ p)
+Ends moment reply p q = ⊥
+
+-- what a close comes to: the session is closed, and its spans are those that a journal gives of it
+abbrev pub Shuts : Reply → PartIs → PartIs → Type 0
+Shuts (Closed key spans) p q = GoesOn p [] q × (q.session.status ≡ status.Closed) × (key ≡ q.session.key)
+    × ((journal : List Entry) × (spans ≡ spans_of key (placements journal)))
+Shuts (Refused why) p q = GoesOn p [] q × StopsShort (stops.Refused why) q.session
+Shuts reply p q = ⊥
+
+-- what a cancel comes to
+abbrev pub Cancels : Reply → PartIs → PartIs → Type 0
+Cancels Cancelled p q = CancelsSession p.session q.session × (q ≡ with_session p q.session)
+Cancels (Refused why) p q = NotRunning p.session why × (q ≡ p)
+Cancels reply p q = ⊥
+
+-- why an event of the session of this number is refused, where what is known of the one opened last is what it was at its end
+abbrev pub RefusesOver : ℕ → Reply → Option PartIs → Type 0
+RefusesOver ticket reply over =
+    ((p : PartIs) × (why : Refusal) × (over ≡ Some p) × (p.session.key.id ≡ ticket) × (reply ≡ Refused why) × NotRunning p.session why)
+    ⊎ ((IsLast ticket over → ⊥) × (reply ≡ Refused SessionNotOpen))
+
+-- An event of the session of this number does this to its part, if that is the session opened last; else the session isn't
+-- open, and nothing changes.
+abbrev pub AnswersOwn : (Reply → PartIs → PartIs → Type 0) → ℕ → Reply → Option PartIs → Option PartIs → Type 0
+AnswersOwn Does ticket reply old new =
+    ((p : PartIs) × (q : PartIs) × (old ≡ Some p) × (p.session.key.id ≡ ticket) × (new ≡ Some q) × Does reply p q)
+    ⊎ ((IsLast ticket old → ⊥) × (reply ≡ Refused SessionNotOpen) × (new ≡ old))
+
+-- what an event comes to: an open, or an event of the talk's session; any other is a bad command
+abbrev pub AnswersEvent : Event → Reply → Option PartIs → Option PartIs → Type 0
+AnswersEvent (events.Open job pool media moment) reply old new = AnswersOpen reply old new
+AnswersEvent (events.Append ticket r) reply old new = AnswersOwn (Appends r) ticket reply old new
+AnswersEvent (events.End ticket moment) reply old new = AnswersOwn (Ends moment) ticket reply old new
+AnswersEvent (events.Close ticket) reply old new = AnswersOwn Shuts ticket reply old new
+AnswersEvent (events.Cancel ticket) reply old new = AnswersOwn Cancels ticket reply old new
+AnswersEvent event reply old new = (reply ≡ Refused BadCommand) × (new ≡ old)
+
+-- what a line of a console does to the talk's own session: nothing, or it gives it up
+abbrev pub GivesUpAtMost : Option PartIs → Option PartIs → Type 0
+GivesUpAtMost old new =
+    (new ≡ old) ⊎ ((p : PartIs) × (q : PartIs) × (old ≡ Some p) × (new ≡ Some q) × Cancels Cancelled p q)

@@ -1,0 +1,4 @@
+pub mod Held
+pub mod Port
+pub mod Taken
+pub mod Unused

@@ -1,0 +1,100 @@
+// Drives come to a hub.
+ghost use Rattle.std.specs.Prelude.{◌≡◌};
+
+use crate::front::Front;
+use crate::hub::{Hub, Post};
+use crate::unused::UnusedDrive;
+use sd_base::DriveNo;
+use sd_board::Board;
+use sd_driver::Driver;
+use sd_line::{Line, Naming};
+use sd_part::LaneEnd;
+use sd_spool::SpoolStore;
+use sd_stations::Station;
+use std::alloc::{AllocError, Global};
+use std::sync::atomic::AtomicU64;
+use std::sync::{Mutex, Wait};
+use std::time::Clock;
+
+/// Why a drive does not come to a hub.
+#[derive(Clone, Copy, Debug, PartialEq, Eq)]
+pub enum AddFault {
+    /// It has another number than the next one, or there are as many as there may be.
+    NotNext,
+    /// Memory was wanted, or there are fewer stores than lanes.
+    Memory,
+}
+
+impl<D: Driver + Drop, N: Naming, R: Wait + Clock + Drop, S: SpoolStore + Drop> Hub<D, N, R, S> {
+    /// A hub without drives, in the run of this time.
+    pub fn new(rt: R, alloc: Global, time: u32, keeps_receipts: bool) -> Self {
+        Hub {
+            rt,
+            alloc,
+            posts: Vec::new(alloc),
+            front: Mutex::new(Front::new(Board::new(alloc))),
+            time,
+            keeps_receipts,
+        }
+    }
+
+    /// The drive of this number, which is the next, comes to the hub, with the stores of its lanes' spools.
+    pub fn add_drive(
+        &mut self,
+        no: DriveNo,
+        drive: UnusedDrive<D, R>,
+        stores: Vec<S>,
+    ) -> Result<(), AddFault>
+    where
+        R: Copy,
+        requires { (drive.table ≡ N.table no) × (drive.limits.time ≡ N.time no) }
+    {
+        if no.get() as usize != self.posts.len() + 1 {
+            return Err(AddFault::NotNext);
+        }
+        let Some((line, ends)) = drive.begin::<N, S>(self.rt, self.alloc, no, stores) else {
+            return Err(AddFault::Memory);
+        };
+        let Ok(post) = new_post(self.alloc, line, ends.len()) else {
+            return Err(AddFault::Memory);
+        };
+        add_lanes(self.front.get_mut(), &post, ends)?;
+        match self.posts.push(post) {
+            Ok(()) => Ok(()),
+            Err(_) => Err(AddFault::Memory),
+        }
+    }
+}
+
+// The drive of a line, of which no lane was used.
+fn new_post<D: Driver + Drop, N: Naming, R: Wait + Clock + Drop>(
+    alloc: Global,
+    line: Line<D, N, R>,
+    lanes: usize,
+) -> Result<Post<D, N, R>, AllocError> {
+    let mut counts = Vec::with_capacity(alloc, lanes)?;
+    for _lane in 0..lanes {
+        counts.push(AtomicU64::new(0))?;
+    }
+    Ok(Post {
+        station: Station::new(line),
+        counts,
+        receipts: Mutex::new(Vec::new(alloc)),
+    })
+}
+
+// The ends of the lanes of the next drive come to the desk.
+fn add_lanes<D: Driver + Drop, N: Naming, R: Wait + Clock + Drop, S: SpoolStore + Drop>(
+    front: &mut Front<N, S>,
+    post: &Post<D, N, R>,
+    ends: Vec<LaneEnd<N, S>>,
+) -> Result<(), AddFault> {
+    if !front.board.are_next(&ends) {
+        return Err(AddFault::NotNext);
+    }
+    let media = post.station.line().media().copy();
+    match front.board.add_drive(media, ends) {
+        Ok(()) => Ok(()),
+        Err(_) => Err(AddFault::Memory),
+    }
+}

@@ -1,0 +1,240 @@
+// What a talk has of the session that it opened last, and what the events of that session do.
+ghost use Rattle.std.specs.Prelude.{◌≡◌, None, IfSome};
+ghost use Rattle.sd_session.specs.Session.{NotRunning};
+ghost use Rattle.sd_lines.specs.Held.{AnswersEvent, AnswersOpen, AnswersOwn, Appends, Cancels, Ends, RefusesOver, Shuts, last_of};
+
+use crate::hub::Hub;
+use crate::opening::{Begun, open};
+use crate::over::{Over, leave};
+use sd_base::{JobId, MediaName, PoolName, Rec, Refusal, Ticket};
+use sd_driver::Driver;
+use sd_line::Naming;
+use sd_live::{Live, Shut};
+use sd_machine::{Event, Reply};
+use sd_spool::SpoolStore;
+use sd_stations::Patience;
+use std::marker::Model;
+use std::sync::Wait;
+use std::time::Clock;
+
+/// The session that a talk opened last, while it goes on; or what is known of it then. In a contract it is a `HeldIs`.
+#[derive(Drop)]
+pub(crate) struct Held<'h, D: Driver, N: Naming, R: Wait + Drop, S: SpoolStore, P> {
+    hub: &'h Hub<D, N, R, S>,
+    // How long a record and a close wait for a volume that their drive needs.
+    patience: P,
+    live: Option<Live<'h, D, N, R, S>>,
+    over: Option<Over<N, S>>,
+}
+
+impl<'h, D: Driver, N: Naming, R: Wait + Drop, S: SpoolStore, P> Model for Held<'h, D, N, R, S, P> {
+    ghost use Rattle.sd_lines.specs.Held.{HeldIs};
+
+    ghost Value = { HeldIs };
+
+    ghost view = { λ h. record { live = h.live; over = h.over } };
+}
+
+impl<
+    'h,
+    D: Driver,
+    N: Naming,
+    R: Wait + Clock + Drop,
+    S: SpoolStore + Drop,
+    P: Patience + Drop,
+> Held<'h, D, N, R, S, P> {
+    /// A talk that opened no session yet.
+    pub(crate) fn nothing(hub: &'h Hub<D, N, R, S>, patience: P) -> Self
+        ensures { result ≡ record { live = None; over = None } }
+    {
+        Held {
+            hub,
+            patience,
+            live: None,
+            over: None,
+        }
+    }
+
+    pub(crate) fn hub(&self) -> &'h Hub<D, N, R, S> {
+        self.hub
+    }
+
+    /// What an event comes to.
+    pub(crate) fn answer(&mut self, event: Event) -> Reply
+        ensures { AnswersEvent event result (last_of self.old) (last_of self.new) }
+    {
+        match event {
+            Event::Open {
+                job,
+                pool,
+                media,
+                moment,
+            } => self.open(job, pool, &media, moment),
+            Event::Append { ticket, rec } => self.append(ticket, &rec),
+            Event::End { ticket, moment } => self.end(ticket, moment),
+            Event::Close { ticket } => self.close(ticket),
+            Event::Cancel { ticket } => self.cancel(ticket),
+            _ => Reply::Refused(Refusal::BadCommand),
+        }
+    }
+
+    // Opens a session, unless the talk's goes on.
+    fn open(&mut self, job: JobId, pool: PoolName, media: &MediaName, moment: i64) -> Reply
+        ensures { AnswersOpen result (last_of self.old) (last_of self.new) }
+    {
+        if self.live.is_some() {
+            return Reply::Refused(Refusal::BadCommand);
+        }
+        match open(self.hub, job, pool, media, moment) {
+            Ok(
+                Begun {
+                    ticket,
+                    drive,
+                    live,
+                },
+            ) => {
+                self.live = Some(live);
+                Reply::Opened { ticket, drive }
+            }
+            Err(why) => Reply::Refused(why),
+        }
+    }
+
+    // Adds a record to the talk's session.
+    fn append(&mut self, ticket: Ticket, rec: &Rec) -> Reply
+        ensures { AnswersOwn (Appends rec.now) ticket result (last_of self.old) (last_of self.new) }
+    {
+        let hub = self.hub;
+        let Some(live) = &mut self.live else {
+            return self.refuse(ticket);
+        };
+        if !live.is_of(ticket) {
+            return Reply::Refused(Refusal::SessionNotOpen);
+        }
+        let (drive, lane) = (live.part().no(), live.part().session().lane());
+        let reply = match live.add(&hub.rt, rec, &self.patience) {
+            Ok(count) => {
+                hub.count(drive, lane, count);
+                Reply::Taken { count }
+            }
+            Err(why) => Reply::Refused(why),
+        };
+        self.leave_if_over();
+        reply
+    }
+
+    // Adds the end label to the talk's session.
+    fn end(&mut self, ticket: Ticket, moment: i64) -> Reply
+        ensures { AnswersOwn (Ends moment) ticket result (last_of self.old) (last_of self.new) }
+    {
+        let hub = self.hub;
+        let Some(live) = &mut self.live else {
+            return self.refuse(ticket);
+        };
+        if !live.is_of(ticket) {
+            return Reply::Refused(Refusal::SessionNotOpen);
+        }
+        let records = live.part().session().records();
+        match live.end(moment) {
+            Ok(()) => {
+                hub.tell_ended(ticket, records);
+                Reply::Ended
+            }
+            Err(why) => Reply::Refused(why),
+        }
+    }
+
+    // Closes the talk's session.
+    fn close(&mut self, ticket: Ticket) -> Reply
+        ensures { AnswersOwn Shuts ticket result (last_of self.old) (last_of self.new) }
+    {
+        let hub = self.hub;
+        let Some(live) = &mut self.live else {
+            return self.refuse(ticket);
+        };
+        if !live.is_of(ticket) {
+            return Reply::Refused(Refusal::SessionNotOpen);
+        }
+        let drive = live.part().no();
+        let reply = match live.close(&hub.rt, &self.patience) {
+            Ok(Shut { receipt, spans }) => {
+                let key = receipt.key();
+                hub.keep(drive, receipt);
+                Reply::Closed { key, spans }
+            }
+            Err(why) => Reply::Refused(why),
+        };
+        self.leave_if_over();
+        reply
+    }
+
+    /// Gives up the talk's session.
+    pub(crate) fn cancel(&mut self, ticket: Ticket) -> Reply
+        ensures { AnswersOwn Cancels ticket result (last_of self.old) (last_of self.new) }
+    {
+        let Some(live) = &mut self.live else {
+            return self.refuse(ticket);
+        };
+        if !live.is_of(ticket) {
+            return Reply::Refused(Refusal::SessionNotOpen);
+        }
+        let reply = match live.cancel() {
+            Ok(()) => Reply::Cancelled,
+            Err(why) => Reply::Refused(why),
+        };
+        self.leave_if_over();
+        reply
+    }
+
+    /// Gives up the talk's session, if it goes on.
+    pub(crate) fn give_up(&mut self) {
+        if let Some(live) = &mut self.live {
+            let _ = live.cancel();
+        }
+        self.leave_if_over();
+    }
+
+    /// Whether the talk opened this session last.
+    pub(crate) fn is_last(&self, ticket: Ticket) -> bool {
+        match (&self.live, &self.over) {
+            (Some(live), _) => live.is_of(ticket),
+            (None, Some(over)) => over.is_of(ticket),
+            (None, None) => false,
+        }
+    }
+
+    // Why an event of this session is refused, while none of the talk goes on.
+    fn refuse(&self, ticket: Ticket) -> Reply
+        requires { self.now.live ≡ None }
+        ensures { RefusesOver ticket result self.now.over }
+    {
+        match &self.over {
+            Some(over) if over.is_of(ticket) => Reply::Refused(over.why()),
+            _ => Reply::Refused(Refusal::SessionNotOpen),
+        }
+    }
+
+    // The talk's session leaves its lane, where it goes on no more.
+    fn leave_if_over(&mut self)
+        ensures { last_of self.new ≡ last_of self.old }
+    {
+        let Some(why) = why_over(&self.live) else {
+            return;
+        };
+        if let Some(live) = self.live.take() {
+            self.over = Some(leave(self.hub, live, why));
+        }
+    }
+}
+
+// Why a session goes on no more, where there is one and it doesn't.
+fn why_over<D: Driver, N: Naming, R: Wait + Clock + Drop, S: SpoolStore + Drop>(
+    live: &Option<Live<'_, D, N, R, S>>,
+) -> Option<Refusal>
+    ensures { IfSome result (λ why. IfSome live.now (λ p. NotRunning p.session why)) }
+{
+    match live {
+        Some(live) => live.part().session().running().err(),
+        None => None,
+    }
+}

@@ -1,0 +1,144 @@
+// The port of a talk.
+ghost use Rattle.std.specs.Prelude.{◌≡◌, ◌++◌, List, All, IfOk};
+ghost use Rattle.sd_append.specs.Port.{IsLine, Said, Stepped, WasRead};
+ghost use Rattle.sd_base.specs.Record.{Record};
+ghost use Rattle.sd_lines.specs.Held.{AnswersEvent, GivesUpAtMost};
+ghost use Rattle.sd_lines.specs.Port.{KeepsPort, behind, new_port};
+
+use crate::console::obey_line;
+use crate::held::Held;
+use crate::hub::Hub;
+use crate::reading::{Reading, read};
+use sd_append::{Log, ReadBack};
+use sd_base::{Items, Refusal, SessionKey};
+use sd_bnet::Payload;
+use sd_driver::Driver;
+use sd_line::Naming;
+use sd_machine::{Event, Reply};
+use sd_readback::Sink;
+use sd_span::Span;
+use sd_spool::SpoolStore;
+use sd_stations::Patience;
+use std::marker::{Brand, Model};
+use std::snapshot::Snapshot;
+use std::sync::Wait;
+use std::time::Clock;
+
+/// What a talk asks its daemon by: one session at a time, over drives that others use beside it. In a contract it is a
+/// `LinePortIs`. Its type keeps what `KeepsPort` says: the records that it answered to be taken are those that the session's
+/// part was told.
+#[derive(Drop)]
+pub struct LinePort<'h, D: Driver, N: Naming, R: Wait + Drop, S: SpoolStore, P> {
+    held: Held<'h, D, N, R, S, P>,
+    // Devices of its own over the volumes of the drives 1, 2 and on, by which sessions are read, so that no read keeps a
+    // drive from its work. Of a drive that has none here the drive itself is used.
+    readers: Vec<D>,
+    moment: i64,
+    log: Log,
+}
+
+impl<'h, D: Driver, N: Naming, R: Wait + Drop, S: SpoolStore, P> Model
+    for LinePort<'h, D, N, R, S, P> {
+    ghost use Rattle.sd_lines.specs.Held.{last_of};
+    ghost use Rattle.sd_lines.specs.Port.{KeepsPort, LinePortIs};
+
+    ghost Value = { LinePortIs };
+
+    ghost view = { λ p. record { last = last_of p.held; moment = p.moment; asked = p.log } };
+
+    ghost invariant = { λ p.
+        KeepsPort (record { last = last_of p.held; moment = p.moment; asked = p.log }) };
+}
+
+impl<
+    'h,
+    D: Driver + Drop,
+    N: Naming,
+    R: Wait + Clock + Drop,
+    S: SpoolStore + Drop,
+    P: Patience + Drop,
+> LinePort<'h, D, N, R, S, P> {
+    /// The port of a talk that begins, at this moment in microseconds. A record and a close wait so patiently for a volume
+    /// that their drive needs.
+    pub fn new(hub: &'h Hub<D, N, R, S>, readers: Vec<D>, moment: i64, patience: P) -> Self
+        ensures { result ≡ new_port moment }
+    {
+        LinePort {
+            held: Held::nothing(hub, patience),
+            readers,
+            moment,
+            log: Log::new(),
+        }
+    }
+
+    /// What its type keeps. Does nothing.
+    pub fn know(&self)
+        ensures { KeepsPort self.now }
+    {
+        let _ = &self.moment;
+    }
+
+    /// The reply to an event.
+    pub fn step(&mut self, event: Event) -> Reply
+        ensures answers { AnswersEvent event result self.old.last self.new.last }
+        ensures port { self.new ≡ behind (Stepped event result) self.new.last self.old }
+    {
+        let given = Snapshot::of(&event);
+        let reply = self.held.answer(event);
+        self.log = self.log.stepped(given, &reply);
+        reply
+    }
+
+    /// Reads a session back by its spans. Each record goes to the sink as it comes; those before a fault stay there.
+    pub fn read<K: Sink>(&mut self, key: SessionKey, spans: &[Span], sink: K) -> ReadBack<K>
+        ensures { (records : List Record)
+            × (K.got result.sink ≡ K.got sink ++ records)
+            × (self.new ≡ behind (WasRead key spans.now records result.answer) self.old.last
+            self.old) }
+    {
+        let read = read::<Brand, D, N, R, S, K>(
+            self.held.hub(),
+            &mut self.readers,
+            key,
+            spans,
+            sink,
+        );
+        let Reading {
+            sink,
+            handed,
+            answer,
+        } = read;
+        self.log = self.log.was_read(key, spans, handed, &answer);
+        ReadBack { sink, answer }
+    }
+
+    /// The lines that answer a console's line, each with its newline, or the refusal.
+    pub fn console(&mut self, line: &[u8]) -> Result<Items<Payload>, Refusal>
+        ensures lines { IfOk result (λ lines. All IsLine lines) }
+        ensures own { GivesUpAtMost self.old.last self.new.last }
+        ensures port { self.new ≡ behind (Said self.old.moment line.now result) self.new.last
+            self.old }
+    {
+        let answer = obey_line(&mut self.held, self.moment, line);
+        self.log = self.log.said(self.moment, line, &answer);
+        answer
+    }
+
+    /// The talk has ended. Its session, if it goes on, is given up, and leaves its lane.
+    pub fn finish(self) {
+        let LinePort {
+            mut held,
+            readers: _,
+            moment: _,
+            log: _,
+        } = self;
+        held.give_up();
+    }
+
+    /// The moment of what happens now, in microseconds.
+    pub fn moment(&self) -> i64
+        ensures { result ≡ self.now.moment }
+    {
+        self.moment
+    }
+}
