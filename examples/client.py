@@ -37,8 +37,8 @@ END_OF_DATA, TERMINATE = -1, -4
 MOST_BYTES, PORT = 4_000_000, 9103
 # A refusal in a phase is told at its end: after so many bytes a phase ends, and the next one goes on.
 PHASE = 64_000_000
-# How often a close is asked for while something of the session is on its way, and how many seconds pass between.
-CLOSES, PAUSE = 600, 0.1
+# For how many seconds a close is asked for while something of the session is on its way, and how many pass between.
+CLOSING, PAUSE = 60, 0.1
 # So many seconds a daemon may take to listen that has just been started.
 START = 20
 # The Streams of backup: what a file is called, and what it holds.
@@ -95,8 +95,7 @@ class Talk:
         try:
             yield
         except TimeoutError as why:
-            raise Lost(f"the daemon gave no answer for {self.timeout} seconds; it serves one client after another, "
-                       "and may have had another one") from why
+            raise Lost(f"the daemon gave no answer for {self.timeout} seconds") from why
         except ConnectionRefusedError as why:
             raise Lost("no daemon listens on this port") from why
         except OSError as why:
@@ -197,15 +196,15 @@ def send_some(talk, packets):
 def close_session(talk, ticket):
     """Ends the session and closes it. Gives its lines, by which it is read back."""
     talk.ask(f"append end session {ticket}")
-    for _ in range(CLOSES):
+    until = time.monotonic() + CLOSING
+    while True:
         try:
             talk.ask(f"append close session {ticket}")
             return list(talk.lines())
         except Refused as why:
-            if not str(why).startswith("3907"):
+            if not str(why).startswith("3907") or time.monotonic() > until:
                 raise
         time.sleep(PAUSE)
-    raise Refused("3907 Not yet")
 
 
 def records_of(file, sizes):

@@ -11,7 +11,7 @@ from printed import records_of
 from shim import loaded
 
 # A close that comes too early is told at once.
-client.CLOSES, client.PAUSE = 1, 0
+client.CLOSING, client.PAUSE = 0, 0
 
 
 class Talk(client.Talk):

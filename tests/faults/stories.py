@@ -7,6 +7,7 @@ import itertools
 import os
 import pathlib
 import random
+import re
 import shutil
 import stat
 import tempfile
@@ -14,7 +15,7 @@ import tempfile
 from files import FAULT, FULL_ERRORS, LABELLED, NO_ROOM, NOT_OURS, NOT_THERE, differs, said
 from scripts import each
 from daemon import SDD
-from sites import Site, session_body, volume_of, whole
+from sites import Site, Talk, client, session_body, volume_of, whole
 from session_model import Session
 
 NOBODY = 65534
@@ -198,6 +199,30 @@ def days(folder, shim):
     yield from each(fails_second, [(shim, after, first.closed, call) for call in calls_of(later_calls)])
 
 
+# What becomes of a volume by a call on it that fails, as the log has it.
+IS_FULL, HAS_FAILED = "drive 1: volume Vol-0001 is full", "drive 1: the device failed with volume Vol-0001"
+MET = {("write", errno.ENOSPC): IS_FULL, ("write", errno.EIO): HAS_FAILED, ("datasync", errno.EIO): HAS_FAILED,
+       ("sync", errno.EIO): HAS_FAILED}
+
+
+def met(folder, shim):
+    """The log has what a drive met with a volume that takes no more, and which it goes on with."""
+    for (kind, number), line in MET.items():
+        site = Site(made_in(folder, f"{kind}-{number}"), shim)
+        site.well()
+        with site.daemon(1000) as daemon:
+            for volume in VOLUMES[:2]:
+                site.say(f"label 1 {volume} Default File")
+            site.fail(kind, 1, "fail", number)
+            site.job(JOBS["first"])
+            if not daemon.logs(line):
+                yield f"{kind} {number}: {daemon.log()}"
+            site.well()
+            yield from differs(f"{kind} {number}", len(site.job(JOBS["first"])), 2)
+            if not daemon.logs("drive 1: volume Vol-0002 is mounted"):
+                yield f"{kind} {number}: {daemon.log()}"
+
+
 SPOOL = 4096
 SPOOLING = ("block = 1024", f"spool = {SPOOL}")
 
@@ -231,7 +256,8 @@ def fails_spooling(shim, call):
         opens = call[:2] == ("truncate", 1)
         wanted = "closed" if call[2:] in HARMLESS else SPOOL_FAULT if opens else LOST
         yield from differs(about, [answer for line, answer in day.answers if line == "job"], ["closed", wanted, "closed"])
-        if wanted != "closed" and wanted not in log:
+        place = "job 7" if opens else "session 2 on drive 1"
+        if wanted != "closed" and not any(re.fullmatch(rf"talk \d+: {place}: {wanted}", line) for line in log):
             yield f"{about}: not logged: {log[-4:]}"
 
 
@@ -315,6 +341,23 @@ def spool_opens(folder, shim):
                 yield f"{kind} {nth} {number}: {answers}"
 
 
+def spool_opens_again(folder, shim):
+    """The same in a talk that had a session before. The log says it of the job, and not of the session that was closed."""
+    site = Site(folder, shim, "spools", SPOOLING)
+    site.well()
+    with site.daemon(1000) as daemon:
+        site.say("label 1 Vol-0001 Default File")
+        with Talk(site.port) as talk:
+            ticket = client.open_session(talk, 7, "Default", "File")
+            client.append_packets(talk, ticket, map(client.packet, JOBS["first"]))
+            client.close_session(talk, ticket)
+            site.fail("truncate", 1)
+            talk.send(client.text_packet("append open session JobId=7 Pool=Default Media=File"))
+            yield from differs("another open", talk.receive(), f"{SPOOL_FAULT}\n".encode())
+        if not daemon.logs(f"talk 2: job 7: {SPOOL_FAULT}"):
+            yield f"not logged: {daemon.log()[-3:]}"
+
+
 def made_in(folder, name):
     place = folder / name
     place.mkdir()
@@ -346,7 +389,7 @@ def spool_places(folder, shim):
                 answer = site.job(JOBS["first"])
                 if len(answer) == 1:
                     yield f"the folder is made: {answer}"
-            if SPOOL_FAULT not in daemon.log():
+            if not any(line.endswith(f": job 7: {SPOOL_FAULT}") for line in daemon.log()):
                 yield f"{name}: not logged"
     kept = [(folder / path).read_bytes() for path in ("target", "a file/spools")]
     yield from differs("what stands there", (kept, (folder / "nothing").exists()), (2 * [b"kept"], False))

@@ -1,5 +1,6 @@
 """The programs that the tests run, and a daemon of a test's own."""
 import collections
+import datetime
 import itertools
 import os
 import pathlib
@@ -17,7 +18,11 @@ SDD = ROOT / "crates" / "sdd" / "out" / "sdd"
 SDTOOL = ROOT / "crates" / "sdtool" / "out" / "sdtool"
 # Nothing is waited for longer, in seconds.
 WAIT = 30
+# What goes on beside a talk may take so long behind it.
+SOON = 10
 LISTENS = "0A"
+# A line of the log: its moment, in whole seconds, and its text.
+DATED = re.compile(r"(\d{4}-\d\d-\d\dT\d\d:\d\d:\d\dZ) (.+)")
 # The file that a daemon has locked in the folder of each drive.
 LOCK = ".lock~"
 # The ports in the order in which they are given out, so that none comes twice before all others came.
@@ -63,6 +68,21 @@ def is_listened_on(port):
     return (port, LISTENS) in sockets()
 
 
+def dated(line):
+    """The moment of a line of the log, in seconds, and its text."""
+    if not (found := DATED.fullmatch(line)):
+        raise ValueError(f"the log has {line!r}")
+    return datetime.datetime.fromisoformat(found[1]).timestamp(), found[2]
+
+
+def until(holds, seconds=WAIT):
+    """Waits until that holds, for so many seconds at most, and gives what it gives then."""
+    end = time.monotonic() + seconds
+    while not (given := holds()) and time.monotonic() < end:
+        time.sleep(0.005)
+    return given
+
+
 def drive(media, folder, *lines):
     """The lines of a drive in a configuration."""
     return "\n".join(["[[drive]]", f'media = "{media}"', f'folder = "{folder}"', *lines, ""])
@@ -99,8 +119,13 @@ class Daemon:
         self.kill()
 
     def log(self):
-        """The lines of its log."""
-        return self.logged.read_text(errors="replace").splitlines()
+        """The lines of its log, without their moments."""
+        whole, _, _ = self.logged.read_text(errors="replace").rpartition("\n")
+        return [dated(line)[1] for line in whole.splitlines()]
+
+    def logs(self, text):
+        """Whether its log has that line, or has it soon."""
+        return until(lambda: text in self.log(), SOON)
 
     def printed(self):
         return self.out.read_text(errors="replace")

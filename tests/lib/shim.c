@@ -48,6 +48,7 @@
 #include <dlfcn.h>
 #include <errno.h>
 #include <fcntl.h>
+#include <pthread.h>
 #include <signal.h>
 #include <stdarg.h>
 #include <stdio.h>
@@ -217,18 +218,18 @@ static void keep(char names[][256], int file, const char *name)
 
 enum how { GOES, FAILS, SHORT, FULL, ELSEWHERE, ABROAD };
 
+/* Threads call at once. */
+static pthread_mutex_t plan_read = PTHREAD_MUTEX_INITIALIZER, changing = PTHREAD_MUTEX_INITIALIZER;
 static long serial = -1, count;
 static char full_kind[16];
 
-/* What becomes of a call of this kind, by the plan. */
-static enum how struck(const char *kind, const char *name)
+/* What becomes of a call of this kind, for who has the plan alone. */
+static enum how planned_for(const char *kind, const char *name)
 {
     char text[100] = "", wanted[16] = "", how[16] = "";
     long now = 0, nth = 0, number = 0;
     int plan;
 
-    if (!name)
-        return GOES;
     tell("FAULTS_LOG", text, snprintf(text, sizeof text, "%s %.80s\n", kind, name));
     memset(text, 0, sizeof text);
     plan = syscall(SYS_openat, AT_FDCWD, getenv("FAULTS_PLAN"), O_RDONLY);
@@ -264,6 +265,19 @@ static enum how struck(const char *kind, const char *name)
     return FAILS;
 }
 
+/* What becomes of a call of this kind. */
+static enum how struck(const char *kind, const char *name)
+{
+    enum how how;
+
+    if (!name)
+        return GOES;
+    pthread_mutex_lock(&plan_read);
+    how = planned_for(kind, name);
+    pthread_mutex_unlock(&plan_read);
+    return how;
+}
+
 static size_t part(enum how how, size_t size) { return how == SHORT ? (size + 1) / 2 : size; }
 
 static long changes, changing_writes;
@@ -275,9 +289,11 @@ static void end_here(void)
         sleep(1);
 }
 
-/* A call that changes or syncs begins. */
+/* A call that changes or syncs begins. None of another thread begins before it is done, so that the calls are told in their
+   order. */
 static void begin(void)
 {
+    pthread_mutex_lock(&changing);
     if (++changes == number_in("STOP_BEFORE"))
         end_here();
 }
@@ -295,6 +311,7 @@ static long done(long answer, const char *form, ...)
     }
     if (changes == number_in("STOP_AFTER"))
         end_here();
+    pthread_mutex_unlock(&changing);
     return answer;
 }
 

@@ -1,4 +1,4 @@
-"""What a daemon may meet: clients that take nothing, that wait for each other, that send what is dropped; another daemon
+"""What a daemon may meet: clients that take nothing, that send what is dropped; another daemon
 over its folder; want of memory; a log that nobody reads or that isn't wanted; being stopped for a while; a limit of its
 files. No signal is masked here. tests/serve/run runs it.
 """
@@ -15,7 +15,7 @@ import subprocess
 import time
 
 from clients import client, say
-from daemon import LOCK, SDTOOL, WAIT, Daemon, drive, free_port, serve_status
+from daemon import LOCK, SDTOOL, WAIT, Daemon, dated, drive, free_port, serve_status, until
 from shim import loaded
 
 # So much is neither kept by the system for a client that reads nothing, nor long to write.
@@ -29,9 +29,13 @@ NO_SPANS = (b"no span", b"span Vol-0001 1 1 1 92", b"span Vol-0001 1 1 1 92 259 
 # What a client sends behind one of them, and what that may cost: less than a third of it.
 DROPPED = [client.packet(b"x" * 1_000_000)] * 30
 MOST_GROWN = 10_000_000
-HELLO = [client.packet(b"hello")]
+HELLO, HELLO_READ = [client.packet(b"hello")], b"rec 1 2 5\nhello\nok read 1 5 ended\n"
 # At least so many allocations come before the daemon listens, and so many in the talks behind that.
 LEAST_ALLOCATIONS, LEAST_WANTS = 100, 10
+# Among so many of its last are those of the settling of a drive. How a daemon ends that settles it, and one that can't: what
+# it prints, its status, and the last line of its log.
+LAST_ALLOCATIONS = 40
+SETTLED, UNSETTLED = ("", 0, "drive 1 is settled"), ("fault settle 1\n", 1, "drive 1 can't be settled")
 
 
 class Place:
@@ -63,12 +67,16 @@ class Place:
             client.append_packets(talk, ticket, packets)
             return client.close_session(talk, ticket)
 
-    def read(self, lines):
-        """The data of the session with these lines, over a talk of its own."""
-        data = []
+    def records(self, lines):
+        """The data of each record of the session with these lines, over a talk of its own."""
+        records = []
         with self.talk() as talk:
-            client.read_session(talk, lines, lambda index, stream, one: data.append(one))
-        return b"".join(data)
+            client.read_session(talk, lines, lambda index, stream, one: records.append(one))
+        return records
+
+    def read(self, lines):
+        """The same, one behind the other."""
+        return b"".join(self.records(lines))
 
     def serves(self, checks, what):
         """The daemon goes on: a job is closed, and read back."""
@@ -86,32 +94,8 @@ def takes_nothing(checks, folder, library):
             quiet.sendall(client.text_packet(f"read session Time={seconds} Id={number}")
                           + b"".join(map(client.text_packet, lines[1:])) + client.signal(client.END_OF_DATA))
             place.serves(checks, "behind a client that takes nothing")
-        ends = [line.partition(" ended: ")[2] for line in daemon.log()]
-        checks.check("how it ended", "nothing could be written" in ends, daemon.log())
-
-
-def two_wait(checks, folder, _):
-    """Two clients that wait for a third one are served when it ends, in the order in which they came."""
-    place, order = Place(folder / "two_wait"), []
-    with place.daemon(), contextlib.ExitStack() as stack:
-        first, second, third = (stack.enter_context(place.talk()) for _ in range(3))
-        checks.same("the first", first.console("requests"), ["ok requests 0"])
-        for number, talk in ((2, second), (3, third)):
-            talk.send(client.text_packet("console requests"))
-            talk.socket.settimeout(0.3)
-            checks.check(f"{number} waits", raises(TimeoutError, talk.socket.recv, 1))
-            talk.socket.settimeout(WAIT)
-        for ended, talk, number in ((first, second, 2), (second, third, 3)):
-            ended.terminate()
-            checks.same(f"{number} is served", list(talk.lines()), ["ok requests 0"])
-            order.append(number)
-            if number == 2:
-                third.socket.settimeout(0.3)
-                checks.check("3 waits for 2", raises(TimeoutError, third.socket.recv, 1))
-                third.socket.settimeout(WAIT)
-        third.terminate()
-        place.label(checks)
-        place.serves(checks, "behind all three")
+            ends = until(lambda: [line for line in daemon.log() if line.endswith(" ended: nothing could be written")])
+        checks.same("how it ended", len(ends), 1)
 
 
 def raises(kind, act, *words):
@@ -144,15 +128,15 @@ def log_unread(checks, folder, _):
     with place.daemon("--log", log=False, stderr=writes) as daemon:
         os.close(writes)
         with open(reads) as log:
-            checks.check("the log", log.readline().startswith("listening on "))
+            checks.check("the log", dated(log.readline().rstrip("\n"))[1].startswith("listening on "))
         place.label(checks)
         place.serves(checks, "with a log that nobody reads")
         checks.same("it runs", daemon.process.poll(), None)
 
 
 def stopped_a_while(checks, folder, _):
-    """A daemon that is stopped and goes on serves as before. The job that it was at is whole or told as lost, and what
-    was closed before is read."""
+    """A daemon that is stopped and goes on serves as before. The job that it was at is closed and read, as what was closed
+    before is."""
     place = Place(folder / "stopped_a_while")
     with place.daemon() as daemon:
         place.label(checks)
@@ -168,27 +152,20 @@ def stopped_a_while(checks, folder, _):
                 await_state(daemon.process.pid, "T")
                 daemon.process.send_signal(signal.SIGCONT)
                 time.sleep(0.1)
-                outcome = went_on(talk, ticket, data_comes)
-            said = place.say("console", "status")[0]
-            wanted = {"closed": f"session {ticket} closed 1\n", "lost": f"session {ticket} cancelled 0\n"}[outcome]
-            checks.check(f"its session is {outcome}", wanted in said, said)
+                checks.same("its job", place.read(went_on(talk, ticket, data_comes)), b"hello")
         checks.same("what was closed", place.read(lines), b"hello")
         place.serves(checks, "behind a stop")
 
 
 def went_on(talk, ticket, data_comes):
-    """Whether the job of a talk could be closed, or its connection is lost."""
-    try:
-        if not data_comes:
-            talk.ask(f"append data {ticket}")
-            talk.send(client.text_packet("1 2 0"))
-        end = client.signal(client.END_OF_DATA)
-        talk.send(*HELLO, end, end)
-        talk.line()
-        client.close_session(talk, ticket)
-    except client.Lost:
-        return "lost"
-    return "closed"
+    """Goes on with the job of a talk, closes it, and gives its lines."""
+    if not data_comes:
+        talk.ask(f"append data {ticket}")
+        talk.send(client.text_packet("1 2 0"))
+    end = client.signal(client.END_OF_DATA)
+    talk.send(*HELLO, end, end)
+    talk.line()
+    return client.close_session(talk, ticket)
 
 
 def await_state(process, state):
@@ -363,6 +340,35 @@ def served(place):
     return came, faults
 
 
+def unsettled(checks, folder, library):
+    """The last allocations of a daemon that ends are refused, one in each run. A drive that can't be settled for that is
+    told by a line and by the status, and in the log. What was closed is read all the same."""
+    count, kinds = folder / "settling-count", collections.Counter()
+    checks.same("with ample memory", ended(checks, folder / "settling", loaded(library, COUNT_ALLOC=count)), SETTLED)
+    counted = sum(map(int, count.read_text().split()))
+    checks.check("allocations", counted >= LEAST_ALLOCATIONS, counted)
+    for number in range(counted, max(0, counted - LAST_ALLOCATIONS), -1):
+        came = ended(checks, folder / f"settling-{number}", loaded(library, FAIL_ALLOC=number))
+        checks.check(f"allocation {number}", came in (SETTLED, UNSETTLED) or came[:2] == (f"{WANT}\n", 1), came)
+        kinds[came] += 1
+    checks.check("unsettled", kinds[UNSETTLED] > 0, kinds)
+
+
+def ended(checks, folder, env):
+    """What a daemon prints that ends behind a job, its status, and the last line of its log. What was closed is read."""
+    place, lines = Place(folder), []
+    with place.daemon("--talks", "1", env=env) as daemon:
+        with contextlib.suppress(client.Failed), place.talk() as talk:
+            talk.console("label 1 Vol-0001 Default File")
+            ticket = client.open_session(talk, 7, "Default", "File")
+            client.append_packets(talk, ticket, HELLO)
+            lines = client.close_session(talk, ticket)
+        came = (*daemon.wait(), daemon.log()[-1])
+    if lines:
+        checks.same(f"{folder.name}: its job", read_by_tool(place, lines), HELLO_READ)
+    return came
+
+
 def labelled(place):
     """A volume is labelled, under a new name if the first one was refused: such a label may leave its name."""
     place.names = getattr(place, "names", 0) + 1
@@ -372,10 +378,14 @@ def labelled(place):
 
 def closed_and_read(place):
     lines = place.job()
+    return read_by_tool(place, lines) == HELLO_READ and place.read(lines) == b"hello"
+
+
+def read_by_tool(place, lines, volumes=None):
+    """What `sdtool read` prints of the session with these lines, from the place's first drive or another folder."""
     spans = place.folder / "spans"
     spans.write_text("".join(f"{line}\n" for line in lines))
-    done = subprocess.run([SDTOOL, "read", spans, place.volumes], capture_output=True, timeout=WAIT)
-    return done.stdout == b"rec 1 2 5\nhello\nok read 1 5 ended\n" and place.read(lines) == b"hello"
+    return subprocess.run([SDTOOL, "read", spans, volumes or place.volumes], capture_output=True, timeout=WAIT).stdout
 
 
 def shown(place):
@@ -383,5 +393,5 @@ def shown(place):
         return re.fullmatch(r"session \d+ closed 1", talk.console("status")[-2]) is not None
 
 
-GROUPS = (takes_nothing, two_wait, without_log, log_unread, stopped_a_while, limited_files, two_daemons, one_folder,
-          without_lock, dropped_spans, want_of_memory)
+GROUPS = (takes_nothing, without_log, log_unread, stopped_a_while, limited_files, two_daemons, one_folder,
+          without_lock, dropped_spans, want_of_memory, unsettled)

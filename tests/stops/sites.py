@@ -14,7 +14,7 @@ from daemon import SDTOOL, WAIT, Daemon, drive, free_port
 from shim import loaded
 
 # A close that comes too early is told at once.
-client.CLOSES, client.PAUSE = 1, 0
+client.CLOSING, client.PAUSE = 0, 0
 BLOCK_HEADER, LEAST_BLOCK, MOST_BLOCK = 24, 36, 1_048_576
 
 

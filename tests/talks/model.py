@@ -55,6 +55,10 @@ def packets_of(sent):
     return packets + ([sent[at:]] if at < len(sent) else [])
 
 
+# Talks that only ask how all stands, as they are sent.
+LOOKS = [packet(f"console {text}".encode()) for text in ("status", "requests", *(f"jobmedia {at}" for at in range(1, 10)))]
+
+
 class Conversation:
     """The packets of a talk in their order, `>` the client's and `<` the daemon's; how it ends; what the log has of it."""
 
@@ -71,6 +75,10 @@ class Conversation:
             left -= len(step) if mark == ">" else 0
             said += step if mark == "<" and left >= 0 else b""
         return said
+
+    def only_looks(self):
+        """Whether it asks how all stands, and nothing else."""
+        return self.sent() in LOOKS
 
     def ends(self):
         """Where each packet of the client ends."""
@@ -114,7 +122,8 @@ def parsed(text):
     `>` a packet of the client, `>>` bytes of the client in hexadecimal, `<` a line of the daemon or a signal, `<<` a packet
     of the daemon that is no line, `.` how the talk ends, `%` what the log has of it; `?` a line of the operator in a talk
     of its own, `=` what answers that; `:` and `::` lines of the configuration and of its drive, `!` the most bytes of a
-    file; and, between talks, `^` the time of another run, `+` a volume's new length, `~` which byte of it is damaged.
+    file; and, between talks, `&` what the log has next of a drive, `^` the time of another run, `+` a volume's new length,
+    `~` which byte of it is damaged.
     """
     lines, longest, acts, over = {":": "", "::": ""}, None, [], True
     for mark, _, rest in (item.partition(" ") for item in re.split(r" \| |\n", text) if item):
@@ -122,7 +131,7 @@ def parsed(text):
             lines[mark] += rest + "\n"
         elif mark == "!":
             longest = int(rest)
-        elif mark in "^+~":
+        elif mark in "&^+~":
             acts.append((mark, rest))
         elif mark == "%":
             acts[-1].log.append(rest)
@@ -246,19 +255,24 @@ class Session:
 
 
 class World:
-    """The volume and the sessions of a run; and the log of what is opened, closed and cancelled."""
+    """The volume and the sessions of a run; the log of what is opened, closed and cancelled, and of what the drive met."""
 
     def __init__(self):
         self.loaded, self.end = True, LABEL_BLOCK
+        # Whether something was sent that nothing waited for: when its drive places it isn't said.
+        self.on_way = False
         # Where each block begins, its size, and whose body it has.
         self.blocks = {0: (LABEL_BLOCK, None, None)}
-        self.sessions, self.log = [], []
+        self.sessions, self.log, self.met = [], [], []
 
     def session(self, ticket):
         return self.sessions[ticket - 1] if 1 <= ticket <= len(self.sessions) else None
 
     def place_all(self, session):
         """Each round places a body that waits; a volume that isn't loaded is found and loaded."""
+        if session.waiting and not self.loaded:
+            self.met.append(f"drive 1: volume {VOLUME} is mounted")
+        self.on_way = self.on_way or bool(session.waiting)
         for body in session.waiting:
             session.placed.append((self.end, body))
             self.blocks[self.end] = (BLOCK_HEADER + body.size, session, body)
@@ -279,6 +293,7 @@ class World:
             return 0
         if event == "close":
             self.place_all(session)
+            self.on_way = False
         session.waiting, session.status = [], {"close": "closed", "cancel": "cancelled"}[event]
         size = sum(len(data) for *_, data in session.records)
         self.log.append(f"session {ticket} {session.status} with {len(session.records)} records of {size} bytes")
@@ -309,10 +324,13 @@ class World:
         return [f"drive 1 File {VOLUME if self.loaded else '-'} {running}", f"volume {VOLUME} Default File append {self.end}",
                 *(f"session {one.ticket} {one.status} {len(one.records)}" for one in self.sessions), "ok status"]
 
-    def console(self, text):
-        """The lines that answer a line of the operator, or the number of the refusal."""
+    def console(self, text, own):
+        """The lines that answer a line of the operator, in a talk that opened this session last, or the number of the
+        refusal. Another talk's session isn't cancelled."""
         loaded, (word, _, rest) = self.loaded, text.partition(" ")
         if word in ("cancel", "jobmedia") and (ticket := number_in(rest)):
+            if word == "cancel" and self.session(ticket) and ticket != own:
+                return 3933
             if word == "cancel":
                 return self.step("cancel", ticket) or ["ok cancelled"]
             return self.job_media(ticket) if self.session(ticket) else 3902
@@ -419,7 +437,7 @@ class Talk:
         elif (words := fields(r"read session Time=([^ ]*) Id=([^ ]*)", sent)) and all(map(number_in, words)):
             self.due, self.key, self.spans = "spans", tuple(map(int, words)), []
         elif words := fields(r"console (.*)", sent):
-            answer = self.world.console(words[0])
+            answer = self.world.console(words[0], self.own)
             self.refuse(answer) if isinstance(answer, int) else self.say(*answer)
             self.out += b"" if isinstance(answer, int) else signal(END_OF_DATA)
         else:
@@ -509,7 +527,8 @@ class Client:
             due = self.talk.world.session(self.talk.own).status
         if due == "spans" and self.talk.spans:
             due = "more_spans"
-        kind, text = self.numbers.choices(list(ACTS[due]), ACTS[due].values())[0]
+        acts = {act: weight for act, weight in ACTS[due].items() if not (self.talk.world.on_way and act in AT_REST)}
+        kind, text = self.numbers.choices(list(acts), acts.values())[0]
         act = getattr(self, kind)(text)
         return act.encode() + self.numbers.choice((b"", b"", b"\n", b"\0")) if isinstance(act, str) else act
 
@@ -566,6 +585,8 @@ OPEN, DATA, END, CLOSE = ("say", OPENS), ("own", "data"), ("own", "end session")
 CANCEL, DONE, HEADER, RECORD, SPAN = ("any", "console cancel "), ("say", END_OF_DATA), ("header", "-7"), ("record", ""), ("span", "")
 OTHERS = {("any", f"read session Time={TIME} Id="): 4, ("one_of", "console"): 2, ("any", "console jobmedia "): 1,
           ("one_of", "nonsense"): 1, DONE: 1}
+# What is answered by how a drive stands, or is done to it: that is drawn where nothing is on its way there.
+AT_REST = [act for act in OTHERS if act != DONE and act != ("one_of", "nonsense")]
 # What is due, for a command also how the talk's session stands, and how often which acts are drawn there.
 ACTS = {
     "command": {OPEN: 12, ("say", OPENS.replace("File", "Tape")): 1, DATA: 2, END: 1, CLOSE: 1, **OTHERS},
@@ -588,6 +609,7 @@ ENDINGS = [b"", b"", signal(TERMINATE), packet(b"hello")[:-2], b"\0", TOO_LONG]
 def drawn_talk(world, seed, count=40):
     """The bytes of a client that opens a session and does so many acts more, what is to go out, and the end of the talk."""
     client, sent = Client(world, seed), b""
+    world.on_way = False
     for at in range(count + 1):
         act = client.act() if at else OPENS.encode()
         client.talk.take(act)

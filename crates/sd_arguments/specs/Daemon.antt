@@ -8,20 +8,28 @@ use Rattle.sd_arguments.specs.declared.daemon.DaemonTask.{DaemonTask}
 use Rattle.sd_arguments.specs.declared.daemon.DaemonTask.TheVariants.{Check, Serve, Print, NoMemory}
 use Rattle.sd_arguments.specs.declared.daemon.Serving.{Serving}
 
--- `--talks N`: a number of 32 bits, which is 0 where it isn't given
-abbrev pub talks_rule : Rule
-talks_rule = record (new_rule (codes "talks")) {
-  long = Some (codes "talks");
+-- `--name VALUE`: a number of 32 bits, which is 0 where it isn't given
+abbrev pub count_rule : Text → Rule
+count_rule name = record (new_rule name) {
+  long = Some name;
   action = Some Set;
   value_names = 1;
   defaults = codes "0" ∷ [];
   parser = Some (parser.Signed (pos 0) (pos 4294967295));
 }
 
--- `serve CONF [--talks N] [--log]`
+-- `--talks N`
+abbrev pub talks_rule : Rule
+talks_rule = count_rule (codes "talks")
+
+-- the same of `--wait SECONDS`
+abbrev pub wait_rule : Rule
+wait_rule = count_rule (codes "wait")
+
+-- `serve CONF [--talks N] [--wait SECONDS] [--log]`
 abbrev pub serve_shape : Shape
 serve_shape =
-    command_shape (codes "serve") (required_rule (codes "CONF") ∷ talks_rule ∷ flag_rule (codes "log") ∷ [])
+    command_shape (codes "serve") (required_rule (codes "CONF") ∷ talks_rule ∷ wait_rule ∷ flag_rule (codes "log") ∷ [])
 
 -- the command line of the daemon
 unfoldable pub daemon_line : App
@@ -31,6 +39,7 @@ daemon_line = program_line (codes "sdd") (command_shape (codes "check") [] ∷ s
 pub record IsServing (given : List Row) (asked : Serving) : Type 0 where
   pub path : first_of (codes "CONF") given ≡ Some asked.path.now
   pub talks : IsCountOf (one_of (codes "talks") given) asked.talks
+  pub wait : IsCountOf (one_of (codes "wait") given) asked.wait
   pub log : IsFlagOf (one_of (codes "log") given) asked.log
 
 -- the task that this subcommand stands for

@@ -3,7 +3,7 @@ ghost use Rattle.std.specs.Prelude.{◌≡◌, IfErr, IfOk, [], codes, false, ma
 ghost use Rattle.clap.specs.Words.{HasKind, app_of, fault_of, found_of, rows_of, rule_of, shape_of};
 ghost use Rattle.clap.specs.declared.builder.command.Command.TheViews.{out-Command as fields_of};
 ghost use Rattle.sd_arguments.specs.Lines.{IsGiven, command_shape, flag_rule, required_rule};
-ghost use Rattle.sd_arguments.specs.Daemon.{AsksDaemon, IsServing, daemon_line, serve_shape, talks_rule};
+ghost use Rattle.sd_arguments.specs.Daemon.{AsksDaemon, IsServing, daemon_line, serve_shape, talks_rule, wait_rule};
 
 use crate::status::lacks_memory;
 use clap::{Arg, ArgAction, ArgMatches, Command, Error};
@@ -29,6 +29,8 @@ pub struct Serving<'a> {
     pub path: &'a str,
     /// After how many talks the daemon ends; 0 where it goes on.
     pub talks: u32,
+    /// How many seconds a record and a close wait for a volume that their drive needs.
+    pub wait: u32,
     /// Whether a log is written.
     pub log: bool,
 }
@@ -85,11 +87,13 @@ fn serve_command<'a>(alloc: Global) -> Result<Command<'a>, AllocError>
 {
     let path = path_argument(alloc);
     let talks = talks_argument(alloc);
+    let wait = wait_argument(alloc);
     let log = log_argument(alloc);
     Command::new(alloc, "serve")
-        .about("Serves clients on 127.0.0.1, one after another")
+        .about("Serves clients on 127.0.0.1")
         .arg(path)?
         .arg(talks)?
+        .arg(wait)?
         .arg(log)
 }
 
@@ -115,6 +119,19 @@ fn talks_argument<'a>(alloc: Global) -> Arg<'a>
         .help("Ends after so many talks; 0 for no end")
 }
 
+fn wait_argument<'a>(alloc: Global) -> Arg<'a>
+    ensures rule { rule_of result ≡ wait_rule }
+    ensures local { result.global ≡ false }
+{
+    Arg::new(alloc, "wait")
+        .long("wait")
+        .value_name("SECONDS")
+        .action(ArgAction::Set)
+        .value_parser(clap::value_parser!(u32))
+        .default_value("0")
+        .help("Lets a job wait so long for a volume that its drive needs; 0 for not at all")
+}
+
 fn log_argument<'a>(alloc: Global) -> Arg<'a>
     ensures rule { rule_of result ≡ flag_rule (codes "log") }
     ensures local { result.global ≡ false }
@@ -133,6 +150,7 @@ fn asked_of<'a>(given: &ArgMatches<'a>) -> Serving<'a>
     Serving {
         path: given.get_str("CONF").unwrap(),
         talks: given.get_one("talks").unwrap_or(0),
+        wait: given.get_one("wait").unwrap_or(0),
         log: given.get_flag("log"),
     }
 }

@@ -1,4 +1,5 @@
-pub mod SlotLemmas
-pub mod LineLemmas
-pub mod ViewLemmas
 pub mod BoardLemmas
+pub mod LineLemmas
+pub mod SendLemmas
+pub mod SlotLemmas
+pub mod ViewLemmas

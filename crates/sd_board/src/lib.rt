@@ -16,6 +16,7 @@ mod posted;
 mod posting;
 mod resting;
 mod seen;
+mod sends;
 mod sent;
 mod slot;
 
@@ -24,4 +25,5 @@ pub use board::Board;
 pub use opening::Opened;
 pub use posted::Posted;
 pub use seen::DriveSeen;
+pub use sends::board_sends;
 pub use sent::Sent;

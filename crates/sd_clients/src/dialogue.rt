@@ -1,14 +1,14 @@
-// The daemon with a client.
+// The daemon with its clients.
 mod client;
 
-use client::{make_folder, plays};
+use client::{make_folder, play};
 use sd_conf::read_conf;
-use sd_daemon::serve;
+use sd_daemon::{Bounds, serve};
 use sd_serve::Log;
 use std::test::Fail;
 use std::{fs, io, thread};
 
-// The daemon and a client in two threads: a volume is labelled, and a session is appended and closed.
+// The daemon in one thread, and two clients in others: a volume is labelled, and two sessions are appended and closed.
 #[test]
 fn serve_dialogue(rt: HostRuntime) -> Result<(), Fail> {
     let folder = make_folder(&rt)?;
@@ -20,9 +20,14 @@ fn serve_dialogue(rt: HostRuntime) -> Result<(), Fail> {
         return Ok(());
     };
     let log: Log<io::Sink> = Log::new(None);
-    let (served, played) = thread::join(&rt, || serve(&rt, &conf, 1, log), || plays(&rt));
+    let bounds = Bounds { talks: 2, wait: 0 };
+    let (served, played) = thread::join(
+        &rt,
+        || serve(&rt, rt, &conf, bounds, &log),
+        || play(&rt, &rt),
+    );
     fs::remove_dir_all(&rt, folder.as_str())?;
-    assert!(rt; served.is_ok());
+    assert!(rt; served.is_ok_and(|unsettled| unsettled.is_empty()));
     assert!(rt; played?);
     Ok(())
 }

@@ -1,2 +1,4 @@
 mod LockLemmas
+mod NamedLemmas
 mod ServeLemmas
+pub mod TalkLemmas

@@ -1,5 +1,3 @@
 pub mod Address
 pub mod Locks
 pub mod Serve
-pub mod Served
-pub mod TalkPort

@@ -1,10 +1,11 @@
 -- What is printed of a configuration that is served.
-use Rattle.std.specs.Prelude.{◌≡◌, ℕ, List, [], ◌++◌, Bool, true, false, Ok, Err, codes}
+use Rattle.std.specs.Fmt.{decimal}
+use Rattle.std.specs.List.{flat_map}
+use Rattle.std.specs.Prelude.{◌≡◌, ℕ, List, [], ◌∷◌, ◌++◌, Bool, false, Ok, Err, codes}
 use Rattle.sd_base.specs.Refusal.{refusal_text}
 use Rattle.sd_base.specs.declared.refusal.Refusal.TheVariants.{Memory}
 use Rattle.sd_printer.specs.Says.{SaidView, Says}
 use Rattle.sd_conf.specs.declared.conf.Conf.{Conf}
-use Rattle.sd_daemon.specs.Served.{IsServed}
 use Rattle.sd_daemon.specs.Locks.{IsFaultAmong}
 use Rattle.sd_daemon.specs.declared.daemon.ServeFault.{ServeFault}
 use Rattle.sd_daemon.specs.declared.daemon.ServeFault.TheVariants as serves
@@ -23,6 +24,7 @@ serve_text says.NoFile = codes "fault file"
 serve_text says.NoTime = codes "fault time range"
 serve_text says.NoPort = codes "fault port"
 serve_text says.NoMemory = refusal_text Memory
+serve_text (says.Unsettled drive) = codes "fault settle " ++ decimal drive
 
 -- what is said of a folder that another process has locked
 abbrev pub folder_text : List ℕ → List ℕ
@@ -35,17 +37,25 @@ unserved_line serves.Port = line (serve_text says.NoPort)
 unserved_line (serves.Folder folder) = line (folder_text folder)
 unserved_line serves.Memory = line (serve_text says.NoMemory)
 
--- what is printed at this outcome: nothing where clients were served, and else one line
+-- a line for each of the drives that can't be settled
+abbrev pub settle_lines : List ℕ → List ℕ
+settle_lines drives = flat_map (λ (drive : ℕ). line (serve_text (says.Unsettled drive))) drives
+
+-- what is printed at this outcome: where clients were served, the lines of the drives that can't be settled; and else one line
 abbrev pub outcome_lines : Outcome → List ℕ
-outcome_lines (Served port) = []
+outcome_lines (Served unsettled) = settle_lines unsettled.items
 outcome_lines NoFile = line (serve_text says.NoFile)
 outcome_lines (NoConf fault) = fault_line fault
 outcome_lines (NotServed fault) = unserved_line fault
 
--- the status: 0 where clients were served
+-- the status behind talks: 0 where each drive is settled
+abbrev pub status_behind : List ℕ → ℕ
+status_behind [] = 0
+status_behind (drive ∷ drives) = 1
+
+-- the status: 0 where clients were served, and each drive is settled
 abbrev pub status_of : Outcome → Bool → ℕ
-status_of (Served port) false = 0
-status_of (Served port) true = 1
+status_of (Served unsettled) false = status_behind unsettled.items
 status_of outcome failed = 1
 
 -- some text is this configuration
@@ -56,19 +66,17 @@ IsConfOf conf = (text : List ℕ) × Input text (Ok conf)
 abbrev pub IsFaultOf : CheckFault → Type 0
 IsFaultOf fault = (text : List ℕ) × Input text (Err fault)
 
--- Clients were served from a configuration that some text is, in no more connections than were asked for; a configuration
--- that is refused is refused for what some text holds; where none is served there is one, and a folder that another process
--- has locked is that of one of its drives.
-abbrev pub IsOutcomeOf : ℕ → Outcome → Type 0
-IsOutcomeOf connections (Served port) = (conf : Conf) × IsConfOf conf × IsServed conf connections port.value
-IsOutcomeOf connections (NoConf fault) = IsFaultOf (Bad fault)
-IsOutcomeOf connections (NotServed fault) = (conf : Conf) × IsConfOf conf × IsFaultAmong conf.drives fault
-IsOutcomeOf connections outcome = Unit {0}
+-- A configuration that is refused is refused for what some text holds; where none is served there is one that some text is, and
+-- a folder that another process has locked is that of one of its drives.
+abbrev pub IsOutcomeOf : Outcome → Type 0
+IsOutcomeOf (NoConf fault) = IsFaultOf (Bad fault)
+IsOutcomeOf (NotServed fault) = (conf : Conf) × IsConfOf conf × IsFaultAmong conf.drives fault
+IsOutcomeOf outcome = Unit {0}
 
 -- A configuration was served, or could not be. What is wrong was printed, or, where the writer failed, a front of that;
 -- nothing else was.
-pub record PrintsServe (connections : ℕ) (said says : SaidView) (status : ℕ) : Type 0 where
+pub record PrintsServe (said says : SaidView) (status : ℕ) : Type 0 where
   pub outcome : Outcome
-  pub comes : IsOutcomeOf connections outcome
+  pub comes : IsOutcomeOf outcome
   pub prints : Says said says (outcome_lines outcome)
   pub status_is : status ≡ status_of outcome says.failed

@@ -3,30 +3,32 @@ ghost use Rattle.std.specs.Prelude.{◌≡◌, IfErr, IfOk};
 ghost use Rattle.sd_conf.specs.Conf.{IsWithinLimits};
 ghost use Rattle.sd_printer.specs.Says.{Says, said_view};
 ghost use Rattle.sd_words.specs.Lines.{line};
-ghost use Rattle.sd_daemon.specs.Serve.{IsConfOf, IsFaultOf, IsOutcomeOf, PrintsServe, folder_text, outcome_lines, status_of, unserved_line};
+ghost use Rattle.sd_daemon.specs.Serve.{IsConfOf, IsFaultOf, IsOutcomeOf, PrintsServe, folder_text, outcome_lines, settle_lines, status_of, unserved_line};
 
-use crate::daemon::{ServeFault, serve};
-use crate::files::ServedPort;
+use crate::daemon::{Bounds, ServeFault, serve};
 use crate::serve_line::ServeLine;
+use sd_base::DriveNo;
 use sd_check::{CheckFault, conf_in, print_conf_fault};
 use sd_conf::{Conf, ConfFault, Text};
 use sd_printer::Printer;
 use sd_serve::Log;
 use std::fs;
 use std::io::{ErrorKind, Write};
-use std::snapshot::Snapshot;
+use std::sync::Wait;
+use std::thread::Threads;
+use std::time::Clock;
 
-/// The status of a daemon that held its talks.
+/// The status of a daemon that held its talks, and whose drives are settled.
 const DONE: u8 = 0;
 
-/// The status of a daemon that could not serve.
+/// The status of a daemon that could not serve, or settle a drive.
 const FAILED: u8 = 1;
 
 /// What came of the file of a configuration.
 #[derive(Drop)]
 pub enum Outcome {
-    /// It was served, by a port that is this at the end.
-    Served(Snapshot<ServedPort>),
+    /// It was served, and these drives could not be settled behind that.
+    Served(Vec<DriveNo>),
     /// It can't be read.
     NoFile,
     /// What it holds is no configuration.
@@ -35,19 +37,19 @@ pub enum Outcome {
     NotServed(ServeFault),
 }
 
-/// Serves clients as the configuration in a file says, and prints nothing; or prints the line of what is wrong. Answers
-/// the status: 0 where clients were served, and else 1.
-pub fn serve_file<W: Write, L: Write + Drop>(
+/// Serves clients as the configuration in a file says, and prints a line for each drive that can't be settled behind that; or
+/// prints the line of what is wrong. Answers the status: 0 where clients were served and all drives settled, and else 1.
+pub fn serve_file<R: Threads + Wait + Clock + Sync + Copy + Drop, W: Write, L: Write + Send + Drop>(
     rt: &HostRuntime,
+    wait: R,
     path: &str,
-    connections: u32,
-    log: Log<L>,
+    bounds: Bounds,
+    log: &Log<L>,
     out: &mut Printer<W>,
 ) -> u8
-    ensures { PrintsServe connections
-        (said_view W.contents out.old) (said_view W.contents out.new) result }
+    ensures { PrintsServe (said_view W.contents out.old) (said_view W.contents out.new) result }
 {
-    let outcome = outcome_of(rt, path, connections, log);
+    let outcome = outcome_of(rt, wait, path, bounds, log);
     print_outcome(&outcome, out);
     out.flush();
     status_of(&outcome, out.failed())
@@ -58,27 +60,28 @@ fn status_of(outcome: &Outcome, failed: bool) -> u8
     ensures { result ≡ status_of outcome.now failed }
 {
     match outcome {
-        Outcome::Served(_) if !failed => DONE,
+        Outcome::Served(unsettled) if unsettled.is_empty() && !failed => DONE,
         _ => FAILED,
     }
 }
 
 // What comes of the file.
-fn outcome_of<L: Write + Drop>(
+fn outcome_of<R: Threads + Wait + Clock + Sync + Copy + Drop, L: Write + Send + Drop>(
     rt: &HostRuntime,
+    wait: R,
     path: &str,
-    connections: u32,
-    log: Log<L>,
+    bounds: Bounds,
+    log: &Log<L>,
 ) -> Outcome
-    ensures { IsOutcomeOf connections result }
+    ensures { IsOutcomeOf result }
 {
     let conf = match read_file(rt, path) {
         Ok(conf) => conf,
         Err(CheckFault::Input) => return Outcome::NoFile,
         Err(CheckFault::Conf(fault)) => return Outcome::NoConf(fault),
     };
-    match serve(rt, &conf, connections, log) {
-        Ok(port) => Outcome::Served(port),
+    match serve(rt, wait, &conf, bounds, log) {
+        Ok(unsettled) => Outcome::Served(unsettled),
         Err(fault) => Outcome::NotServed(fault),
     }
 }
@@ -99,16 +102,27 @@ fn read_file(rt: &HostRuntime, path: &str) -> Result<Conf, CheckFault>
     }
 }
 
-// Prints the line of what is wrong, if anything is.
+// Prints the lines of what is wrong, if anything is.
 fn print_outcome<W: Write>(outcome: &Outcome, out: &mut Printer<W>)
     ensures { Says (said_view W.contents out.old) (said_view W.contents out.new)
         (outcome_lines outcome.now) }
 {
     match outcome {
-        Outcome::Served(_) => {}
+        Outcome::Served(unsettled) => print_unsettled(unsettled, out),
         Outcome::NoFile => out.line(ServeLine::NoFile),
         Outcome::NoConf(fault) => print_conf_fault(fault, out),
         Outcome::NotServed(fault) => print_unserved(fault, out),
+    }
+}
+
+// Prints a line for each drive that can't be settled. Calls itself for those before the last one.
+fn print_unsettled<W: Write>(unsettled: &[DriveNo], out: &mut Printer<W>)
+    ensures { Says (said_view W.contents out.old) (said_view W.contents out.new)
+        (settle_lines unsettled.now) }
+{
+    if let Some((last, front)) = unsettled.split_last() {
+        print_unsettled(front, out);
+        out.line(ServeLine::Unsettled(last.get()));
     }
 }
 

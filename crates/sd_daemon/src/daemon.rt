@@ -1,25 +1,31 @@
 // The daemon from its configuration on.
-ghost use Rattle.std.specs.Prelude.{◌≡◌, ◌≤◌, ℕ, [], IfErr, IfOk, IfSome};
+ghost use Rattle.std.specs.Prelude.{◌≡◌, ◌≤◌, IfErr, IfSome};
 ghost use Rattle.std.specs.List.{AllZip};
 ghost use Rattle.sd_base.specs.Limits.{most_number};
 ghost use Rattle.sd_conf.specs.Conf.{IsWithinLimits};
 ghost use Rattle.sd_daemon.specs.Locks.{IsFaultAmong, IsLockOf};
-ghost use Rattle.sd_daemon.specs.Served.{IsPortOf, IsServed, most_connections};
-ghost use Rattle.sd_filedrive.specs.Drive.{meaning_of};
-ghost use Rattle.sd_port.specs.Port.{IsOver};
-ghost use Rattle.sd_serve.specs.Talks.{HeldTalks};
-ghost use Rattle.sd_setup.specs.World.{OpensAs};
+ghost use Rattle.sd_setup.specs.Setup.{AreNamed};
 
 use crate::address::address_of;
-use crate::files::{FilePort, Run, ServedPort};
 use crate::locks::{FolderLock, lock_folders};
+use crate::settling::settle_drives;
+use crate::shared::share;
+use crate::talks::FileTalks;
+use crate::threads::hold_talks;
+use sd_base::DriveNo;
 use sd_conf::{Conf, Text};
-use sd_serve::{Log, LogLine, LoggedPort, serve_talks, since_1970, time_of};
-use sd_setup::{FileWorld, open_world};
+use sd_filedrive::FileDrive;
+use sd_line::Naming;
+use sd_lines::shares_hub;
+use sd_serve::{Log, LogLine, since_1970, time_of};
+use sd_setup::{FileHub, UnusedFiles, hub_of, unused_drives};
+use sd_spool::FileSpool;
 use std::io::Write;
 use std::marker::Brand;
 use std::net::TcpListener;
-use std::snapshot::Snapshot;
+use std::sync::Wait;
+use std::thread::Threads;
+use std::time::Clock;
 
 /// Why nothing is served.
 #[derive(Debug, Drop)]
@@ -30,21 +36,30 @@ pub enum ServeFault {
     Port,
     /// Another process has this folder of a drive locked.
     Folder(Text),
-    /// There is no memory for the locks or for the world.
+    /// There is no memory for the locks or for the drives, or no thread for a worker.
     Memory,
 }
 
-/// Serves one client after another, on the port of the configuration and on 127.0.0.1 alone, over a world of files that
-/// is new: its run's time is the clock's. Meanwhile it has the folders of the drives locked. Ends after so many
-/// connections; with 0 it goes on. Answers what the port then is, for contracts alone.
-pub fn serve<L: Write + Drop>(
+/// How long a daemon serves, and how long its talks wait.
+#[derive(Clone, Copy)]
+pub struct Bounds {
+    /// After how many talks the daemon ends; 0 where it goes on.
+    pub talks: u32,
+    /// How many seconds a record and a close wait for a volume that their drive needs.
+    pub wait: u32,
+}
+
+/// Serves clients on the port of the configuration and on 127.0.0.1 alone, each in a thread of its own, over drives of files
+/// that are new: their run's time is the clock's. Meanwhile it has the folders of the drives locked. Ends after so many talks,
+/// and then settles the line of each drive; answers which of them can't be settled.
+pub fn serve<W: Threads + Wait + Clock + Sync + Copy + Drop, L: Write + Send + Drop>(
     rt: &HostRuntime,
+    wait: W,
     conf: &Conf,
-    connections: u32,
-    log: Log<L>,
-) -> Result<Snapshot<ServedPort>, ServeFault>
+    bounds: Bounds,
+    log: &Log<L>,
+) -> Result<Vec<DriveNo>, ServeFault>
     requires { IsWithinLimits conf.now }
-    ensures served { IfOk result (λ served. IsServed conf.now connections served.value) }
     ensures fault { IfErr result (IsFaultAmong conf.now.drives) }
 {
     let Some(time) = time_now(rt) else {
@@ -53,62 +68,88 @@ pub fn serve<L: Write + Drop>(
     let Ok(listener) = TcpListener::bind(rt, address_of(conf)) else {
         return Err(ServeFault::Port);
     };
-    match lock_folders(rt, conf.drives.as_slice()) {
-        Ok(locks) => serve_run::<Brand, L>(rt, conf, time, &listener, connections, log, &locks),
-        Err(fault) => Err(fault),
+    let locks = lock_folders(rt, conf.drives.as_slice())?;
+    let Ok(drives) = unused_drives(rt, wait, conf, time) else {
+        return Err(ServeFault::Memory);
+    };
+    let run = Run {
+        rt,
+        wait,
+        conf,
+        time,
+        bounds,
+        log,
+    };
+    serve_drives::<Brand, W, L>(&run, &listener, drives, &locks)
+}
+
+// A run of a daemon.
+#[derive(Drop)]
+struct Run<'d, W, L> {
+    rt: &'d HostRuntime,
+    wait: W,
+    conf: &'d Conf,
+    time: u32,
+    bounds: Bounds,
+    log: &'d Log<L>,
+}
+
+// Serves clients over these drives. It is lent the locks of the drives' folders, so that they are let go behind it.
+fn serve_drives<
+    N: Naming + Send + Sync,
+    W: Threads + Wait + Clock + Sync + Copy + Drop,
+    L: Write + Send + Drop,
+>(
+    run: &Run<'_, W, L>,
+    listener: &TcpListener,
+    drives: Vec<UnusedFiles<W>>,
+    _locks: &[FolderLock],
+) -> Result<Vec<DriveNo>, ServeFault>
+    requires locked { AllZip IsLockOf run.now.conf.now.drives _locks.now }
+    requires named { AreNamed N.table N.time drives.items }
+    ensures fault { IfErr result (IsFaultAmong run.now.conf.now.drives) }
+{
+    let conf = run.conf;
+    let keeps_receipts = run.bounds.talks > 0;
+    let Ok(hub) = hub_of::<N, W>(run.rt, run.wait, conf, run.time, drives, keeps_receipts) else {
+        return Err(ServeFault::Memory);
+    };
+    run.log.line(
+        &run.wait,
+        LogLine::Listening {
+            port: conf.port,
+            time: run.time,
+        },
+    );
+    if !hold_all(run, listener, &hub) {
+        return Err(ServeFault::Memory);
+    }
+    match settle_drives(hub, run.log) {
+        Ok(unsettled) => Ok(unsettled),
+        Err(_) => Err(ServeFault::Memory),
     }
 }
 
-// Serves clients over the world of a configuration, which is new, in the run of this time. It is lent the locks of the
-// drives' folders, so that they are let go behind it.
-fn serve_run<N: Run, L: Write + Drop>(
-    rt: &HostRuntime,
-    conf: &Conf,
-    time: u32,
-    listener: &TcpListener,
-    connections: u32,
-    log: Log<L>,
-    _locks: &[FolderLock],
-) -> Result<Snapshot<ServedPort>, ServeFault>
-    requires within { IsWithinLimits conf.now }
-    requires locked { AllZip IsLockOf conf.now.drives _locks.now }
-    requires time_least { 1 ≤ time }
-    requires time_most { time ≤ most_number }
-    requires conf { N.conf ≡ conf.now }
-    requires time { N.time ≡ time }
-    ensures served { IfOk result (λ served. IsServed conf.now connections served.value) }
-    ensures fault { IfErr result (IsFaultAmong conf.now.drives) }
-{
-    let Ok(world) = open_world(rt, conf, time) else {
-        return Err(ServeFault::Memory);
+// Holds the talks of a run.
+fn hold_all<
+    N: Naming + Send + Sync,
+    W: Threads + Wait + Clock + Sync + Copy + Drop,
+    L: Write + Send + Drop,
+>(run: &Run<'_, W, L>, listener: &TcpListener, hub: &FileHub<N, W>) -> bool {
+    let talks = FileTalks {
+        rt: run.rt,
+        wait: run.wait,
+        conf: run.conf,
+        hub,
+        log: run.log,
+        patience: run.bounds.wait,
     };
-    let mut log = log;
-    log.line(LogLine::Listening {
-        port: conf.port,
-        time,
-    });
-    let bound = bound_of(connections);
-    Ok(serve_world::<N, L>(rt, listener, bound, world, log))
-}
-
-// Serves clients over the world of a run.
-fn serve_world<N: Run, L: Write + Drop>(
-    rt: &HostRuntime,
-    listener: &TcpListener,
-    connections: u64,
-    world: FileWorld,
-    log: Log<L>,
-) -> Snapshot<ServedPort>
-    requires { OpensAs N.conf N.time world }
-    ensures made { IsPortOf N.conf N.time result.value }
-    ensures over { IsOver (λ d. meaning_of d) result.value }
-    ensures talks { (held : ℕ) × (held ≤ connections) × HeldTalks held [] result.value.asked }
-{
-    let alloc = rt.alloc();
-    let files: FilePort<N> = FilePort::new(alloc, world);
-    let mut port = LoggedPort::new(files, log);
-    serve_talks(rt, alloc, listener, connections, &mut port);
-    port.port().served()
+    shares_hub::<N, FileSpool<HostRuntime>, FileDrive<HostRuntime>, W>();
+    share(run.rt);
+    share(run.conf);
+    share(hub);
+    share(run.log);
+    hold_talks(&run.wait, listener, bound_of(run.bounds.talks), &talks)
 }
 
 // The time of a run that begins now, in seconds.
@@ -120,11 +161,9 @@ fn time_now(rt: &HostRuntime) -> Option<u32>
 }
 
 // After how many connections the daemon ends; with 0, after more than there can be.
-fn bound_of(connections: u32) -> u64
-    ensures { result ≡ most_connections connections }
-{
-    if connections == 0 {
+fn bound_of(talks: u32) -> u64 {
+    if talks == 0 {
         return u64::MAX;
     }
-    u64::from(connections)
+    u64::from(talks)
 }

@@ -1,15 +1,18 @@
-//! The daemon, from the file of its configuration on: its world of files as the port of talks, held one after another on
-//! a port of this machine alone.
+//! The daemon, from the file of its configuration on: a worker for each of its drives, and for each client a thread that holds
+//! its talk, on a port of this machine alone.
 #![tactic(auto)]
 
 mod address;
 mod conf_file;
 mod daemon;
-mod files;
 mod locks;
 mod serve_line;
+mod settling;
+mod shared;
+mod talks;
+mod threads;
+mod workers;
 
 pub use conf_file::{Outcome, serve_file};
-pub use daemon::{ServeFault, serve};
-pub use files::ServedPort;
+pub use daemon::{Bounds, ServeFault, serve};
 pub use serve_line::ServeLine;

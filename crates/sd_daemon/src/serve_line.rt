@@ -1,8 +1,8 @@
-// The lines of what can't be served, but for those of a configuration.
+// The lines of what can't be served or settled, but for those of a configuration.
 use sd_base::Refusal;
 use std::fmt;
 
-/// A line of why nothing is served. Displays it without the newline.
+/// A line of why nothing is served, or of a drive that can't be settled. Displays it without the newline.
 #[derive(Drop)]
 pub enum ServeLine {
     /// The file of the configuration can't be read.
@@ -12,6 +12,8 @@ pub enum ServeLine {
     /// The port can't be had.
     NoPort,
     NoMemory,
+    /// The line of this drive can't be settled.
+    Unsettled(u32),
 }
 
 impl fmt::Display for ServeLine {
@@ -26,6 +28,7 @@ impl fmt::Display for ServeLine {
             ServeLine::NoTime => write!(f, "fault time range"),
             ServeLine::NoPort => write!(f, "fault port"),
             ServeLine::NoMemory => write!(f, "{}", Refusal::Memory),
+            ServeLine::Unsettled(drive) => write!(f, "fault settle {drive}"),
         }
     }
 }

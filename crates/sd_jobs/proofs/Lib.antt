@@ -1,4 +1,5 @@
 pub mod EachLemmas
 pub mod EndLemmas
 pub mod GoLemmas
+pub mod ReceiptLemmas
 pub mod StopLemmas

@@ -1,18 +1,20 @@
 -- What contracts see of a job, what it does to its part, and what it comes to.
 use Rattle.std.specs.Prelude.{◌≡◌, ◌⊎◌, ℕ, ◌≤◌, ℤ, List, [], ◌∷◌, ◌++◌, take, length, Option, None, Some, slice_get}
 use Rattle.sd_base.specs.Record.{Record}
+use Rattle.sd_base.specs.declared.number.SessionKey.{SessionKey}
 use Rattle.sd_base.specs.declared.refusal.Refusal.TheVariants.{SpoolFault, SessionFailed}
 use Rattle.sd_drive.specs.Receipt.{ReceiptIs}
 use Rattle.sd_jobs.specs.declared.job.Stop.{Stop}
 use Rattle.sd_jobs.specs.declared.job.Stop.TheVariants.{Done, OutOfTurns, Refused, NoThread}
-use Rattle.sd_journal.specs.Journal.{Entry, placements}
+use Rattle.sd_journal.specs.Journal.{Entry, placed_of, placements, synced_of}
 use Rattle.sd_lane.specs.declared.piece.Piece.{Piece}
 use Rattle.sd_line.specs.Side.{LineIs, SeatIs}
 use Rattle.sd_part.specs.Ends.{EndIs}
 use Rattle.sd_part.specs.Parts.{PartIs, end_of}
-use Rattle.sd_session.specs.Session.{SessionView, IsRunning, CancelsSession}
+use Rattle.sd_session.specs.Session.{SessionView, IsRunning, CancelsSession, parts_of}
 use Rattle.sd_session.specs.declared.status.Status.TheVariants.{Closed, Failed}
 use Rattle.sd_span.specs.Spans.{spans_of}
+use Rattle.sd_span.specs.declared.span.Span.{Span}
 
 -- a job: where its line stands among the lines, its part, its records, and the moment of its end label
 pub record JobIs : Type 0 where
@@ -49,13 +51,24 @@ pub record GoesOn (old : PartIs) (taken : List Record) (new : PartIs) : Type 0 w
   pub told_is : new.told ≡ old.told ++ taken
   pub key_is : new.session.key ≡ old.session.key
 
--- the session is closed, and the receipt is for all that it sent, with the spans that some journal gives of it
-pub record IsReceiptOf (s : SessionView) (r : ReceiptIs) : Type 0 where
+-- A journal has just so many blocks of a session, each of them synced, and gives these spans of it.
+pub record SpansAll (key : SessionKey) (blocks : ℕ) (spans : List Span) : Type 0 where
+  pub journal : List Entry
+  pub placed_are : placed_of key journal ≡ blocks
+  pub synced_are : synced_of key journal ≡ blocks
+  pub spans_are : spans ≡ spans_of key (placements journal)
+
+-- The session is closed: no body is left with it, and these spans are of all that it sent.
+pub record ClosedBy (s : SessionView) (spans : List Span) : Type 0 where
   pub closed : s.status ≡ Closed
+  pub none_left : parts_of s ≡ []
+  pub span_all : SpansAll s.key s.sent spans
+
+-- the session is closed by the spans of the receipt, which is for all that it sent
+pub record IsReceiptOf (s : SessionView) (r : ReceiptIs) : Type 0 where
+  pub closed_by : ClosedBy s r.spans
   pub key_is : r.key ≡ s.key
   pub blocks_are : r.blocks ≡ s.sent
-  pub journal : List Entry
-  pub spans_are : r.spans ≡ spans_of s.key (placements journal)
 
 -- What is known of a session whose job was stopped before it was done: where that was a fault of the spool, or the drive had
 -- lost a block, the session is failed.

@@ -1,21 +1,19 @@
 -- What an event of a talk's session says of the records that it took.
-use Rattle.std.proofs.Common.{◌≡◌, ℕ, ℤ, refl, sym, ap, ◌∙◌, inl, inr, List, [], ◌∷◌, ◌++◌}
+use Rattle.std.proofs.Common.{◌≡◌, ℕ, ℤ, refl, sym, ap, subst, ◌∙◌, inl, inr, List, [], ◌∷◌, ◌++◌}
 use Rattle.std.proofs.lemmas.List.{append-nil}
-use Rattle.std.specs.Prelude.{Option, None, Some}
+use Rattle.std.specs.Prelude.{Option}
 use Rattle.sd_append.specs.Port.{Exchange, Stepped}
 use Rattle.sd_base.specs.Record.{Record}
 use Rattle.sd_base.specs.declared.number.SessionKey.{SessionKey}
 use Rattle.sd_base.specs.declared.refusal.Refusal.{Refusal}
 use Rattle.sd_base.specs.declared.refusal.Refusal.TheVariants.{SessionNotOpen}
 use Rattle.sd_drive.specs.Receipt.{ReceiptIs}
-use Rattle.sd_jobs.specs.Jobs.{GoesOn, IsReceiptOf}
-use Rattle.sd_journal.specs.Journal.{placements}
+use Rattle.sd_jobs.specs.Jobs.{ClosedBy, GoesOn, IsReceiptOf}
 use Rattle.sd_machine.specs.declared.event.Event.{Event}
 use Rattle.sd_machine.specs.declared.event.Event.TheVariants as events
 use Rattle.sd_machine.specs.declared.reply.Reply.{Reply}
 use Rattle.sd_machine.specs.declared.reply.Reply.TheVariants.{Refused, Opened, Taken, Ended, Closed, Cancelled}
 use Rattle.sd_part.specs.Parts.{PartIs, with_session}
-use Rattle.sd_span.specs.Spans.{spans_of}
 use Rattle.sd_span.specs.declared.span.Span.{Span}
 use Rattle.sd_lines.specs.Held.{AnswersEvent, AnswersOpen, AnswersOwn, Appends, Cancels, Ends, GivesUpAtMost, Shuts, told_in}
 use Rattle.sd_lines.specs.Taken.{taken_behind, taken_by, taken_last}
@@ -120,6 +118,5 @@ cancelled_own ticket reply old new none (inr a) = absurd (none SessionNotOpen a.
 
 pub shuts_by : {p q : PartIs} {receipt : ReceiptIs} {key : SessionKey} {spans : List Span} → key ≡ receipt.key → GoesOn p [] q → IsReceiptOf q.session receipt
     → spans ≡ receipt.spans → Shuts (Closed key spans) p q
-shuts_by key_is goes_on of spans_are =
-    let key = key_is ∙ of.key_is in
-    (goes_on, of.closed, key, (of.journal, spans_are ∙ of.spans_are ∙ ap (λ k. spans_of k (placements of.journal)) (sym key)))
+shuts_by {q = q} key_is goes_on of spans_are =
+    (goes_on, key_is ∙ of.key_is, subst (λ (ss : List Span). ClosedBy q.session ss) (sym spans_are) of.closed_by)

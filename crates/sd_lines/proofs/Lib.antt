@@ -1,2 +1,3 @@
 pub mod HeldLemmas
+pub mod SharedLemmas
 pub mod TakenLemmas

@@ -4,9 +4,8 @@ use Rattle.std.specs.Option.{option_or}
 use Rattle.sd_base.specs.Record.{Record}
 use Rattle.sd_base.specs.declared.refusal.Refusal.{Refusal}
 use Rattle.sd_base.specs.declared.refusal.Refusal.TheVariants.{BadCommand, SessionNotOpen}
-use Rattle.sd_jobs.specs.Jobs.{GoesOn, StopsShort}
+use Rattle.sd_jobs.specs.Jobs.{ClosedBy, GoesOn, StopsShort}
 use Rattle.sd_jobs.specs.declared.job.Stop.TheVariants as stops
-use Rattle.sd_journal.specs.Journal.{Entry, placements}
 use Rattle.sd_machine.specs.declared.event.Event.{Event}
 use Rattle.sd_machine.specs.declared.event.Event.TheVariants as events
 use Rattle.sd_machine.specs.declared.reply.Reply.{Reply}
@@ -14,7 +13,6 @@ use Rattle.sd_machine.specs.declared.reply.Reply.TheVariants.{Refused, Opened, T
 use Rattle.sd_part.specs.Parts.{PartIs, with_session}
 use Rattle.sd_session.specs.Session.{CancelsSession, EndsSession, EndRefused, NotRunning}
 use Rattle.sd_session.specs.declared.status.Status.TheVariants as status
-use Rattle.sd_span.specs.Spans.{spans_of}
 
 -- what a talk has of the session that it opened last: its part, while that goes on; or what its part was at its end
 pub record HeldIs : Type 0 where
@@ -60,10 +58,9 @@ Ends moment Ended p q = EndsSession p.session moment q.session × (q ≡ with_se
 Ends moment (Refused why) p q = EndRefused p.session why × (q ≡ p)
 Ends moment reply p q = ⊥
 
--- what a close comes to: the session is closed, and its spans are those that a journal gives of it
+-- what a close comes to: the session is closed, and these spans are of all that it sent
 abbrev pub Shuts : Reply → PartIs → PartIs → Type 0
-Shuts (Closed key spans) p q = GoesOn p [] q × (q.session.status ≡ status.Closed) × (key ≡ q.session.key)
-    × ((journal : List Entry) × (spans ≡ spans_of key (placements journal)))
+Shuts (Closed key spans) p q = GoesOn p [] q × (key ≡ q.session.key) × ClosedBy q.session spans
 Shuts (Refused why) p q = GoesOn p [] q × StopsShort (stops.Refused why) q.session
 Shuts reply p q = ⊥
 

@@ -35,3 +35,11 @@ pub fn since_1970<C: Clock>(clock: &C) -> Option<Duration> {
     let now = SystemTime::now(clock).ok()?;
     now.duration_since(UNIX_EPOCH).ok()
 }
+
+/// The moment now, in microseconds; 0 where the clock can't be read, or says a time before 1970.
+pub fn moment_now<C: Clock>(clock: &C) -> i64 {
+    match since_1970(clock) {
+        Some(since) => moment_of(since),
+        None => 0,
+    }
+}

@@ -1,11 +1,16 @@
-// What the daemon's log is told of the talks.
+// What the daemon's log is told of a talk.
+use crate::fault::FaultPlace;
 use crate::log::Log;
 use crate::log_line::{LogLine, Taken};
 use sd_append::TalkEnd;
-use sd_base::Refusal;
+use sd_base::{Refusal, SessionKey};
 use sd_machine::{Event, Reply};
+use sd_span::Span;
 use std::alloc::AllocError;
 use std::io::Write;
+use std::str;
+use std::sync::Wait;
+use std::time::Clock;
 
 /// The line of the operator that gives up a session.
 const CANCEL: &[u8] = b"cancel ";
@@ -21,20 +26,29 @@ pub enum About {
     Other,
 }
 
-/// The log, and what was taken so far in the session that was opened last.
+/// A session and its drive.
+#[derive(Clone, Copy, Drop)]
+struct Place {
+    ticket: u32,
+    drive: u32,
+}
+
+/// A talk by its number, the log, and what was taken so far in the session that the talk opened last.
 #[derive(Drop)]
-pub struct Heard<L> {
-    log: Log<L>,
-    talks: u64,
-    session: Option<u32>,
+pub struct Heard<'l, R, L> {
+    rt: &'l R,
+    log: &'l Log<L>,
+    talk: u64,
+    session: Option<Place>,
     taken: Taken,
 }
 
-impl<L> Heard<L> {
-    pub fn new(log: Log<L>) -> Self {
+impl<'l, R, L> Heard<'l, R, L> {
+    pub fn new(rt: &'l R, log: &'l Log<L>, talk: u64) -> Self {
         Heard {
+            rt,
             log,
-            talks: 0,
+            talk,
             session: None,
             taken: Taken::default(),
         }
@@ -52,19 +66,22 @@ impl<L> Heard<L> {
     }
 }
 
-impl<L: Write> Heard<L> {
-    pub fn begins(&mut self) {
-        self.talks = self.talks.saturating_add(1);
-        self.log.line(LogLine::Begins { talk: self.talks });
+impl<R: Wait + Clock, L: Write> Heard<'_, R, L> {
+    fn line(&self, line: LogLine<'_>) {
+        self.log.line(self.rt, line);
     }
 
-    pub fn ended(&mut self, end: &Result<TalkEnd, AllocError>) {
+    pub fn begins(&self) {
+        self.line(LogLine::Begins { talk: self.talk });
+    }
+
+    pub fn ended(&self, end: &Result<TalkEnd, AllocError>) {
         let end = match end {
             Ok(end) => Some(*end),
             Err(_) => None,
         };
-        self.log.line(LogLine::Ended {
-            talk: self.talks,
+        self.line(LogLine::Ended {
+            talk: self.talk,
             end,
         });
     }
@@ -80,16 +97,21 @@ impl<L: Write> Heard<L> {
                     self.cancelled(ticket);
                 }
             }
-            Reply::Refused(refusal) => self.refusal(*refusal),
+            Reply::Refused(refusal) => self.refusal(about, *refusal),
             _ => {}
         }
     }
 
     fn opened(&mut self, about: About, ticket: u32, drive: u32) {
-        self.session = Some(ticket);
+        self.session = Some(Place { ticket, drive });
         self.taken = Taken::default();
         if let About::Job(job) = about {
-            self.log.line(LogLine::Opened { ticket, job, drive });
+            self.line(LogLine::Opened {
+                talk: self.talk,
+                ticket,
+                job,
+                drive,
+            });
         }
     }
 
@@ -100,36 +122,77 @@ impl<L: Write> Heard<L> {
         }
     }
 
-    fn closed(&mut self, about: About) {
-        let taken = self.taken;
+    fn closed(&self, about: About) {
         if let About::Close(ticket) = about {
-            self.log.line(LogLine::Closed { ticket, taken });
+            self.line(LogLine::Closed {
+                talk: self.talk,
+                ticket,
+                taken: self.taken,
+            });
         }
     }
 
-    /// A refusal that tells of a device or a spool that failed.
-    pub fn refusal(&mut self, refusal: Refusal) {
+    // An event is refused: an open, or an event of the session that was opened last.
+    fn refusal(&self, about: About, refusal: Refusal) {
+        let place = match (about, self.session) {
+            (About::Job(job), _) => FaultPlace::Job(job),
+            (_, Some(Place { ticket, drive })) => FaultPlace::Session { ticket, drive },
+            (_, None) => FaultPlace::Nowhere,
+        };
+        self.fault(place, refusal);
+    }
+
+    /// A reading of a session is refused.
+    pub fn unread(&self, key: SessionKey, spans: &[Span], refusal: Refusal) {
+        let place = match spans.first() {
+            Some(span) => FaultPlace::Reading {
+                id: key.id,
+                volume: &span.volume,
+            },
+            None => FaultPlace::Nowhere,
+        };
+        self.fault(place, refusal);
+    }
+
+    /// A line of the operator is refused.
+    pub fn disobeyed(&self, line: &[u8], refusal: Refusal) {
+        let place = match str::from_utf8(line) {
+            Ok(line) => FaultPlace::Line(line),
+            Err(_) => FaultPlace::Nowhere,
+        };
+        self.fault(place, refusal);
+    }
+
+    // A refusal that tells of a device or a spool that failed.
+    fn fault(&self, place: FaultPlace<'_>, refusal: Refusal) {
         match refusal {
             Refusal::DeviceFault | Refusal::SpoolFault | Refusal::SessionFailed => {
-                self.log.line(LogLine::Fault(refusal));
+                self.line(LogLine::Fault {
+                    talk: self.talk,
+                    place,
+                    refusal,
+                });
             }
             _ => {}
         }
     }
 
-    /// A line of the operator was obeyed. Where it gave up a session, that is the one that was opened last: all before
-    /// it have come to their end.
-    pub fn obeyed(&mut self, line: &[u8]) {
+    /// A line of the operator was obeyed. Where it gave up a session, that is the one that the talk opened last: those before
+    /// it have come to their end, and another talk's can't be given up.
+    pub fn obeyed(&self, line: &[u8]) {
         if !line.starts_with(CANCEL) {
             return;
         }
-        if let Some(ticket) = self.session {
+        if let Some(Place { ticket, .. }) = self.session {
             self.cancelled(ticket);
         }
     }
 
-    fn cancelled(&mut self, ticket: u32) {
-        let taken = self.taken;
-        self.log.line(LogLine::Cancelled { ticket, taken });
+    fn cancelled(&self, ticket: u32) {
+        self.line(LogLine::Cancelled {
+            talk: self.talk,
+            ticket,
+            taken: self.taken,
+        });
     }
 }

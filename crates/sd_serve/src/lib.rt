@@ -1,18 +1,24 @@
-//! The server of the daemon: one talk after another over the connections that come, with a log of what is asked; and
-//! the time of a run, and the moments of talks, by the clock.
+//! The server of the daemon: each connection in a thread of its own, the talk that is held over it, and the log of what is
+//! asked; and the time of a run, and the moments of talks, by the clock.
 #![tactic(auto)]
 
+mod client;
 mod clock;
+mod connection;
+mod fault;
+mod gauge;
 mod heard;
 mod log;
 mod log_line;
 mod logged;
-mod port;
-mod talks;
+mod server;
+mod talk;
 
-pub use clock::{moment_of, since_1970, time_of};
+pub use client::ClientPatience;
+pub use clock::{moment_now, moment_of, since_1970, time_of};
+pub use fault::FaultPlace;
 pub use log::Log;
 pub use log_line::{LogLine, Taken};
-pub use logged::{LoggedPort, ROUNDS};
-pub use port::{RoundPort, ServerPort};
-pub use talks::{QUIET_SECONDS, TURNS, serve_talks};
+pub use logged::LoggedPort;
+pub use server::{MOST_TALKS, QUIET_SECONDS, TalkHolder, serve_each};
+pub use talk::{TURNS, hold_talk};

@@ -1,6 +1,8 @@
 // The lines of the daemon's log.
+use crate::fault::FaultPlace;
+use jiff::Timestamp;
 use sd_append::TalkEnd;
-use sd_base::Refusal;
+use sd_base::{PoolName, Refusal, VolName};
 use std::fmt;
 
 /// How much of a session was taken: its records, and the bytes of their data.
@@ -11,51 +13,152 @@ pub struct Taken {
 }
 
 /// A line of the log. Displays it without the newline.
-#[derive(Drop)]
-pub enum LogLine {
+#[derive(Clone, Copy)]
+pub enum LogLine<'a> {
     /// The server listens on the port, in the run of this time.
-    Listening { port: u16, time: u32 },
+    Listening {
+        port: u16,
+        time: u32,
+    },
     /// A talk begins.
-    Begins { talk: u64 },
+    Begins {
+        talk: u64,
+    },
     /// The talk has ended: how, or for want of memory.
-    Ended { talk: u64, end: Option<TalkEnd> },
-    Opened { ticket: u32, job: u32, drive: u32 },
-    Closed { ticket: u32, taken: Taken },
-    Cancelled { ticket: u32, taken: Taken },
-    /// A device or a spool failed, or a session by it.
-    Fault(Refusal),
+    Ended {
+        talk: u64,
+        end: Option<TalkEnd>,
+    },
+    /// A session of a talk.
+    Opened {
+        talk: u64,
+        ticket: u32,
+        job: u32,
+        drive: u32,
+    },
+    Closed {
+        talk: u64,
+        ticket: u32,
+        taken: Taken,
+    },
+    Cancelled {
+        talk: u64,
+        ticket: u32,
+        taken: Taken,
+    },
+    /// A device or a spool failed, or a session by it, and a talk was told so.
+    Fault {
+        talk: u64,
+        place: FaultPlace<'a>,
+        refusal: Refusal,
+    },
+    /// The volume that is loaded in a drive takes no more: it is full, or its device failed.
+    Full {
+        drive: u32,
+        volume: &'a VolName,
+    },
+    Failed {
+        drive: u32,
+        volume: &'a VolName,
+    },
+    /// A drive needs a volume of this pool, and has none.
+    Waits {
+        drive: u32,
+        pool: &'a PoolName,
+    },
+    /// A drive goes on with a volume.
+    Mounted {
+        drive: u32,
+        volume: &'a VolName,
+    },
+    /// The line of a drive is settled, or can't be.
+    Settled {
+        drive: u32,
+    },
+    Unsettled {
+        drive: u32,
+    },
 }
 
-impl fmt::Display for LogLine {
+/// A line with its time.
+#[derive(Clone, Copy)]
+pub(crate) struct Dated<'a> {
+    pub(crate) moment: Timestamp,
+    pub(crate) line: LogLine<'a>,
+}
+
+impl fmt::Display for Dated<'_> {
+    fn fmt<W: fmt::Write>(&self, f: &mut fmt::Formatter<W>) -> fmt::Result {
+        let (moment, line) = (self.moment, self.line);
+        write!(f, "{moment} {line}")
+    }
+}
+
+impl fmt::Display for LogLine<'_> {
     fn fmt<W: fmt::Write>(&self, f: &mut fmt::Formatter<W>) -> fmt::Result {
         match self {
-            LogLine::Listening { port, time } => write!(
-                f,
-                "listening on {port} in the run of {time}"
-            ),
+            LogLine::Listening { port, time } => {
+                write!(f, "listening on {port} in the run of {time}")
+            }
             LogLine::Begins { talk } => write!(f, "talk {talk} begins"),
             LogLine::Ended { talk, end } => {
                 let word = end_word(*end);
                 write!(f, "talk {talk} ended: {word}")
             }
-            LogLine::Opened { ticket, job, drive } => {
-                write!(f, "session {ticket} opened for job {job} on drive {drive}")
-            }
-            LogLine::Closed { ticket, taken } => {
+            LogLine::Opened {
+                talk,
+                ticket,
+                job,
+                drive,
+            } => write!(
+                f,
+                "talk {talk}: session {ticket} opened for job {job} on drive {drive}"
+            ),
+            LogLine::Closed {
+                talk,
+                ticket,
+                taken,
+            } => {
                 let (records, bytes) = (taken.records, taken.bytes);
                 write!(
                     f,
-                    "session {ticket} closed with {records} records of {bytes} bytes"
+                    "talk {talk}: session {ticket} closed with {records} records of {bytes} bytes"
                 )
             }
-            LogLine::Cancelled { ticket, taken } => {
+            LogLine::Cancelled {
+                talk,
+                ticket,
+                taken,
+            } => {
                 let (records, bytes) = (taken.records, taken.bytes);
                 write!(
                     f,
-                    "session {ticket} cancelled with {records} records of {bytes} bytes"
+                    "talk {talk}: session {ticket} cancelled with {records} records of {bytes} bytes"
                 )
             }
-            LogLine::Fault(refusal) => write!(f, "{refusal}"),
+            LogLine::Fault {
+                talk,
+                place,
+                refusal,
+            } => write!(f, "talk {talk}: {place}: {refusal}"),
+            LogLine::Full { drive, volume } => {
+                let volume = volume.as_str();
+                write!(f, "drive {drive}: volume {volume} is full")
+            }
+            LogLine::Failed { drive, volume } => {
+                let volume = volume.as_str();
+                write!(f, "drive {drive}: the device failed with volume {volume}")
+            }
+            LogLine::Waits { drive, pool } => {
+                let pool = pool.as_str();
+                write!(f, "drive {drive} waits for a volume of pool {pool}")
+            }
+            LogLine::Mounted { drive, volume } => {
+                let volume = volume.as_str();
+                write!(f, "drive {drive}: volume {volume} is mounted")
+            }
+            LogLine::Settled { drive } => write!(f, "drive {drive} is settled"),
+            LogLine::Unsettled { drive } => write!(f, "drive {drive} can't be settled"),
         }
     }
 }

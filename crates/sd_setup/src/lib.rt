@@ -1,6 +1,8 @@
-//! The world that a configuration of the daemon says, over folders of files.
+//! The drives that a configuration of the daemon says, over folders of files; and what its talks and workers share.
 #![tactic(auto)]
 
-mod world;
+mod drives;
+mod hub;
 
-pub use world::{FileWorld, open_world};
+pub use drives::{UnusedFiles, devices_of, unused_drives};
+pub use hub::{FileHub, hub_of};

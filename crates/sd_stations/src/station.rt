@@ -11,6 +11,7 @@ use sd_drive::Placed;
 use sd_driver::Driver;
 use sd_line::{DriveSide, DriveWorker, Gate, Line, Naming, Point, Turned};
 use sd_machine::{Event, Reply};
+use sd_volume::VolumeStatus;
 use std::marker::Model;
 use std::sync::Wait;
 use std::time::Clock;
@@ -82,6 +83,16 @@ impl Gate for NoGate {
     fn at(&self, _point: Point, _key: SessionKey) {}
 }
 
+// Whether a reply tells of a change at the drive, in which this volume was loaded, that may matter to who waits for a volume.
+fn is_change(loaded: &Option<VolName>, reply: &Reply) -> bool {
+    match reply {
+        Reply::Refused(refusal) => *refusal == Refusal::DeviceFault,
+        Reply::Unmounted => loaded.is_some(),
+        Reply::Synced => false,
+        _ => true,
+    }
+}
+
 impl<D: Driver, N: Naming, R: Wait + Clock + Drop> Station<D, N, R> {
     /// The station of a line of which nothing was pushed yet.
     pub fn new(line: Line<D, N, R>) -> Self
@@ -126,7 +137,11 @@ impl<D: Driver, N: Naming, R: Wait + Clock + Drop> Station<D, N, R> {
             Ok(Placed::At(_)) => (Headway::Moved { holding: false }, Told::Nothing),
             Ok(Placed::VolumeFull) => (Headway::Moved { holding: true }, Told::Full),
             Ok(Placed::VolumeError) => (Headway::Moved { holding: true }, Told::Failed),
-            Ok(Placed::NeedVolume) => return self.seek(rt, took),
+            // The loaded volume is synced before another is sought.
+            Ok(Placed::NeedVolume) => match Told::of_sync(&sync) {
+                Told::Failed => (Headway::Moved { holding: true }, Told::Failed),
+                _ => return self.seek(rt, took),
+            },
             // For want of memory, which may be there once somebody else has given some back.
             Err(_) => (Headway::Halted, Told::Nothing),
         };
@@ -180,26 +195,31 @@ impl<D: Driver, N: Naming, R: Wait + Clock + Drop> Station<D, N, R> {
         ensures answers { MayOperate (λ d. D.meaning d) self.now.no event result }
         ensures elsewhere { operated_at event ≢ Some self.now.no → result ≡ Refused BadCommand }
     {
-        let loaded = self.to_sync(&event);
+        // A volume that fails is loaded no more.
+        let loaded = self.loaded();
         let reply = self.line.operate(event);
-        self.watch.operated(rt);
-        self.tell_sync(rt, loaded, &reply);
+        self.watch.operated(rt, is_change(&loaded, &reply));
+        self.tell_failed(rt, loaded, &reply);
         reply
     }
 
-    // The loaded volume, where the event has it synced. One that fails is loaded no more.
-    fn to_sync(&self, event: &Event) -> Option<VolName> {
-        match event {
-            Event::Sync { .. } | Event::Unmount { .. } => self.loaded(),
-            _ => None,
+    // Has the worker tell of the volume that was loaded, where the device failed with it.
+    fn tell_failed(&self, rt: &R, loaded: Option<VolName>, reply: &Reply) {
+        if let (Some(volume), Reply::Refused(Refusal::DeviceFault)) = (loaded, reply) {
+            if self.has_failed(&volume) {
+                self.watch.failed(rt, volume);
+            }
         }
     }
 
-    // Has the worker tell of a volume that was to be synced, where the device failed.
-    fn tell_sync(&self, rt: &R, synced: Option<VolName>, reply: &Reply) {
-        if let (Some(volume), Reply::Refused(Refusal::DeviceFault)) = (synced, reply) {
-            self.watch.failed(rt, volume);
-        }
+    // Whether the device has failed with the volume.
+    fn has_failed(&self, name: &VolName) -> bool {
+        let Some(side) = self.line.lock() else {
+            return false;
+        };
+        let side: &DriveSide<D, N> = &side;
+        side.drive().volumes().iter().any(|volume| volume.name().is_same(name)
+            && volume.status() == VolumeStatus::Error)
     }
 
     /// Waits until the drive has tried all that it has, and no longer than a second.

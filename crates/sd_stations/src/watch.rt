@@ -171,11 +171,15 @@ impl Watch {
         self.due.notify_one();
     }
 
-    /// Tells that something was done at the drive, so that what could not be placed may be placed now.
-    pub(crate) fn operated<R: Wait>(&self, rt: &R) {
+    /// Tells that the operator did something at the drive, so that what could not be placed may be placed now. Where nothing
+    /// changed by it, who waits waits on.
+    pub(crate) fn operated<R: Wait>(&self, rt: &R, is_change: bool) {
         let mut standing = self.standing.lock(rt);
         let standing = &mut *standing;
-        standing.moved();
+        standing.halted = false;
+        if is_change {
+            standing.moved();
+        }
         self.due.notify_one();
         self.changed.notify_all();
     }

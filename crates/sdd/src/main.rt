@@ -5,11 +5,14 @@
 use sd_arguments::{DaemonTask, Serving, daemon_task, status_of};
 use sd_base::Refusal;
 use sd_check::check_conf;
-use sd_daemon::serve_file;
+use sd_daemon::{Bounds, serve_file};
 use sd_printer::Printer;
 use sd_serve::Log;
 use std::io::BufWriter;
 use std::process::ExitCode;
+use std::sync::Wait;
+use std::thread::Threads;
+use std::time::Clock;
 use std::{env, io};
 
 fn main(rt: HostRuntime) -> ExitCode {
@@ -23,7 +26,7 @@ fn main(rt: HostRuntime) -> ExitCode {
     };
     match daemon_task(alloc, words.as_slice()) {
         DaemonTask::Check => check_input(&rt),
-        DaemonTask::Serve(asked) => serve_clients(&rt, &asked),
+        DaemonTask::Serve(asked) => serve_clients(&rt, rt, &asked),
         DaemonTask::Print(told) => match told.print(&rt) {
             Ok(()) => ExitCode::from(status_of(&told)),
             Err(_) => ExitCode::FAILURE,
@@ -47,10 +50,18 @@ fn check_input<R: Input + Print + AllocGlobal>(rt: &R) -> ExitCode {
 }
 
 /// Serves clients.
-fn serve_clients(rt: &HostRuntime, asked: &Serving<'_>) -> ExitCode {
-    let log = if asked.log { Some(rt.stderr()) } else { None };
+fn serve_clients<W: Threads + Wait + Clock + Sync + Copy + Drop>(
+    rt: &HostRuntime,
+    wait: W,
+    asked: &Serving<'_>,
+) -> ExitCode {
+    let log = Log::new(if asked.log { Some(rt.stderr()) } else { None });
     let mut out = Printer::new(io::writer(rt));
-    let status = serve_file(rt, asked.path, asked.talks, Log::new(log), &mut out);
+    let bounds = Bounds {
+        talks: asked.talks,
+        wait: asked.wait,
+    };
+    let status = serve_file(rt, wait, asked.path, bounds, &log, &mut out);
     ExitCode::from(status)
 }
 

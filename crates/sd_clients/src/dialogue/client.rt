@@ -1,13 +1,23 @@
-// A client that sends its part of a conversation at once, and compares what it hears to the end.
+// Two clients at once. Each sends its part of a conversation, and tells what it heard.
 use std::io::{ErrorKind, Read, Write};
 use std::net::{Ipv4Addr, SocketAddr, TcpStream};
+use std::sync::Wait;
+use std::thread::Threads;
 use std::time::Duration;
 use std::{env, fs, io, thread};
 
-/// A volume is labelled, a session with one record is appended and closed; a poll, and the end of the talk.
-static SAID: &[u8] = b"\x00\x00\x00\x25console label 1 Vol-0001 Default File\
-\x00\x00\x00\x33append open session JobId=7 Pool=Default Media=File\
-\x00\x00\x00\x0dappend data 1\
+/// A volume is labelled.
+static LABEL: &[u8] = b"\x00\x00\x00\x25console label 1 Vol-0001 Default File";
+
+static LABELLED: &[u8] = b"\x00\x00\x00\x0cok labelled\n\xff\xff\xff\xff";
+
+/// A session is opened; and what is heard up to the digit of its ticket.
+static OPEN: &[u8] = b"\x00\x00\x00\x33append open session JobId=7 Pool=Default Media=File";
+
+static OPENED: &[u8] = b"\x00\x00\x00\x183000 OK open ticket = ";
+
+/// One record is appended to session 1, which is closed; a poll, and the end of the talk.
+static REST: [u8; 101] = *b"\x00\x00\x00\x0dappend data 1\
 \x00\x00\x00\x051 2 0\
 \x00\x00\x00\x05hello\
 \xff\xff\xff\xff\
@@ -17,17 +27,21 @@ static SAID: &[u8] = b"\x00\x00\x00\x25console label 1 Vol-0001 Default File\
 \xff\xff\xff\xfb\
 \xff\xff\xff\xfc";
 
-/// What is heard up to the line of the session, which has the time of the run.
-static FRONT: &[u8] = b"\x00\x00\x00\x0cok labelled\n\
-\xff\xff\xff\xff\
-\x00\x00\x00\x183000 OK open ticket = 1\n\
-\x00\x00\x00\x0d3000 OK data\n\
+/// Where the digits of the session stand in it.
+const TICKETS: [usize; 3] = [16, 66, 92];
+
+/// What is heard behind the ticket, up to the line of the session, which has the time of the run.
+static FRONT: &[u8] = b"\n\x00\x00\x00\x0d3000 OK data\n\
 \x00\x00\x00\x143000 OK append data\n\
 \x00\x00\x00\x0c3000 OK end\n\
 \x00\x00\x00\x1a3000 OK close Status = 84\n";
 
-/// What is heard behind it: the span, and the answer to the poll.
-static BACK: &[u8] = b"\x00\x00\x00\x1bspan Vol-0001 1 1 1 92 259\n\
+/// What is heard behind that, by the place of the session's block: the span, and the answer to the poll.
+static FIRST: &[u8] = b"\x00\x00\x00\x1bspan Vol-0001 1 1 1 92 259\n\
+\xff\xff\xff\xff\
+\xff\xff\xff\xf9";
+
+static SECOND: &[u8] = b"\x00\x00\x00\x1cspan Vol-0001 1 1 1 259 426\n\
 \xff\xff\xff\xff\
 \xff\xff\xff\xf9";
 
@@ -39,17 +53,75 @@ const TRIES: u32 = 1000;
 
 const PAUSE: u64 = 10;
 
-/// Whether the conversation comes as it should.
-pub fn plays(rt: &HostRuntime) -> io::Result<bool> {
-    let stream = connect(rt)?;
-    let mut both = &stream;
-    both.write_all(SAID)?;
+/// What a client heard of its session: the digit of its ticket, and whether its block is the first on the volume.
+#[derive(Clone, Copy)]
+struct Told {
+    ticket: u8,
+    is_first: bool,
+}
+
+/// Whether two clients at once are answered as they should be: the one labels a volume, then each backs up a session. The
+/// sessions are numbers 1 and 2, and their blocks lie one behind the other, in either order.
+pub fn play<W: Threads + Wait + Sync>(rt: &HostRuntime, wait: &W) -> io::Result<bool> {
+    let one = connect(rt)?;
+    if !is_labelled(&one)? {
+        return Ok(false);
+    }
+    let other = connect(rt)?;
+    let (one, other) = thread::join(wait, || back_up(rt, &one), || back_up(rt, &other));
+    match (one?, other?) {
+        (Some(one), Some(other)) => Ok(are_apart(one, other)),
+        _ => Ok(false),
+    }
+}
+
+fn are_apart(one: Told, other: Told) -> bool {
+    let tickets = (one.ticket, other.ticket);
+    (tickets == (b'1', b'2') || tickets == (b'2', b'1')) && one.is_first != other.is_first
+}
+
+fn is_labelled(stream: &TcpStream) -> io::Result<bool> {
+    let mut both = stream;
+    both.write_all(LABEL)?;
+    let mut heard = [0; 20];
+    both.read_exact(&mut heard)?;
+    Ok(heard.as_slice() == LABELLED)
+}
+
+// A session is opened, and by its ticket a record is appended and the session closed. None where anything is answered that
+// should not be.
+fn back_up(rt: &HostRuntime, stream: &TcpStream) -> io::Result<Option<Told>> {
+    let mut both = stream;
+    both.write_all(OPEN)?;
+    let mut opened = [0; 27];
+    both.read_exact(&mut opened)?;
+    if !opened.starts_with(OPENED) {
+        return Ok(None);
+    }
+    let ticket = opened[26];
+    both.write_all(&rest_of(ticket))?;
     // The daemon ends the talk behind its answers.
     let mut heard = Vec::new(rt.alloc());
     both.read_to_end(&mut heard)?;
-    let heard = heard.as_slice();
-    let length = FRONT.len() + SESSION + BACK.len();
-    Ok(heard.len() == length && heard.starts_with(FRONT) && heard.ends_with(BACK))
+    Ok(told_by(ticket, heard.as_slice()))
+}
+
+fn rest_of(ticket: u8) -> [u8; 101] {
+    let mut rest = REST;
+    for at in TICKETS {
+        rest[at] = ticket;
+    }
+    rest
+}
+
+fn told_by(ticket: u8, heard: &[u8]) -> Option<Told> {
+    let behind = heard.strip_prefix(FRONT)?;
+    let (session, back) = behind.split_at_checked(SESSION)?;
+    if session.get(SESSION - 2) != Some(&ticket) {
+        return None;
+    }
+    let is_first = back == FIRST;
+    (is_first || back == SECOND).then_some(Told { ticket, is_first })
 }
 
 fn connect(rt: &HostRuntime) -> io::Result<TcpStream> {

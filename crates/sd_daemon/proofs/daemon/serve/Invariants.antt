@@ -1,5 +1,6 @@
+use Rattle.sd_setup.proofs.NamedLemmas.{named_table}
 use Rattle.sd_daemon.proofs.daemon.serve.Given as goal
 
--- the run is that of the configuration, at the time of the clock
-abbrev pub ghosts-serve_run : goal.ghosts-serve_run
-ghosts-serve_run g a = record { conf = a.conf.now; time = a.time }
+-- the drives that were just made name their lines, and the time is that of the clock
+abbrev pub ghosts-serve_drives : goal.ghosts-serve_drives
+ghosts-serve_drives g a = record { table = named_table a.drives.items; time = λ no. a.run.now.time }

@@ -1,0 +1,26 @@
+// The threads of a daemon.
+use crate::workers::{DriveWorker, start_workers};
+use sd_serve::{TalkHolder, serve_each};
+use std::net::TcpListener;
+use std::sync::Wait;
+use std::thread;
+use std::thread::Threads;
+use std::time::Clock;
+
+/// Holds so many talks, while a worker works for each drive. Ends once all talks have ended, and all that could be placed is
+/// placed. Where no thread can be made for a worker no talk is held, and the answer is no.
+pub(crate) fn hold_talks<W: Threads + Wait + Clock + Sync, K: TalkHolder + DriveWorker>(
+    rt: &W,
+    listener: &TcpListener,
+    connections: u64,
+    talks: &K,
+) -> bool {
+    thread::scope(thread::scope_env(), rt, move |workers| {
+        let all = start_workers(workers, talks);
+        if all {
+            serve_each(rt, listener, connections, talks);
+        }
+        talks.close();
+        all
+    })
+}

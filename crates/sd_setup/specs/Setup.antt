@@ -1,0 +1,44 @@
+-- How the drives of a daemon are made from its configuration.
+use Rattle.std.specs.Prelude.{◌≡◌, ℕ, ◌+◌, suc, zero, Some, List, [], ◌∷◌, ◌++◌, codes, slice_get, unwrap_or}
+use Rattle.atomic_table.specs.Seated.{TableId}
+use Rattle.sd_conf.specs.declared.conf.Conf.{Conf}
+use Rattle.sd_conf.specs.declared.conf.DriveConf.{DriveConf}
+use Rattle.sd_drive.specs.declared.limits.Limits.{Limits}
+use Rattle.sd_filedrive.specs.Drive.{folder_of}
+use Rattle.sd_filedrive.specs.Place.{folder_named}
+use Rattle.sd_filedrive.specs.declared.drive.FileDrive.{FileDrive}
+use Rattle.sd_lines.specs.Unused.{UnusedIs}
+use Rattle.sd_spool.specs.FileSpool.{lane_file}
+
+-- the limits of each drive, in the run of this time
+abbrev pub limits_in : Conf → ℕ → Limits
+limits_in conf time = record { block = conf.block; volume = conf.volume; spool = conf.spool; time = time; host = Some conf.host }
+
+-- A drive of a configuration, for the run of this time, of which nothing was used yet: of its media and with its lanes, with a
+-- queue as long as the configuration says.
+pub record IsUnusedOf (conf : Conf) (time : ℕ) (d : DriveConf) (u : UnusedIs) : Type 0 where
+  pub media_is : u.media ≡ d.media
+  pub lanes_are : u.lanes ≡ d.lanes
+  pub room_is : u.room ≡ conf.queue
+  pub limits_are : u.limits ≡ limits_in conf time
+
+-- the drives' lines are named by these tables and times, by their numbers 1, 2 and on
+abbrev pub AreNamed : (ℕ → TableId) → (ℕ → ℕ) → List UnusedIs → Type 0
+AreNamed table time us = (at : ℕ) (u : UnusedIs) → slice_get us at ≡ Some u → (u.table ≡ table (at + 1)) × (u.limits.time ≡ time (at + 1))
+
+-- the folder of the spools: the current one where none is named
+abbrev pub spool_folder_of : Conf → List ℕ
+spool_folder_of conf = unwrap_or conf.spool_folder (codes ".")
+
+-- the device is over the folder of the drive
+abbrev pub HasFolder : {R F D : Type 0} → DriveConf → FileDrive R F D → Type 0
+HasFolder d device = folder_of device ≡ folder_named d.folder
+
+-- the path of the spool of a lane of a drive, in that folder
+abbrev pub lane_path : List ℕ → ℕ → ℕ → List ℕ
+lane_path folder drive lane = folder_named folder ++ lane_file drive lane
+
+-- the paths of the spools of the lanes 1, 2 and on of a drive, so many
+abbrev pub lane_paths : List ℕ → ℕ → ℕ → List (List ℕ)
+lane_paths folder drive zero = []
+lane_paths folder drive (suc lanes) = lane_paths folder drive lanes ++ lane_path folder drive (suc lanes) ∷ []
