@@ -33,24 +33,24 @@ def closes_beside_streams(bench):
     with bench.told(where=bench.disk) as (daemon, syncs):
         alone = sync_seconds(bench.disk)
         closes, rate = streamed_closes(bench, daemon)
-        during = [moments for moments in syncs() if moments[0] >= closes[0].start]
-    whole = [close.end - close.start for close in closes]
-    asked = [close.end - close.asked for close in closes]
-    beyond = [beyond_sync(close, during) for close in closes]
+        told = syncs()
+    work, aim = f"a small close beside {STREAMS} streams of {rate:.0f} MB/s together", "50 ms and one sync"
     if len(closes) < LEAST_CLOSES:
-        yield Figure(5, "a small close beside three streams", f"{len(closes)} closes only", "50 ms and one sync", None)
+        yield Figure(5, work, f"{len(closes)} closes only while the streams went on", aim, None)
         return
+    during = [moments for moments in told if moments[1] >= closes[0].start]
+    whole = [close.end - close.start for close in closes]
+    beyond = [beyond_sync(close, during) for close in closes]
     syncing = [end - start for start, end in during]
     tell_times("a small close beside streams, its end and its close", whole)
-    tell_times("the answer to its close alone", asked)
+    tell_times("the answer to its close alone", [close.end - close.asked for close in closes])
     tell_times("what it took besides its own sync", beyond)
     tell_times("a sync of the daemon meanwhile", syncing)
-    print(f"{'a sync of a block, where nothing else goes on':<56} {milliseconds(alone)}")
+    print(f"{'a sync of a block, where nothing else goes on':<56} {milliseconds(alone)}", flush=True)
     measured = (f"95th percentile {milliseconds(share(whole, 0.95))}, and without its own sync "
                 f"{milliseconds(share(beyond, 0.95))}; median {milliseconds(statistics.median(whole))}; a sync "
                 f"{milliseconds(statistics.median(syncing))} meanwhile, {milliseconds(alone)} alone; {len(closes)} closes")
-    yield Figure(5, f"a small close beside {STREAMS} streams of {rate:.0f} MB/s together", measured, "50 ms and one sync",
-                 share(beyond, 0.95) <= LIMIT)
+    yield Figure(5, work, measured, aim, share(beyond, 0.95) <= LIMIT)
 
 
 def streamed_closes(bench, daemon):
