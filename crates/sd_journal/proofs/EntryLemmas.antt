@@ -16,7 +16,7 @@ use Rattle.sd_span.proofs.SpanLemmas.{placements_of-append}
 use Rattle.sd_journal.specs.declared.mark.Mark.{Mark}
 use Rattle.sd_journal.specs.declared.counts.Counts.{Counts}
 use Rattle.sd_journal.specs.declared.mark.Mark.TheVariants.{Unsynced, Synced, Lost, Purged}
-use Rattle.sd_journal.specs.Journal.{Entry, Item, placements, noted, is_unsynced, is_synced, is_lost, is_purged, awaits_sync, any_awaits_sync, settled_one, settled, purged_one, purged, is_synced_of, is_lost_of, is_purged_of, placed_of, synced_of, counts_of, fails, fails_with, has_purged, has_on, item_of, items_of, Follows}
+use Rattle.sd_journal.specs.Journal.{Entry, Item, placements, noted, is_unsynced, is_synced, is_lost, is_purged, awaits_sync, any_awaits_sync, settled_one, settled, purged_one, purged, is_synced_of, is_lost_of, is_purged_of, placed_of, synced_of, fails, fails_with, has_purged, has_on, item_of, items_of, Follows}
 use Rattle.sd_journal.specs.Laws.{NotingAppends, SettlingMarks, PurgingMarks, SyncsFail, SyncedWithinPlaced}
 
 -- One entry more.

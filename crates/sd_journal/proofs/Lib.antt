@@ -1,4 +1,5 @@
 pub mod EntryLemmas
+pub mod NameLemmas
 pub mod NotedLemmas
 pub mod KeyLemmas
 pub mod ShareLemmas

@@ -1,11 +1,11 @@
 -- What holds of the entries that a journal keeps, as far as a loop has come.
-use Rattle.std.proofs.Common.{◌≡◌, ℕ, zero, suc, ◌+◌, ◌<◌, Bool, true, false, cond, List, [], ◌∷◌, ◌++◌, length, length-append, map, take, drop, get_or, slice_set, refl, ap, ap₂, sym, ◌∙◌, arith, subst, inl, inr}
-use Rattle.std.specs.Prelude.{◌||◌, ◌&&◌, ◌≤◌, ◌^◌, All, filter, not, Option, Some, None}
+use Rattle.std.proofs.Common.{◌≡◌, ℕ, ◌+◌, ◌<◌, Bool, true, false, cond, List, [], ◌∷◌, ◌++◌, length, length-append, map, take, drop, get_or, slice_set, refl, ap, ap₂, sym, ◌∙◌, arith, inl, inr}
+use Rattle.std.specs.Prelude.{◌==◌, ◌||◌, ◌&&◌, ◌≤◌, ◌^◌, All, filter, not, Some, None}
 use Rattle.std.specs.List.{list_any}
-use Rattle.std.proofs.lemmas.Bool.{cond-true, cond-false, and_left, or_cases, or_left, or_right, true≢false}
-use Rattle.std.proofs.lemmas.List.{map_more, map-append, append-nil, map-set, set-get_or, get_or-map, length-map, take-append-le, take_all, drop_all, take-map, take-append-drop}
+use Rattle.std.proofs.lemmas.Bool.{cond-true, cond-false, cond_both, and_left, and_right, or_cases, or_left, or_right, true≢false}
+use Rattle.std.proofs.lemmas.List.{map_more, map-append, append-nil, map-set, set-get_or, get_or-map, get_or_default, length-map, take-append-le, take_all, drop_all, take-map, take-append-drop}
 use Rattle.std.proofs.lemmas.List.Edits.{map_over_more}
-use Rattle.std.proofs.lemmas.List.Elements.{All-nil, All-head, All-tail, All-push, All-more, All-weaker}
+use Rattle.std.proofs.lemmas.List.Elements.{All-nil, All-head, All-tail, All-push, All-weaker, All-map}
 use Rattle.std.proofs.lemmas.List.Filters.{length-filter_both}
 use Rattle.std.proofs.lemmas.List.Folds.{list_any-append, map_fixed}
 use Rattle.std.specs.Str.{bytes_eq}
@@ -16,96 +16,106 @@ use Rattle.sd_span.specs.declared.placement.Placement.{Placement}
 use Rattle.sd_journal.specs.declared.mark.Mark.{Mark}
 use Rattle.sd_journal.specs.declared.noted.Noted.{Noted}
 use Rattle.sd_journal.specs.Journal.{Entry, JournalView, placements, noted, without_key, is_unsynced, is_purged, any_awaits_sync}
-use Rattle.sd_journal.specs.Noted.{entry_of, entries_of, takes, marked_noted, marked, IsSettled}
+use Rattle.sd_journal.specs.Names.{name_at, with_name, IsPlaceOf}
+use Rattle.sd_journal.specs.Noted.{IsNamed, placement_of, entry_of, entries_of, takes, marked, awaits_at, takes_at, marked_at, IsSettled}
 use Rattle.sd_journal.specs.declared.shares.Shares.{Shares}
 use Rattle.sd_journal.specs.ShareView.{ShareView}
-use Rattle.sd_journal.specs.Share.{share_of, ChangesAt, readied, with_placement, with_mark, CanRemark, HasRoom, AreSharesOf}
+use Rattle.sd_journal.specs.Share.{share_of, ChangesAt, readied, with_mark, CanRemark, HasRoom, AreSharesOf}
 use Rattle.sd_journal.proofs.KeyLemmas.{key_same, key_turned}
-use Rattle.sd_journal.proofs.ShareLemmas.{room_readied, room_made, shares_marked, shares_noted, placed_fits, marks_fit}
+use Rattle.sd_journal.proofs.NameLemmas.{place_is, no_place_is, name_stays}
+use Rattle.sd_journal.proofs.ShareLemmas.{room_readied, room_made, shares_marked, placed_fits, marks_fit}
 use Rattle.sd_journal.proofs.EntryLemmas.{placements_more, marked_placements, own_more, other_more}
-
--- the entries up to one of them, and that one
-pub up_to : (ns : List Noted) (i : ℕ) (n : Noted) → n ≡ get_or ns i n → i < length ns → entries_of (take (i + 1) ns) ≡ entries_of (take i ns) ++ entry_of n ∷ []
-up_to ns i n is below = map_more entry_of ns i n below ∙ ap (λ m. entries_of (take i ns) ++ entry_of m ∷ []) (sym is)
-
--- A test of each.
-
-or_false : (x y : Bool) → x ≡ false → y ≡ false → (x || (y || false)) ≡ false
-or_false x y none none' = ap₂ (λ a b. a || (b || false)) none none'
-
-pub none_yet : (test : Entry → Bool) (ns : List Noted) (i : ℕ) (n : Noted) → n ≡ get_or ns i n → i < length ns → test (entry_of n) ≡ false
-    → list_any test (entries_of (take i ns)) ≡ false → list_any test (entries_of (take (i + 1) ns)) ≡ false
-none_yet test ns i n is below isn't before =
-    ap (list_any test) (up_to ns i n is below) ∙ list_any-append test (entries_of (take i ns)) (entry_of n ∷ []) ∙ or_false (list_any test (entries_of (take i ns))) (test (entry_of n)) before isn't
-
-or_true : (x y : Bool) → y ≡ true → (x || y) ≡ true
-or_true true y is_so = refl
-or_true false y is_so = is_so
-
-pub one_is : (test : Entry → Bool) (ns : List Noted) (i : ℕ) (n : Noted) → n ≡ get_or ns i n → i < length ns → test (entry_of n) ≡ true → list_any test (entries_of ns) ≡ true
-one_is test [] i n is below is_so = absurd (omega (arith, below))
-one_is test (m ∷ ms) zero n is below is_so = ap (λ b. b || list_any test (entries_of ms)) (ap (λ x. test (entry_of x)) (sym is) ∙ is_so)
-one_is test (m ∷ ms) (suc i) n is below is_so = or_true (test (entry_of m)) (list_any test (entries_of ms)) (one_is test ms i n is (omega (arith, below)) is_so)
 
 -- A session's own.
 
-pub own_yes : (key : SessionKey) (ns : List Noted) (i : ℕ) (n : Noted) (ps : List Placement) → n ≡ get_or ns i n → i < length ns → is_key key n.placement.key ≡ true
-    → ps ≡ placements_of key (placements (entries_of (take i ns))) → ps ++ n.placement ∷ [] ≡ placements_of key (placements (entries_of (take (i + 1) ns)))
-own_yes key ns i n ps is below own before =
-    ap (λ l. l ++ n.placement ∷ []) before ∙ sym (ap (λ es. placements_of key (placements es)) (up_to ns i n is below)
-    ∙ ap (placements_of key) (placements_more (entries_of (take i ns)) (entry_of n)) ∙ own_more key (placements (entries_of (take i ns))) n.placement own)
+pub own_yes : (key : SessionKey) (names : List (List ℕ)) (ns : List Noted) (i : ℕ) (d : Noted) (ps : List Placement) → i < length ns → is_key key (get_or ns i d).key ≡ true
+    → ps ≡ placements_of key (placements (entries_of names (take i ns))) → ps ++ placement_of names (get_or ns i d) ∷ [] ≡ placements_of key (placements (entries_of names (take (i + 1) ns)))
+own_yes key names ns i d ps below own before =
+    let n = get_or ns i d in
+    ap (λ l. l ++ placement_of names n ∷ []) before ∙ sym (ap (λ es. placements_of key (placements es)) (map_more (entry_of names) ns i d below)
+    ∙ ap (placements_of key) (placements_more (entries_of names (take i ns)) (entry_of names n)) ∙ own_more key (placements (entries_of names (take i ns))) (placement_of names n) own)
 
-pub own_no : (key : SessionKey) (ns : List Noted) (i : ℕ) (n : Noted) → n ≡ get_or ns i n → i < length ns → is_key key n.placement.key ≡ false
-    → placements_of key (placements (entries_of (take i ns))) ≡ placements_of key (placements (entries_of (take (i + 1) ns)))
-own_no key ns i n is below other =
-    sym (ap (λ es. placements_of key (placements es)) (up_to ns i n is below)
-    ∙ ap (placements_of key) (placements_more (entries_of (take i ns)) (entry_of n)) ∙ other_more key (placements (entries_of (take i ns))) n.placement other)
+pub own_no : (key : SessionKey) (names : List (List ℕ)) (ns : List Noted) (i : ℕ) (d : Noted) → i < length ns → is_key key (get_or ns i d).key ≡ false
+    → placements_of key (placements (entries_of names (take i ns))) ≡ placements_of key (placements (entries_of names (take (i + 1) ns)))
+own_no key names ns i d below other =
+    let n = get_or ns i d in
+    sym (ap (λ es. placements_of key (placements es)) (map_more (entry_of names) ns i d below)
+    ∙ ap (placements_of key) (placements_more (entries_of names (take i ns)) (entry_of names n)) ∙ other_more key (placements (entries_of names (take i ns))) (placement_of names n) other)
 
 -- Marks.
 
-marked_entry : (mark : Mark) (volume : List ℕ) (n : Noted) (b : Bool) → entry_of (cond b (record n { mark = mark }) n) ≡ cond b (record (entry_of n) { mark = mark }) (entry_of n)
-marked_entry mark volume n true = refl
-marked_entry mark volume n false = refl
+-- a call on the volume at a place is one on the volume of the name there
+takes_same : (mark : Mark) (volume : List ℕ) (place : ℕ) (names : List (List ℕ)) (n : Noted) → IsPlaceOf names volume (Some place) → IsNamed names n → takes_at mark place n ≡ takes mark volume (entry_of names n)
+takes_same mark volume place names n is named = ap (λ b. (is_purged mark || is_unsynced n.mark) && b) (place_is names volume place n.volume is named)
 
-pub marked_entries : (mark : Mark) (volume : List ℕ) (ns : List Noted) → entries_of (map (marked_noted mark volume) ns) ≡ marked mark volume (entries_of ns)
-marked_entries mark volume [] = refl
-marked_entries mark volume (n ∷ ns) = ap₂ (λ e es. e ∷ es) (marked_entry mark volume n (takes mark volume (entry_of n))) (marked_entries mark volume ns)
+marked_entry : (mark : Mark) (volume : List ℕ) (names : List (List ℕ)) (n : Noted) (b : Bool)
+    → entry_of names (cond b (record n { mark = mark }) n) ≡ cond b (record (entry_of names n) { mark = mark }) (entry_of names n)
+marked_entry mark volume names n true = refl
+marked_entry mark volume names n false = refl
 
-pub mark_more : (mark : Mark) (volume : List ℕ) (xs ys : List Noted) (i : ℕ) (n n' : Noted) → i < length xs → ys ≡ map (marked_noted mark volume) (take i xs) ++ drop i xs
-    → n ≡ get_or ys i n → n' ≡ marked_noted mark volume n → slice_set ys i n' ≡ map (marked_noted mark volume) (take (i + 1) xs) ++ drop (i + 1) xs
-mark_more mark volume xs ys i n n' below before is new = ap (λ m. slice_set ys i m) new ∙ map_over_more (marked_noted mark volume) xs ys i n below before is
+pub marked_entries : (mark : Mark) (volume : List ℕ) (place : ℕ) (names : List (List ℕ)) (ns : List Noted) → IsPlaceOf names volume (Some place) → All (IsNamed names) ns
+    → entries_of names (map (marked_at mark place) ns) ≡ marked mark volume (entries_of names ns)
+marked_entries mark volume place names [] is named = refl
+marked_entries mark volume place names (n ∷ ns) is named =
+    ap₂ (λ e es. e ∷ es)
+    (marked_entry mark volume names n (takes_at mark place n)
+    ∙ ap (λ b. cond b (record (entry_of names n) { mark = mark }) (entry_of names n)) (takes_same mark volume place names n is (All-head (IsNamed names) n ns named)))
+    (marked_entries mark volume place names ns is (All-tail (IsNamed names) n ns named))
+
+-- no entry is on a volume whose name is not there
+pub unmarked_entries : (mark : Mark) (volume : List ℕ) (names : List (List ℕ)) (ns : List Noted) → IsPlaceOf names volume None → All (IsNamed names) ns
+    → marked mark volume (entries_of names ns) ≡ entries_of names ns
+unmarked_entries mark volume names [] is named = refl
+unmarked_entries mark volume names (n ∷ ns) is named =
+    let none = no_place_is names volume n.volume is (All-head (IsNamed names) n ns named) in
+    ap₂ (λ e es. e ∷ es)
+    (cond-false (takes mark volume (entry_of names n)) (record (entry_of names n) { mark = mark }) (entry_of names n) (and_right (is_purged mark || is_unsynced n.mark) (bytes_eq (name_at names n.volume) volume) none))
+    (unmarked_entries mark volume names ns is (All-tail (IsNamed names) n ns named))
+
+named_marked : (mark : Mark) (place : ℕ) (names : List (List ℕ)) (n : Noted) → IsNamed names n → IsNamed names (marked_at mark place n)
+named_marked mark place names n named = cond_both (takes_at mark place n) (record n { mark = mark }) n (IsNamed names) (λ t. named) (λ t. named)
+
+-- marks leave the places
+pub all_named_marked : (mark : Mark) (place : ℕ) (names : List (List ℕ)) (ns : List Noted) → All (IsNamed names) ns → All (IsNamed names) (map (marked_at mark place) ns)
+all_named_marked mark place names ns named =
+    All-map (IsNamed names) (marked_at mark place) ns (All-weaker (IsNamed names) (λ n. IsNamed names (marked_at mark place n)) (named_marked mark place names) ns named)
+
+pub mark_more : (mark : Mark) (volume : ℕ) (xs ys : List Noted) (i : ℕ) (d n : Noted) → i < length xs → i < length ys → ys ≡ map (marked_at mark volume) (take i xs) ++ drop i xs
+    → n ≡ marked_at mark volume (get_or ys i d) → slice_set ys i n ≡ map (marked_at mark volume) (take (i + 1) xs) ++ drop (i + 1) xs
+mark_more mark volume xs ys i d n below below' before new =
+    ap (λ m. slice_set ys i m) new ∙ map_over_more (marked_at mark volume) xs ys i (get_or ys i d) below before (get_or_default ys i d (get_or ys i d) below')
 
 -- the marks up to a place, once all are made
-pub mark_all : (mark : Mark) (volume : List ℕ) (xs ys : List Noted) (i : ℕ) → length xs ≤ i → ys ≡ map (marked_noted mark volume) (take i xs) ++ drop i xs
-    → ys ≡ map (marked_noted mark volume) xs
+pub mark_all : (mark : Mark) (volume : ℕ) (xs ys : List Noted) (i : ℕ) → length xs ≤ i → ys ≡ map (marked_at mark volume) (take i xs) ++ drop i xs
+    → ys ≡ map (marked_at mark volume) xs
 mark_all mark volume xs ys i over e =
-    e ∙ ap₂ (λ a b. map (marked_noted mark volume) a ++ b) (take_all i xs over) (drop_all i xs over) ∙ append-nil (map (marked_noted mark volume) xs)
+    e ∙ ap₂ (λ a b. map (marked_at mark volume) a ++ b) (take_all i xs over) (drop_all i xs over) ∙ append-nil (map (marked_at mark volume) xs)
 
 -- Settled entries.
 
-settled_stays : (mark : Mark) (volume : List ℕ) (n : Noted) → is_purged mark ≡ false → IsSettled n → marked_noted mark volume n ≡ n
+settled_stays : (mark : Mark) (volume : ℕ) (n : Noted) → is_purged mark ≡ false → IsSettled n → marked_at mark volume n ≡ n
 settled_stays mark volume n sync still =
-    cond-false (takes mark volume (entry_of n)) (record n { mark = mark }) n
-    (and_left (is_purged mark || is_unsynced n.mark) (bytes_eq n.placement.volume volume) (ap₂ (λ a b. a || b) sync still))
+    cond-false (takes_at mark volume n) (record n { mark = mark }) n
+    (and_left (is_purged mark || is_unsynced n.mark) (volume == n.volume) (ap₂ (λ a b. a || b) sync still))
 
-settled_stay : (mark : Mark) (volume : List ℕ) (xs : List Noted) → is_purged mark ≡ false → All IsSettled xs → map (marked_noted mark volume) xs ≡ xs
-settled_stay mark volume xs sync all = map_fixed (marked_noted mark volume) xs (All-weaker IsSettled (λ n. marked_noted mark volume n ≡ n) (λ n. settled_stays mark volume n sync) xs all)
+settled_stay : (mark : Mark) (volume : ℕ) (xs : List Noted) → is_purged mark ≡ false → All IsSettled xs → map (marked_at mark volume) xs ≡ xs
+settled_stay mark volume xs sync all = map_fixed (marked_at mark volume) xs (All-weaker IsSettled (λ n. marked_at mark volume n ≡ n) (λ n. settled_stays mark volume n sync) xs all)
 
 -- the entries before the place from which all are looked at stay
-before_stay : (mark : Mark) (volume : List ℕ) (xs : List Noted) (i : ℕ) → (is_purged mark ≡ true → i ≡ 0) → All IsSettled (take i xs) → map (marked_noted mark volume) (take i xs) ≡ take i xs
+before_stay : (mark : Mark) (volume : ℕ) (xs : List Noted) (i : ℕ) → (is_purged mark ≡ true → i ≡ 0) → All IsSettled (take i xs) → map (marked_at mark volume) (take i xs) ≡ take i xs
 before_stay mark volume xs i all_of all = from (is_purged mark) refl
   where
-    from : (b : Bool) → is_purged mark ≡ b → map (marked_noted mark volume) (take i xs) ≡ take i xs
-    from true is = ap (λ n. map (marked_noted mark volume) (take n xs)) (all_of is) ∙ sym (ap (λ n. take n xs) (all_of is))
+    from : (b : Bool) → is_purged mark ≡ b → map (marked_at mark volume) (take i xs) ≡ take i xs
+    from true is = ap (λ n. map (marked_at mark volume) (take n xs)) (all_of is) ∙ sym (ap (λ n. take n xs) (all_of is))
     from false is = settled_stay mark volume (take i xs) is all
 
 -- up to a place before which all are settled
-pub mark_begin : (mark : Mark) (volume : List ℕ) (xs : List Noted) (i : ℕ) → (is_purged mark ≡ true → i ≡ 0) → All IsSettled (take i xs) → xs ≡ map (marked_noted mark volume) (take i xs) ++ drop i xs
+pub mark_begin : (mark : Mark) (volume : ℕ) (xs : List Noted) (i : ℕ) → (is_purged mark ≡ true → i ≡ 0) → All IsSettled (take i xs) → xs ≡ map (marked_at mark volume) (take i xs) ++ drop i xs
 mark_begin mark volume xs i all_of all = sym (ap (λ l. l ++ drop i xs) (before_stay mark volume xs i all_of all) ∙ take-append-drop i xs)
 
-pub settled_still : (mark : Mark) (volume : List ℕ) (xs ys : List Noted) (i : ℕ) → (is_purged mark ≡ true → i ≡ 0) → ys ≡ map (marked_noted mark volume) xs → All IsSettled (take i xs) → All IsSettled (take i ys)
+pub settled_still : (mark : Mark) (volume : ℕ) (xs ys : List Noted) (i : ℕ) → (is_purged mark ≡ true → i ≡ 0) → ys ≡ map (marked_at mark volume) xs → All IsSettled (take i xs) → All IsSettled (take i ys)
 settled_still mark volume xs ys i all_of e all =
-    rw (ap (take i) e ∙ take-map (marked_noted mark volume) i xs ∙ before_stay mark volume xs i all_of all) all
+    rw (ap (take i) e ∙ take-map (marked_at mark volume) i xs ∙ before_stay mark volume xs i all_of all) all
 
 -- all entries are looked at, or those that may still be synced
 pub settled_before : (xs : List Noted) (settled : ℕ) (b : Bool) → All IsSettled (take settled xs) → All IsSettled (take (cond b 0 settled) xs)
@@ -116,26 +126,61 @@ pub first_is : (b : Bool) (i settled : ℕ) → i ≡ cond b 0 settled → b ≡
 first_is true i settled is purge = is
 first_is false i settled is purge = absurd (true≢false (sym purge))
 
-pub none_awaits : (volume : List ℕ) (xs : List Noted) → All IsSettled xs → any_awaits_sync volume (entries_of xs) ≡ false
+-- Entries that await a sync.
+
+pub none_awaits : (volume : ℕ) (xs : List Noted) → All IsSettled xs → list_any (awaits_at volume) xs ≡ false
 none_awaits volume [] all = refl
 none_awaits volume (x ∷ xs) all =
-    ap₂ (λ a b. a || b) (and_left (is_unsynced x.mark) (bytes_eq x.placement.volume volume) (All-head IsSettled x xs all)) (none_awaits volume xs (All-tail IsSettled x xs all))
+    ap₂ (λ a b. a || b) (and_left (is_unsynced x.mark) (volume == x.volume) (All-head IsSettled x xs all)) (none_awaits volume xs (All-tail IsSettled x xs all))
 
-pub all_settled_more : (xs : List Noted) (i : ℕ) (n : Noted) → n ≡ get_or xs i n → i < length xs → is_unsynced n.mark ≡ false → All IsSettled (take i xs) → All IsSettled (take (i + 1) xs)
-all_settled_more xs i n is below still all = All-more IsSettled xs i n below all (subst IsSettled is still)
+-- of the volume at a place, and of that of the name there
+pub awaits_same : (volume : List ℕ) (place : ℕ) (names : List (List ℕ)) (ns : List Noted) → IsPlaceOf names volume (Some place) → All (IsNamed names) ns
+    → list_any (awaits_at place) ns ≡ any_awaits_sync volume (entries_of names ns)
+awaits_same volume place names [] is named = refl
+awaits_same volume place names (n ∷ ns) is named =
+    ap₂ (λ a b. a || b) (ap (λ b. is_unsynced n.mark && b) (place_is names volume place n.volume is (All-head (IsNamed names) n ns named)))
+    (awaits_same volume place names ns is (All-tail (IsNamed names) n ns named))
+
+-- of a volume whose name is not there
+pub unnamed_awaits : (volume : List ℕ) (names : List (List ℕ)) (ns : List Noted) → IsPlaceOf names volume None → All (IsNamed names) ns → any_awaits_sync volume (entries_of names ns) ≡ false
+unnamed_awaits volume names [] is named = refl
+unnamed_awaits volume names (n ∷ ns) is named =
+    ap₂ (λ a b. a || b)
+    (and_right (is_unsynced n.mark) (bytes_eq (name_at names n.volume) volume) (no_place_is names volume n.volume is (All-head (IsNamed names) n ns named)))
+    (unnamed_awaits volume names ns is (All-tail (IsNamed names) n ns named))
+
+-- One name more.
+
+placement_stays : (name : List ℕ) (names : List (List ℕ)) (n : Noted) → IsNamed names n → placement_of (with_name name names) n ≡ placement_of names n
+placement_stays name names n named = ap (λ v. record { key = n.key; volume = v; start = n.start; length = n.length; first = n.first; last = n.last }) (name_stays name names n.volume named).1
+
+entries_stay : (name : List ℕ) (names : List (List ℕ)) (ns : List Noted) → All (IsNamed names) ns → entries_of (with_name name names) ns ≡ entries_of names ns
+entries_stay name names [] named = refl
+entries_stay name names (n ∷ ns) named =
+    ap₂ (λ e es. e ∷ es) (ap (λ p. record { placement = p; mark = n.mark }) (placement_stays name names n (All-head (IsNamed names) n ns named)))
+    (entries_stay name names ns (All-tail (IsNamed names) n ns named))
+
+-- the entry of a placement that is noted, behind those that were
+pub entries_more : (name : List ℕ) (names names' : List (List ℕ)) (ns : List Noted) (n : Noted) (p : Placement) → names' ≡ with_name name names → All (IsNamed names) ns → entry_of names' n ≡ noted p
+    → entries_of names' (ns ++ n ∷ []) ≡ entries_of names ns ++ noted p ∷ []
+entries_more name names names' ns n p grown named is =
+    map-append (entry_of names') ns (n ∷ []) ∙ ap₂ (λ es e. es ++ e ∷ []) (ap (λ l. entries_of l ns) grown ∙ entries_stay name names ns named) is
+
+pub named_more : (name : List ℕ) (names names' : List (List ℕ)) (ns : List Noted) (n : Noted) → names' ≡ with_name name names → All (IsNamed names) ns → IsNamed names' n → All (IsNamed names') (ns ++ n ∷ [])
+named_more name names names' ns n grown named one =
+    let stay : All (IsNamed (with_name name names)) ns = All-weaker (IsNamed names) (IsNamed (with_name name names)) (λ m is. (name_stays name names m.volume is).0) ns named in
+    All-push (IsNamed names') ns n (rw grown stay) one
 
 -- What the parts of a journal keep.
 
 -- every end fits that fitted, and one more
-pub ends_more : (ns : List Noted) (n : Noted) → All EndFits (placements (entries_of ns)) → EndFits n.placement → All EndFits (placements (entries_of (ns ++ n ∷ [])))
-ends_more ns n ends fits =
-    let all : All EndFits (placements (entries_of ns) ++ n.placement ∷ []) = All-push EndFits (placements (entries_of ns)) n.placement ends fits in
-    rw (map-append entry_of ns (n ∷ []), placements_more (entries_of ns) (entry_of n)) all
+pub ends_more : (es : List Entry) (p : Placement) → All EndFits (placements es) → EndFits p → All EndFits (placements (es ++ noted p ∷ []))
+ends_more es p ends fits =
+    let all : All EndFits (placements es ++ p ∷ []) = All-push EndFits (placements es) p ends fits in rw (placements_more es (noted p)) all
 
 -- marks leave the ends
-pub ends_marked : (mark : Mark) (volume : List ℕ) (xs ys : List Noted) → entries_of ys ≡ marked mark volume (entries_of xs)
-    → All EndFits (placements (entries_of xs)) → All EndFits (placements (entries_of ys))
-ends_marked mark volume xs ys e ends = rw (e, marked_placements (takes mark volume) mark (entries_of xs)) ends
+pub ends_marked : (mark : Mark) (volume : List ℕ) (es es' : List Entry) → es' ≡ marked mark volume es → All EndFits (placements es) → All EndFits (placements es')
+ends_marked mark volume es es' e ends = rw (e, marked_placements (takes mark volume) mark es) ends
 
 -- a session that was ready is one less where it is not any more
 passes_front : {X : Type 0} (b : Bool) (x : X) (ys : List X) (rest : Bool) → (b || rest) ≡ true → (rest ≡ true → 1 ≤ length ys) → 1 ≤ length (cond b (x ∷ ys) ys)
@@ -180,49 +225,35 @@ settled_behind ns n sure low all = rw (take-append-le sure ns (n ∷ []) low) al
 
 -- A step of a call that marks.
 
-get_or_same : {X : Type 0} (xs : List X) (i : ℕ) (d e : X) → i < length xs → get_or xs i d ≡ get_or xs i e
-get_or_same [] i d e below = absurd (omega (arith, below))
-get_or_same (x ∷ xs) zero d e below = refl
-get_or_same (x ∷ xs) (suc i) d e below = get_or_same xs i d e (omega (arith, below))
+entry_at : (names : List (List ℕ)) (ns : List Noted) (i : ℕ) (d : Noted) → i < length ns → entry_of names (get_or ns i d) ≡ get_or (entries_of names ns) i (entry_of names (get_or ns i d))
+entry_at names ns i d below = sym (get_or-map (entry_of names) ns i d (entry_of names (get_or ns i d)) below)
 
--- read twice, it is one entry
-pub same_entry : (ns : List Noted) (i : ℕ) (d n : Noted) → i < length ns → n ≡ get_or ns i n → get_or ns i d ≡ n
-same_entry ns i d n below is = get_or_same ns i d n below ∙ sym is
+pub step_marked : (mark : Mark) (volume : ℕ) (ns : List Noted) (i : ℕ) (d m : Noted) (s s' : Shares) → i < length ns → takes_at mark volume (get_or ns i d) ≡ true → m ≡ marked_at mark volume (get_or ns i d)
+    → ChangesAt (get_or ns i d).key (with_mark (get_or ns i d).mark mark) s s' → (names : List (List ℕ)) → AreSharesOf (entries_of names ns) s → AreSharesOf (entries_of names (slice_set ns i m)) s'
+step_marked mark volume ns i d m s s' below takes_it set changes names fits =
+    let n = get_or ns i d in
+    let long : length (entries_of names ns) ≡ length ns = length-map ns (entry_of names) in
+    let marked_is : m ≡ record n { mark = mark } = set ∙ cond-true (takes_at mark volume n) (record n { mark = mark }) n takes_it in
+    let all = shares_marked (entries_of names ns) i (entry_of names n) mark (omega (arith, long, below)) (entry_at names ns i d below) s s' changes fits in
+    rw (map-set (entry_of names) ns i m, ap (entry_of names) marked_is) all
 
-entry_at : (ns : List Noted) (i : ℕ) (n : Noted) → i < length ns → n ≡ get_or ns i n → entry_of n ≡ get_or (entries_of ns) i (entry_of n)
-entry_at ns i n below is = ap entry_of is ∙ sym (get_or-map entry_of ns i n (entry_of n) below)
-
-pub step_marked : (mark : Mark) (volume : List ℕ) (ns : List Noted) (i : ℕ) (n m : Noted) (key : SessionKey) (was : Mark) (s s' : Shares) → i < length ns → n ≡ get_or ns i n
-    → takes mark volume (entry_of n) ≡ true → m ≡ marked_noted mark volume n → key ≡ n.placement.key → was ≡ n.mark → ChangesAt key (with_mark was mark) s s'
-    → AreSharesOf (entries_of ns) s → AreSharesOf (entries_of (slice_set ns i m)) s'
-step_marked mark volume ns i n m key was s s' below is takes_it set own had changes fits =
-    let long : length (entries_of ns) ≡ length ns = length-map ns entry_of in
-    let marked_is : m ≡ record n { mark = mark } = set ∙ cond-true (takes mark volume (entry_of n)) (record n { mark = mark }) n takes_it in
-    let changed : ChangesAt n.placement.key (with_mark n.mark mark) s s' = subst (λ w. ChangesAt n.placement.key (with_mark w mark) s s') had (subst (λ k. ChangesAt k (with_mark was mark) s s') own changes) in
-    let all = shares_marked (entries_of ns) i (entry_of n) mark (omega (arith, long, below)) (entry_at ns i n below is) s s' changed fits in
-    rw (map-set entry_of ns i m, ap entry_of marked_is) all
-
-pub step_kept : (mark : Mark) (volume : List ℕ) (ns : List Noted) (i : ℕ) (n m : Noted) (s : Shares) → n ≡ get_or ns i n
-    → takes mark volume (entry_of n) ≡ false → m ≡ marked_noted mark volume n → AreSharesOf (entries_of ns) s → AreSharesOf (entries_of (slice_set ns i m)) s
-step_kept mark volume ns i n m s is takes_it set fits =
-    let same : m ≡ n = set ∙ cond-false (takes mark volume (entry_of n)) (record n { mark = mark }) n takes_it in
-    rw (ap (slice_set ns i) (same ∙ is) ∙ set-get_or ns i n) fits
+pub step_kept : (mark : Mark) (volume : ℕ) (ns : List Noted) (i : ℕ) (d m : Noted) (s : Shares) → takes_at mark volume (get_or ns i d) ≡ false → m ≡ marked_at mark volume (get_or ns i d)
+    → (names : List (List ℕ)) → AreSharesOf (entries_of names ns) s → AreSharesOf (entries_of names (slice_set ns i m)) s
+step_kept mark volume ns i d m s takes_it set names fits =
+    let n = get_or ns i d in
+    let same : m ≡ n = set ∙ cond-false (takes_at mark volume n) (record n { mark = mark }) n takes_it in
+    rw (ap (slice_set ns i) same ∙ set-get_or ns i d) fits
 
 -- the counts of a session are no more than the entries, and can be taken anew where an entry of it is marked
-pub step_counts : (mark : Mark) (ns : List Noted) (i : ℕ) (n : Noted) (key : SessionKey) (was : Mark) (s : Shares) (x : ShareView) → i < length ns → length ns + 1 < 2 ^ 64 → n ≡ get_or ns i n
-    → key ≡ n.placement.key → was ≡ n.mark → AreSharesOf (entries_of ns) s → share_of s key ≡ Some x → CanRemark was mark x
-step_counts mark ns i n key was s x below few is own had fits there =
-    let long : length (entries_of ns) ≡ length ns = length-map ns entry_of in
-    let counts = marks_fit (entries_of ns) i (entry_of n) mark (omega (arith, long, below)) (omega (arith, long, few)) (entry_at ns i n below is) s x fits (ap (share_of s) (sym own) ∙ there) in
-    subst (λ w. CanRemark w mark x) (sym had) counts
+pub step_counts : (mark : Mark) (names : List (List ℕ)) (ns : List Noted) (i : ℕ) (d : Noted) (s : Shares) (x : ShareView) → i < length ns → length ns + 1 < 2 ^ 64
+    → AreSharesOf (entries_of names ns) s → share_of s (get_or ns i d).key ≡ Some x → CanRemark (get_or ns i d).mark mark x
+step_counts mark names ns i d s x below few fits there =
+    let long : length (entries_of names ns) ≡ length ns = length-map ns (entry_of names) in
+    marks_fit (entries_of names ns) i (entry_of names (get_or ns i d)) mark (omega (arith, long, below)) (omega (arith, long, few)) (entry_at names ns i d below) s x fits there
 
-pub placed_below : (key : SessionKey) (ns : List Noted) (s : Shares) (x : ShareView) → AreSharesOf (entries_of ns) s → share_of s key ≡ Some x → x.counts.placed ≤ length ns
-placed_below key ns s x fits is = let most = placed_fits key (entries_of ns) s x fits is in let long : length (entries_of ns) ≡ length ns = length-map ns entry_of in omega (arith, most, long)
-
-pub shares_behind : (ns : List Noted) (n : Noted) (p : Placement) (s s' : Shares) → entry_of n ≡ noted p → ChangesAt p.key (with_placement p) s s' → HasRoom (share_of s p.key)
-    → AreSharesOf (entries_of ns) s → AreSharesOf (entries_of (ns ++ n ∷ [])) s'
-shares_behind ns n p s s' is changes room fits =
-    rw (map-append entry_of ns (n ∷ []), is) (shares_noted (entries_of ns) p s s' changes room fits)
+pub placed_below : (key : SessionKey) (names : List (List ℕ)) (ns : List Noted) (s : Shares) (x : ShareView) → AreSharesOf (entries_of names ns) s → share_of s key ≡ Some x → x.counts.placed ≤ length ns
+placed_below key names ns s x fits is =
+    let most = placed_fits key (entries_of names ns) s x fits is in let long : length (entries_of names ns) ≡ length ns = length-map ns (entry_of names) in omega (arith, most, long)
 
 or_last : (b : Bool) → (b || false) ≡ true → b ≡ true
 or_last true e = refl

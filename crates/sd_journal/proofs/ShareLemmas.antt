@@ -1,8 +1,8 @@
 -- What is kept of each session, as entries are noted and marked.
-use Rattle.std.proofs.Common.{◌≡◌, ℕ, zero, suc, ◌+◌, ◌≤◌, ◌<◌, Bool, true, false, cond, List, [], ◌∷◌, ◌++◌, length, get_or, slice_set, refl, ap, ap₂, sym, ◌∙◌, arith, subst}
-use Rattle.std.specs.Prelude.{◌↔◌, ◌-◌, ◌^◌, ◌||◌, ◌&&◌, IsTrue, Result, Ok, Err, Option, None, Some}
+use Rattle.std.proofs.Common.{◌≡◌, ℕ, ◌+◌, ◌≤◌, ◌<◌, Bool, true, false, cond, List, [], ◌∷◌, ◌++◌, length, get_or, slice_set, refl, ap, ap₂, sym, ◌∙◌, arith, subst}
+use Rattle.std.specs.Prelude.{◌↔◌, ◌^◌, ◌||◌, ◌&&◌, IsTrue, Result, Ok, Err, Option, None, Some}
 use Rattle.std.specs.List.{count_by, list_any}
-use Rattle.std.specs.Option.{MatchOption, ForSome}
+use Rattle.std.specs.Option.{MatchOption}
 use Rattle.std.specs.Result.{OnErr}
 use Rattle.std.proofs.lemmas.Bool.{cond-true, cond-false, cond_both, and_left, true≢false}
 use Rattle.std.proofs.lemmas.List.{map-set, set-get_or, get_or-map}

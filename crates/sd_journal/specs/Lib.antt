@@ -1,5 +1,6 @@
 pub mod Journal
 pub mod Laws
+pub mod Names
 pub mod Noted
 pub mod ShareView
 pub mod Share

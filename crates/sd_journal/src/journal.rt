@@ -8,7 +8,8 @@ ghost use Rattle.sd_journal.specs.Journal.{placements, noted, is_purged, IsReady
 
 use crate::counts::Counts;
 use crate::mark::Mark;
-use crate::noted::{Noted, any_awaits, first_unsynced, placements_in, remark};
+use crate::names::Names;
+use crate::noted::{Noted, any_awaits, first_unsynced, last_volume, placements_in, remark};
 use crate::shares::Shares;
 use sd_base::{Items, SessionKey, VolName};
 use sd_span::{Placement, Progress, Span};
@@ -22,11 +23,17 @@ use std::marker::Model;
 /// but for `placements`; `note` costs the same however many entries there are. A sync that is over looks at what
 /// was noted since the oldest entry that may still be synced, and at no session besides: lost entries cost
 /// later syncs nothing. A purge looks at all entries.
+///
+/// An entry takes 40 bytes, however long its volume's name is: each name stands once in the journal, and the
+/// entry has its place there. To note a block, to settle or purge a volume and to tell whether it awaits a sync, the
+/// name is looked for once: the last entry's first, then all of them in turn.
 #[derive(Drop)]
 pub struct Journal {
     alloc: Global,
     // The entries, each with the session that placed it.
     noted: Vec<Noted>,
+    // The names of the volumes that they are on.
+    names: Names,
     // The entries before this place are synced, lost or gone.
     settled: usize,
     // Of each session its stretches and counts.
@@ -42,9 +49,9 @@ impl Model for Journal {
 
     ghost Value = { JournalView };
 
-    ghost view = { λ j. record { entries = entries_of j.noted.items; ready = j.ready.items } };
+    ghost view = { λ j. record { entries = entries_of j.names.names j.noted.items; ready = j.ready.items } };
 
-    ghost invariant = { λ j. IsKept j.noted.items (vec_len j.noted)
+    ghost invariant = { λ j. IsKept j.names j.noted.items (vec_len j.noted)
         (vec_capacity j.noted) j.settled j.ready.items j.shares };
 }
 
@@ -57,6 +64,7 @@ impl Journal {
         Journal {
             alloc,
             noted: Vec::new(alloc),
+            names: Names::new(alloc),
             settled: 0,
             shares: Shares::new(alloc),
             ready: Vec::new(alloc),
@@ -64,7 +72,8 @@ impl Journal {
     }
 
     /// Makes room for the next placement of the session `key`. The entries stay, and what was ready is so
-    /// still. After an Err all is as before.
+    /// still. After an Err all is as before; it comes for want of memory, and where the journal would have
+    /// more names of volumes than 32 bits can number.
     pub fn ready(&mut self, key: SessionKey) -> Result<(), AllocError>
         ensures ok { OnOk result (self.new ≡ record self.old {
           ready = with_key key self.old.ready;
@@ -76,6 +85,7 @@ impl Journal {
             return Ok(());
         }
         let ready = self.ready.as_slice().len();
+        self.names.reserve(ready + 1)?;
         self.noted.reserve(ready + 1)?;
         self.ready.reserve(1)?;
         self.shares.ready(self.alloc, key)?;
@@ -96,8 +106,16 @@ impl Journal {
         let key = placement.key;
         self.ready.retain(|ready| !(key == *ready));
         self.shares.note(&placement);
+        let volume = self
+            .names
+            .place_of(&placement.volume, last_volume(&self.noted));
         self.noted.push_reserved(Noted {
-            placement,
+            key,
+            start: placement.start,
+            length: placement.length,
+            volume,
+            first: placement.first,
+            last: placement.last,
             mark: Mark::Unsynced,
         });
     }
@@ -138,8 +156,11 @@ impl Journal {
           entries = marked mark volume.now self.old.entries;
         } }
     {
+        let Some(place) = self.names.find(volume, last_volume(&self.noted)) else {
+            return;
+        };
         let from = first_marked(mark, self.settled);
-        remark(&mut self.noted, &mut self.shares, from, volume, mark);
+        remark(&mut self.noted, &mut self.shares, from, place, mark);
         self.settled = first_unsynced(&self.noted, from);
     }
 
@@ -147,7 +168,10 @@ impl Journal {
     pub fn has_unsynced(&self, volume: &VolName) -> bool
         ensures { result ≡ any_awaits_sync volume.now self.now.entries }
     {
-        any_awaits(&self.noted, self.settled, volume)
+        match self.names.find(volume, last_volume(&self.noted)) {
+            Some(place) => any_awaits(&self.noted, self.settled, place),
+            None => false,
+        }
     }
 
     /// How many blocks of the session were placed, and how many of them are synced.
@@ -210,7 +234,7 @@ impl Journal {
     pub fn placements(&self, key: SessionKey) -> Result<Items<Placement>, AllocError>
         ensures { IfOk result (λ own. own ≡ placements_of key (placements self.now.entries)) }
     {
-        placements_in(self.alloc, &self.noted, key)
+        placements_in(self.alloc, &self.names, &self.noted, key)
     }
 }
 

@@ -6,6 +6,7 @@ mod counts;
 mod journal;
 mod laws;
 mod mark;
+mod names;
 mod noted;
 mod share;
 mod shares;

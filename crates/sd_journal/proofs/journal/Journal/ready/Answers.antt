@@ -10,21 +10,25 @@ pub invariant_of-self-2 : goal.invariant_of-self-2
 invariant_of-self-2 c =
     let key = c.args.key in
     let before = c.self.inside in
-    let same = c.reserve.ensures.items in
+    let names = c.reserve.ensures.names in
+    let same = c.reserve-2.ensures.items in
     let keys = c.push_reserved.ensures.items in
-    let kept = c.reserve-2.ensures.items in
-    let more = length_more c.reserve-2.new.self.items c.push_reserved.new.self.items key keys in
+    let kept = c.reserve-3.ensures.items in
+    let more = length_more c.reserve-3.new.self.items c.push_reserved.new.self.items key keys in
     let long = ap length kept in
-    let room = c.in_ok-reserve.ensures.ok in
+    let names_room = c.in_ok-reserve.ensures.ok in
+    let room = c.in_ok-reserve-2.ensures.ok in
     let read = c.as_slice-ready.ensures.value in
     let count = ap length read in
     let changes = c.in_ok-ready.ensures.ok in
     record {
-      ends = rw same c.self.invariant.ends;
+      named = rw (names, same) c.self.invariant.named;
+      ends = rw (names, same) c.self.invariant.ends;
       room = omega (arith, more, long, room, count);
+      names_room = omega (arith, more, long, names_room, count);
       rooms = λ q among. rooms_more key before.ready.items before.shares c.ready.new.self changes c.self.invariant.rooms q
           (sym (ap (list_any (is_key q)) (keys ∙ ap (λ l. l ++ key ∷ []) kept)) ∙ among);
       within = rw same c.self.invariant.within;
       settled = rw same c.self.invariant.settled;
-      shares = rw same (shares_readied (entries_of before.noted.items) key before.shares c.ready.new.self changes c.self.invariant.shares);
+      shares = rw (names, same) (shares_readied (entries_of before.names.names before.noted.items) key before.shares c.ready.new.self changes c.self.invariant.shares);
     }
