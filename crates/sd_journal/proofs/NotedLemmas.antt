@@ -5,7 +5,7 @@ use Rattle.std.specs.List.{list_any}
 use Rattle.std.proofs.lemmas.Bool.{cond-true, cond-false, cond_both, and_left, and_right, or_cases, or_left, or_right, true≢false}
 use Rattle.std.proofs.lemmas.List.{map_more, map-append, append-nil, map-set, set-get_or, get_or-map, get_or_default, length-map, take-append-le, take_all, drop_all, take-map, take-append-drop}
 use Rattle.std.proofs.lemmas.List.Edits.{map_over_more}
-use Rattle.std.proofs.lemmas.List.Elements.{All-nil, All-head, All-tail, All-push, All-weaker, All-map}
+use Rattle.std.proofs.lemmas.List.Elements.{All-head, All-tail, All-push, All-weaker, All-map}
 use Rattle.std.proofs.lemmas.List.Filters.{length-filter_both}
 use Rattle.std.proofs.lemmas.List.Folds.{list_any-append, map_fixed}
 use Rattle.std.specs.Str.{bytes_eq}
@@ -116,15 +116,6 @@ mark_begin mark volume xs i all_of all = sym (ap (λ l. l ++ drop i xs) (before_
 pub settled_still : (mark : Mark) (volume : ℕ) (xs ys : List Noted) (i : ℕ) → (is_purged mark ≡ true → i ≡ 0) → ys ≡ map (marked_at mark volume) xs → All IsSettled (take i xs) → All IsSettled (take i ys)
 settled_still mark volume xs ys i all_of e all =
     rw (ap (take i) e ∙ take-map (marked_at mark volume) i xs ∙ before_stay mark volume xs i all_of all) all
-
--- all entries are looked at, or those that may still be synced
-pub settled_before : (xs : List Noted) (settled : ℕ) (b : Bool) → All IsSettled (take settled xs) → All IsSettled (take (cond b 0 settled) xs)
-settled_before xs settled true all = All-nil IsSettled
-settled_before xs settled false all = all
-
-pub first_is : (b : Bool) (i settled : ℕ) → i ≡ cond b 0 settled → b ≡ true → i ≡ 0
-first_is true i settled is purge = is
-first_is false i settled is purge = absurd (true≢false (sym purge))
 
 -- Entries that await a sync.
 

@@ -50,7 +50,7 @@ impl Noted {
         false
     }
 
-    /// The placement that it is of, with its volume's name.
+    /// The placement that was noted so, with its volume's name.
     fn placement(&self, names: &Names) -> Placement
         requires { IsNamed names.now.names self.now }
         ensures { result ≡ placement_of names.now.names self.now }
