@@ -15,6 +15,10 @@ pub text_is : (f : Found) (id : Text) (o : Option (Bor Text)) (r : Bor Text) →
     → first_of id (rows_of f) ≡ Some r.now
 text_is f id o r value is = sym (first_value-rows f id) ∙ (sym value ∙ ap (option_map (λ s. s.now)) is)
 
+-- the text for an argument, where there may be none
+pub word_is : (f : Found) (id : Text) (o : Option (Bor Text)) → option_map (λ s. s.now) o ≡ first_value f id → option_map (λ s. s.now) o ≡ first_of id (rows_of f)
+word_is f id o value = value ∙ first_value-rows f id
+
 -- a text that is given is there
 pub text_there : (f : Found) (id : Text) (o : Option (Bor Text)) → option_map (λ s. s.now) o ≡ first_value f id → IsSome (first_of id (rows_of f)) → IsSome o
 text_there f id o value there = some_of_text (λ s. s.now) o (first_value f id) value (ap is_some (first_value-rows f id) ∙ there)

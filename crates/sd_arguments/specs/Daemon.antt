@@ -1,5 +1,5 @@
 -- What a command line of `sdd` asks for.
-use Rattle.std.specs.Prelude.{◌≡◌, List, [], ◌∷◌, Some, codes, pos}
+use Rattle.std.specs.Prelude.{◌≡◌, List, [], ◌∷◌, Some, codes, option_map, pos}
 use Rattle.clap.specs.Words.{App, IsAmong, Row, Rule, Shape, Text, fault_of, first_of, kind_of, new_rule, one_of}
 use Rattle.clap.specs.declared.builder.ArgAction.TheVariants.{Set}
 use Rattle.clap.specs.declared.builder.ValueParser.TheVariants as parser
@@ -26,10 +26,14 @@ talks_rule = count_rule (codes "talks")
 abbrev pub wait_rule : Rule
 wait_rule = count_rule (codes "wait")
 
--- `serve CONF [--talks N] [--wait SECONDS] [--log]`
+-- `--metrics FILE`: a word, if it is given
+abbrev pub metrics_rule : Rule
+metrics_rule = record (new_rule (codes "metrics")) { long = Some (codes "metrics"); action = Some Set; value_names = 1 }
+
+-- `serve CONF [--talks N] [--wait SECONDS] [--metrics FILE] [--log]`
 abbrev pub serve_shape : Shape
 serve_shape =
-    command_shape (codes "serve") (required_rule (codes "CONF") ∷ talks_rule ∷ wait_rule ∷ flag_rule (codes "log") ∷ [])
+    command_shape (codes "serve") (required_rule (codes "CONF") ∷ talks_rule ∷ wait_rule ∷ metrics_rule ∷ flag_rule (codes "log") ∷ [])
 
 -- the command line of the daemon
 unfoldable pub daemon_line : App
@@ -40,6 +44,7 @@ pub record IsServing (given : List Row) (asked : Serving) : Type 0 where
   pub path : first_of (codes "CONF") given ≡ Some asked.path.now
   pub talks : IsCountOf (one_of (codes "talks") given) asked.talks
   pub wait : IsCountOf (one_of (codes "wait") given) asked.wait
+  pub metrics : option_map (λ file. file.now) asked.metrics ≡ first_of (codes "metrics") given
   pub log : IsFlagOf (one_of (codes "log") given) asked.log
 
 -- the task that this subcommand stands for

@@ -3,7 +3,7 @@ ghost use Rattle.std.specs.Prelude.{◌≡◌, IfErr, IfOk, [], codes, false, ma
 ghost use Rattle.clap.specs.Words.{HasKind, app_of, fault_of, found_of, rows_of, rule_of, shape_of};
 ghost use Rattle.clap.specs.declared.builder.command.Command.TheViews.{out-Command as fields_of};
 ghost use Rattle.sd_arguments.specs.Lines.{IsGiven, command_shape, flag_rule, required_rule};
-ghost use Rattle.sd_arguments.specs.Daemon.{AsksDaemon, IsServing, daemon_line, serve_shape, talks_rule, wait_rule};
+ghost use Rattle.sd_arguments.specs.Daemon.{AsksDaemon, IsServing, daemon_line, metrics_rule, serve_shape, talks_rule, wait_rule};
 
 use crate::status::lacks_memory;
 use clap::{Arg, ArgAction, ArgMatches, Command, Error};
@@ -31,6 +31,8 @@ pub struct Serving<'a> {
     pub talks: u32,
     /// How many seconds a record and a close wait for a volume that their drive needs.
     pub wait: u32,
+    /// The file that the daemon's figures are written to.
+    pub metrics: Option<&'a str>,
     /// Whether a log is written.
     pub log: bool,
 }
@@ -88,12 +90,14 @@ fn serve_command<'a>(alloc: Global) -> Result<Command<'a>, AllocError>
     let path = path_argument(alloc);
     let talks = talks_argument(alloc);
     let wait = wait_argument(alloc);
+    let metrics = metrics_argument(alloc);
     let log = log_argument(alloc);
     Command::new(alloc, "serve")
         .about("Serves clients on 127.0.0.1")
         .arg(path)?
         .arg(talks)?
         .arg(wait)?
+        .arg(metrics)?
         .arg(log)
 }
 
@@ -132,6 +136,17 @@ fn wait_argument<'a>(alloc: Global) -> Arg<'a>
         .help("Lets a job wait so long for a volume that its drive needs; 0 for not at all")
 }
 
+fn metrics_argument<'a>(alloc: Global) -> Arg<'a>
+    ensures rule { rule_of result ≡ metrics_rule }
+    ensures local { result.global ≡ false }
+{
+    Arg::new(alloc, "metrics")
+        .long("metrics")
+        .value_name("FILE")
+        .action(ArgAction::Set)
+        .help("Writes figures to this file every ten seconds, in the text form of Prometheus")
+}
+
 fn log_argument<'a>(alloc: Global) -> Arg<'a>
     ensures rule { rule_of result ≡ flag_rule (codes "log") }
     ensures local { result.global ≡ false }
@@ -151,6 +166,7 @@ fn asked_of<'a>(given: &ArgMatches<'a>) -> Serving<'a>
         path: given.get_str("CONF").unwrap(),
         talks: given.get_one("talks").unwrap_or(0),
         wait: given.get_one("wait").unwrap_or(0),
+        metrics: given.get_str("metrics"),
         log: given.get_flag("log"),
     }
 }

@@ -20,7 +20,11 @@ fn serve_dialogue(rt: HostRuntime) -> Result<(), Fail> {
         return Ok(());
     };
     let log: Log<io::Sink> = Log::new(None);
-    let bounds = Bounds { talks: 2, wait: 0 };
+    let bounds = Bounds {
+        talks: 2,
+        wait: 0,
+        metrics: None,
+    };
     let (served, played) = thread::join(
         &rt,
         || serve(&rt, rt, &conf, bounds, &log),

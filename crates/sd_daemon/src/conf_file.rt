@@ -43,7 +43,7 @@ pub fn serve_file<R: Threads + Wait + Clock + Sync + Copy + Drop, W: Write, L: W
     rt: &HostRuntime,
     wait: R,
     path: &str,
-    bounds: Bounds,
+    bounds: Bounds<'_>,
     log: &Log<L>,
     out: &mut Printer<W>,
 ) -> u8
@@ -70,7 +70,7 @@ fn outcome_of<R: Threads + Wait + Clock + Sync + Copy + Drop, L: Write + Send + 
     rt: &HostRuntime,
     wait: R,
     path: &str,
-    bounds: Bounds,
+    bounds: Bounds<'_>,
     log: &Log<L>,
 ) -> Outcome
     ensures { IsOutcomeOf result }

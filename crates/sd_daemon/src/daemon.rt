@@ -8,6 +8,7 @@ ghost use Rattle.sd_setup.specs.Setup.{AreNamed};
 
 use crate::address::address_of;
 use crate::locks::{FolderLock, lock_folders};
+use crate::metering::Metering;
 use crate::settling::settle_drives;
 use crate::shared::share;
 use crate::talks::FileTalks;
@@ -40,13 +41,15 @@ pub enum ServeFault {
     Memory,
 }
 
-/// How long a daemon serves, and how long its talks wait.
+/// How long a daemon serves, how long its talks wait, and where its figures are written.
 #[derive(Clone, Copy)]
-pub struct Bounds {
+pub struct Bounds<'b> {
     /// After how many talks the daemon ends; 0 where it goes on.
     pub talks: u32,
     /// How many seconds a record and a close wait for a volume that their drive needs.
     pub wait: u32,
+    /// The file that its figures are written to, if any.
+    pub metrics: Option<&'b str>,
 }
 
 /// Serves clients on the port of the configuration and on 127.0.0.1 alone, each in a thread of its own, over drives of files
@@ -56,7 +59,7 @@ pub fn serve<W: Threads + Wait + Clock + Sync + Copy + Drop, L: Write + Send + D
     rt: &HostRuntime,
     wait: W,
     conf: &Conf,
-    bounds: Bounds,
+    bounds: Bounds<'_>,
     log: &Log<L>,
 ) -> Result<Vec<DriveNo>, ServeFault>
     requires { IsWithinLimits conf.now }
@@ -90,7 +93,7 @@ struct Run<'d, W, L> {
     wait: W,
     conf: &'d Conf,
     time: u32,
-    bounds: Bounds,
+    bounds: Bounds<'d>,
     log: &'d Log<L>,
 }
 
@@ -136,6 +139,7 @@ fn hold_all<
     W: Threads + Wait + Clock + Sync + Copy + Drop,
     L: Write + Send + Drop,
 >(run: &Run<'_, W, L>, listener: &TcpListener, hub: &FileHub<N, W>) -> bool {
+    let metering = Metering::new(run.bounds.metrics);
     let talks = FileTalks {
         rt: run.rt,
         wait: run.wait,
@@ -143,12 +147,14 @@ fn hold_all<
         hub,
         log: run.log,
         patience: run.bounds.wait,
+        metering: &metering,
     };
     shares_hub::<N, FileSpool<HostRuntime>, FileDrive<HostRuntime>, W>();
     share(run.rt);
     share(run.conf);
     share(hub);
     share(run.log);
+    share(&metering);
     hold_talks(&run.wait, listener, bound_of(run.bounds.talks), &talks)
 }
 

@@ -1,14 +1,18 @@
 //! The daemon, from the file of its configuration on: a worker for each of its drives, and for each client a thread that holds
-//! its talk, on a port of this machine alone.
+//! its talk, on a port of this machine alone; and, where that is asked for, a thread that writes its figures.
 #![tactic(auto)]
 
 mod address;
 mod conf_file;
 mod daemon;
+mod drive_figure;
+mod figures_text;
 mod locks;
+mod metering;
 mod serve_line;
 mod settling;
 mod shared;
+mod talk_counts;
 mod talks;
 mod threads;
 mod workers;

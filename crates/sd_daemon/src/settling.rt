@@ -51,8 +51,8 @@ fn is_settled<N: Naming, W: Wait + Clock + Copy + Drop>(
 ) -> bool {
     let Post {
         station,
-        counts: _,
         receipts,
+        ..
     } = post;
     let line = station.into_line();
     let Ok(ends) = front.board.take_ends(line.no()) else {

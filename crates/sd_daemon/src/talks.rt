@@ -1,4 +1,5 @@
 // The talks of a daemon over files.
+use crate::metering::Metering;
 use sd_conf::Conf;
 use sd_filedrive::FileDrive;
 use sd_line::Naming;
@@ -20,11 +21,13 @@ pub(crate) struct FileTalks<'d, N: Naming, W: Wait + Drop, L> {
     pub(crate) log: &'d Log<L>,
     // How many seconds a record and a close wait for a volume that their drive needs.
     pub(crate) patience: u32,
+    pub(crate) metering: &'d Metering<'d>,
 }
 
 impl<N: Naming + Send + Sync, W: Wait + Clock + Sync + Copy + Drop, L: Write + Send> TalkHolder
     for FileTalks<'_, N, W, L> {
     fn hold(&self, talk: u64, stream: &TcpStream) {
+        self.metering.talks.begins();
         let moment = moment_now(&self.wait);
         let patience = ClientPatience {
             rt: self.rt,
@@ -35,6 +38,7 @@ impl<N: Naming + Send + Sync, W: Wait + Clock + Sync + Copy + Drop, L: Write + S
         let mut port = LoggedPort::begin(port, &self.wait, self.log, talk);
         let end = hold_talk(self.rt.alloc(), stream, &mut port);
         port.end(&end).finish();
+        self.metering.talks.ended();
     }
 }
 

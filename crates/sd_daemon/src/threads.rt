@@ -1,4 +1,5 @@
 // The threads of a daemon.
+use crate::metering::{FiguresWriter, start_writer};
 use crate::workers::{DriveWorker, start_workers};
 use sd_serve::{TalkHolder, serve_each};
 use std::net::TcpListener;
@@ -7,9 +8,23 @@ use std::thread;
 use std::thread::Threads;
 use std::time::Clock;
 
-/// Holds so many talks, while a worker works for each drive. Ends once all talks have ended, and all that could be placed is
-/// placed. Where no thread can be made for a worker no talk is held, and the answer is no.
-pub(crate) fn hold_talks<W: Threads + Wait + Clock + Sync, K: TalkHolder + DriveWorker>(
+/// Holds so many talks, while a worker works for each drive, and a thread writes the figures where they are asked for. Ends once
+/// all talks have ended, all that could be placed is placed, and the last figures are written. Where no thread can be made for
+/// a worker or for the figures no talk is held, and the answer is no.
+pub(crate) fn hold_talks<
+    W: Threads + Wait + Clock + Sync,
+    K: TalkHolder + DriveWorker + FiguresWriter,
+>(rt: &W, listener: &TcpListener, connections: u64, talks: &K) -> bool {
+    thread::scope(thread::scope_env(), rt, move |writers| {
+        let all = start_writer(writers, talks)
+            && hold_beside_workers(rt, listener, connections, talks);
+        talks.end();
+        all
+    })
+}
+
+// Holds them beside the workers.
+fn hold_beside_workers<W: Threads + Wait + Clock + Sync, K: TalkHolder + DriveWorker>(
     rt: &W,
     listener: &TcpListener,
     connections: u64,

@@ -1,8 +1,10 @@
 // Drives come to a hub.
 ghost use Rattle.std.specs.Prelude.{◌≡◌};
 
+use crate::amount::AmountCounter;
 use crate::front::Front;
 use crate::hub::{Hub, Post};
+use crate::tally::Tally;
 use crate::unused::UnusedDrive;
 use sd_base::DriveNo;
 use sd_board::Board;
@@ -33,6 +35,7 @@ impl<D: Driver + Drop, N: Naming, R: Wait + Clock + Drop, S: SpoolStore + Drop> 
             alloc,
             posts: Vec::new(alloc),
             front: Mutex::new(Front::new(Board::new(alloc))),
+            given: AmountCounter::new(),
             time,
             keeps_receipts,
         }
@@ -80,6 +83,7 @@ fn new_post<D: Driver + Drop, N: Naming, R: Wait + Clock + Drop>(
         station: Station::new(line),
         counts,
         receipts: Mutex::new(Vec::new(alloc)),
+        tally: Tally::new(alloc),
     })
 }
 

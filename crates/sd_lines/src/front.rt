@@ -3,22 +3,26 @@ ghost use Rattle.std.specs.Prelude.{◌≡◌, IfOk, IfErr, OnErr};
 ghost use Rattle.sd_board.specs.Opening.{OpensLane, OpensNone};
 ghost use Rattle.sd_part.specs.Ends.{LastIsOver};
 
+use crate::standings::Standings;
 use sd_base::{DriveNo, MOST_DRIVES, MediaName, PoolName, Refusal, Ticket};
 use sd_board::{Board, DriveSeen, Opened};
 use sd_line::Naming;
 use sd_part::LaneEnd;
+use sd_session::Status;
 use sd_spool::SpoolStore;
 use std::array;
 
 /// For how many drives there is room.
 pub(crate) const DRIVES: usize = MOST_DRIVES as usize;
 
-/// The board, and of the drives 1, 2 and on the pool of the session that was opened there last. A drive itself learns of
-/// that a little later, and who opens a session in between must not be told of the one before.
+/// The board; of the drives 1, 2 and on the pool of the session that was opened there last; and how many of the board's
+/// sessions stand how. A drive itself learns of the pool a little later, and who opens a session in between must not be told of
+/// the one before.
 #[derive(Drop)]
 pub struct Front<N: Naming, S: SpoolStore> {
     pub board: Board<N, S>,
     pools: [Option<PoolName>; DRIVES],
+    standings: Standings,
 }
 
 impl<N: Naming, S: SpoolStore + Drop> Front<N, S> {
@@ -27,6 +31,7 @@ impl<N: Naming, S: SpoolStore + Drop> Front<N, S> {
         Front {
             board,
             pools: array::from_fn(|_| None),
+            standings: Standings::new(),
         }
     }
 
@@ -47,13 +52,30 @@ impl<N: Naming, S: SpoolStore + Drop> Front<N, S> {
         if place < DRIVES {
             self.pools[place] = Some(pool.copy());
         }
+        self.standings.add(Status::Active);
         Ok(opened)
     }
 
     /// Takes back what was opened for a session that does not begin.
     pub(crate) fn take_back(&mut self, ticket: Ticket, end: LaneEnd<N, S>) {
         // Its slot is empty since then, and the session before it over.
-        let _ = self.board.take_back(ticket, end);
+        if self.board.take_back(ticket, end).is_ok() {
+            self.standings.take(Status::Active);
+        }
+    }
+
+    /// The session's line says from now on that it stands so and took so many records.
+    pub(crate) fn post(&mut self, ticket: Ticket, status: Status, records: u64) {
+        if let Some(posted) = self.board.session(ticket) {
+            self.standings.take(posted.status);
+            self.standings.add(status);
+        }
+        self.board.post(ticket, status, records);
+    }
+
+    /// How many sessions stand how.
+    pub(crate) fn standings(&self) -> Standings {
+        self.standings
     }
 }
 

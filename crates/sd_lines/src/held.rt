@@ -114,7 +114,7 @@ impl<
         let (drive, lane) = (live.part().no(), live.part().session().lane());
         let reply = match live.add(&hub.rt, rec, &self.patience) {
             Ok(count) => {
-                hub.count(drive, lane, count);
+                hub.took(drive, lane, count, rec.bytes.len());
                 Reply::Taken { count }
             }
             Err(why) => Reply::Refused(why),

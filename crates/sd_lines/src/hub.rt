@@ -3,7 +3,9 @@ ghost use Rattle.std.specs.Prelude.{◌≡◌, IfOk, IfSome};
 ghost use Rattle.sd_line.specs.Operates.{MayOperate};
 ghost use Rattle.sd_part.specs.Ends.{LastIsOver};
 
+use crate::amount::AmountCounter;
 use crate::front::{DRIVES, Front};
+use crate::tally::Tally;
 use sd_base::{DriveNo, LaneNo, MediaName, PoolName, Refusal, Ticket, VolName};
 use sd_board::{Opened, Sent};
 use sd_desk::ClaimFault;
@@ -20,14 +22,15 @@ use std::sync::atomic::{AtomicU64, Ordering};
 use std::sync::{Mutex, Wait};
 use std::time::Clock;
 
-/// A drive that the talks share: its station; how many records the session of each lane took; and the receipts of the
-/// sessions that were closed there, for whoever settles the line.
+/// A drive that the talks share: its station; how many records the session of each lane took; the receipts of the sessions that
+/// were closed there, for whoever settles the line; and what is counted of it.
 #[derive(Drop)]
 pub struct Post<D: Driver, N: Naming, R: Wait + Drop> {
     pub station: Station<D, N, R>,
     /// Of the lanes 1, 2 and on.
     pub counts: Vec<AtomicU64>,
     pub receipts: Mutex<Vec<Receipt>>,
+    pub tally: Tally,
 }
 
 impl<D: Driver, N: Naming, R: Wait + Clock + Drop> Post<D, N, R> {
@@ -65,6 +68,8 @@ pub struct Hub<D: Driver, N: Naming, R: Wait + Drop, S: SpoolStore> {
     pub posts: Vec<Post<D, N, R>>,
     /// The desk, under its lock. Nobody takes it with the lock of a drive held, and no device is called while it is held.
     pub front: Mutex<Front<N, S>>,
+    /// What was given back in restores.
+    pub given: AmountCounter,
     /// The time of the run.
     pub time: u32,
     /// Whether the receipts of closed sessions are kept.
@@ -118,7 +123,7 @@ impl<D: Driver, N: Naming, R: Wait + Clock + Drop, S: SpoolStore + Drop> Hub<D, 
         let mut front = self.front.lock(&self.rt);
         let front: &mut Front<N, S> = &mut front;
         if let Some(ticket) = Ticket::new(id) {
-            front.board.post(ticket, status, records);
+            front.post(ticket, status, records);
         }
         // Its slot is empty since the session was opened.
         let _ = front.board.rest(end, on_its_way);
@@ -127,13 +132,22 @@ impl<D: Driver, N: Naming, R: Wait + Clock + Drop, S: SpoolStore + Drop> Hub<D, 
     /// Tells that a session has its end label, and how many records it took.
     pub(crate) fn tell_ended(&self, ticket: Ticket, records: u64) {
         let mut front = self.front.lock(&self.rt);
-        front.board.post(ticket, Status::Ended, records);
+        let front: &mut Front<N, S> = &mut front;
+        front.post(ticket, Status::Ended, records);
     }
 
     /// Tells how many records the session of a lane took so far. Takes no lock.
     pub(crate) fn count(&self, drive: DriveNo, lane: LaneNo, records: u64) {
         if let Some(post) = self.posts.get(drive.get() as usize - 1) {
             post.count(lane, records);
+        }
+    }
+
+    /// Tells that the session of a lane took a record of so many bytes, and how many it took so far. Takes no lock.
+    pub(crate) fn took(&self, drive: DriveNo, lane: LaneNo, records: u64, bytes: usize) {
+        if let Some(post) = self.posts.get(drive.get() as usize - 1) {
+            post.count(lane, records);
+            post.tally.taken.add(bytes);
         }
     }
 

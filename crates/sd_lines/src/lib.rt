@@ -3,8 +3,11 @@
 
 mod adding;
 mod adopting;
+mod amount;
 mod arrivals;
 mod console;
+mod counted;
+mod figures;
 mod front;
 mod held;
 mod hub;
@@ -15,13 +18,19 @@ mod port;
 mod ports;
 mod reading;
 mod shared;
+mod standings;
 mod status;
+mod tally;
 mod unused;
 mod working;
 
 pub use adding::AddFault;
+pub use amount::{Amount, AmountCounter};
+pub use figures::{DriveFigures, Figures};
 pub use front::Front;
 pub use hub::{Hub, Post};
 pub use port::LinePort;
 pub use shared::shares_hub;
+pub use standings::Standings;
+pub use tally::{Tally, VolumeFaults};
 pub use unused::UnusedDrive;

@@ -1,6 +1,7 @@
 // A session is read back, by a device of the talk's own.
 ghost use Rattle.std.specs.Prelude.{◌≡◌, ◌++◌};
 
+use crate::counted::Counted;
 use crate::hub::Hub;
 use sd_append::Shown;
 use sd_base::{DriveNo, Rec, Refusal, SessionKey};
@@ -21,7 +22,7 @@ pub(crate) struct Reading<K> {
     pub(crate) answer: Result<ReadEnd, Refusal>,
 }
 
-/// Reads a session back from its spans, and tells which records its sink got. All volumes of the spans have to be at one
+/// Reads a session back from its spans, and tells which records its sink got; they are counted. All volumes of the spans have to be at one
 /// drive, of which this run knows: else the first that isn't is on no shelf.
 pub(crate) fn read<
     B: Before,
@@ -34,14 +35,18 @@ pub(crate) fn read<
     requires { K.got sink ≡ B.before }
     ensures { K.got result.sink ≡ B.before ++ result.handed }
 {
-    let mut watched: Watched<B, K> = Watched::new(sink);
+    let counted = Counted {
+        sink,
+        given: &hub.given,
+    };
+    let mut watched: Watched<B, Counted<'_, K>> = Watched::new(counted);
     let answer = match drive_of(hub, spans) {
         Ok(drive) => read_at(hub, drive, readers, key, spans, &mut watched),
         Err(why) => Err(why),
     };
-    let (sink, handed) = watched.into_parts();
+    let (counted, handed) = watched.into_parts();
     Reading {
-        sink,
+        sink: counted.sink,
         handed,
         answer,
     }

@@ -11,16 +11,18 @@ use std::time::Clock;
 
 impl<D: Driver, N: Naming, R: Wait + Clock + Drop, S: SpoolStore + Drop> Hub<D, N, R, S> {
     /// Waits until a drive has something to do, and does it. What volume the drive needs is noted at the desk, and taken away
-    /// again once one is mounted. Where it was noted before, a turn is told.
+    /// again once one is mounted. Where it was noted before, a turn is told. What the worker told is counted.
     pub fn work(&self, post: &Post<D, N, R>) -> Worked {
-        match post.station.work(&self.rt) {
+        let worked = match post.station.work(&self.rt) {
             Worked::Mounted(volume) => {
                 self.answered(post.station.line().no());
                 Worked::Mounted(volume)
             }
             Worked::NeedsVolume(pool) => self.ask(post, pool),
             worked => worked,
-        }
+        };
+        post.tally.worked(&self.rt, &worked);
+        worked
     }
 
     // Notes the request of a drive. For want of memory it is noted once the drive seeks again.

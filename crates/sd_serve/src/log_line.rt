@@ -78,6 +78,10 @@ pub enum LogLine<'a> {
     Unsettled {
         drive: u32,
     },
+    /// The figures of the daemon can't be written to this file.
+    Unwritten {
+        file: &'a str,
+    },
 }
 
 /// A line with its time.
@@ -159,6 +163,7 @@ impl fmt::Display for LogLine<'_> {
             }
             LogLine::Settled { drive } => write!(f, "drive {drive} is settled"),
             LogLine::Unsettled { drive } => write!(f, "drive {drive} can't be settled"),
+            LogLine::Unwritten { file } => write!(f, "metrics {file} can't be written"),
         }
     }
 }

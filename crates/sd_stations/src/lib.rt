@@ -2,10 +2,12 @@
 //! another.
 #![tactic(auto)]
 
+mod meter;
 mod patience;
 mod station;
 mod watch;
 
+pub use meter::Metered;
 pub use patience::Patience;
 pub use station::{Station, Worked};
-pub use watch::{Moves, Waited};
+pub use watch::{Backlog, Moves, Waited};

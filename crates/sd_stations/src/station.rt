@@ -4,24 +4,26 @@ ghost use Rattle.sd_line.specs.Operates.{MayOperate, operated_at};
 ghost use Rattle.sd_machine.specs.declared.reply.Reply.TheVariants.{Refused};
 ghost use Rattle.sd_base.specs.declared.refusal.Refusal.TheVariants.{BadCommand};
 
+use crate::meter::{Meter, Metered};
 use crate::patience::Patience;
-use crate::watch::{Headway, Moves, Task, Waited, Watch};
+use crate::watch::{Backlog, Headway, Moves, Task, Waited, Watch};
 use sd_base::{PoolName, Refusal, SessionKey, VolName};
-use sd_drive::Placed;
+use sd_drive::{Drive, Placed};
 use sd_driver::Driver;
 use sd_line::{DriveSide, DriveWorker, Gate, Line, Naming, Point, Turned};
 use sd_machine::{Event, Reply};
 use sd_volume::VolumeStatus;
 use std::marker::Model;
 use std::sync::Wait;
-use std::time::Clock;
+use std::time::{Clock, Instant};
 
-/// A drive that threads share: its line, and what its worker and the talks of its sessions tell one another. In a contract
-/// it is the line, a `LineIs`.
+/// A drive that threads share: its line, what its worker and the talks of its sessions tell one another, and what is counted of
+/// its work. In a contract it is the line, a `LineIs`.
 #[derive(Drop)]
 pub struct Station<D: Driver, N: Naming, R: Wait + Drop> {
     line: Line<D, N, R>,
     watch: Watch,
+    meter: Meter,
 }
 
 impl<D: Driver, N: Naming, R: Wait + Drop> Model for Station<D, N, R> {
@@ -93,6 +95,27 @@ fn is_change(loaded: &Option<VolName>, reply: &Reply) -> bool {
     }
 }
 
+// Whether an event has the loaded volume synced, where blocks await that.
+fn is_sync(event: &Event) -> bool {
+    matches!(event, Event::Sync { .. } | Event::Unmount { .. })
+}
+
+// How a drive stood before a turn or an event of the operator.
+#[derive(Drop)]
+struct Before {
+    // The name of the loaded volume.
+    loaded: Option<VolName>,
+    // Whether blocks of it await a sync.
+    awaits_sync: bool,
+}
+
+// The name of the volume that is loaded in a drive.
+fn loaded_in<D: Driver>(drive: &Drive<D>) -> Option<VolName> {
+    drive.know();
+    let at = drive.loaded()?;
+    Some(drive.volumes()[at].name().copy())
+}
+
 impl<D: Driver, N: Naming, R: Wait + Clock + Drop> Station<D, N, R> {
     /// The station of a line of which nothing was pushed yet.
     pub fn new(line: Line<D, N, R>) -> Self
@@ -101,6 +124,7 @@ impl<D: Driver, N: Naming, R: Wait + Clock + Drop> Station<D, N, R> {
         Station {
             line,
             watch: Watch::new(),
+            meter: Meter::new(),
         }
     }
 
@@ -114,7 +138,11 @@ impl<D: Driver, N: Naming, R: Wait + Clock + Drop> Station<D, N, R> {
     pub fn into_line(self) -> Line<D, N, R>
         ensures { result ≡ self }
     {
-        let Station { line, watch: _ } = self;
+        let Station {
+            line,
+            watch: _,
+            meter: _,
+        } = self;
         line
     }
 
@@ -130,8 +158,14 @@ impl<D: Driver, N: Naming, R: Wait + Clock + Drop> Station<D, N, R> {
     // A turn; and where the drive needs a volume, it seeks one.
     fn turn(&self, rt: &R) -> Worked {
         // A volume that fails is loaded no more.
-        let loaded = self.loaded();
-        let Turned { took, place, sync } = DriveWorker::turn(&self.line, &NoGate);
+        let Before {
+            loaded,
+            awaits_sync,
+        } = self.before();
+        let begun = Instant::now(rt).ok();
+        let turned = DriveWorker::turn(&self.line, &NoGate);
+        self.meter.turned(rt, begun, awaits_sync, &turned);
+        let Turned { took, place, sync } = turned;
         let (headway, told) = match place {
             Ok(Placed::Idle) => (Headway::AtRest, Told::of_sync(&sync)),
             Ok(Placed::At(_)) => (Headway::Moved { holding: false }, Told::Nothing),
@@ -149,14 +183,20 @@ impl<D: Driver, N: Naming, R: Wait + Clock + Drop> Station<D, N, R> {
         told.of_volume(loaded)
     }
 
-    // The name of the loaded volume.
-    fn loaded(&self) -> Option<VolName> {
-        let side = self.line.lock()?;
+    // How the drive stands.
+    fn before(&self) -> Before {
+        let Some(side) = self.line.lock() else {
+            return Before {
+                loaded: None,
+                awaits_sync: false,
+            };
+        };
         let side: &DriveSide<D, N> = &side;
         let drive = side.drive();
-        drive.know();
-        let at = drive.loaded()?;
-        Some(drive.volumes()[at].name().copy())
+        Before {
+            loaded: loaded_in(drive),
+            awaits_sync: drive.awaits_sync(),
+        }
     }
 
     // Seeks a volume that the drive needs, after a turn in which a piece was taken or none.
@@ -196,8 +236,14 @@ impl<D: Driver, N: Naming, R: Wait + Clock + Drop> Station<D, N, R> {
         ensures elsewhere { operated_at event ≢ Some self.now.no → result ≡ Refused BadCommand }
     {
         // A volume that fails is loaded no more.
-        let loaded = self.loaded();
+        let Before {
+            loaded,
+            awaits_sync,
+        } = self.before();
+        let syncs = awaits_sync && is_sync(&event);
+        let begun = Instant::now(rt).ok();
         let reply = self.line.operate(event);
+        self.meter.synced(rt, begun, syncs);
         self.watch.operated(rt, is_change(&loaded, &reply));
         self.tell_failed(rt, loaded, &reply);
         reply
@@ -220,6 +266,16 @@ impl<D: Driver, N: Naming, R: Wait + Clock + Drop> Station<D, N, R> {
         let side: &DriveSide<D, N> = &side;
         side.drive().volumes().iter().any(|volume| volume.name().is_same(name)
             && volume.status() == VolumeStatus::Error)
+    }
+
+    /// What the drive has done so far. Takes no lock.
+    pub fn metered(&self) -> Metered {
+        self.meter.metered()
+    }
+
+    /// What is on its way to the drive's volumes.
+    pub fn backlog(&self, rt: &R) -> Backlog {
+        self.watch.backlog(rt)
     }
 
     /// Waits until the drive has tried all that it has, and no longer than a second.

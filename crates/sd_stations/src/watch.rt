@@ -12,6 +12,22 @@ const PIECE_SECONDS: u64 = 1;
 #[derive(Clone, Copy, Debug, PartialEq, Eq)]
 pub struct Moves(u64);
 
+/// What is on its way to the volumes of a drive, by what its worker and the talks told.
+#[derive(Clone, Copy, Debug, PartialEq, Eq)]
+pub struct Backlog {
+    /// How many pieces lie in the queue.
+    pub queued: u64,
+    /// Whether a piece is in the drive's hand.
+    pub holding: bool,
+}
+
+impl Backlog {
+    /// Whether nothing is on its way.
+    pub fn is_empty(&self) -> bool {
+        self.queued == 0 && !self.holding
+    }
+}
+
 /// What a talk waited for.
 #[derive(Clone, Copy, Debug, PartialEq, Eq)]
 pub enum Waited {
@@ -182,6 +198,15 @@ impl Watch {
         }
         self.due.notify_one();
         self.changed.notify_all();
+    }
+
+    /// What is on its way.
+    pub(crate) fn backlog<R: Wait>(&self, rt: &R) -> Backlog {
+        let standing = self.standing.lock(rt);
+        Backlog {
+            queued: standing.pushed.saturating_sub(standing.taken),
+            holding: standing.holding,
+        }
     }
 
     /// Asks that what was placed is synced once the queue is empty.

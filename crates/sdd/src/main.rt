@@ -60,6 +60,7 @@ fn serve_clients<W: Threads + Wait + Clock + Sync + Copy + Drop>(
     let bounds = Bounds {
         talks: asked.talks,
         wait: asked.wait,
+        metrics: asked.metrics,
     };
     let status = serve_file(rt, wait, asked.path, bounds, &log, &mut out);
     ExitCode::from(status)

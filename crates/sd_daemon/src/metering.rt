@@ -1,0 +1,123 @@
+// The file that a daemon writes its figures to.
+use crate::figures_text::FiguresText;
+use crate::talk_counts::TalkCounts;
+use crate::talks::FileTalks;
+use sd_line::Naming;
+use sd_serve::{Log, LogLine};
+use std::fs;
+use std::io::{self, Write};
+use std::sync::{Condvar, Mutex, Wait};
+use std::thread::Scope;
+use std::time::{Clock, Duration};
+
+/// How many seconds go by from one writing of the figures to the next.
+const PERIOD_SECONDS: u64 = 10;
+
+/// Where the figures of a run are written, if anywhere; how many talks were held; and whether the last figures are due.
+#[derive(Drop)]
+pub(crate) struct Metering<'d> {
+    file: Option<&'d str>,
+    pub(crate) talks: TalkCounts,
+    ended: Mutex<bool>,
+    due: Condvar,
+}
+
+impl<'d> Metering<'d> {
+    /// The figures of a run that begins.
+    pub(crate) fn new(file: Option<&'d str>) -> Self {
+        Metering {
+            file,
+            talks: TalkCounts::new(),
+            ended: Mutex::new(false),
+            due: Condvar::new(),
+        }
+    }
+
+    // Waits until the figures are to be written again. Whether for the last time.
+    fn wait<R: Wait + Clock>(&self, rt: &R) -> bool {
+        let period = Duration::from_secs(PERIOD_SECONDS);
+        let (ended, _) = self
+            .due
+            .wait_timeout_while(rt, self.ended.lock(rt), period, |ended| !*ended);
+        *ended
+    }
+
+    // Has the last figures written.
+    fn end<R: Wait>(&self, rt: &R) {
+        let mut ended = self.ended.lock(rt);
+        *ended = true;
+        self.due.notify_all();
+    }
+}
+
+/// What writes figures from time to time.
+pub(crate) trait FiguresWriter: Sync {
+    /// Whether figures are asked for.
+    fn is_asked(&self) -> bool;
+
+    /// Writes them until the last ones are written.
+    fn write_figures(&self);
+
+    /// Tells that the last ones are to be written.
+    fn end(&self);
+}
+
+/// Starts a thread for the figures, where they are asked for. Whether it could be made.
+pub(crate) fn start_writer<'s, E, K: FiguresWriter>(scope: &Scope<'s, E>, writer: &'s K) -> bool {
+    if !writer.is_asked() {
+        return true;
+    }
+    scope.spawn(move || writer.write_figures()).is_ok()
+}
+
+impl<N: Naming + Send + Sync, W: Wait + Clock + Sync + Copy + Drop, L: Write + Send> FiguresWriter
+    for FileTalks<'_, N, W, L> {
+    fn is_asked(&self) -> bool {
+        self.metering.file.is_some()
+    }
+
+    fn write_figures(&self) {
+        let hub = self.hub;
+        let Some(file) = self.metering.file else {
+            return;
+        };
+        let mut could = self.write_to(file, true);
+        for _period in hub.rt.forever() {
+            let is_last = self.metering.wait(&hub.rt);
+            could = self.write_to(file, could);
+            if is_last {
+                return;
+            }
+        }
+    }
+
+    fn end(&self) {
+        self.metering.end(&self.hub.rt);
+    }
+}
+
+impl<N: Naming, W: Wait + Clock + Copy + Drop, L: Write> FileTalks<'_, N, W, L> {
+    // Writes the figures as they are now. Where that can't be, and could be the last time, the log is told. Whether it could.
+    fn write_to(&self, file: &str, could: bool) -> bool {
+        let can = self.try_write_to(file).is_ok();
+        if could && !can {
+            let log: &Log<L> = self.log;
+            log.line(&self.hub.rt, LogLine::Unwritten { file });
+        }
+        can
+    }
+
+    // Writes them beside the file, which then takes its name: whoever reads it finds these or the ones before, and no part.
+    fn try_write_to(&self, file: &str) -> io::Result<()> {
+        let alloc = self.rt.alloc();
+        let figures = FiguresText {
+            figures: self.hub.figures()?,
+            talks_held: self.metering.talks.held(),
+            talks_now: self.metering.talks.now(),
+        };
+        let text = format!(in alloc; "{figures}")?;
+        let part = format!(in alloc; "{file}.part")?;
+        fs::write(self.rt, part.as_str(), text.as_bytes())?;
+        fs::rename(self.rt, part.as_str(), file)
+    }
+}

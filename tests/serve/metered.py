@@ -1,0 +1,254 @@
+"""The figures that a daemon writes to a file (`--metrics`), compared with what its clients did: a job of known records, one that
+is cancelled, a restore; a drive that waits for a volume, volumes that are full, one with which the device fails; and a file
+that can't be written. tests/serve/run runs it.
+"""
+import errno
+import os
+import re
+import stat
+
+from clients import client
+from crowds import Two
+from daemon import SOON, until
+from hardships import HELLO, Place
+from shim import loaded
+from waiting import OUTGROWS, SMALL, WAITS
+
+FILE = "figures.prom"
+# A sample: its name, its labels and its value, a number or seconds to the microsecond.
+SAMPLE = re.compile(r"(sdd_[a-z_]+(?:\{[a-z]+=\"[\w:.-]+\"(?:,[a-z]+=\"[\w:.-]+\")*\})?) (\d+|\d+\.\d{6})")
+HELP, TYPE = re.compile(r"# HELP (sdd_[a-z_]+) \S.*"), re.compile(r"# TYPE (sdd_[a-z_]+) (counter|gauge)")
+# The figures that each drive has one of, of a drive that did nothing, with the lanes that it has where nothing else is said.
+OF_A_DRIVE = {"sdd_records_total": 0, "sdd_bytes_total": 0, "sdd_blocks_total": 0, "sdd_block_bytes_total": 0,
+              "sdd_syncs_total": 0, "sdd_free_lanes": 4, "sdd_queued_blocks": 0, "sdd_volume_waits_total": 0,
+              "sdd_waits_for_volume": 0, "sdd_full_volumes_total": 0}
+SESSIONS = ("active", "ended", "closed", "cancelled", "failed")
+SINGLE = ("sdd_restored_records_total", "sdd_restored_bytes_total", "sdd_talks_total", "sdd_talks")
+SYNC_SECONDS = "sdd_sync_seconds_total"
+# How many seconds go by between two writings.
+PERIOD = 10
+# The records of a job, and those of one that is given up: the first one fills a block, which is sent before the next is taken.
+RECORDS, GIVEN_UP = [b"a" * 5, b"b" * 70_000, b""], [b"c" * 100_000, b"d"]
+UNWRITTEN = "metrics {} can't be written"
+
+
+def samples_in(text):
+    """The value of each sample in a text of figures, by its name with its labels. Each name has one help and one type above its
+    samples; what has another form is told as `ValueError`."""
+    samples, headed = {}, []
+    for line in text.splitlines():
+        if found := HELP.fullmatch(line):
+            headed.append(found[1])
+        elif found := TYPE.fullmatch(line):
+            if found[1] != headed[-1] or (found[2] == "counter") != found[1].endswith("_total"):
+                raise ValueError(f"{line!r} below the help of {headed[-1]}")
+        elif not (found := SAMPLE.fullmatch(line)) or found[1].partition("{")[0] != headed[-1] or found[1] in samples:
+            raise ValueError(f"{line!r} below the help of {headed[-1]}")
+        else:
+            samples[found[1]] = float(found[2]) if "." in found[2] else int(found[2])
+    if len(headed) != len(set(headed)) or not text.endswith("\n"):
+        raise ValueError(f"the headings {headed}")
+    return samples
+
+
+def expected(drives, sessions=(), single=(), faults=()):
+    """All samples of a daemon, but for the seconds of syncs: of each of its drives, the statuses and the other figures what is
+    said, and else 0."""
+    wanted = {f'{name}{{drive="{number}"}}': value
+              for number, drive in enumerate(drives, 1) for name, value in {**OF_A_DRIVE, **drive}.items()}
+    wanted |= {f'sdd_sessions{{status="{status}"}}': dict(sessions).get(status, 0) for status in SESSIONS}
+    wanted |= {name: dict(single).get(name, 0) for name in SINGLE}
+    return wanted | {f'sdd_device_faults_total{{drive="{drive}",volume="{volume}"}}': count for drive, volume, count in faults}
+
+
+def figures(place):
+    """What the file of a place says, without the seconds of syncs; and these, drive by drive."""
+    samples = samples_in((place.folder / FILE).read_text())
+    seconds = [samples.pop(name) for name in list(samples) if name.startswith(SYNC_SECONDS)]
+    return samples, seconds
+
+
+def metered(place, *words, **options):
+    return place.daemon("--metrics", str(place.folder / FILE), *words, **options)
+
+
+def length_of(lines):
+    """How many bytes the spans of these lines have."""
+    spans = [line.split() for line in lines if line.startswith("span ")]
+    return sum(int(end) - int(start) for *_, start, end in spans)
+
+
+def settled(checks, place, daemon, wanted):
+    """The daemon ends by itself; its last figures are those, and nothing lies beside them."""
+    checks.same("its end", daemon.wait(), ("", 0))
+    got, seconds = figures(place)
+    for name in sorted(got.keys() | wanted.keys()):
+        checks.same(name, got.get(name), wanted.get(name))
+    checks.same("the part", [path.name for path in place.folder.iterdir() if path.name.endswith(".part")], [])
+    return seconds
+
+
+def known_jobs(checks, folder, _):
+    """A job of three records that is closed, one that is cancelled behind a block, and a restore, on the first of two drives: each
+    figure is the number that it has to be, by the lines of the close and those that are told of the cancelled one."""
+    place = Two(folder / "known_jobs")
+    with metered(place, "--talks", "6") as daemon:
+        place.labels(checks)
+        lines = place.job([client.packet(record) for record in RECORDS])
+        with place.talk() as talk:
+            ticket = client.open_session(talk, 8, "Default", "File")
+            client.append_packets(talk, ticket, map(client.packet, GIVEN_UP))
+        with place.talk() as talk:
+            given_up = until(lambda: [line for line in talk.console("status") if line == f"session {ticket} cancelled 2"]
+                             and talk.console(f"jobmedia {ticket}"))
+        checks.same("its records", place.records(lines), RECORDS)
+        # Each span of these is of blocks that lie one behind the other: of the first job two, and of the second one.
+        checks.check("their blocks", len(lines) == len(given_up) == 2, lines, given_up)
+        taken = sum(map(len, RECORDS + GIVEN_UP))
+        first = {"sdd_records_total": 5, "sdd_bytes_total": taken, "sdd_blocks_total": 3,
+                 "sdd_block_bytes_total": length_of(lines) + length_of(given_up), "sdd_syncs_total": 2}
+        single = {"sdd_restored_records_total": 3, "sdd_restored_bytes_total": sum(map(len, RECORDS)), "sdd_talks_total": 6}
+        seconds = settled(checks, place, daemon, expected([first, {}], {"closed": 1, "cancelled": 1}, single))
+    checks.check("the time of its syncs", len(seconds) == 2 and 0 < seconds[0] < SOON and seconds[1] == 0, seconds)
+
+
+def in_between(checks, folder, _):
+    """While the daemon runs, the file is there from the beginning on, and is written anew in each period. It shows what goes on:
+    a session that takes records and one that has its end label, their lanes, and their talks."""
+    place = Place(folder / "in_between")
+    with metered(place) as daemon:
+        checks.check("at once", until((place.folder / FILE).exists, SOON))
+        checks.same("in the beginning", figures(place)[0], expected([{}]))
+        place.label(checks)
+        with place.talk() as active, place.talk() as ended:
+            client.append_packets(active, client.open_session(active, 7, "Default", "File"), HELLO)
+            ended.ask(f"append end session {client.open_session(ended, 8, 'Default', 'File')}")
+            wanted = expected([{"sdd_records_total": 1, "sdd_bytes_total": 5, "sdd_free_lanes": 2}], {"active": 1, "ended": 1},
+                              {"sdd_talks_total": 3, "sdd_talks": 2})
+            until(lambda: figures(place)[0] == wanted, PERIOD + SOON)
+            checks.same("meanwhile", figures(place)[0], wanted)
+        checks.same("told of them", [line for line in daemon.log() if line.startswith("metrics ")], [])
+
+
+def waits_and_fills(checks, folder, _):
+    """A job outgrows a volume, and waits for another one that doesn't come. Its client goes away, and the daemon ends: the drive
+    has filled one volume, had to ask once and waits. The lane of the job is taken, and a piece of it lies in the queue."""
+    place = Place(folder / "waits_and_fills", "queue = 1\n" + SMALL)
+    with metered(place, "--talks", "2", "--wait", "60") as daemon:
+        place.label(checks)
+        with place.talk() as talk:
+            ticket = client.open_session(talk, 7, "Default", "File")
+            talk.ask(f"append data {ticket}")
+            talk.send(client.text_packet("1 2 0"), *OUTGROWS)
+            checks.check("the drive waits", daemon.logs(WAITS), daemon.log())
+        checks.same("its end", daemon.wait(), ("", 0))
+    got, _ = figures(place)
+    wanted = {"sdd_free_lanes": 3, "sdd_queued_blocks": 1, "sdd_volume_waits_total": 1, "sdd_waits_for_volume": 1,
+              "sdd_full_volumes_total": 1}
+    for name, value in wanted.items():
+        checks.same(name, got[f'{name}{{drive="1"}}'], value)
+    size, placed = (place.volumes / "Vol-0001").stat().st_size, got['sdd_block_bytes_total{drive="1"}']
+    checks.check("its blocks", size - 200 < placed < size, size, placed)
+    checks.same("its session", [got[f'sdd_sessions{{status="{status}"}}'] for status in SESSIONS], [0, 0, 0, 1, 0])
+
+
+def answered(checks, folder, _):
+    """Behind a volume that a drive had to ask for, it waits no more."""
+    place = Place(folder / "answered")
+    with metered(place, "--talks", "2", "--wait", "60") as daemon:
+        with place.talk() as talk, place.talk() as operator:
+            ticket = client.open_session(talk, 7, "Default", "File")
+            client.append_packets(talk, ticket, HELLO)
+            talk.ask(f"append end session {ticket}")
+            talk.send(client.text_packet(f"append close session {ticket}"))
+            checks.check("the drive waits", daemon.logs(WAITS), daemon.log())
+            checks.same("label", operator.console("label 1 Vol-0001 Default File"), ["ok labelled"])
+            lines = list(talk.lines())
+        drive = {"sdd_records_total": 1, "sdd_bytes_total": 5, "sdd_blocks_total": 1, "sdd_block_bytes_total": length_of(lines),
+                 "sdd_syncs_total": 1, "sdd_volume_waits_total": 1}
+        settled(checks, place, daemon, expected([drive], {"closed": 1}, {"sdd_talks_total": 2}))
+
+
+def failing_device(checks, folder, library):
+    """A write to a volume fails, and the job goes on with the next one; then a sync fails, and the session with it. Each of the
+    volumes is told with one fault, by its name."""
+    place = Place(folder / "failing_device")
+    plan = folder / "failing_device-plan"
+    environment = loaded(library, FAULTS_FOLDER=place.volumes, FAULTS_PLAN=plan, FAULTS_LOG=folder / "failing_device-calls")
+    plan.write_text("0 none 1 fail 0")
+    with metered(place, "--talks", "4", env=environment) as daemon:
+        place.label(checks, "Vol-0001")
+        place.label(checks, "Vol-0002")
+        with place.talk() as talk:
+            plan.write_text(f"1 write 1 fail {errno.EIO}")
+            ticket = client.open_session(talk, 7, "Default", "File")
+            client.append_packets(talk, ticket, HELLO)
+            lines = client.close_session(talk, ticket)
+        with place.talk() as talk:
+            plan.write_text(f"2 datasync 1 fail {errno.EIO}")
+            ticket = client.open_session(talk, 7, "Default", "File")
+            client.append_packets(talk, ticket, HELLO)
+            talk.ask(f"append end session {ticket}")
+            try:
+                talk.ask(f"append close session {ticket}")
+                checks.check("it is closed", False)
+            except client.Refused as why:
+                checks.same("it fails", str(why), "3905 Session failed")
+        # Both sessions have a block of the same length.
+        drive = {"sdd_records_total": 2, "sdd_bytes_total": 10, "sdd_blocks_total": 2,
+                 "sdd_block_bytes_total": 2 * length_of(lines), "sdd_syncs_total": 2}
+        settled(checks, place, daemon, expected([drive], {"closed": 1, "failed": 1}, {"sdd_talks_total": 4},
+                                                [(1, "Vol-0001", 1), (1, "Vol-0002", 1)]))
+
+
+def unwritable(checks, folder, _):
+    """A file that can't be written is told in the log once, while the daemon goes on; once it could be written and can't be any
+    more it is told again."""
+    place = Place(folder / "unwritable")
+    home = place.folder / "none"
+    file = home / FILE
+    with place.daemon("--metrics", str(file), "--talks", "1") as daemon:
+        told = UNWRITTEN.format(file)
+        checks.check("it is told", daemon.logs(told), daemon.log())
+        # The next one fails too, and isn't told.
+        home.mkdir()
+        checks.check("it is written", until(file.exists, PERIOD + SOON))
+        checks.same("told once", daemon.log().count(told), 1)
+        samples_in(file.read_text())
+        file.unlink()
+        home.rmdir()
+        with place.talk() as talk:
+            checks.same("it serves", talk.console("requests"), ["ok requests 0"])
+        checks.same("its end", daemon.wait(), ("", 0))
+        checks.same("told again", daemon.log().count(told), 2)
+
+
+def stays_silent(checks, folder, _):
+    """Where each writing fails, that is told once."""
+    place = Place(folder / "stays_silent")
+    (place.folder / FILE).mkdir()
+    with metered(place, "--talks", "1") as daemon:
+        told = UNWRITTEN.format(place.folder / FILE)
+        checks.check("it is told", daemon.logs(told), daemon.log())
+        with place.talk() as talk:
+            talk.console("requests")
+        checks.same("its end", daemon.wait(), ("", 0))
+        checks.same("told once", daemon.log().count(told), 1)
+
+
+def without_file(checks, folder, _):
+    """Without `--metrics` nothing is written but volumes; with it the file has the mode that the system gives."""
+    place = Place(folder / "without_file")
+    with place.daemon("--talks", "2") as daemon:
+        place.label(checks)
+        place.job()
+        checks.same("its end", daemon.wait(), ("", 0))
+    checks.same("files", sorted(os.listdir(place.folder)), ["conf", "conf.log", "conf.out", "volumes"])
+    with metered(place, "--talks", "1", umask=0o027) as daemon:
+        with place.talk() as talk:
+            talk.console("requests")
+        daemon.wait()
+    checks.same("its mode", stat.S_IMODE((place.folder / FILE).stat().st_mode), 0o640)
+
+
+GROUPS = (known_jobs, in_between, waits_and_fills, answered, failing_device, unwritable, stays_silent, without_file)
