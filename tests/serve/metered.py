@@ -9,7 +9,7 @@ import stat
 
 from clients import client
 from crowds import Two
-from daemon import SOON, until
+from daemon import ROOT, SOON, until
 from hardships import HELLO, Place
 from shim import loaded
 from waiting import OUTGROWS, SMALL, WAITS
@@ -251,4 +251,21 @@ def without_file(checks, folder, _):
     checks.same("its mode", stat.S_IMODE((place.folder / FILE).stat().st_mode), 0o640)
 
 
-GROUPS = (known_jobs, in_between, waits_and_fills, answered, failing_device, unwritable, stays_silent, without_file)
+def told_in_documents(checks, folder, _):
+    """Each figure stands in the table of docs/OPERATIONS.md, and nothing else does; and each that a rule of examples/alerts.yml
+    asks for is one of them."""
+    place = Place(folder / "told_in_documents")
+    with metered(place, "--talks", "1") as daemon:
+        with place.talk() as talk:
+            talk.console("requests")
+        daemon.wait()
+    names = set(re.findall(r"^# TYPE (\w+)", (place.folder / FILE).read_text(), re.MULTILINE))
+    section = (ROOT / "docs" / "OPERATIONS.md").read_text().partition("\n## What to watch\n")[2].partition("\n## ")[0]
+    rows = re.findall(r"^\| (`sdd_[^|]*) \|", section, re.MULTILINE)
+    checks.same("in the table", sorted(re.findall(r"`(sdd_\w+)`", " ".join(rows))), sorted(names))
+    asked = set(re.findall(r"\bsdd_\w+", (ROOT / "examples" / "alerts.yml").read_text()))
+    checks.check("in the rules", asked and asked <= names, sorted(asked - names))
+
+
+GROUPS = (known_jobs, in_between, waits_and_fills, answered, failing_device, unwritable, stays_silent, without_file,
+          told_in_documents)
