@@ -2,6 +2,9 @@
 is cancelled, a restore; a drive that waits for a volume, volumes that are full, one with which the device fails; and a file
 that can't be written. tests/serve/run runs it.
 """
+import collections
+import concurrent.futures
+import contextlib
 import errno
 import os
 import re
@@ -10,7 +13,7 @@ import stat
 from clients import client
 from crowds import Two
 from daemon import ROOT, SOON, until
-from hardships import HELLO, Place
+from hardships import HELLO, SETTLED, UNSETTLED, WANT, Place
 from shim import loaded
 from waiting import OUTGROWS, SMALL, WAITS
 
@@ -30,6 +33,8 @@ PERIOD = 10
 # The records of a job, and those of one that is given up: the first one fills a block, which is sent before the next is taken.
 RECORDS, GIVEN_UP = [b"a" * 5, b"b" * 70_000, b""], [b"c" * 100_000, b"d"]
 UNWRITTEN = "metrics {} can't be written"
+# How a daemon ends of which an allocation was refused.
+WANTING = (SETTLED[:2], UNSETTLED[:2], (f"{WANT}\n", 1))
 
 
 def samples_in(text):
@@ -251,6 +256,38 @@ def without_file(checks, folder, _):
     checks.same("its mode", stat.S_IMODE((place.folder / FILE).stat().st_mode), 0o640)
 
 
+def want_of_memory(checks, folder, library):
+    """Each allocation of a daemon that writes figures and ends behind a talk is refused in turn. It says so before it listens, or
+    goes on; figures that can't be written for that are told, and those that stand in the file are whole."""
+    count, kinds = folder / "metered-count", collections.Counter()
+    checks.same("with ample memory", wanting(folder / "metered-ample", loaded(library, COUNT_ALLOC=count)), ("written", ("", 0)))
+    counted = sum(map(int, count.read_text().split()))
+    with concurrent.futures.ThreadPoolExecutor(os.cpu_count()) as pool:
+        places = [folder / f"metered-{number}" for number in range(1, counted + 1)]
+        came = pool.map(wanting, places, [loaded(library, FAIL_ALLOC=number) for number in range(1, counted + 1)])
+        for number, (kind, ended) in enumerate(came, 1):
+            kinds[kind] += 1
+            checks.check(f"allocation {number}", ended in WANTING, kind, ended)
+    checks.check("kinds", min(kinds[kind] for kind in ("not started", "written", "told")) > 0, kinds)
+
+
+def wanting(folder, env):
+    """What came of the figures of such a daemon, what it printed, and its status."""
+    place = Place(folder)
+    try:
+        daemon = metered(place, "--talks", "1", env=env)
+    except TimeoutError:
+        return "not started", (place.conf.with_suffix(".out").read_text(), 1)
+    with daemon:
+        with contextlib.suppress(client.Failed), place.talk() as talk:
+            talk.console("requests")
+        ended = daemon.wait()
+        told = UNWRITTEN.format(place.folder / FILE) in daemon.log()
+    if (place.folder / FILE).exists():
+        samples_in((place.folder / FILE).read_text())
+    return "told" if told else "written", ended
+
+
 def told_in_documents(checks, folder, _):
     """Each figure stands in the table of docs/OPERATIONS.md, and nothing else does; and each that a rule of examples/alerts.yml
     asks for is one of them."""
@@ -268,4 +305,4 @@ def told_in_documents(checks, folder, _):
 
 
 GROUPS = (known_jobs, in_between, waits_and_fills, answered, failing_device, unwritable, stays_silent, without_file,
-          told_in_documents)
+          want_of_memory, told_in_documents)
