@@ -192,11 +192,11 @@ def limited_files(checks, folder, _):
         place.serves(checks, "without the limit")
 
 
-def beside(place, *folders):
+def beside(place, *folders, settings=""):
     """The configuration of another daemon, over these folders, and its port."""
     port = free_port()
     conf = place.folder / f"conf-{port}"
-    conf.write_text(f"port = {port}\n" + "".join(drive("File", folder) for folder in folders))
+    conf.write_text(f"port = {port}\n{settings}" + "".join(drive("File", folder) for folder in folders))
     return conf, port
 
 
@@ -246,6 +246,39 @@ def one_folder(checks, folder, _):
             checks.same(f"label on drive {number}", said, ("ok labelled\n", 0))
         for name in names:
             checks.same(f"as {name}", serve_status(beside(place, name)[0]), (f"fault folder {name} locked\n", 1))
+
+
+def spooling(folder):
+    """The settings of a daemon whose spools lie in this folder."""
+    return f'spool = 1000000\nspool_folder = "{folder}"\n'
+
+
+def one_spool_folder(checks, folder, _):
+    """A daemon is refused whose spools would lie in the folder of another's spools, by any of its names, or in that of its
+    volumes; or whose volumes would lie among another's spools. One that doesn't spool may name the folder."""
+    place = Place(folder / "one_spool_folder", spooling(folder / "one_spool_folder" / "spools"))
+    spools, free = place.folder / "spools", place.folder / "free"
+    spools.mkdir()
+    free.mkdir()
+    with place.daemon():
+        place.label(checks)
+        for name in (spools, f"{spools}/.", place.volumes):
+            conf, _ = beside(place, free, settings=spooling(name))
+            checks.same(f"spools in {name}", serve_status(conf), (f"fault folder {name} locked\n", 1))
+        checks.same("volumes among spools", serve_status(beside(place, spools)[0]), (f"fault folder {spools} locked\n", 1))
+        conf, port = beside(place, free, settings=f'spool_folder = "{spools}"\n')
+        with Daemon(conf, port=port):
+            said = say(port, "console", "label", "1", "Vol-0002", "Default", "File")
+            checks.same("without spooling", said, ("ok labelled\n", 0))
+        place.serves(checks, "beside them")
+
+
+def volumes_and_spools(checks, folder, _):
+    """A daemon may have its volumes and its spools in one folder."""
+    place = Place(folder / "volumes_and_spools", spooling(folder / "volumes_and_spools" / "volumes"))
+    with place.daemon():
+        place.label(checks)
+        place.serves(checks, "with its spools among its volumes")
 
 
 def without_lock(checks, folder, _):
@@ -393,5 +426,5 @@ def shown(place):
         return re.fullmatch(r"session \d+ closed 1", talk.console("status")[-2]) is not None
 
 
-GROUPS = (takes_nothing, without_log, log_unread, stopped_a_while, limited_files, two_daemons, one_folder,
-          without_lock, dropped_spans, want_of_memory, unsettled)
+GROUPS = (takes_nothing, without_log, log_unread, stopped_a_while, limited_files, two_daemons, one_folder, one_spool_folder,
+          volumes_and_spools, without_lock, dropped_spans, want_of_memory, unsettled)

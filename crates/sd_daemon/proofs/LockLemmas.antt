@@ -26,7 +26,7 @@ fault_before drives front last (Folder folder) are among =
 fault_before drives front last Memory are among = tt
 
 -- and so is that of the last one
-fault_at_last : (drives front : List DriveConf) (last : DriveConf) (fault : ServeFault) → drives ≡ front ++ last ∷ [] → IsFaultAt last fault → IsFaultAmong drives fault
+fault_at_last : (drives front : List DriveConf) (last : DriveConf) (fault : ServeFault) → drives ≡ front ++ last ∷ [] → IsFaultAt last.folder fault → IsFaultAmong drives fault
 fault_at_last drives front last Time are is = tt
 fault_at_last drives front last Port are is = tt
 fault_at_last drives front last (Folder folder) are is =
@@ -34,6 +34,6 @@ fault_at_last drives front last (Folder folder) are is =
 fault_at_last drives front last Memory are is = tt
 
 pub fault_last : (drives front : List DriveConf) (last : DriveConf) (r : Result (Vec FolderLock Global) ServeFault)
-    → drives ≡ front ++ last ∷ [] → IfErr r (IsFaultAt last) → IfErr r (IsFaultAmong drives)
+    → drives ≡ front ++ last ∷ [] → IfErr r (IsFaultAt last.folder) → IfErr r (IsFaultAmong drives)
 fault_last drives front last (Ok all) are is = tt
 fault_last drives front last (Err fault) are is = fault_at_last drives front last fault are is

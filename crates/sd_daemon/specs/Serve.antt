@@ -6,7 +6,7 @@ use Rattle.sd_base.specs.Refusal.{refusal_text}
 use Rattle.sd_base.specs.declared.refusal.Refusal.TheVariants.{Memory}
 use Rattle.sd_printer.specs.Says.{SaidView, Says}
 use Rattle.sd_conf.specs.declared.conf.Conf.{Conf}
-use Rattle.sd_daemon.specs.Locks.{IsFaultAmong}
+use Rattle.sd_daemon.specs.Locks.{IsFaultIn}
 use Rattle.sd_daemon.specs.declared.daemon.ServeFault.{ServeFault}
 use Rattle.sd_daemon.specs.declared.daemon.ServeFault.TheVariants as serves
 use Rattle.sd_words.specs.Lines.{line}
@@ -67,10 +67,10 @@ abbrev pub IsFaultOf : CheckFault → Type 0
 IsFaultOf fault = (text : List ℕ) × Input text (Err fault)
 
 -- A configuration that is refused is refused for what some text holds; where none is served there is one that some text is, and
--- a folder that another process has locked is that of one of its drives.
+-- a folder that another process has locked is one that it names.
 abbrev pub IsOutcomeOf : Outcome → Type 0
 IsOutcomeOf (NoConf fault) = IsFaultOf (Bad fault)
-IsOutcomeOf (NotServed fault) = (conf : Conf) × IsConfOf conf × IsFaultAmong conf.drives fault
+IsOutcomeOf (NotServed fault) = (conf : Conf) × IsConfOf conf × IsFaultIn conf fault
 IsOutcomeOf outcome = Unit {0}
 
 -- A configuration was served, or could not be. What is wrong was printed, or, where the writer failed, a front of that;

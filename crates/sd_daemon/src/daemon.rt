@@ -1,13 +1,12 @@
 // The daemon from its configuration on.
 ghost use Rattle.std.specs.Prelude.{◌≡◌, ◌≤◌, IfErr, IfSome};
-ghost use Rattle.std.specs.List.{AllZip};
 ghost use Rattle.sd_base.specs.Limits.{most_number};
 ghost use Rattle.sd_conf.specs.Conf.{IsWithinLimits};
-ghost use Rattle.sd_daemon.specs.Locks.{IsFaultAmong, IsLockOf};
+ghost use Rattle.sd_daemon.specs.Locks.{AreLocksOf, IsFaultIn};
 ghost use Rattle.sd_setup.specs.Setup.{AreNamed};
 
 use crate::address::address_of;
-use crate::locks::{FolderLock, lock_folders};
+use crate::locks::{FolderLocks, lock_all};
 use crate::metering::Metering;
 use crate::settling::settle_drives;
 use crate::shared::share;
@@ -35,7 +34,7 @@ pub enum ServeFault {
     Time,
     /// The port can't be had.
     Port,
-    /// Another process has this folder of a drive locked.
+    /// Another process has this folder of a drive, or of the spools, locked.
     Folder(Text),
     /// There is no memory for the locks or for the drives, or no thread for a worker.
     Memory,
@@ -53,8 +52,8 @@ pub struct Bounds<'b> {
 }
 
 /// Serves clients on the port of the configuration and on 127.0.0.1 alone, each in a thread of its own, over drives of files
-/// that are new: their run's time is the clock's. Meanwhile it has the folders of the drives locked. Ends after so many talks,
-/// and then settles the line of each drive; answers which of them can't be settled.
+/// that are new: their run's time is the clock's. Meanwhile it has the folders of the drives and of the spools locked. Ends
+/// after so many talks, and then settles the line of each drive; answers which of them can't be settled.
 pub fn serve<W: Threads + Wait + Clock + Sync + Copy + Drop, L: Write + Send + Drop>(
     rt: &HostRuntime,
     wait: W,
@@ -63,7 +62,7 @@ pub fn serve<W: Threads + Wait + Clock + Sync + Copy + Drop, L: Write + Send + D
     log: &Log<L>,
 ) -> Result<Vec<DriveNo>, ServeFault>
     requires { IsWithinLimits conf.now }
-    ensures fault { IfErr result (IsFaultAmong conf.now.drives) }
+    ensures fault { IfErr result (IsFaultIn conf.now) }
 {
     let Some(time) = time_now(rt) else {
         return Err(ServeFault::Time);
@@ -71,7 +70,7 @@ pub fn serve<W: Threads + Wait + Clock + Sync + Copy + Drop, L: Write + Send + D
     let Ok(listener) = TcpListener::bind(rt, address_of(conf)) else {
         return Err(ServeFault::Port);
     };
-    let locks = lock_folders(rt, conf.drives.as_slice())?;
+    let locks = lock_all(rt, conf)?;
     let Ok(drives) = unused_drives(rt, wait, conf, time) else {
         return Err(ServeFault::Memory);
     };
@@ -97,7 +96,7 @@ struct Run<'d, W, L> {
     log: &'d Log<L>,
 }
 
-// Serves clients over these drives. It is lent the locks of the drives' folders, so that they are let go behind it.
+// Serves clients over these drives. It is lent the locks of the folders, so that they are let go behind it.
 fn serve_drives<
     N: Naming + Send + Sync,
     W: Threads + Wait + Clock + Sync + Copy + Drop,
@@ -106,11 +105,11 @@ fn serve_drives<
     run: &Run<'_, W, L>,
     listener: &TcpListener,
     drives: Vec<UnusedFiles<W>>,
-    _locks: &[FolderLock],
+    _locks: &FolderLocks,
 ) -> Result<Vec<DriveNo>, ServeFault>
-    requires locked { AllZip IsLockOf run.now.conf.now.drives _locks.now }
+    requires locked { AreLocksOf run.now.conf.now _locks.now }
     requires named { AreNamed N.table N.time drives.items }
-    ensures fault { IfErr result (IsFaultAmong run.now.conf.now.drives) }
+    ensures fault { IfErr result (IsFaultIn run.now.conf.now) }
 {
     let conf = run.conf;
     let keeps_receipts = run.bounds.talks > 0;

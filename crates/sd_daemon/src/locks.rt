@@ -1,22 +1,31 @@
-// The locks of the folders that a daemon has its volumes in.
+// The locks of the folders that a daemon has its volumes and its spools in.
 ghost use Rattle.std.specs.Prelude.{◌≡◌, IfErr, IfOk, string_bytes};
 ghost use Rattle.std.specs.List.{AllZip};
 ghost use Rattle.sd_filedrive.specs.Place.{folder_named};
-ghost use Rattle.sd_daemon.specs.Locks.{AddsLock, IsFaultAmong, IsFaultAt, IsLockOf, lock_path};
+ghost use Rattle.sd_daemon.specs.Locks.{AddsLock, AreLocksOf, IsFaultAmong, IsFaultAt, IsFaultIn, IsFaultOfSpools, IsLockAt, IsLockOf, IsLockOfSpools, lock_path};
 
 use crate::daemon::ServeFault;
-use sd_conf::{DriveConf, Text};
+use sd_conf::{Conf, DriveConf, Text};
 use std::alloc::{AllocError, Global};
 use std::fs::{File, OpenOptions, TryLockError};
 use std::io::{self, ErrorKind};
 
-/// The lock of a drive's folder. It lasts as long as this does, and ends with the process, however that ends.
+/// The lock of a folder. It lasts as long as this does, and ends with the process, however that ends.
 #[derive(Drop)]
 pub(crate) struct FolderLock {
     // The path of the file that is locked.
     path: String,
-    // The file. None where the lock of an earlier drive is the same, or where the folder takes none.
+    // The file. None where an earlier lock is the same, or where the folder takes none.
     file: Option<File>,
+}
+
+/// The locks of all folders that a daemon writes in.
+#[derive(Drop)]
+pub(crate) struct FolderLocks {
+    // Of the drives 1, 2 and on.
+    drives: Vec<FolderLock>,
+    // Of the spools, where sessions are spooled.
+    spools: Option<FolderLock>,
 }
 
 impl FolderLock {
@@ -36,12 +45,45 @@ impl FolderLock {
 #[derive(Clone, Copy)]
 struct InUse;
 
-/// Locks the folder of each drive, so that no other daemon serves its volumes. A folder that isn't there, or in which no
-/// file can be locked, goes without. Calls itself for the drives before the last one.
-pub(crate) fn lock_folders(
+/// Locks the folder of each drive, and that of the spools where sessions are spooled, so that no other daemon serves these
+/// volumes or writes over these spools. A folder that isn't there, or in which no file can be locked, goes without.
+pub(crate) fn lock_all(rt: &HostRuntime, conf: &Conf) -> Result<FolderLocks, ServeFault>
+    ensures locks { IfOk result (AreLocksOf conf.now) }
+    ensures fault { IfErr result (IsFaultIn conf.now) }
+{
+    let drives = match lock_folders(rt, conf.drives.as_slice()) {
+        Ok(locks) => locks,
+        Err(fault) => return Err(fault),
+    };
+    match lock_spools(rt, &drives, conf) {
+        Ok(spools) => Ok(FolderLocks { drives, spools }),
+        Err(fault) => Err(fault),
+    }
+}
+
+// The lock of the folder of the spools, beside those of the drives' folders.
+fn lock_spools(
     rt: &HostRuntime,
-    drives: &[DriveConf],
-) -> Result<Vec<FolderLock>, ServeFault>
+    locks: &[FolderLock],
+    conf: &Conf,
+) -> Result<Option<FolderLock>, ServeFault>
+    ensures lock { IfOk result (IsLockOfSpools conf.now) }
+    ensures fault { IfErr result (IsFaultOfSpools conf.now) }
+{
+    if conf.spool == 0 {
+        return Ok(None);
+    }
+    match &conf.spool_folder {
+        None => Ok(None),
+        Some(folder) => match lock_of(rt, locks, folder.as_str()) {
+            Ok(lock) => Ok(Some(lock)),
+            Err(fault) => Err(fault),
+        },
+    }
+}
+
+// Locks the folder of each drive. Calls itself for the drives before the last one.
+fn lock_folders(rt: &HostRuntime, drives: &[DriveConf]) -> Result<Vec<FolderLock>, ServeFault>
     ensures locks { IfOk result (λ locks. AllZip IsLockOf drives.now locks.items) }
     ensures fault { IfErr result (IsFaultAmong drives.now) }
 {
@@ -61,39 +103,35 @@ fn with_lock(
     drive: &DriveConf,
 ) -> Result<Vec<FolderLock>, ServeFault>
     ensures locks { IfOk result (λ all. AddsLock drive.now locks.items all.items) }
-    ensures fault { IfErr result (IsFaultAt drive.now) }
+    ensures fault { IfErr result (IsFaultAt drive.now.folder) }
 {
-    let lock = lock_of(rt, &locks, drive)?;
+    let lock = lock_of(rt, &locks, drive.folder.as_str())?;
     let Ok(()) = locks.push(lock) else {
         return Err(ServeFault::Memory);
     };
     Ok(locks)
 }
 
-// The lock of a drive's folder, beside those of the drives before it.
-fn lock_of(
-    rt: &HostRuntime,
-    locks: &[FolderLock],
-    drive: &DriveConf,
-) -> Result<FolderLock, ServeFault>
-    ensures lock { IfOk result (IsLockOf drive.now) }
-    ensures fault { IfErr result (IsFaultAt drive.now) }
+// The lock of a folder, beside earlier ones.
+fn lock_of(rt: &HostRuntime, locks: &[FolderLock], folder: &str) -> Result<FolderLock, ServeFault>
+    ensures lock { IfOk result (IsLockAt folder.now) }
+    ensures fault { IfErr result (IsFaultAt folder.now) }
 {
     let alloc = rt.alloc();
-    let Ok(path) = path_in(alloc, drive.folder.as_str()) else {
+    let Ok(path) = path_in(alloc, folder) else {
         return Err(ServeFault::Memory);
     };
     match lock_at(rt, path.as_str(), locks) {
         Ok(file) => Ok(FolderLock { path, file }),
-        Err(InUse) => Err(in_use(alloc, drive)),
+        Err(InUse) => Err(in_use(alloc, folder)),
     }
 }
 
-// The fault of a drive whose folder another process has locked.
-fn in_use(alloc: Global, drive: &DriveConf) -> ServeFault
-    ensures { IsFaultAt drive.now result }
+// The fault of a folder that another process has locked.
+fn in_use(alloc: Global, folder: &str) -> ServeFault
+    ensures { IsFaultAt folder.now result }
 {
-    match Text::new(alloc, drive.folder.as_str()) {
+    match Text::new(alloc, folder) {
         Ok(folder) => ServeFault::Folder(folder),
         Err(_) => ServeFault::Memory,
     }
@@ -114,8 +152,8 @@ fn named(folder: &str) -> &str
     if folder.is_empty() { "." } else { folder }
 }
 
-// The file at a path, locked, beside the locks of the drives before it. None where one of those is the same, or where no
-// file can be had or locked there.
+// The file at a path, locked, beside earlier locks. None where one of those is the same, or where no file can be had or
+// locked there.
 fn lock_at(rt: &HostRuntime, path: &str, locks: &[FolderLock]) -> Result<Option<File>, InUse> {
     for lock in locks {
         if lock.is_at(rt, path) {
