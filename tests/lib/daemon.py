@@ -16,6 +16,7 @@ ROOT = pathlib.Path(__file__).resolve().parent.parent.parent
 CLIENT = ROOT / "examples" / "client.py"
 SDD = ROOT / "crates" / "sdd" / "out" / "sdd"
 SDTOOL = ROOT / "crates" / "sdtool" / "out" / "sdtool"
+SD_PLAIN = ROOT / "crates" / "sd_plain" / "out" / "sd_plain"
 # Nothing is waited for longer, in seconds.
 WAIT = 30
 # What goes on beside a talk may take so long behind it.
