@@ -1,4 +1,7 @@
 // One talk after another.
+ghost use Rattle.std.specs.Prelude.{◌≡◌, ℕ};
+ghost use Rattle.sd_plain.specs.Talks.{HeldTalks};
+
 use sd_append::{SessionPort, TalkEnd, talk};
 use std::alloc::Global;
 use std::io::{BufRead, Write};
@@ -15,6 +18,8 @@ pub(crate) fn hold_talks<R: BufRead, W: Write + Drop, P: SessionPort>(
     writer: W,
     port: &mut P,
 ) -> bool
+    ensures talks { (held : ℕ)
+        × HeldTalks (P.clock port.old) held (P.asked port.old) (P.asked port.new) }
     ensures clock { P.clock port.new ≡ P.clock port.old }
 {
     let mut writer = writer;

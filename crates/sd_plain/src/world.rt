@@ -1,9 +1,9 @@
 // The world that talks are held over.
-ghost use Rattle.std.specs.Prelude.{◌≡◌, [], Some, IfOk, codes, length};
+ghost use Rattle.std.specs.Prelude.{◌≡◌, ◌∷◌, [], Some, IfOk, codes, length};
 ghost use Rattle.sd_base.specs.Limits.{most_volume};
-ghost use Rattle.sd_core.specs.Conf.{AreStores, IsConf, limits_of};
+ghost use Rattle.sd_core.specs.Conf.{IsConf, limits_of};
 
-use sd_base::{MOST_VOLUME, Name};
+use sd_base::{MOST_VOLUME, MediaName, Name};
 use sd_core::{World, WorldConf};
 use sd_lane::PlainLanes;
 use sd_memdrive::MemDrive;
@@ -43,39 +43,40 @@ pub(crate) fn memory_world(alloc: Global) -> Result<MemoryWorld, AllocError>
     ensures queue { IfOk result (λ world. world.queue ≡ 8) }
     ensures no_session { IfOk result (λ world. world.sessions ≡ []) }
 {
-    let settings = settings(alloc)?;
+    let drives = vec![in alloc; (Name::parse(MEDIA).unwrap(), LANES)]?;
     let devices = vec![in alloc; MemDrive::new(alloc, MOST_VOLUME, &[])?]?;
     let queues = vec![in alloc; PlainLanes::new(alloc, LANES, QUEUE)?]?;
     let spools = vec![in alloc; empty_spools(alloc)?]?;
-    match World::new(alloc, settings, TIME, devices, queues, spools) {
+    match World::new(alloc, settings(drives), TIME, devices, queues, spools) {
         Ok(world) => Ok(world),
         Err(_) => Err(AllocError),
     }
 }
 
-fn settings(alloc: Global) -> Result<WorldConf, AllocError>
-    ensures conf { IfOk result IsConf }
-    ensures limits { IfOk result (λ conf. limits_of conf 1000000000 ≡ record {
+fn settings(drives: Vec<(MediaName, u32)>) -> WorldConf
+    requires { drives.items ≡ (codes "File", 4) ∷ [] }
+    ensures conf { IsConf result }
+    ensures limits { limits_of result 1000000000 ≡ record {
       block = 64512;
       volume = most_volume;
       spool = 0;
       time = 1000000000;
       host = Some (codes "localhost");
-    }) }
-    ensures queue { IfOk result (λ conf. conf.queue ≡ 8) }
-    ensures drives { IfOk result (λ conf. conf.drives.items ≡ (codes "File", 4) ∷ []) }
+    } }
+    ensures queue { result.queue ≡ 8 }
+    ensures drives { result.drives ≡ drives }
 {
-    Ok(WorldConf {
+    WorldConf {
         block: BLOCK,
         volume: MOST_VOLUME,
         spool: 0,
         queue: QUEUE,
-        drives: vec![in alloc; (Name::parse(MEDIA).unwrap(), LANES)]?,
+        drives,
         host: Some(Name::parse(HOST).unwrap()),
-    })
+    }
 }
 
-// A spool for each lane of the drive.
+// An empty spool for each lane of the drive.
 fn empty_spools(alloc: Global) -> Result<Vec<MemSpool>, AllocError>
     ensures { IfOk result (λ spools. length spools.items ≡ 4) }
 {
