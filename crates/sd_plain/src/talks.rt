@@ -1,5 +1,6 @@
 // One talk after another.
-ghost use Rattle.std.specs.Prelude.{◌≡◌, ℕ};
+ghost use Rattle.std.specs.Prelude.{◌≡◌, ℕ, List, Option, IsTrue};
+ghost use Rattle.std.specs.Io.KnownBytes.{IsAtEnd, Keeps};
 ghost use Rattle.sd_plain.specs.Talks.{HeldTalks};
 
 use sd_append::{SessionPort, TalkEnd, talk};
@@ -9,17 +10,19 @@ use std::io::{BufRead, Write};
 /// How often a talk reads at most, one byte or more each time.
 const TURNS: u64 = 1_099_511_627_776;
 
-/// Holds talks by what comes of this reader, one behind the other, until nothing more comes. Ends behind a talk that neither
-/// its client nor the end of the input finished between two commands. Answers whether there was no such talk. What came in
-/// one read with the end of a talk isn't part of the next one.
+/// Holds talks by what comes of this reader, one behind the other, until nothing more comes; then the answer is true. It is
+/// false behind a talk that ended otherwise than by its client, or than by the end of the input between two commands, and
+/// where it isn't known whether more comes. What one read brings behind a talk's end is lost to the next talk.
 pub(crate) fn hold_talks<R: BufRead, W: Write + Drop, P: SessionPort>(
     alloc: Global,
     reader: &mut R,
     writer: W,
     port: &mut P,
 ) -> bool
-    ensures talks { (held : ℕ)
-        × HeldTalks (P.clock port.old) held (P.asked port.old) (P.asked port.new) }
+    ensures talks { (held : ℕ) × (rest : Option (List ℕ))
+        × HeldTalks (P.clock port.old) held (R.remaining reader.old) rest
+        (P.asked port.old) (P.asked port.new)
+        × Keeps rest (R.remaining reader.new) × (IsTrue result → IsAtEnd rest) }
     ensures clock { P.clock port.new ≡ P.clock port.old }
 {
     let mut writer = writer;

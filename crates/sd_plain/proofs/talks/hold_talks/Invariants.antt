@@ -6,4 +6,5 @@ use Rattle.sd_plain.proofs.talks.hold_talks.Given as goal
 abbrev pub invariant-loop-held : goal.invariant-loop-held
 invariant-loop-held g l =
     (g.P.SessionPort.clock l.port ≡ g.P.SessionPort.clock l.initial.port)
-    × ((held : ℕ) × HeldTalks (g.P.SessionPort.clock l.initial.port) held (g.P.SessionPort.asked l.initial.port) (g.P.SessionPort.asked l.port))
+    × ((held : ℕ) × HeldTalks (g.P.SessionPort.clock l.initial.port) held (g.R.Read.remaining l.initial.reader) (g.R.Read.remaining l.reader)
+    (g.P.SessionPort.asked l.initial.port) (g.P.SessionPort.asked l.port))
