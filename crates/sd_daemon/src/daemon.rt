@@ -153,7 +153,6 @@ fn hold_all<
     share(run.conf);
     share(hub);
     share(run.log);
-    share(&metering);
     hold_talks(&run.wait, listener, bound_of(run.bounds.talks), &talks)
 }
 
