@@ -14,7 +14,7 @@ import tempfile
 
 from files import FAULT, FULL_ERRORS, LABELLED, NO_ROOM, NOT_OURS, NOT_THERE, differs, said
 from scripts import each
-from daemon import SDD
+from daemon import LOCK, SDD
 from sites import Site, Talk, client, session_body, volume_of, whole
 from session_model import Session
 
@@ -269,7 +269,7 @@ def spooling(folder, shim):
         day, faults, calls = spool_day(site, None)
         yield from faults
         found = {path.name: stat.S_IMODE(path.stat().st_mode) for path in site.spools.iterdir()}
-        yield from differs("spools", found, {"spool~1~1": 0o600})
+        yield from differs("spools", found, {"spool~1~1": 0o600, LOCK: 0o600})
     yield from differs("jobs", set(day.closed), {"first", "many", "third"})
     kinds = collections.Counter(line.split(" ")[0] for line in calls)
     bodies, fillings = bodies_of(FILLINGS), kinds.pop("truncate", 0)
