@@ -62,7 +62,8 @@ class Bench:
     def one(self, kind):
         settings = "" if kind.queue == 8 else f"queue = {kind.queue}\n"
         program = self.before if kind.is_before else self.program
-        with self.serving(settings, drives=kind.drives, program=program) as daemon:
+        # (a daemon before threads has lines without a time in its log)
+        with self.serving(settings, drives=kind.drives, program=program, log=not kind.is_before) as daemon:
             works = [jobs.stream(daemon.port, self.total, kind.record, jobs.media_of(1 + number % kind.drives))
                      for number in range(kind.clients)]
             return took(daemon, works, kind.clients * self.total)[0]
