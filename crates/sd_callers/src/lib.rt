@@ -1,5 +1,5 @@
-//! What callers of the daemon's core have of the two theorems, by its public calls alone: of a world over devices in
-//! memory, of any world behind a port, and of a session that was closed before a stop.
+//! The session theorem and the stop theorem as a caller has them, through public calls alone: of a world over devices in memory,
+//! of any world behind a port, and of a session that was closed before a stop.
 #![tactic(auto)]
 
 mod behind;

@@ -1,3 +1,4 @@
+pub mod CheckLemmas
 pub mod ConfLemmas
 pub mod DriveLemmas
 pub mod KeyLemmas

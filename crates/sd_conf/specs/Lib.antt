@@ -1,3 +1,4 @@
+pub mod Check
 pub mod Conf
 pub mod FirstFault
 pub mod Keys

@@ -1,4 +1,6 @@
 mod LockLemmas
 mod NamedLemmas
 mod ServeLemmas
+pub mod SetupLemmas
+pub mod TableLemmas
 pub mod TalkLemmas

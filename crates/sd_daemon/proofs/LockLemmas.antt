@@ -5,7 +5,7 @@ use Rattle.std.specs.Prelude.{Contains, IfErr, IfOk}
 use Rattle.std.specs.List.{AllZip}
 use Rattle.std.proofs.lemmas.List.Elements.{Contains-append_left, Contains-push}
 use Rattle.sd_conf.specs.declared.conf.DriveConf.{DriveConf}
-use Rattle.sd_setup.proofs.SetupLemmas.{zip_more}
+use Rattle.sd_daemon.proofs.SetupLemmas.{zip_more}
 use Rattle.sd_daemon.specs.Locks.{AddsLock, IsFaultAmong, IsFaultAt, IsLockOf}
 use Rattle.sd_daemon.specs.declared.daemon.ServeFault.{ServeFault}
 use Rattle.sd_daemon.specs.declared.daemon.ServeFault.TheVariants.{Time, Port, Folder, Memory}

@@ -4,8 +4,8 @@ use Rattle.std.specs.List.{AllZip}
 use Rattle.sd_conf.specs.declared.conf.Conf.{Conf}
 use Rattle.sd_conf.specs.declared.conf.DriveConf.{DriveConf}
 use Rattle.sd_lines.specs.Unused.{UnusedIs}
-use Rattle.sd_setup.proofs.NamedLemmas.{named_by_own, named_table}
-use Rattle.sd_setup.specs.Setup.{AreNamed, IsUnusedOf}
+use Rattle.sd_daemon.proofs.TableLemmas.{named_by_own, named_table}
+use Rattle.sd_daemon.specs.Setup.{AreNamed, IsUnusedOf}
 
 times_are : (conf : Conf) (time : ℕ) (ds : List DriveConf) (us : List UnusedIs) → AllZip (IsUnusedOf conf time) ds us
     → (at : ℕ) (u : UnusedIs) → slice_get us at ≡ Some u → u.limits.time ≡ time

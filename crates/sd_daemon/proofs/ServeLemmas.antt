@@ -5,14 +5,14 @@ use Rattle.std.proofs.lemmas.List.{append-nil, append_assoc}
 use Rattle.std.specs.Prelude.{IfErr, IfOk}
 use Rattle.sd_conf.specs.declared.conf.Conf.{Conf}
 use Rattle.sd_conf.specs.declared.fault.ConfFault.TheVariants.{Memory as NoMemory}
-use Rattle.sd_check.specs.Check.{Input}
+use Rattle.sd_conf.specs.Check.{Input}
 use Rattle.sd_printer.specs.Says.{SaidView, Says}
 use Rattle.sd_printer.proofs.SaysLemmas.{says_then}
 use Rattle.sd_words.specs.Lines.{line}
 use Rattle.sd_daemon.specs.Serve.{IsConfOf, IsFaultOf, folder_text, serve_text, settle_lines}
 use Rattle.sd_daemon.specs.declared.serve_line.ServeLine.TheVariants.{Unsettled}
-use Rattle.sd_check.specs.declared.check.CheckFault.{CheckFault}
-use Rattle.sd_check.specs.declared.check.CheckFault.TheVariants.{Input as NoInput, Conf as Bad}
+use Rattle.sd_conf.specs.declared.check.CheckFault.{CheckFault}
+use Rattle.sd_conf.specs.declared.check.CheckFault.TheVariants.{Input as NoInput, Conf as Bad}
 
 -- a fault of a text is one of some text
 pub fault_of : (text : List ℕ) (result : Result Conf CheckFault) → Input text result → IfErr result IsFaultOf

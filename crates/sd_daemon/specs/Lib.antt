@@ -1,3 +1,4 @@
 pub mod Address
 pub mod Locks
 pub mod Serve
+pub mod Setup

@@ -10,9 +10,9 @@ use Rattle.sd_daemon.specs.Locks.{IsFaultIn}
 use Rattle.sd_daemon.specs.declared.daemon.ServeFault.{ServeFault}
 use Rattle.sd_daemon.specs.declared.daemon.ServeFault.TheVariants as serves
 use Rattle.sd_words.specs.Lines.{line}
-use Rattle.sd_check.specs.Check.{Input, fault_line}
-use Rattle.sd_check.specs.declared.check.CheckFault.{CheckFault}
-use Rattle.sd_check.specs.declared.check.CheckFault.TheVariants.{Conf as Bad}
+use Rattle.sd_conf.specs.Check.{Input, fault_line}
+use Rattle.sd_conf.specs.declared.check.CheckFault.{CheckFault}
+use Rattle.sd_conf.specs.declared.check.CheckFault.TheVariants.{Conf as Bad}
 use Rattle.sd_daemon.specs.declared.conf_file.Outcome.{Outcome}
 use Rattle.sd_daemon.specs.declared.conf_file.Outcome.TheVariants.{Served, NoFile, NoConf, NotServed}
 use Rattle.sd_daemon.specs.declared.serve_line.ServeLine.{ServeLine}

@@ -8,8 +8,7 @@ ghost use Rattle.sd_daemon.specs.Serve.{IsConfOf, IsFaultOf, IsOutcomeOf, Prints
 use crate::daemon::{Bounds, ServeFault, serve};
 use crate::serve_line::ServeLine;
 use sd_base::DriveNo;
-use sd_check::{CheckFault, conf_in, print_conf_fault};
-use sd_conf::{Conf, ConfFault, Text};
+use sd_conf::{CheckFault, Conf, ConfFault, Text, conf_in, print_conf_fault};
 use sd_printer::Printer;
 use sd_serve::Log;
 use std::fs;

@@ -1,11 +1,11 @@
 // The lines of a daemon's drives are settled.
+use crate::hub::FileHub;
 use sd_base::DriveNo;
 use sd_filedrive::FileDrive;
 use sd_hub::settle;
 use sd_line::Naming;
 use sd_lines::{Front, Hub, Post};
 use sd_serve::{Log, LogLine};
-use sd_setup::FileHub;
 use sd_spool::FileSpool;
 use std::alloc::{AllocError, Global};
 use std::io::Write;

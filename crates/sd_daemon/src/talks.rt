@@ -1,11 +1,12 @@
 // The talks of a daemon over files.
+use crate::drives::devices_of;
+use crate::hub::FileHub;
 use crate::metering::Metering;
 use sd_conf::Conf;
 use sd_filedrive::FileDrive;
 use sd_line::Naming;
 use sd_lines::LinePort;
 use sd_serve::{ClientPatience, Log, LoggedPort, TalkHolder, hold_talk, moment_now};
-use sd_setup::{FileHub, devices_of};
 use std::io::Write;
 use std::net::TcpStream;
 use std::sync::Wait;

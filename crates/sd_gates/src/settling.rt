@@ -2,13 +2,12 @@
 use crate::jobs::{Case, Ran};
 use sd_core::World;
 use sd_drive::Receipt;
-use sd_hub::settle;
+use sd_hub::{NotSettled, SettleFault, settle};
 use sd_jobs::JobEnd;
 use sd_line::{Line, Naming};
 use sd_memdrive::MemDrive;
 use sd_part::LaneEnd;
 use sd_ruled::RuledLanes;
-use sd_settle::{NotSettled, SettleFault};
 use sd_spool::MemSpool;
 use std::alloc::Global;
 use std::sync::Wait;

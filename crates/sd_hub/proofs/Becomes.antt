@@ -10,12 +10,12 @@ use Rattle.sd_drive.specs.View.{DriveIs}
 use Rattle.sd_lane.specs.Queue.{LanesView}
 use Rattle.sd_line.specs.Side.{LineIs}
 use Rattle.sd_part.specs.Ends.{EndIs, IsOfLane, ToldSession}
-use Rattle.sd_settle.specs.Settles.{CheckedIs, SettledIs, SettledLaneIs, Settles, SettlesNot, sessions_at, sessions_in, sessions_of, sessions_to}
-use Rattle.sd_settle.specs.declared.fault.SettleFault.{SettleFault}
-use Rattle.sd_settled.specs.Worlds.{BecomesWorld, SettlesEach, lane_sessions, lane_view, next_number, queue_view}
-use Rattle.sd_settled.proofs.Entries.{moved_back}
-use Rattle.sd_settled.proofs.Lines.{all_at, in_lane, sessions_are}
-use Rattle.sd_settled.proofs.SettledWorlds.{settled_world}
+use Rattle.sd_hub.specs.Settles.{CheckedIs, SettledIs, SettledLaneIs, Settles, SettlesNot, sessions_at, sessions_in, sessions_of, sessions_to}
+use Rattle.sd_hub.specs.declared.fault.SettleFault.{SettleFault}
+use Rattle.sd_hub.specs.Worlds.{BecomesWorld, SettlesEach, lane_sessions, lane_view, next_number, queue_view}
+use Rattle.sd_hub.proofs.Entries.{moved_back}
+use Rattle.sd_hub.proofs.Lines.{all_at, in_lane, sessions_are}
+use Rattle.sd_hub.proofs.SettledWorlds.{settled_world}
 use Rattle.sd_world.specs.Rules.{IsWorld}
 use Rattle.sd_world.specs.World.{BayView, LaneView, WorldView}
 use Rattle.sd_hub.specs.Claimed.{AreClaimed, ClaimsOwn}

@@ -3,7 +3,7 @@ use Rattle.std.proofs.Common.{◌≡◌, ℕ, zero, suc, ◌+◌, ◌-◌, ◌�
 use Rattle.std.proofs.lemmas.Option.{slice_get_within}
 use Rattle.sd_base.specs.Limits.{most_number}
 use Rattle.sd_part.specs.Ends.{ToldSession}
-use Rattle.sd_settled.specs.Worlds.{last_ticket, next_number}
+use Rattle.sd_hub.specs.Worlds.{last_ticket, next_number}
 use Rattle.sd_hub.specs.Tickets.{HaveTickets}
 
 -- the session at the last place has the last ticket, and the next number is that behind it

@@ -3,8 +3,8 @@ use Rattle.std.proofs.Common.{◌≡◌, ℕ, zero, suc, ◌+◌, ◌<◌, ◌�
 use Rattle.std.proofs.lemmas.List.{length-append, map-append, map-id}
 use Rattle.std.proofs.lemmas.Option.{slice_get_read}
 use Rattle.sd_part.specs.Ends.{ToldSession}
-use Rattle.sd_settle.specs.Settles.{SettledLaneIs}
-use Rattle.sd_settled.specs.Worlds.{lane_sessions, lane_view}
+use Rattle.sd_hub.specs.Settles.{SettledLaneIs}
+use Rattle.sd_hub.specs.Worlds.{lane_sessions, lane_view}
 use Rattle.sd_world.specs.World.{LaneView}
 
 -- those of one lane behind others

@@ -2,7 +2,7 @@
 use Rattle.std.specs.Prelude.{◌≡◌, ℕ, ◌≤◌, List, Some, slice_get}
 use Rattle.sd_base.specs.Limits.{most_number}
 use Rattle.sd_part.specs.Ends.{ToldSession}
-use Rattle.sd_settle.specs.Settles.{SettledLaneIs}
+use Rattle.sd_hub.specs.Settles.{SettledLaneIs}
 
 -- the numbers of these sessions are such as tickets have
 abbrev pub HaveTickets : List ToldSession → Type 0

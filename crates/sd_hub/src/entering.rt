@@ -1,7 +1,7 @@
 // The sessions come into the world.
 ghost use Rattle.std.specs.Prelude.{◌≡◌, ◌≤◌, [], length};
 ghost use Rattle.std.specs.Vec.{vec_capacity};
-ghost use Rattle.sd_settled.specs.Worlds.{SettlesEach, SettlesOne};
+ghost use Rattle.sd_hub.specs.Worlds.{SettlesEach, SettlesOne};
 
 use crate::numbers::only_drive;
 use sd_drive::Drive;

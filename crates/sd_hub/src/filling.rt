@@ -5,16 +5,16 @@ ghost use Rattle.sd_hub.specs.Claimed.{AreClaimed, ClaimsOwn};
 ghost use Rattle.sd_hub.specs.Tickets.{LanesHaveTickets};
 ghost use Rattle.sd_part.specs.Ends.{ToldSession};
 ghost use Rattle.sd_parts.specs.View.{world_of};
-ghost use Rattle.sd_settled.specs.Worlds.{BecomesWorld, lane_sessions};
+ghost use Rattle.sd_hub.specs.Worlds.{BecomesWorld, lane_sessions};
 
 use crate::entering::enter_all;
 use crate::leaving::leave_lanes;
 use crate::numbers::{next_number, sorted};
 use crate::room::Room;
+use crate::settled::Settled;
 use sd_driver::Driver;
 use sd_parts::{Bay, Parts};
 use sd_ruled::RuledLanes;
-use sd_settle::Settled;
 use sd_spool::SpoolStore;
 use std::alloc::Global;
 use std::sync::Wait;

@@ -2,12 +2,12 @@
 ghost use Rattle.std.specs.Prelude.{◌≡◌, ◌≤◌, ◌+◌, [], ◌++◌, length, map, vec_len};
 ghost use Rattle.std.specs.Vec.{vec_capacity};
 ghost use Rattle.sd_hub.specs.Tickets.{HaveTickets, LanesHaveTickets};
-ghost use Rattle.sd_settled.specs.Worlds.{lane_sessions, lane_view};
+ghost use Rattle.sd_hub.specs.Worlds.{lane_sessions, lane_view};
 
 use crate::numbers::last_ticket;
+use crate::settled::SettledLane;
 use sd_part::Told;
 use sd_parts::LaneSlot;
-use sd_settle::SettledLane;
 use sd_spool::SpoolStore;
 
 /// Takes the sessions out of the lanes, lane after lane, and makes a lane of the world of each. Takes no memory.

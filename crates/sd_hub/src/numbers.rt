@@ -2,7 +2,7 @@
 ghost use Rattle.std.specs.Prelude.{◌≡◌, IsPermutation};
 ghost use Rattle.std.specs.List.Sorted.{IsNonDecreasingBy};
 ghost use Rattle.sd_hub.specs.Tickets.{HaveTickets};
-ghost use Rattle.sd_settled.specs.Worlds.{last_ticket, next_number};
+ghost use Rattle.sd_hub.specs.Worlds.{last_ticket, next_number};
 
 use sd_base::{DriveNo, Ticket};
 use sd_part::Told;

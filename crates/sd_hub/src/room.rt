@@ -3,8 +3,9 @@ ghost use Rattle.std.specs.Prelude.{◌≡◌, ◌≤◌, ◌<◌, [], IfOk, len
 ghost use Rattle.std.specs.Vec.{vec_capacity};
 ghost use Rattle.sd_base.specs.Limits.{most_lanes};
 ghost use Rattle.sd_hub.specs.Claimed.{AreClaimed};
-ghost use Rattle.sd_settle.specs.Settles.{sessions_of};
+ghost use Rattle.sd_hub.specs.Settles.{sessions_of};
 
+use crate::checked::Checked;
 use crate::claiming::claim_all;
 use sd_base::MOST_LANES;
 use sd_desk::Desk;
@@ -13,7 +14,6 @@ use sd_line::Naming;
 use sd_part::Told;
 use sd_parts::{Bay, Entry, LaneSlot};
 use sd_ruled::RuledLanes;
-use sd_settle::Checked;
 use sd_spool::SpoolStore;
 use std::alloc::{AllocError, Global};
 use std::sync::Wait;

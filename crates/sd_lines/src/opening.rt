@@ -7,9 +7,9 @@ use sd_base::{DriveNo, JobId, MediaName, PoolName, Refusal, Ticket};
 use sd_board::Opened;
 use sd_driver::Driver;
 use sd_line::Naming;
-use sd_live::Live;
 use sd_part::{NotParted, SessionPart};
 use sd_spool::SpoolStore;
+use sd_stations::Live;
 use std::sync::Wait;
 use std::time::Clock;
 

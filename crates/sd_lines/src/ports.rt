@@ -1,4 +1,4 @@
-// The ports of talks: over memory, and over files.
+// The port of talks over files.
 use crate::port::LinePort;
 use sd_append::{ReadBack, SessionPort};
 use sd_base::{Items, Refusal, SessionKey};
@@ -6,36 +6,12 @@ use sd_bnet::Payload;
 use sd_filedrive::FileDrive;
 use sd_line::Naming;
 use sd_machine::{Event, Reply};
-use sd_memdrive::MemDrive;
 use sd_readback::Sink;
 use sd_span::Span;
-use sd_spool::{FileSpool, MemSpool};
+use sd_spool::FileSpool;
 use sd_stations::Patience;
 use std::sync::Wait;
 use std::time::Clock;
-
-impl<N: Naming, R: Wait + Clock + Drop, P: Patience + Drop> SessionPort
-    for LinePort<'_, MemDrive, N, R, MemSpool, P> {
-    ghost asked = { λ p. p.asked };
-
-    ghost clock = { λ p. p.moment };
-
-    fn step(&mut self, event: Event) -> Reply {
-        self.step(event)
-    }
-
-    fn read<K: Sink>(&mut self, key: SessionKey, spans: &[Span], sink: K) -> ReadBack<K> {
-        self.read(key, spans, sink)
-    }
-
-    fn console(&mut self, line: &[u8]) -> Result<Items<Payload>, Refusal> {
-        self.console(line)
-    }
-
-    fn moment(&self) -> i64 {
-        self.moment()
-    }
-}
 
 impl<N: Naming, R: Wait + Clock + Drop, P: Patience + Drop> SessionPort
     for LinePort<'_, FileDrive<HostRuntime>, N, R, FileSpool<HostRuntime>, P> {

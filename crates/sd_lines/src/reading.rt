@@ -3,11 +3,11 @@ ghost use Rattle.std.specs.Prelude.{◌≡◌, ◌++◌};
 
 use crate::counted::Counted;
 use crate::hub::Hub;
+use sd_answers::{Before, Watched};
 use sd_append::Shown;
 use sd_base::{DriveNo, Rec, Refusal, SessionKey};
 use sd_driver::Driver;
 use sd_line::Naming;
-use sd_port::{Before, Watched};
 use sd_readback::{ReadEnd, Sink, read_session};
 use sd_span::Span;
 use sd_spool::SpoolStore;

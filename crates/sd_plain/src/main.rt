@@ -1,6 +1,7 @@
-//! For tests, what the tool and the daemon do, over queues for one thread. It is no part of them. Without words it runs the
-//! script on standard input as `sdtool run` does: the rows of tests are played by both, since whatever a script prints is the
-//! same over either queue. With the word `talk` it holds talks as the daemon does, on standard input and output.
+//! A program for tests: plays scripts and holds talks over queues for one thread. It is no part of the tool or the daemon.
+//! Without words it runs the script on standard input as `sdtool run` does: the rows of tests are played by both, since whatever
+//! a script prints is the same over either queue. With the word `talk` it holds talks as the daemon does, on standard input and
+//! output.
 #![tactic(auto)]
 
 mod talks;
@@ -9,8 +10,7 @@ mod world;
 use sd_base::Refusal;
 use sd_lane::PlainLanes;
 use sd_port::{Syncing, WorldPort};
-use sd_settings::{memory_drives, read_settings};
-use sd_tool::run_lines;
+use sd_tool::{memory_drives, read_settings, run_lines};
 use std::io::{BufReader, BufWriter};
 use std::process::ExitCode;
 use std::{env, io};

@@ -1,15 +1,13 @@
 -- What a console's line does, and that its answer is lines.
-use Rattle.std.proofs.Common.{◌≡◌, ◌↔◌, ℕ, ℤ, refl, sym, subst, inl, inr, List, [], ◌∷◌, map}
-use Rattle.std.specs.Prelude.{All, IfOk, Result, Ok, Err, codes}
+use Rattle.std.proofs.Common.{◌≡◌, ◌↔◌, ℕ, ℤ, refl, sym, subst, inl, inr, List, [], ◌∷◌}
+use Rattle.std.specs.Prelude.{Result, Ok, Err, codes}
 use Rattle.std.specs.List.{flat_map}
-use Rattle.std.proofs.lemmas.List.Elements.{All-nil, All-cons}
-use Rattle.sd_append.specs.Port.{IsLine}
 use Rattle.sd_base.specs.declared.number.SessionKey.{SessionKey}
 use Rattle.sd_base.specs.declared.refusal.Refusal.{Refusal}
 use Rattle.sd_base.specs.declared.refusal.Refusal.TheVariants.{BadCommand, BadName}
-use Rattle.sd_words.specs.Lines.{line, lines_of}
+use Rattle.sd_words.specs.Lines.{line}
 use Rattle.sd_world.specs.Steps.{StepsAlong}
-use Rattle.sd_console.specs.Replies.{reply_line, reply_lines}
+use Rattle.sd_console.specs.Replies.{reply_line}
 use Rattle.sd_console.specs.Requests.{requests_lines}
 use Rattle.sd_console.specs.Status.{status_lines}
 use Rattle.sd_core.specs.View.{view_of}
@@ -22,8 +20,9 @@ use Rattle.sd_script.specs.declared.console.ConsoleCmd.{ConsoleCmd}
 use Rattle.sd_script.specs.declared.console.ConsoleCmd.TheVariants.{Label, Adopt, Mount, Unmount, Retire, Purge, Cancel, JobMedia, Status, Requests}
 use Rattle.sd_script.specs.Grammar.{AreNames, HasForm, HasShape}
 use Rattle.sd_script.specs.declared.line.Line.TheVariants.{Console}
-use Rattle.sd_port.specs.Console.{Answer, CommandDoes, GivesNone, GivesOne, LineDoes, Operates, TellsReply, told_adopted, told_done}
-use Rattle.sd_port.specs.Lines.{Shows}
+use Rattle.sd_answers.specs.Told.{Answer}
+use Rattle.sd_answers.proofs.AnswerLemmas.{AreLines, one_line, shown_lines, told_lines}
+use Rattle.sd_port.specs.Console.{CommandDoes, GivesNone, GivesOne, LineDoes, Operates, told_adopted, told_done}
 use Rattle.sd_port.specs.declared.syncing.Syncing.{Syncing}
 use Rattle.sd_port.specs.declared.syncing.Syncing.TheVariants.{EachRound, AtRest}
 
@@ -77,21 +76,6 @@ LineDone meaning syncing moment text answer old new = (events : List Event) × (
 
 -- An answer is lines, each with its newline.
 
-abbrev pub AreLines : Answer → Type 0
-AreLines answer = IfOk answer (λ lines. All IsLine lines)
-
-all_lines : (texts : List (List ℕ)) → All IsLine (map line texts)
-all_lines [] = All-nil IsLine
-all_lines (t ∷ ts) = All-cons IsLine (line t) (map line ts) (t, refl) (all_lines ts)
-
-pub one_line : (text : List ℕ) → All IsLine (line text ∷ [])
-one_line text = All-cons IsLine (line text) [] (text, refl) (All-nil IsLine)
-
-pub shown_lines : (text : List ℕ) (answer : Answer) → Shows text answer → AreLines answer
-shown_lines text answer (inl p) = subst (λ (a : Answer). AreLines a) (sym p) (all_lines (lines_of text))
-shown_lines text answer (inr (inl p)) = subst (λ (a : Answer). AreLines a) (sym p) tt
-shown_lines text answer (inr (inr p)) = subst (λ (a : Answer). AreLines a) (sym p.0) tt
-
 done_lines : (words : List ℕ) (reply : Reply) → AreLines (told_done words reply)
 done_lines words (Refused why) = tt
 done_lines words reply = one_line words
@@ -100,10 +84,6 @@ adopted_lines : (reply : Reply) → AreLines (told_adopted reply)
 adopted_lines (Refused why) = tt
 adopted_lines (Adopted end next) = one_line (reply_line (Adopted end next))
 adopted_lines reply = tt
-
-pub told_lines : (key : SessionKey) (reply : Reply) (answer : Answer) → TellsReply key reply answer → AreLines answer
-told_lines key (Refused why) answer p = subst (λ (a : Answer). AreLines a) (sym p) tt
-told_lines key reply answer p = shown_lines (reply_lines key reply) answer p
 
 operates_lines : {D : Type 0} (meaning : D → Meaning) (e : Event) (told : Reply → Answer) (answer : Answer) (es : List Event) (rs : List Reply) (a b : WorldView D)
     → ((reply : Reply) → AreLines (told reply)) → Operates meaning e told answer es rs a b → AreLines answer

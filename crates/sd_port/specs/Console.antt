@@ -1,7 +1,6 @@
 -- What a console's line does to a world, and what it is answered.
-use Rattle.std.specs.Prelude.{◌≡◌, ◌⊎◌, ℕ, ℤ, if◌then◌else◌, nat_lt, Result, Ok, Err, List, [], ◌∷◌, length, codes}
+use Rattle.std.specs.Prelude.{◌≡◌, ◌⊎◌, ℕ, ℤ, if◌then◌else◌, nat_lt, Ok, Err, List, [], ◌∷◌, length, codes}
 use Rattle.std.specs.List.{flat_map}
-use Rattle.sd_base.specs.declared.number.SessionKey.{SessionKey}
 use Rattle.sd_base.specs.declared.refusal.Refusal.{Refusal}
 use Rattle.sd_base.specs.declared.refusal.Refusal.TheVariants.{BadCommand, BadName, NoSuchDrive, InUse, Memory}
 use Rattle.sd_words.specs.Lines.{line}
@@ -17,16 +16,13 @@ use Rattle.sd_script.specs.Grammar.{AreNames, HasForm, HasShape}
 use Rattle.sd_script.specs.declared.console.ConsoleCmd.{ConsoleCmd}
 use Rattle.sd_script.specs.declared.console.ConsoleCmd.TheVariants.{Label, Adopt, Mount, Unmount, Retire, Purge, Cancel, JobMedia, Status, Requests}
 use Rattle.sd_script.specs.declared.line.Line.TheVariants.{Console}
-use Rattle.sd_console.specs.Replies.{reply_line, reply_lines}
+use Rattle.sd_console.specs.Replies.{reply_line}
 use Rattle.sd_console.specs.Requests.{requests_lines}
 use Rattle.sd_console.specs.Status.{status_lines}
-use Rattle.sd_port.specs.Lines.{Shows}
+use Rattle.sd_answers.specs.Lines.{Shows}
+use Rattle.sd_answers.specs.Told.{Answer, TellsReply}
 use Rattle.sd_port.specs.declared.syncing.Syncing.{Syncing}
 use Rattle.sd_port.specs.declared.syncing.Syncing.TheVariants.{EachRound, AtRest}
-
--- the lines of an answer, or a refusal
-abbrev pub Answer : Type 0
-Answer = Result (List (List ℕ)) Refusal
 
 -- no event is given to the world, which stays
 abbrev pub GivesNone : {D : Type 0} → List Event → List Reply → WorldView D → WorldView D → Type 0
@@ -53,11 +49,6 @@ abbrev pub Operates : {D : Type 0} → (D → Meaning) → Event → (Reply → 
 Operates meaning e told answer events replies old new =
     ((answer ≡ Err Memory) × GivesNone events replies old new)
     ⊎ ((reply : Reply) × GivesOne meaning e reply events replies old new × (answer ≡ told reply))
-
--- The answer to a question: its refusal; or all lines of its reply, which are of the session with this key.
-abbrev pub TellsReply : SessionKey → Reply → Answer → Type 0
-TellsReply key (Refused why) answer = answer ≡ Err why
-TellsReply key reply answer = Shows (reply_lines key reply) answer
 
 -- The session's spans are asked for, and told as its JobMedia text.
 abbrev pub AsksSpans : {D : Type 0} → (D → Meaning) → ℕ → Answer → List Event → List Reply → WorldView D → WorldView D → Type 0

@@ -9,15 +9,14 @@ ghost use Rattle.sd_words.specs.Lines.{line};
 ghost use Rattle.sd_core.specs.View.{view_of};
 ghost use Rattle.sd_console.specs.Requests.{requests_lines};
 ghost use Rattle.sd_console.specs.Status.{status_lines};
-ghost use Rattle.sd_port.specs.Console.{AsksSpans, CommandDoes, LineDoes, Operates, TellsReply, purge_refusal, told_adopted, told_done};
-ghost use Rattle.sd_port.specs.Lines.{Shows};
+ghost use Rattle.sd_answers.specs.Lines.{Shows};
+ghost use Rattle.sd_port.specs.Console.{AsksSpans, CommandDoes, LineDoes, Operates, purge_refusal, told_adopted, told_done};
 
-use crate::adopted::AdoptedLine;
-use crate::lines::{one_line, show};
 use crate::syncing::Syncing;
+use sd_answers::{AdoptedLine, one_line, show, tell};
 use sd_base::{DriveNo, Items, Refusal, SessionKey, Ticket, VolName};
 use sd_bnet::Payload;
-use sd_console::{command, reply_text, requests_text, status_text};
+use sd_console::{command, requests_text, status_text};
 use sd_core::World;
 use sd_desk::Request;
 use sd_driver::Driver;
@@ -193,19 +192,6 @@ fn tell_spans<D: Driver + Drop, Q: Lanes, S: SpoolStore + Drop>(
     };
     let reply = world.step(Event::Media { ticket });
     tell(alloc, key, &reply)
-}
-
-/// Tells all lines of a reply, or its refusal.
-pub fn tell(alloc: Global, key: SessionKey, reply: &Reply) -> Result<Items<Payload>, Refusal>
-    ensures { TellsReply key reply.now result }
-{
-    if let Reply::Refused(why) = reply {
-        return Err(*why);
-    }
-    match reply_text(alloc, key, reply) {
-        Ok(text) => show(alloc, &text),
-        Err(_) => Err(Refusal::Memory),
-    }
 }
 
 /// Tells the status of the world.

@@ -12,9 +12,9 @@ ghost use Rattle.sd_port.specs.Port.{IsOver, behind, new_port};
 ghost use Rattle.sd_port.specs.Tries.{Answers};
 
 use crate::console::obey_line;
+use crate::reading::{Reading, read_watched};
 use crate::syncing::Syncing;
 use crate::tries::answer;
-use crate::watched::{Reading, read_watched};
 use sd_append::{Log, ReadBack};
 use sd_base::{Items, Refusal, SessionKey};
 use sd_bnet::Payload;

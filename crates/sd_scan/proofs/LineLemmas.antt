@@ -3,7 +3,7 @@ use Rattle.std.proofs.Common.{◌≡◌, ◌++◌, ◌∙◌, ap, ap₂, sym, Li
 use Rattle.std.specs.Prelude.{Option, Some, None}
 use Rattle.std.specs.Fmt.{decimal}
 use Rattle.std.proofs.lemmas.List.{append_assoc}
-use Rattle.sd_found.specs.declared.report.Start.{Start}
+use Rattle.sd_scan.specs.declared.report.Start.{Start}
 use Rattle.sd_scan.specs.Lines.{end_word, found_text, start_text}
 use Rattle.sd_scan.specs.declared.line.Found.{Found}
 

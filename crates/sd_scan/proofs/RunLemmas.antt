@@ -7,9 +7,9 @@ use Rattle.sd_block.proofs.ImageLemmas.{body_of_image, length-block_image}
 use Rattle.sd_block.specs.Image.{block_image, IsBlockImage}
 use Rattle.sd_block.specs.declared.head.Head.{Head}
 use Rattle.sd_driver.specs.Shelf.{BeginsWith}
-use Rattle.sd_found.specs.Found.{Found}
-use Rattle.sd_found.specs.Sessions.{Keeps}
-use Rattle.sd_found.specs.declared.sessions.Sessions.{Sessions}
+use Rattle.sd_scan.specs.Found.{Found}
+use Rattle.sd_scan.specs.Sessions.{Keeps}
+use Rattle.sd_scan.specs.declared.sessions.Sessions.{Sessions}
 use Rattle.sd_label.specs.Label.{IsVolumeLabel}
 use Rattle.sd_label.specs.declared.label.VolumeLabel.{VolumeLabel}
 use Rattle.sd_volume.proofs.ImageLemmas.{AreImages-append, block_and_behind, images-append, length-image, own_image}

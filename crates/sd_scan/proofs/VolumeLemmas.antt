@@ -12,10 +12,10 @@ use Rattle.sd_block.specs.declared.head.Head.{Head}
 use Rattle.sd_block.proofs.ImageLemmas.{IsHeadOf-image, length-block_image}
 use Rattle.sd_block.specs.Image.{block_image}
 use Rattle.sd_driver.specs.Shelf.{Shelf}
-use Rattle.sd_found.specs.Found.{Found as FoundBlock}
-use Rattle.sd_found.specs.Sessions.{AreReports, Keeps, KeepsBy, Reports, ReportsEach, keys_in, sessions_in}
-use Rattle.sd_found.specs.declared.report.Report.{Report}
-use Rattle.sd_found.specs.declared.sessions.Sessions.{Sessions}
+use Rattle.sd_scan.specs.Found.{Found as FoundBlock}
+use Rattle.sd_scan.specs.Sessions.{AreReports, Keeps, KeepsBy, Reports, ReportsEach, keys_in, sessions_in}
+use Rattle.sd_scan.specs.declared.report.Report.{Report}
+use Rattle.sd_scan.specs.declared.sessions.Sessions.{Sessions}
 use Rattle.sd_printer.proofs.SaysLemmas.{says_none, says_then}
 use Rattle.sd_printer.specs.Says.{SaidView, Says}
 use Rattle.sd_span.specs.JobMedia.{jobmedia_text}

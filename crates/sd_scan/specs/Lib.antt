@@ -1,6 +1,9 @@
 pub mod Fault
+pub mod Found
 pub mod Kind
 pub mod Lines
 pub mod Run
-pub mod Volume
 pub mod Scan
+pub mod Session
+pub mod Sessions
+pub mod Volume

@@ -3,8 +3,8 @@ use Rattle.std.specs.Prelude.{ℕ, Bool, true, false, List, [], ◌++◌, Option
 use Rattle.std.specs.List.{flat_map, list_all}
 use Rattle.std.specs.Fmt.{decimal}
 use Rattle.sd_base.specs.Refusal.{refusal_text}
-use Rattle.sd_found.specs.declared.report.Report.{Report}
-use Rattle.sd_found.specs.declared.report.Start.{Start}
+use Rattle.sd_scan.specs.declared.report.Report.{Report}
+use Rattle.sd_scan.specs.declared.report.Start.{Start}
 use Rattle.sd_span.specs.JobMedia.{jobmedia_text, session_text}
 use Rattle.sd_words.specs.Lines.{line}
 use Rattle.sd_scan.specs.declared.kind.Kind.{Kind}

@@ -2,7 +2,7 @@
 use Rattle.std.specs.Prelude.{◌≡◌, ℕ, ◌+◌, ◌<◌, ◌≤◌, List, [], ◌∷◌, ◌++◌, length, drop}
 use Rattle.sd_base.specs.Limits.{block_header}
 use Rattle.sd_base.specs.declared.number.SessionKey.{SessionKey}
-use Rattle.sd_found.specs.Found.{Found}
+use Rattle.sd_scan.specs.Found.{Found}
 use Rattle.sd_volume.specs.Image.{AreImages, BeginsWithBlock, Block, NoBlockNext, images}
 
 -- The blocks stand in the bytes one behind another from `start` on, the first with that number and each other with the next one, up

@@ -1,9 +1,9 @@
 -- What a scan prints of volumes, and what it comes to.
 use Rattle.std.specs.Prelude.{◌≡◌, ℕ, Bool, true, false, ◌&&◌, List, [], ◌∷◌, ◌++◌, length}
 use Rattle.sd_driver.specs.Shelf.{Shelf}
-use Rattle.sd_found.specs.Found.{Found}
-use Rattle.sd_found.specs.Sessions.{AreReports, keys_of}
-use Rattle.sd_found.specs.declared.report.Report.{Report}
+use Rattle.sd_scan.specs.Found.{Found}
+use Rattle.sd_scan.specs.Sessions.{AreReports, keys_of}
+use Rattle.sd_scan.specs.declared.report.Report.{Report}
 use Rattle.sd_words.specs.Lines.{line}
 use Rattle.sd_scan.specs.Lines.{all_ended, line_text, reports_lines}
 use Rattle.sd_scan.specs.Volume.{ScansVolume}

@@ -1,9 +1,9 @@
 -- What a scan finds on volumes: the blocks of their images, and, apart from these, what stands behind damage.
 use Rattle.std.specs.Prelude.{◌≡◌, ◌⊎◌, ℕ, ◌<◌, ◌≤◌, Bool, nat_eq, List, [], ◌∷◌, ◌++◌, length, drop, Some}
 use Rattle.sd_driver.specs.Shelf.{Held, Shelf}
-use Rattle.sd_found.specs.Found.{Found}
-use Rattle.sd_found.specs.Sessions.{AreReports}
-use Rattle.sd_found.specs.declared.report.Report.{Report}
+use Rattle.sd_scan.specs.Found.{Found}
+use Rattle.sd_scan.specs.Sessions.{AreReports}
+use Rattle.sd_scan.specs.declared.report.Report.{Report}
 use Rattle.sd_label.specs.declared.label.VolumeLabel.{VolumeLabel}
 use Rattle.sd_volume.specs.Adopt.{IsLabelled}
 use Rattle.sd_volume.specs.Image.{Block, WholeImage, label_block, volume_end}

@@ -3,8 +3,8 @@ ghost use Rattle.std.specs.Prelude.{◌≡◌};
 ghost use Rattle.sd_scan.specs.Lines.{end_word, found_of};
 
 use crate::kind::Kind;
+use crate::report::{Report, Start};
 use sd_base::{Refusal, SessionKey, VolName};
-use sd_found::{Report, Start};
 use std::fmt;
 
 /// A line of a scan. Displays it without the newline.

@@ -3,19 +3,20 @@ ghost use Rattle.std.specs.Prelude.{◌≡◌, ◌+◌, ◌<◌, ◌≤◌, ◌^
 ghost use Rattle.sd_base.specs.Limits.{block_header};
 ghost use Rattle.sd_driver.specs.Meaning.{IsHonest};
 ghost use Rattle.sd_driver.specs.Shelf.{Held};
-ghost use Rattle.sd_found.specs.Found.{Found};
-ghost use Rattle.sd_found.specs.Sessions.{Keeps};
+ghost use Rattle.sd_scan.specs.Found.{Found};
+ghost use Rattle.sd_scan.specs.Sessions.{Keeps};
 ghost use Rattle.sd_volume.specs.Device.{OnlyReads};
 ghost use Rattle.sd_volume.specs.Image.{Block};
 ghost use Rattle.sd_volume.specs.Reader.{IsBlockOf, Shows};
 ghost use Rattle.sd_scan.specs.Run.{RunTo, found_from};
 
+use crate::block::FoundBlock;
 use crate::due::due_block;
 use crate::fault::ScanFault;
+use crate::sessions::Sessions;
 use sd_base::{BLOCK_HEADER, VolName};
 use sd_block::Head;
 use sd_driver::Driver;
-use sd_found::{FoundBlock, Sessions};
 use sd_volume::VolumeReader;
 use std::alloc::AllocError;
 

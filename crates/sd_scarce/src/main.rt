@@ -1,13 +1,13 @@
-//! Want of memory, once, at each allocation in turn.
+//! A program for tests: calls that take memory, each made again if it is refused.
 //!
 //! Where a call is refused for want of memory it is made once more with the same arguments. So whichever
 //! one allocation fails, the program ends with the output that it has with ample memory: a refusal left
-//! all as it was. `memory/run`, at the top of the repository, makes each allocation fail in turn and
+//! all as it was. `tests/memory/run` makes each allocation fail in turn and
 //! compares the outputs.
 //!
 //! The packets, the codecs of records and blocks, a device and a volume are called by themselves, and of
 //! drives, journals and spans the calls that no world makes. What else stands behind them, from the desk to the drive, is
-//! called by the scripts that `memory/run` gives `sdtool`. Last a job is run in a thread, its line is settled whatever it
+//! called by the scripts that `tests/memory/run` gives `sdtool`. Last a job is run in a thread, its line is settled whatever it
 //! came to, and its session is brought to its end and read back.
 #![tactic(auto)]
 
@@ -33,7 +33,7 @@ fn main(rt: HostRuntime) -> Result<()> {
     let names = Names::new()?;
     match run(rt, &names) {
         Ok(()) => {}
-        // In the words by which `memory/run` knows it.
+        // In the words by which `tests/memory/run` knows it.
         Err(error) if error.kind() == io::ErrorKind::OutOfMemory => return Err(AllocError.into()),
         Err(error) => return Err(error.into()),
     }
@@ -44,7 +44,7 @@ fn main(rt: HostRuntime) -> Result<()> {
     }
 }
 
-// What the job came to differs from run to run, and goes to standard error, where `memory/run` counts it.
+// What the job came to differs from run to run, and goes to standard error, where `tests/memory/run` counts it.
 fn print_told(rt: HostRuntime, told: &Told) -> io::Result<()> {
     let stop = word_of(told.stop);
     eprintln!(rt; "a job: {stop}")?;

@@ -1,12 +1,17 @@
-//! A drive in a daemon with threads: its line, its worker, and what the worker and the talks of its sessions tell one
-//! another.
+//! A drive's line with its worker, how the worker and the talks wait for each other, and the session that a talk goes on
+//! with there.
 #![tactic(auto)]
 
+mod closing;
+mod live;
 mod meter;
 mod patience;
+mod sending;
 mod station;
 mod watch;
 
+pub use closing::Shut;
+pub use live::Live;
 pub use meter::Metered;
 pub use patience::Patience;
 pub use station::{Station, Worked};

@@ -308,6 +308,11 @@ impl<D: Driver, N: Naming, R: Wait + Clock + Drop> Station<D, N, R> {
         self.watch.wait(rt, since)
     }
 
+    /// As `wait`, for who found the queue full; while pieces are placed it ends once half of the queue is free.
+    pub fn wait_for_room(&self, rt: &R, since: Moves) -> Waited {
+        self.watch.wait_for_room(rt, since)
+    }
+
     /// Waits until something has moved since, or until the patience ends. Whether something has moved.
     pub fn wait_for_change<P: Patience>(&self, rt: &R, since: Moves, patience: &P) -> bool {
         self.watch.wait_for_change(rt, since, patience)

@@ -2,11 +2,17 @@
 // again whether something moved.
 use crate::patience::Patience;
 use sd_base::VolName;
-use std::sync::{Condvar, Mutex, Wait};
+use std::sync::{Condvar, Mutex, MutexGuard, Wait};
 use std::time::{Clock, Duration};
 
 /// How long a talk waits at once, in seconds. Then it tries again, whether something moved or not.
 const PIECE_SECONDS: u64 = 1;
+
+// A worker whose queue was empty begins once it has so many pieces, or after so long, or once somebody waits for it: to be
+// woken for each piece costs more than to take some at once.
+const GATHERED: u64 = 4;
+
+const GATHER_MICROS: u64 = 200;
 
 /// How often something had moved at a drive when that was asked.
 #[derive(Clone, Copy, Debug, PartialEq, Eq)]
@@ -75,12 +81,20 @@ struct Standing {
     closing: bool,
     // The volume that failed while it was synced for somebody else, until the worker tells of it.
     failed: Option<VolName>,
+    // Whether somebody has waited since the queue was empty.
+    awaited: bool,
+    // How many pieces are to be taken before talks that wait for room in the queue are woken.
+    held_back: u64,
     // How often something moved, and how often the drive halted.
     moves: u64,
     halts: u64,
 }
 
 impl Standing {
+    fn queued(&self) -> u64 {
+        self.pushed.saturating_sub(self.taken)
+    }
+
     fn is_turn_due(&self) -> bool {
         !self.halted && (self.pushed > self.taken || self.holding || self.rests)
     }
@@ -89,9 +103,50 @@ impl Standing {
         self.closing || self.failed.is_some() || self.is_turn_due()
     }
 
+    // Whether all that is due are a few pieces, for which nobody waits.
+    fn is_gathering(&self) -> bool {
+        let is_urged = self.closing || self.failed.is_some() || self.awaited || self.rests;
+        !is_urged && !self.holding && self.queued() < GATHERED
+    }
+
     fn moved(&mut self) {
         self.halted = false;
         self.moves = self.moves.wrapping_add(1);
+    }
+
+    // Notes what came of a turn, in which a piece was taken or none. Whether talks that wait for room are to be woken: while
+    // pieces are placed, once a part of the queue is free, so that each of them can push several.
+    fn turned(&mut self, took: bool, headway: Headway) -> bool {
+        if took {
+            self.taken = self.taken.wrapping_add(1);
+            self.held_back = self.held_back.saturating_sub(1);
+        }
+        if self.queued() == 0 {
+            self.awaited = false;
+        }
+        match headway {
+            Headway::Moved { holding } => {
+                self.holding = holding;
+                self.moved();
+                self.held_back == 0
+            }
+            Headway::AtRest => {
+                self.holding = false;
+                self.rests = false;
+                self.moved();
+                true
+            }
+            Headway::Halted => {
+                self.holding = true;
+                self.halted = true;
+                self.halts = self.halts.wrapping_add(1);
+                // The queue has room for one piece more than before.
+                if took {
+                    self.moves = self.moves.wrapping_add(1);
+                }
+                true
+            }
+        }
     }
 }
 
@@ -99,8 +154,9 @@ impl Standing {
 #[derive(Drop)]
 pub(crate) struct Watch {
     standing: Mutex<Standing>,
-    // The worker waits here for a task, and talks here for something that moves.
+    // The worker waits here for a task, talks here for room in the queue, and here for anything that moves.
     due: Condvar,
+    room: Condvar,
     changed: Condvar,
 }
 
@@ -115,23 +171,30 @@ impl Watch {
             rests: false,
             closing: false,
             failed: None,
+            awaited: false,
+            held_back: 0,
             moves: 0,
             halts: 0,
         };
         Watch {
             standing: Mutex::new(standing),
             due: Condvar::new(),
+            room: Condvar::new(),
             changed: Condvar::new(),
         }
     }
 
     /// Waits until the worker has something to do.
-    pub(crate) fn next_task<R: Wait>(&self, rt: &R) -> Task {
-        let mut standing = self.due.wait_while(
+    pub(crate) fn next_task<R: Wait + Clock>(&self, rt: &R) -> Task {
+        let standing = self.due.wait_while(
             rt,
             self.standing.lock(rt),
             |standing| !standing.has_task(),
         );
+        let time = Duration::from_micros(GATHER_MICROS);
+        let (mut standing, _) = self
+            .due
+            .wait_timeout_while(rt, standing, time, |standing| standing.is_gathering());
         let standing = &mut *standing;
         if let Some(volume) = standing.failed.take() {
             return Task::Tell(volume);
@@ -152,39 +215,27 @@ impl Watch {
 
     /// Tells what came of a turn, in which a piece was taken or none.
     pub(crate) fn turned<R: Wait>(&self, rt: &R, took: bool, headway: Headway) {
-        let mut standing = self.standing.lock(rt);
-        let standing = &mut *standing;
-        if took {
-            standing.taken = standing.taken.wrapping_add(1);
-        }
-        match headway {
-            Headway::Moved { holding } => {
-                standing.holding = holding;
-                standing.moved();
-            }
-            Headway::AtRest => {
-                standing.holding = false;
-                standing.rests = false;
-                standing.moved();
-            }
-            Headway::Halted => {
-                standing.holding = true;
-                standing.halted = true;
-                standing.halts = standing.halts.wrapping_add(1);
-                // The queue has room for one piece more than before.
-                if took {
-                    standing.moves = standing.moves.wrapping_add(1);
-                }
-            }
-        }
+        let has_room = self.standing.lock(rt).turned(took, headway);
+        // Who is woken finds the lock free.
         self.changed.notify_all();
+        if has_room {
+            self.room.notify_all();
+        }
     }
 
     /// Tells that a piece was pushed.
     pub(crate) fn pushed<R: Wait>(&self, rt: &R) {
+        if self.note_pushed(rt) {
+            self.due.notify_one();
+        }
+    }
+
+    // Whether the worker is to be woken for a piece that was pushed: by the first, so that it waits for more no longer than it
+    // may, and once it waits for no more.
+    fn note_pushed<R: Wait>(&self, rt: &R) -> bool {
         let mut standing = self.standing.lock(rt);
         standing.pushed = standing.pushed.wrapping_add(1);
-        self.due.notify_one();
+        standing.queued() <= 1 || !standing.is_gathering()
     }
 
     /// Tells that the operator did something at the drive, so that what could not be placed may be placed now. Where nothing
@@ -197,6 +248,7 @@ impl Watch {
             standing.moved();
         }
         self.due.notify_one();
+        self.room.notify_all();
         self.changed.notify_all();
     }
 
@@ -204,7 +256,7 @@ impl Watch {
     pub(crate) fn backlog<R: Wait>(&self, rt: &R) -> Backlog {
         let standing = self.standing.lock(rt);
         Backlog {
-            queued: standing.pushed.saturating_sub(standing.taken),
+            queued: standing.queued(),
             holding: standing.holding,
         }
     }
@@ -241,17 +293,36 @@ impl Watch {
         Moves(self.standing.lock(rt).moves)
     }
 
-    /// Waits until something has moved since. Where the drive halted before, it is told to try once more; if it halts
-    /// again before anything moves, that is the answer.
+    /// Waits until something has moved since. If the drive halted before, it is told to try once more; if it halts again
+    /// before anything moves, that is the answer.
     pub(crate) fn wait<R: Wait + Clock>(&self, rt: &R, since: Moves) -> Waited {
+        let standing = self.standing.lock(rt);
+        self.wait_at(rt, &self.changed, standing, since)
+    }
+
+    /// As `wait`, for a talk that found the queue full. While pieces are placed it is woken once half of the queue is free.
+    pub(crate) fn wait_for_room<R: Wait + Clock>(&self, rt: &R, since: Moves) -> Waited {
         let mut standing = self.standing.lock(rt);
+        if standing.held_back == 0 {
+            standing.held_back = standing.queued() / 2;
+        }
+        self.wait_at(rt, &self.room, standing, since)
+    }
+
+    // Waits there until something has moved since.
+    fn wait_at<R: Wait + Clock>(
+        &self,
+        rt: &R,
+        place: &Condvar,
+        standing: MutexGuard<'_, Standing>,
+        since: Moves,
+    ) -> Waited {
+        let mut standing = standing;
         let halts = try_again(&mut standing, &self.due);
         let piece = Duration::from_secs(PIECE_SECONDS);
-        let (standing, _) = self
-            .changed
-            .wait_timeout_while(rt, standing, piece, |standing| {
-                standing.moves == since.0 && standing.halts == halts
-            });
+        let (standing, _) = place.wait_timeout_while(rt, standing, piece, |standing| {
+            standing.moves == since.0 && standing.halts == halts
+        });
         if standing.moves == since.0 && standing.halts != halts {
             Waited::Halted
         } else {
@@ -290,10 +361,11 @@ impl Watch {
     }
 }
 
-// Has a drive that halted try once more. How often it has halted so far.
+// Tells the worker that somebody waits, and has a drive that halted try once more. How often it has halted so far.
 fn try_again(standing: &mut Standing, due: &Condvar) -> u64 {
-    if standing.halted {
-        standing.halted = false;
+    standing.awaited = true;
+    standing.halted = false;
+    if standing.has_task() {
         due.notify_one();
     }
     standing.halts

@@ -1,9 +1,19 @@
+pub mod Closed
+mod ClosedLemmas
 pub mod Deeds
+mod FoundLemmas
 pub mod Fresh
 pub mod Head
+mod PlacedLemmas
 pub mod Read
+mod ReportLemmas
 pub mod Returns
 pub mod Runs
+mod SayLemmas
+mod SpanLemmas
 pub mod Stood
 pub mod Stops
+pub mod ThreadStops
+pub mod Threads
+mod ToldLemmas
 pub mod Unpurged

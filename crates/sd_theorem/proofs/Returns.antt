@@ -1,25 +1,22 @@
 -- What was closed comes back, in whatever world it was closed.
-use Rattle.std.proofs.Common.{◌≡◌, ◌≤◌, ◌<◌, ◌+◌, ℕ, sym, ap, subst, ◌∙◌, inl, inr, arith, true, None, Some, List, All, Result, get_or, slice_get}
+use Rattle.std.proofs.Common.{◌≡◌, ◌≤◌, ◌+◌, ℕ, sym, ap, subst, ◌∙◌, inl, inr, arith, true, None, Some, List, get_or, slice_get}
 use Rattle.std.specs.Option.{option_map}
-use Rattle.sd_base.specs.Record.{Record}
 use Rattle.sd_base.specs.declared.number.SessionKey.{SessionKey}
-use Rattle.sd_base.specs.declared.refusal.Refusal.{Refusal}
 use Rattle.sd_desk.specs.Desk.{claimed_by}
 use Rattle.sd_desk.specs.declared.claim.Claim.{Claim}
 use Rattle.sd_driver.specs.Meaning.{Meaning}
-use Rattle.sd_driver.specs.Shelf.{Shelf, AfterStop, low_mark}
+use Rattle.sd_driver.specs.Shelf.{Shelf, AfterStop}
 use Rattle.sd_drive.specs.View.{DriveIs}
 use Rattle.sd_machine.specs.Machine.{Machine}
 use Rattle.sd_machine.specs.declared.event.Event.TheVariants.{Adopt}
 use Rattle.sd_machine.specs.declared.reply.Reply.TheVariants.{Adopted}
 use Rattle.sd_readback.specs.Reading.{Reads, volumes_on}
-use Rattle.sd_readback.specs.declared.read.ReadEnd.{ReadEnd}
 use Rattle.sd_readback.proofs.ReadingLemmas.{kept_read, reads_one}
 use Rattle.sd_restore.specs.Lasting.{SpansLast}
 use Rattle.sd_restore.proofs.LastLemmas.{lasting_spans_stay, lasting_spans_mark, lasting_spans_kept}
 use Rattle.sd_session.specs.declared.status.Status.TheVariants.{Closed}
 use Rattle.sd_span.specs.declared.span.Span.{Span}
-use Rattle.sd_world.specs.Deeds.{Deed, IsRead, LeadsTo, NonePurges}
+use Rattle.sd_world.specs.Deeds.{Deed, LeadsTo, NonePurges}
 use Rattle.sd_world.specs.Drives.{MovesDrive}
 use Rattle.sd_world.specs.Honest.{AreHonest}
 use Rattle.sd_world.specs.Kept.{IsClosedAt}
@@ -34,8 +31,8 @@ use Rattle.sd_world.proofs.ClaimLemmas.{closed_is_found}
 use Rattle.sd_world.proofs.DeedLemmas.{leads_keep}
 use Rattle.sd_world.proofs.ReadLemmas.{closed_is_countable, closed_reads, closed_spans_last}
 use Rattle.sd_world.proofs.SpanLemmas.{closed_has_span}
-use Rattle.sd_theorem.specs.Gives.{GivesAll}
 use Rattle.sd_theorem.specs.Headline.{HasStatus}
+use Rattle.sd_theorem.specs.Returns.{Returns}
 use Rattle.sd_theorem.specs.Runs.{RunsOn, RunsStop, NonePurgesOf}
 use Rattle.sd_theorem.specs.Start.{Meanings}
 use Rattle.sd_theorem.specs.Told.{WereAdopted}
@@ -106,28 +103,14 @@ stands_closed meaning w key spans sound c =
       spans_are = inl s;
     }
 
--- What comes back of it, by the machine that the world now matches: from the moment of the close on, the low marks; what the spans
--- read to after any stops; and what a later run gives.
-pub record Returns {D Q S : Type 0} (Z : Type 0) (is : Meanings D Q S) (key : SessionKey) (spans : List Span) (w : WorldView D) (c : WentOn is.device key spans w)
+-- What comes back of it, by the machine that the world now matches.
+pub record StillReturns {D Q S : Type 0} (Z : Type 0) (is : Meanings D Q S) (key : SessionKey) (spans : List Span) (w : WorldView D) (c : WentOn is.device key spans w)
     (m : Machine) : Type 0 where
   pub has : HasStatus m key Closed
   pub bay_then : BayView D
   pub d_then : DriveIs D
   pub online_then : IsOnline c.at_close c.e.drive c.at bay_then d_then
-  pub mark : All (λ (s : Span). s.end ≤ low_mark (is.device c.d.device).shelf (is.device d_then.device).shelf.moment s.volume) spans
-  pub survives : (left last : Shelf) (others : List Shelf)
-      → AfterStop (is.device d_then.device).shelf.moment (is.device c.d.device).shelf left
-      → RunsStop Z is spans left others last
-      → Reads (volumes_on last) key spans has.s.records true
-  pub comes_back : (left last : Shelf) (others : List Shelf) (again after : WorldView D) (got got' : List Record) (result : Result ReadEnd Refusal)
-      → AfterStop (is.device d_then.device).shelf.moment (is.device c.d.device).shelf left
-      → RunsStop Z is spans left others last
-      → (runs : RunsOn Z is last again)
-      → WereAdopted (runs.at + 1) spans runs.deeds
-      → key.time < again.limits.time
-      → NonePurgesOf spans runs.deeds
-      → IsRead is.device key spans got got' result again after
-      → GivesAll has.s.records true got got' result
+  pub returns : Returns Z is key spans has.s.records (is.device d_then.device).shelf (is.device c.d.device).shelf
 
 module _ {D Q S : Type 0} (Z : Type 0) (is : Meanings D Q S) (key : SessionKey) (spans : List Span) (w : WorldView D) (c : WentOn is.device key spans w)
     (m : Machine) (pairs : Matches is.device w m) where
@@ -201,27 +184,29 @@ module _ {D Q S : Type 0} (Z : Type 0) (is : Meanings D Q S) (key : SessionKey) 
       let then = (is.device stood.d.device).shelf in
       survive_runs Z is (volumes_on then) spans left last others runs (survive_stop then.moment (volumes_on then) spans (is.device c.d.device).shelf left stood.last stop)
 
-  pub returns : Returns Z is key spans w c m
+  pub returns : StillReturns Z is key spans w c m
   returns = record {
     has = record { s = now.all.s; there = now.all.there; key_is = now.all.key_is; status_is = now.all.closed };
     bay_then = stood.bay;
     d_then = stood.d;
     online_then = stood.online;
-    mark = lasting_spans_mark (is.device stood.d.device).shelf.moment (volumes_on (is.device stood.d.device).shelf) (is.device c.d.device).shelf spans stood.moment stood.last;
-    survives = λ left last others stop runs.
-        kept_read (volumes_on (is.device stood.d.device).shelf) (volumes_on last) key spans now.all.s.records true (survive left last others stop runs).kept
-        (subst (λ l. Reads (volumes_on (is.device stood.d.device).shelf) key spans l true) now.same stood.all.reads);
-    comes_back = λ left last others again after got got' result stop runs r adopted later none read.
-        let then = (is.device stood.d.device).shelf in
-        let shelf = (is.device r.d.device).shelf in
-        let lasts = run_keeps Z is (volumes_on then) spans last again r none ((survive left last others stop runs).last (found_stable Z is last again r)) in
-        let kept = lasting_spans_kept last.moment (volumes_on then) shelf shelf spans lasts (λ name bytes here. here.now) in
-        let reads = kept_read (volumes_on then) (volumes_on shelf) key spans now.all.s.records true kept
-        (subst (λ l. Reads (volumes_on then) key spans l true) now.same stood.all.reads) in
-        let world = leads_keep is.device r.first again r.deeds r.begins.sound r.leads in
-        let kept_here = foreign_gone again key spans world.0.rules (λ same. absurd (omega (arith, later, same)))
-        (none_noted is.device r.first again r.deeds spans r.begins.sound r.leads r.begins.fresh.no_claim none) in
-        let countable = closed_is_countable (volumes_on (is.device c.d.device).shelf) m key spans now.all in
-        (world_gives is.device again after key spans now.all.s.records true got got' result (r.at + 1) r.at r.bay r.d r.online
-        (adopted_claimed Z is last again r (r.at + 1) spans adopted) (run_honest Z is last again r) kept_here reads countable.0 countable.1 read.reads).gives;
+    returns = record {
+      mark = lasting_spans_mark (is.device stood.d.device).shelf.moment (volumes_on (is.device stood.d.device).shelf) (is.device c.d.device).shelf spans stood.moment stood.last;
+      survives = λ left last others stop runs.
+          kept_read (volumes_on (is.device stood.d.device).shelf) (volumes_on last) key spans now.all.s.records true (survive left last others stop runs).kept
+          (subst (λ l. Reads (volumes_on (is.device stood.d.device).shelf) key spans l true) now.same stood.all.reads);
+      comes_back = λ left last others again after got got' result stop runs r adopted later none read.
+          let then = (is.device stood.d.device).shelf in
+          let shelf = (is.device r.d.device).shelf in
+          let lasts = run_keeps Z is (volumes_on then) spans last again r none ((survive left last others stop runs).last (found_stable Z is last again r)) in
+          let kept = lasting_spans_kept last.moment (volumes_on then) shelf shelf spans lasts (λ name bytes here. here.now) in
+          let reads = kept_read (volumes_on then) (volumes_on shelf) key spans now.all.s.records true kept
+          (subst (λ l. Reads (volumes_on then) key spans l true) now.same stood.all.reads) in
+          let world = leads_keep is.device r.first again r.deeds r.begins.sound r.leads in
+          let kept_here = foreign_gone again key spans world.0.rules (λ same. absurd (omega (arith, later, same)))
+          (none_noted is.device r.first again r.deeds spans r.begins.sound r.leads r.begins.fresh.no_claim none) in
+          let countable = closed_is_countable (volumes_on (is.device c.d.device).shelf) m key spans now.all in
+          (world_gives is.device again after key spans now.all.s.records true got got' result (r.at + 1) r.at r.bay r.d r.online
+          (adopted_claimed Z is last again r (r.at + 1) spans adopted) (run_honest Z is last again r) kept_here reads countable.0 countable.1 read.reads).gives;
+    };
   }

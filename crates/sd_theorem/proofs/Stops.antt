@@ -57,9 +57,7 @@ module _ {D Q S Z : Type 0} (is : Meanings D Q S) (start : Start D Q S Z) (key :
         bay_then = r.bay_then;
         d_then = r.d_then;
         online_then = r.online_then;
-        mark = r.mark;
-        survives = r.survives;
-        comes_back = r.comes_back;
+        returns = r.returns;
       }
 
 pub stop_theorem : {D Q S Z : Type 0} → StopTheorem D Q S Z

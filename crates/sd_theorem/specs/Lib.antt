@@ -1,6 +1,14 @@
+pub mod Closed
 pub mod Gives
 pub mod Headline
+pub mod Placed
+pub mod Returns
+pub mod RoundTrip
 pub mod Runs
+pub mod Since
 pub mod Start
+pub mod State
 pub mod Stops
+pub mod ThreadStops
+pub mod Threads
 pub mod Told

@@ -1,26 +1,20 @@
 -- The stop theorem: what was closed comes back after any stop.
-use Rattle.std.specs.Prelude.{◌≡◌, ℕ, ◌+◌, ◌<◌, ◌≤◌, All, true, Some, Result, List, ◌∷◌, ◌++◌}
-use Rattle.sd_base.specs.Record.{Record}
+use Rattle.std.specs.Prelude.{◌≡◌, ℕ, Some, List, ◌∷◌, ◌++◌}
 use Rattle.sd_base.specs.declared.number.SessionKey.{SessionKey}
-use Rattle.sd_base.specs.declared.refusal.Refusal.{Refusal}
-use Rattle.sd_driver.specs.Shelf.{Shelf, AfterStop, low_mark}
 use Rattle.sd_drive.specs.View.{DriveIs}
 use Rattle.sd_machine.specs.Machine.{Machine, empty_machine}
 use Rattle.sd_machine.specs.Step.{Run}
 use Rattle.sd_machine.specs.declared.event.Event.TheVariants.{Close}
 use Rattle.sd_machine.specs.declared.reply.Reply.TheVariants.{Closed}
-use Rattle.sd_readback.specs.Reading.{Reads, volumes_on}
-use Rattle.sd_readback.specs.declared.read.ReadEnd.{ReadEnd}
 use Rattle.sd_session.specs.declared.status.Status.TheVariants as status
 use Rattle.sd_span.specs.declared.span.Span.{Span}
 use Rattle.sd_world.specs.World.{WorldView, WorldSession, BayView, IsOnline, session_at}
-use Rattle.sd_world.specs.Deeds.{Deed, Answered, IsRead, LeadsTo, events_in, replies_in}
+use Rattle.sd_world.specs.Deeds.{Deed, Answered, LeadsTo, events_in, replies_in}
 use Rattle.sd_world.specs.Steps.{IsStep}
-use Rattle.sd_theorem.specs.Gives.{GivesAll}
 use Rattle.sd_theorem.specs.Headline.{HasStatus}
-use Rattle.sd_theorem.specs.Runs.{RunsOn, RunsStop, NonePurgesOf}
+use Rattle.sd_theorem.specs.Returns.{Returns}
+use Rattle.sd_theorem.specs.Runs.{NonePurgesOf}
 use Rattle.sd_theorem.specs.Start.{Meanings, Start, IsMadeOf, StartsHonest}
-use Rattle.sd_theorem.specs.Told.{WereAdopted}
 
 -- In a run that began honest a session was closed, with these spans; from there the world did one deed after another, none of
 -- which purged a volume of the spans, and is this one now; the session's drive is still online.
@@ -50,11 +44,8 @@ abbrev pub deeds_of : {D Q S Z : Type 0} {is : Meanings D Q S} {start : Start D 
     → WasClosed is start key spans w → List Deed
 deeds_of {key = key} {spans = spans} c = c.before ++ Answered (Close c.ticket) (Closed key spans) ∷ c.after
 
--- The run is one of the list machine, in which the session is closed; its drive was online when it was closed. From then
--- on the low mark of each volume of its spans is at least where the span ends. What any stop leaves, also one inside a
--- call, and the stops of later runs that purged no volume of the spans, reads to exactly the session's records. So does a later
--- run, of a greater time, that adopted the volumes and purged none of them: it gives them, and is refused only where the device
--- failed or memory was wanted.
+-- The run is one of the list machine, in which the session is closed; its drive was online when it was closed, and from then on
+-- its records return.
 pub record ComesBack {D Q S Z : Type 0} (is : Meanings D Q S) (start : Start D Q S Z) (key : SessionKey) (spans : List Span)
     (w : WorldView D) (c : WasClosed is start key spans w) : Type 0 where
   pub m : Machine
@@ -63,20 +54,7 @@ pub record ComesBack {D Q S Z : Type 0} (is : Meanings D Q S) (start : Start D Q
   pub bay_then : BayView D
   pub d_then : DriveIs D
   pub online_then : IsOnline c.at_close c.e.drive c.at bay_then d_then
-  pub mark : All (λ (s : Span). s.end ≤ low_mark (is.device c.d.device).shelf (is.device d_then.device).shelf.moment s.volume) spans
-  pub survives : (left last : Shelf) (others : List Shelf)
-      → AfterStop (is.device d_then.device).shelf.moment (is.device c.d.device).shelf left
-      → RunsStop Z is spans left others last
-      → Reads (volumes_on last) key spans has.s.records true
-  pub comes_back : (left last : Shelf) (others : List Shelf) (again after : WorldView D) (got got' : List Record) (result : Result ReadEnd Refusal)
-      → AfterStop (is.device d_then.device).shelf.moment (is.device c.d.device).shelf left
-      → RunsStop Z is spans left others last
-      → (runs : RunsOn Z is last again)
-      → WereAdopted (runs.at + 1) spans runs.deeds
-      → key.time < again.limits.time
-      → NonePurgesOf spans runs.deeds
-      → IsRead is.device key spans got got' result again after
-      → GivesAll has.s.records true got got' result
+  pub returns : Returns Z is key spans has.s.records (is.device d_then.device).shelf (is.device c.d.device).shelf
 
 -- Law.
 

@@ -1,7 +1,18 @@
-//! The theorem of the daemon: what it acknowledged comes back, once and in order, however many sessions shared a drive and
-//! whenever it was stopped. Two laws, whose premises are what a world was made of and what it did since.
+//! The theorems, as laws without code. The session theorem and the stop theorem: what the daemon acknowledged comes back, once
+//! and in order, however many sessions shared a drive and whenever it was stopped; their premises are what a world was made of
+//! and what it did since. The same for running threads, whose premises are what settling hands out; what a scan of volumes
+//! finds of it; and that what is packed comes back.
 #![tactic(auto)]
 
 mod laws;
+mod round_trip;
+mod running;
+mod scanned;
 
 pub use laws::{headline, stop_theorem};
+pub use round_trip::packed_comes_back;
+pub use running::{thread_stop_theorem, thread_theorem};
+pub use scanned::{
+    placed_blocks_are_found, placements_say, scan_tells_closed, scan_tells_session,
+    scan_tells_spans, scan_tells_told,
+};

@@ -1,6 +1,10 @@
 pub mod DoingLemmas
+pub mod HeadLemmas
+pub mod LineLemmas
 pub mod MakingLemmas
 pub mod PrintedLemmas
 pub mod RunLemmas
+pub mod SettingLemmas
 pub mod StageLemmas
 pub mod TailLemmas
+pub mod TranscriptLemmas

@@ -11,8 +11,8 @@ use Rattle.sd_core.specs.Conf.{IsConf, empty_queue}
 use Rattle.sd_lane.specs.Queue.{LanesView}
 use Rattle.sd_lane.specs.declared.piece.Queued.{Queued}
 use Rattle.sd_core.specs.declared.conf.WorldConf.{WorldConf}
-use Rattle.sd_settings.specs.Settings.{AreSettable, ValuesView, drives_of, is_spool_short, misfit_of}
-use Rattle.sd_settings.specs.declared.fits.Misfit.TheVariants as misfit
+use Rattle.sd_tool.specs.Settings.{AreSettable, ValuesView, drives_of, is_spool_short, misfit_of}
+use Rattle.sd_tool.specs.declared.fits.Misfit.TheVariants as misfit
 
 -- one more of a list
 pub taken_more : {A : Type 0} (xs : List A) (n : ℕ) (x : A) → x ≡ get_or xs n x → n < length xs → take (n + 1) xs ≡ take n xs ++ x ∷ []

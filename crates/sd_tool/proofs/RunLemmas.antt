@@ -18,8 +18,8 @@ use Rattle.sd_tool.specs.Restart.{RestartsAs}
 use Rattle.sd_tool.specs.Run.{Comes, IsNoLine, LineCame, LineComes, ObeysNext, Reaches, RestartComes, Shown}
 use Rattle.sd_tool.specs.Script.{ScriptView, script_view}
 use Rattle.sd_tool.specs.Told.{restarted_text}
-use Rattle.sd_settings.specs.declared.lines.Next.{Next}
-use Rattle.sd_settings.specs.declared.lines.Next.TheVariants as next
+use Rattle.sd_tool.specs.declared.lines.Next.{Next}
+use Rattle.sd_tool.specs.declared.lines.Next.TheVariants as next
 use Rattle.sd_tool.specs.declared.restart.Restart.{Restart}
 use Rattle.sd_tool.specs.declared.run.Came.{Came}
 use Rattle.sd_tool.specs.declared.run.Came.TheVariants.{Over, On}

@@ -20,7 +20,7 @@ use Rattle.sd_script.specs.declared.console.ConsoleCmd.TheVariants as console
 use Rattle.sd_script.specs.declared.line.Line.{Line}
 use Rattle.sd_script.specs.declared.line.Line.TheVariants as line
 use Rattle.sd_span.specs.declared.span.Span.{Span}
-use Rattle.sd_transcript.specs.Lines.{closed_words, media_words, mounted_words, read_text, records_lines, refused_line, requests_text, status_text}
+use Rattle.sd_tool.specs.ReplyLines.{closed_words, media_words, mounted_words, read_text, records_lines, refused_line, requests_text, status_text}
 use Rattle.sd_words.specs.Lines.{line as as_line}
 use Rattle.sd_tool.specs.Printed.{last_printed}
 use Rattle.sd_tool.specs.Refused.{unheld_refusal, unread_refusal}

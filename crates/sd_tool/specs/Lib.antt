@@ -1,10 +1,15 @@
 pub mod Doing
+pub mod Head
+pub mod Lines
 pub mod Making
+pub mod MemDrives
 pub mod Printed
 pub mod Refused
+pub mod ReplyLines
 pub mod Restart
 pub mod Run
 pub mod Script
+pub mod Settings
 pub mod Stage
 pub mod Tail
 pub mod Told

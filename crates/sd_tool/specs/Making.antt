@@ -8,7 +8,7 @@ use Rattle.sd_rounds.specs.Rounds.{online_flags}
 use Rattle.sd_core.specs.Conf.{IsConf, AreQueues, AreStores}
 use Rattle.sd_core.specs.Fresh.{AreNewDrives}
 use Rattle.sd_tool.specs.declared.making.Room.{Room}
-use Rattle.sd_settings.specs.Settings.{ValuesView, drive_count, drives_of}
+use Rattle.sd_tool.specs.Settings.{ValuesView, drive_count, drives_of}
 
 -- the room is what a world of these settings is made with: its settings, a queue for each drive and a store for each lane
 pub record IsRoomOf {Q : Type 0} (lanes_of : Q → LanesView) (v : ValuesView) (room : Room Q) : Type 0 where

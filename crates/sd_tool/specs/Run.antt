@@ -12,16 +12,16 @@ use Rattle.sd_script.specs.declared.line.LineFault.TheVariants as fault
 use Rattle.sd_script.specs.declared.line.Part.{Part}
 use Rattle.sd_script.specs.declared.line.Part.TheVariants.{Body, Head}
 use Rattle.sd_script.specs.declared.line.Tail.{Tail}
-use Rattle.sd_transcript.specs.Lines.{refused_line}
+use Rattle.sd_tool.specs.ReplyLines.{refused_line}
 use Rattle.sd_words.specs.Lines.{line as as_line}
 use Rattle.sd_tool.specs.Doing.{LineDoes}
 use Rattle.sd_tool.specs.Restart.{BeginsAs, RestartsAs}
 use Rattle.sd_tool.specs.Script.{KeepsRest, Prints, ScriptView, script_view}
-use Rattle.sd_settings.specs.Settings.{ValuesView, misfit_of}
+use Rattle.sd_tool.specs.Settings.{ValuesView, misfit_of}
 use Rattle.sd_tool.specs.Told.{misfit_text, no_input_text, restarted_text}
-use Rattle.sd_settings.specs.declared.fits.Misfit.{Misfit}
-use Rattle.sd_settings.specs.declared.lines.Next.{Next}
-use Rattle.sd_settings.specs.declared.lines.Next.TheVariants as next
+use Rattle.sd_tool.specs.declared.fits.Misfit.{Misfit}
+use Rattle.sd_tool.specs.declared.lines.Next.{Next}
+use Rattle.sd_tool.specs.declared.lines.Next.TheVariants as next
 use Rattle.sd_tool.specs.declared.restart.Restart.{Restart}
 use Rattle.sd_tool.specs.declared.run.Came.{Came}
 use Rattle.sd_tool.specs.declared.run.Came.TheVariants.{Over, On}

@@ -3,8 +3,8 @@ use Rattle.std.specs.Prelude.{ℕ, List, ◌++◌, Option, None, Some, codes}
 use Rattle.std.specs.Fmt.{decimal}
 use Rattle.sd_base.specs.Refusal.{refusal_text}
 use Rattle.sd_base.specs.declared.refusal.Refusal.{Refusal}
-use Rattle.sd_settings.specs.Settings.{misfit_word}
-use Rattle.sd_settings.specs.declared.fits.Misfit.{Misfit}
+use Rattle.sd_tool.specs.Settings.{misfit_word}
+use Rattle.sd_tool.specs.declared.fits.Misfit.{Misfit}
 use Rattle.sd_tool.specs.declared.told.Told.{Told}
 use Rattle.sd_tool.specs.declared.told.Told.TheVariants as told
 

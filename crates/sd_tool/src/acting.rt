@@ -5,10 +5,13 @@ ghost use Rattle.sd_tool.specs.Doing.{Acts, Closes, ConsoleDoes, DrainsAll, Give
 ghost use Rattle.sd_tool.specs.Refused.{unheld_refusal};
 ghost use Rattle.sd_tool.specs.Script.{Prints, script_view};
 ghost use Rattle.sd_core.specs.View.{view_of};
-ghost use Rattle.sd_transcript.specs.Lines.{media_words, mounted_words, refused_line, requests_text, status_text};
+ghost use Rattle.sd_tool.specs.ReplyLines.{media_words, mounted_words, refused_line, requests_text, status_text};
 
 use crate::events::{console_event, step_event};
 use crate::printed::Closed;
+use crate::replies::{
+    print_closed, print_media, print_mounted, print_reply, print_requests, print_status,
+};
 use crate::run::Script;
 use crate::told::Told;
 use sd_base::{Bytes, DriveNo, Items, Rec, Refusal, Ticket, VolName};
@@ -17,9 +20,6 @@ use sd_lane::Lanes;
 use sd_machine::{Event, Reply};
 use sd_script::{ConsoleCmd, Line};
 use sd_session::Status;
-use sd_transcript::{
-    print_closed, print_media, print_mounted, print_reply, print_requests, print_status,
-};
 use std::alloc::{AllocError, Global};
 use std::io::Write;
 

@@ -6,6 +6,7 @@ ghost use Rattle.sd_script.specs.Grammar.{IsWithin};
 ghost use Rattle.sd_tool.specs.Run.{Comes, LineComes, Refuses, RestartComes, Shown};
 ghost use Rattle.sd_tool.specs.Script.{script_view};
 
+use crate::lines::Next;
 use crate::restart::{Restart, Restarted};
 use crate::run::{Came, DONE, FAILED, Ran, Script, given_up};
 use crate::told::Told;
@@ -14,7 +15,6 @@ use sd_driver::Driver;
 use sd_lane::Lanes;
 use sd_printer::Printer;
 use sd_script::{Line, Part, read_line};
-use sd_settings::Next;
 use std::io::Write;
 
 impl<D: Driver + Drop, Q: Lanes + Drop, W: Write + Drop> Script<D, Q, W> {

@@ -3,13 +3,13 @@ ghost use Rattle.std.specs.Prelude.{◌≡◌, ◌≤◌, ◌<◌, None, IfOk, A
 ghost use Rattle.sd_base.specs.Limits.{most_lanes, most_number};
 ghost use Rattle.sd_core.specs.Conf.{AreQueues, AreStores};
 ghost use Rattle.sd_tool.specs.Making.{IsRoomOf, StartsAs};
-ghost use Rattle.sd_settings.specs.Settings.{drive_count, drives_of, misfit_of};
+ghost use Rattle.sd_tool.specs.Settings.{drive_count, drives_of, misfit_of};
 
+use crate::values::Values;
 use sd_base::{HostName, MediaName, Name};
 use sd_core::{World, WorldConf};
 use sd_driver::Driver;
 use sd_lane::Lanes;
-use sd_settings::Values;
 use sd_spool::MemSpool;
 use std::alloc::{AllocError, Global};
 

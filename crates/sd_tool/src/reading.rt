@@ -8,6 +8,8 @@ ghost use Rattle.sd_tool.specs.Refused.{unread_refusal};
 ghost use Rattle.sd_tool.specs.Script.{Prints, script_view};
 
 use crate::printed::Closed;
+use crate::record::RecordPrinter;
+use crate::replies::{print_read, print_reply};
 use crate::run::Script;
 use crate::stage::Stage;
 use sd_base::{Refusal, SessionKey, Ticket};
@@ -16,9 +18,9 @@ use sd_lane::Lanes;
 use sd_machine::{Event, Reply};
 use sd_printer::Printer;
 use sd_readback::ReadEnd;
+use sd_records::Before;
 use sd_session::Status;
 use sd_span::Span;
-use sd_transcript::{Before, RecordPrinter, print_read, print_reply};
 use std::io::Write;
 use std::marker::Brand;
 

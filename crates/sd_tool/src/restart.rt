@@ -2,16 +2,16 @@
 ghost use Rattle.std.specs.Prelude.{◌≡◌, ◌≤◌, IfOk, Some, length};
 ghost use Rattle.sd_base.specs.Limits.{most_number};
 ghost use Rattle.sd_tool.specs.Restart.{HandsOn, IsThere, RestartsAs, unfit};
-ghost use Rattle.sd_settings.specs.Settings.{capacity_for, drive_count};
+ghost use Rattle.sd_tool.specs.Settings.{capacity_for, drive_count};
 
 use crate::making::Room;
 use crate::stage::Stage;
 use crate::tail::put_tail;
+use crate::values::Values;
 use sd_base::Refusal;
 use sd_driver::Driver;
 use sd_lane::Lanes;
 use sd_script::Tail;
-use sd_settings::Values;
 use std::alloc::{AllocError, Global};
 
 /// What a `restart` line asks for: a world of that time, with these bytes appended before.

@@ -1,5 +1,5 @@
 // The lines that are no reply's.
-use sd_settings::Misfit;
+use crate::fits::Misfit;
 use std::fmt;
 
 /// A line of a run. Displays it without the newline.

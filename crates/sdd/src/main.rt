@@ -4,7 +4,7 @@
 
 use sd_arguments::{DaemonTask, Serving, daemon_task, status_of};
 use sd_base::Refusal;
-use sd_check::check_conf;
+use sd_conf::check_conf;
 use sd_daemon::{Bounds, serve_file};
 use sd_printer::Printer;
 use sd_serve::Log;

@@ -1,19 +1,17 @@
-//! The storage daemon's tool. `sdtool run` reads a script on standard input, runs it over the core and prints what each
-//! line of it comes to; `sdtool ls` lists a volume; `sdtool read` reads a session back from its volumes; `sdtool scan`
-//! finds the sessions on volumes, and `sdtool verify` what is damaged of them.
+//! The storage daemon's tool: plays scripts, and lists, reads, scans and verifies volumes. `sdtool run` reads a script on standard
+//! input, runs it over the core and prints what each line of it comes to; `sdtool ls` lists a volume; `sdtool read` reads a
+//! session back from its volumes; `sdtool scan` finds the sessions on volumes, and `sdtool verify` what is damaged of them.
 #![tactic(auto)]
 
 use sd_arguments::{ToolTask, status_of, tool_task};
 use sd_base::Refusal;
-use sd_extract::{Extracted, read_back};
+use sd_files::{Extracted, list_volume, read_back};
 use sd_lane::Lanes;
-use sd_listing::list_volume;
 use sd_printer::Printer;
 use sd_progress::Progress;
 use sd_ruled::RuledLanes;
 use sd_scan::{Told, scan_folder, scan_named};
-use sd_settings::{memory_drives, read_settings};
-use sd_tool::run_lines;
+use sd_tool::{memory_drives, read_settings, run_lines};
 use std::io::{BufReader, BufWriter};
 use std::process::ExitCode;
 use std::{env, io};

@@ -16,5 +16,5 @@ returns c = IfOk-weaker c.after_stop.result _ _ (λ left stop start key spans w 
     let told : AfterStop c.args.calls (meaning_of was.d.device).shelf (meaning_of left).shelf = subst S (sym same) stop in
     let left_since : AfterStop since (meaning_of was.d.device).shelf (meaning_of left).shelf = λ name bytes lasts.
     told name bytes (record { before = λ moment after most. lasts.before moment (omega (arith, least, after)) most; now = lasts.now }) in
-    (t.m, t.run, t.has, t.survives (meaning_of left).shelf (meaning_of left).shelf [] left_since refl))
+    (t.m, t.run, t.has, t.returns.survives (meaning_of left).shelf (meaning_of left).shelf [] left_since refl))
     c.after_stop.ensures.stop

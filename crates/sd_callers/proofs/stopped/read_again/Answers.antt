@@ -8,5 +8,5 @@ returns g c = λ start w was left since runs adopted later none.
       t.m,
       t.run,
       t.has,
-      t.comes_back left left [] c.args.world.now c.read.new.self _ _ c.read.result (since t.bay_then t.d_then t.online_then) refl runs adopted later none c.read.ensures,
+      t.returns.comes_back left left [] c.args.world.now c.read.new.self _ _ c.read.result (since t.bay_then t.d_then t.online_then) refl runs adopted later none c.read.ensures,
     )

@@ -1,4 +1,4 @@
-use Rattle.sd_setup.proofs.NamedLemmas.{named_table}
+use Rattle.sd_daemon.proofs.TableLemmas.{named_table}
 use Rattle.sd_daemon.proofs.daemon.serve.Given as goal
 
 -- the drives that were just made name their lines, and the time is that of the clock

@@ -1,6 +1,6 @@
 use Rattle.std.proofs.Common.{◌≤◌, length}
 use Rattle.std.specs.Vec.{vec_capacity}
-use Rattle.sd_settled.specs.Worlds.{SettlesEach}
+use Rattle.sd_hub.specs.Worlds.{SettlesEach}
 use Rattle.sd_hub.proofs.entering.enter_all.Given as goal
 
 -- the sessions so far are in the world; there is room for all

@@ -2,8 +2,8 @@ use Rattle.std.proofs.Common.{List, sym, ap, subst, ◌∙◌, arith, length}
 use Rattle.std.proofs.lemmas.List.Sorted.{length_permutation}
 use Rattle.std.specs.List.Sorted.{IsPermutation}
 use Rattle.sd_part.specs.Ends.{ToldSession}
-use Rattle.sd_settle.specs.Settles.{SettledIs}
-use Rattle.sd_settled.specs.Worlds.{BecomesWorld, lane_sessions, next_number, queue_view}
+use Rattle.sd_hub.specs.Settles.{SettledIs}
+use Rattle.sd_hub.specs.Worlds.{BecomesWorld, lane_sessions, next_number, queue_view}
 use Rattle.sd_world.specs.World.{WorldView}
 use Rattle.sd_hub.specs.Claimed.{AreClaimed}
 use Rattle.sd_hub.specs.Tickets.{HaveTickets, LanesHaveTickets}

@@ -1,5 +1,5 @@
 use Rattle.std.proofs.Common.{◌≡◌, sym, ap, subst, ◌∙◌, arith, length}
-use Rattle.sd_settle.specs.Settles.{SettledLaneIs}
+use Rattle.sd_hub.specs.Settles.{SettledLaneIs}
 use Rattle.sd_hub.specs.Tickets.{HaveTickets}
 use Rattle.sd_hub.proofs.leaving.leave_lane.Goals as goal
 

@@ -2,7 +2,7 @@ use Rattle.std.proofs.Common.{ap, ◌∙◌, arith, length}
 use Rattle.std.proofs.lemmas.Iterator.Adapters.{YieldsList-from_vec}
 use Rattle.std.proofs.lemmas.Iterator.Consumers.{YieldsList-so_far, YieldsList-turn}
 use Rattle.std.proofs.lemmas.List.{length-map}
-use Rattle.sd_settled.specs.Worlds.{lane_view}
+use Rattle.sd_hub.specs.Worlds.{lane_view}
 use Rattle.sd_hub.proofs.Leaves.{fits, slots_more, stands, told_more}
 use Rattle.sd_hub.proofs.leaving.leave_lanes.Goals as goal
 

@@ -1,6 +1,6 @@
 use Rattle.std.proofs.Common.{◌≡◌, ◌≤◌, length, map}
 use Rattle.std.specs.Vec.{vec_capacity}
-use Rattle.sd_settled.specs.Worlds.{lane_sessions, lane_view}
+use Rattle.sd_hub.specs.Worlds.{lane_sessions, lane_view}
 use Rattle.sd_hub.proofs.leaving.leave_lanes.Given as goal
 
 -- the sessions of the lanes so far are taken out; there is room for all

@@ -1,7 +1,7 @@
 use Rattle.std.proofs.Common.{sym, subst, arith}
 use Rattle.sd_drive.specs.Shelf.{Kept}
 use Rattle.sd_parts.specs.View.{world_of}
-use Rattle.sd_settle.specs.Settles.{SettledIs}
+use Rattle.sd_hub.specs.Settles.{SettledIs}
 use Rattle.sd_world.specs.World.{WorldView}
 use Rattle.sd_hub.specs.Claimed.{ClaimsOwn}
 use Rattle.sd_hub.specs.Machines.{MatchesTold}

@@ -7,7 +7,7 @@ use Rattle.sd_script.specs.declared.console.ConsoleCmd.{ConsoleCmd}
 use Rattle.sd_script.specs.declared.console.ConsoleCmd.TheVariants.{Label}
 use Rattle.sd_words.specs.Lines.{line}
 use Rattle.sd_port.proofs.ConsoleLemmas.{CommandDone, purge_any_moment}
-use Rattle.sd_port.specs.Lines.{Shows}
+use Rattle.sd_answers.specs.Lines.{Shows}
 use Rattle.sd_port.proofs.console.obey.Goals as goal
 
 -- the moment is 64 bits wide

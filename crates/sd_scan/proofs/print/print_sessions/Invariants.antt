@@ -1,6 +1,6 @@
 use Rattle.std.proofs.Common.{ℕ, List}
-use Rattle.sd_found.specs.Found.{Found}
-use Rattle.sd_found.specs.Sessions.{KeepsBy, keys_in, sessions_in}
+use Rattle.sd_scan.specs.Found.{Found}
+use Rattle.sd_scan.specs.Sessions.{KeepsBy, keys_in, sessions_in}
 use Rattle.sd_printer.specs.Says.{Says, said_view}
 use Rattle.sd_span.specs.declared.placement.Placement.{Placement}
 use Rattle.sd_scan.proofs.VolumeLemmas.{PrintsFirst}

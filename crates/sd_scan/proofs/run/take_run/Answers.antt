@@ -1,7 +1,7 @@
 use Rattle.std.proofs.Common.{◌≡◌, ℕ, List, [], ◌∷◌, ◌++◌, drop, sym, ap, ◌∙◌, subst, arith, rules, refl, Some}
 use Rattle.std.specs.Prelude.{IsTrue}
 use Rattle.std.proofs.lemmas.Result.{err_from_is_err_and}
-use Rattle.sd_found.specs.Found.{Found}
+use Rattle.sd_scan.specs.Found.{Found}
 use Rattle.sd_volume.specs.Image.{Block}
 use Rattle.sd_volume.specs.Reader.{IsBlockOf}
 use Rattle.sd_volume.proofs.DeviceLemmas.{OnlyReads-trans, OnlyReads-as}

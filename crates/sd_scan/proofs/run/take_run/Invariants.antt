@@ -2,8 +2,8 @@ use Rattle.std.proofs.Common.{◌≡◌, ◌-◌, ◌≤◌, ◌^◌, List, ◌+
 use Rattle.std.specs.Prelude.{Some}
 use Rattle.sd_driver.specs.Meaning.{IsHonest}
 use Rattle.sd_driver.specs.Shelf.{Held}
-use Rattle.sd_found.specs.Found.{Found}
-use Rattle.sd_found.specs.Sessions.{Keeps}
+use Rattle.sd_scan.specs.Found.{Found}
+use Rattle.sd_scan.specs.Sessions.{Keeps}
 use Rattle.sd_volume.specs.Device.{OnlyReads}
 use Rattle.sd_volume.specs.Image.{Block}
 use Rattle.sd_volume.specs.Reader.{Shows}

@@ -1,7 +1,7 @@
 use Rattle.std.proofs.Common.{◌++◌, ◌∷◌, [], ℕ, List, subst}
 use Rattle.std.specs.Prelude.{OnOk}
-use Rattle.sd_found.specs.Found.{Found}
-use Rattle.sd_found.specs.Sessions.{Keeps}
+use Rattle.sd_scan.specs.Found.{Found}
+use Rattle.sd_scan.specs.Sessions.{Keeps}
 use Rattle.sd_scan.proofs.RunLemmas.{block_long}
 use Rattle.sd_scan.proofs.run.take_shown.Goals as goal
 

@@ -1,5 +1,5 @@
 use Rattle.std.proofs.Common.{◌≡◌, None, refl, sym, inr, ◌∙◌}
-use Rattle.sd_settings.specs.Settings.{misfit_of}
+use Rattle.sd_tool.specs.Settings.{misfit_of}
 use Rattle.sd_tool.proofs.DoingLemmas.{none_of}
 use Rattle.sd_tool.proofs.run.run_script.Goals as goal
 

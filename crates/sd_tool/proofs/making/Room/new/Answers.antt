@@ -1,6 +1,6 @@
 use Rattle.std.proofs.Common.{ap, subst, ◌∙◌}
 use Rattle.sd_core.specs.Conf.{AreQueues, AreStores}
-use Rattle.sd_settings.specs.Settings.{AreSettable, ValuesView}
+use Rattle.sd_tool.specs.Settings.{AreSettable, ValuesView}
 use Rattle.sd_tool.proofs.MakingLemmas.{lanes_within, settings_fit}
 use Rattle.sd_tool.proofs.making.Room.new.Goals as goal
 

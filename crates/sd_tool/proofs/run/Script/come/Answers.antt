@@ -1,8 +1,8 @@
 use Rattle.std.proofs.Common.{sym, subst}
 use Rattle.sd_tool.specs.Run.{Comes}
 use Rattle.sd_tool.specs.Script.{script_view}
-use Rattle.sd_settings.specs.declared.lines.Next.{Next}
-use Rattle.sd_settings.specs.declared.lines.Next.TheVariants as next
+use Rattle.sd_tool.specs.declared.lines.Next.{Next}
+use Rattle.sd_tool.specs.declared.lines.Next.TheVariants as next
 use Rattle.sd_tool.proofs.RunLemmas.{done_comes}
 use Rattle.sd_tool.proofs.run.Script.come.Goals as goal
 

@@ -2,7 +2,7 @@ use Rattle.std.proofs.Common.{Err, ap, inr, subst, ◌∙◌}
 use Rattle.sd_base.specs.declared.refusal.Refusal.{Refusal}
 use Rattle.sd_tool.specs.Run.{Refuses}
 use Rattle.sd_tool.specs.Script.{script_view}
-use Rattle.sd_settings.specs.declared.lines.Next.TheVariants as next
+use Rattle.sd_tool.specs.declared.lines.Next.TheVariants as next
 use Rattle.sd_tool.proofs.RunLemmas.{done_comes, line_comes, no_line}
 use Rattle.sd_tool.proofs.run.Script.run.Goals as goal
 

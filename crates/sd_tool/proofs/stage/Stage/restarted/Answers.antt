@@ -3,7 +3,7 @@ use Rattle.sd_core.specs.View.{devices_of}
 use Rattle.sd_driver.specs.Meaning.{Meaning}
 use Rattle.sd_tool.specs.Making.{StartsAs}
 use Rattle.sd_tool.specs.Restart.{IsThere, unfit}
-use Rattle.sd_settings.specs.Settings.{ValuesView, capacity_for, drive_count}
+use Rattle.sd_tool.specs.Settings.{ValuesView, capacity_for, drive_count}
 use Rattle.sd_tool.specs.Stage.{StageView}
 use Rattle.sd_tool.proofs.DoingLemmas.{none_of}
 use Rattle.sd_tool.proofs.StageLemmas.{devices_long, handed_as, hands_on_long, restarts_anew, tail_there, unfit_none}

@@ -1,0 +1,13 @@
+//! Writes the lines that answer an operator as packets, and keeps which records a sink got: for whatever is the port of a
+//! talk.
+#![tactic(auto)]
+
+mod adopted;
+mod lines;
+mod reply;
+mod watched;
+
+pub use adopted::AdoptedLine;
+pub use lines::{one_line, show};
+pub use reply::tell;
+pub use watched::{Before, Watched};

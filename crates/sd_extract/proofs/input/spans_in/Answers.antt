@@ -1,5 +1,0 @@
-use Rattle.sd_extract.proofs.TextLemmas.{jobmedia-utf8}
-use Rattle.sd_extract.proofs.input.spans_in.Goals as goal
-
-pub returns-in_default : goal.returns-in_default
-returns-in_default c key spans is = c.in_default.ensures.cases.0 (jobmedia-utf8 c.args.bytes.now key spans is)

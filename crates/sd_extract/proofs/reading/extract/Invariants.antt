@@ -1,5 +1,0 @@
-use Rattle.sd_printer.specs.Says.{said_view}
-use Rattle.sd_extract.proofs.reading.extract.Given as goal
-
-abbrev pub ghosts-read_out : goal.ghosts-read_out
-ghosts-read_out g a = record { before = said_view g.W.Write.contents a.out }

@@ -1,0 +1,4 @@
+pub mod ExtractLemmas
+pub mod ListingLemmas
+pub mod PathLemmas
+pub mod TextLemmas

@@ -1,0 +1,11 @@
+-- A session that is read back from files.
+use Rattle.std.specs.Prelude.{ℕ, List, Option}
+use Rattle.sd_driver.specs.Meaning.{Meaning}
+use Rattle.sd_printer.specs.Says.{SaidView}
+use Rattle.sd_files.specs.Extract.{PrintsReading}
+
+-- The text of a file is read, by what it holds where that is known, and its session from the device of a folder, by what
+-- that is as it is made. A file that can't be opened is told as an input that fails, and a want of memory for the device
+-- as one for the text.
+abbrev pub ReadsFiles : Option (List ℕ) → Meaning → SaidView → SaidView → ℕ → Type 0
+ReadsFiles text device said says status = (after : Meaning) × PrintsReading text device after said says status

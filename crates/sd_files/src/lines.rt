@@ -1,0 +1,42 @@
+// The lines of a reading.
+use sd_base::Refusal;
+use sd_readback::ReadEnd;
+use sd_records::EndLine;
+use std::fmt;
+
+/// A line of a reading. Displays it without the newline.
+#[derive(Drop)]
+pub enum Line {
+    /// A record whose bytes stand behind the line.
+    Record {
+        index: u32,
+        stream: u32,
+        size: usize,
+    },
+    /// What the session was read to.
+    End(ReadEnd),
+    /// The file of the spans can't be read.
+    NoFile,
+    /// The reading is given up.
+    Refused(Refusal),
+}
+
+impl fmt::Display for Line {
+    ghost use Rattle.std.specs.Prelude.{Some};
+    ghost use Rattle.sd_files.specs.Lines.{line_text};
+
+    ghost output = { λ l. Some (line_text l) };
+
+    fn fmt<W: fmt::Write>(&self, f: &mut fmt::Formatter<W>) -> fmt::Result {
+        match self {
+            Line::Record {
+                index,
+                stream,
+                size,
+            } => write!(f, "rec {index} {stream} {size}"),
+            Line::End(end) => write!(f, "{}", EndLine(*end)),
+            Line::NoFile => write!(f, "fault file"),
+            Line::Refused(why) => write!(f, "{why}"),
+        }
+    }
+}

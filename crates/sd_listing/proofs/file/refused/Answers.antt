@@ -1,6 +1,0 @@
-use Rattle.sd_printer.specs.Says.{said_view}
-use Rattle.sd_printer.proofs.SaysLemmas.{says_then_nothing}
-use Rattle.sd_listing.proofs.file.refused.Goals as goal
-
-pub returns-clause-says : goal.returns-clause-says
-returns-clause-says g c = says_then_nothing _ (said_view g.W.Write.contents c.line.new.self) _ _ c.line.ensures.says c.flush.ensures

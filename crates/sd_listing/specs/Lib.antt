@@ -1,4 +1,0 @@
-pub mod Listing
-pub mod Status
-pub mod Path
-pub mod File

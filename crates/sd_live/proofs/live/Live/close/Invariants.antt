@@ -1,7 +1,0 @@
-use Rattle.std.proofs.Common.{[]}
-use Rattle.sd_jobs.specs.Jobs.{GoesOn}
-use Rattle.sd_live.proofs.live.Live.close.Given as goal
-
--- the part so far, which took no record
-abbrev pub invariant-loop-turn : goal.invariant-loop-turn
-invariant-loop-turn g l = record { goes : GoesOn l.fn.self [] l.self }

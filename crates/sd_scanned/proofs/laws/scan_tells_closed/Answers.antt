@@ -1,5 +1,0 @@
-use Rattle.sd_scanned.proofs.ClosedLemmas.{scan_tells_closed}
-use Rattle.sd_scanned.proofs.laws.scan_tells_closed.Goals as goal
-
-pub returns : goal.returns
-returns g c = λ meaning w m key spans at bay d scanned vs due outcome pairs closed h have scans. scan_tells_closed meaning w m key spans at bay d scanned vs due outcome pairs closed h have scans

@@ -1,7 +1,0 @@
-use Rattle.std.proofs.Common.{◌≡◌, take}
-use Rattle.sd_settings.specs.Settings.{given_capacity}
-use Rattle.sd_settings.proofs.fits.given_capacity.Given as goal
-
--- the lines so far
-abbrev pub invariant-loop-given : goal.invariant-loop-given
-invariant-loop-given l = l.bytes ≡ given_capacity l.fn.drive 1048576 (take l.given-index l.capacities)

@@ -1,4 +1,0 @@
-pub mod Head
-pub mod Lines
-pub mod MemDrives
-pub mod Settings

@@ -1,5 +1,0 @@
-use Rattle.std.proofs.Common.{refl}
-use Rattle.sd_settle.proofs.checked.Checked.give_back.Goals as goal
-
-pub returns-clause-why : goal.returns-clause-why
-returns-clause-why g c = rw (← c.self.view_is) (c.self.inside.parts.side, c.know.ensures.side, (refl, c.self.invariant.passes.synced))

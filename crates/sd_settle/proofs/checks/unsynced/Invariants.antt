@@ -1,7 +1,0 @@
-use Rattle.sd_settle.specs.Settles.{IsUnsettled}
-use Rattle.sd_settle.proofs.LaneLemmas.{NoneTo}
-use Rattle.sd_settle.proofs.checks.unsynced.Given as goal
-
--- all sessions of the lanes so far are settled
-abbrev pub invariant-loop-at : goal.invariant-loop-at
-invariant-loop-at g l = NoneTo (IsUnsettled l.drive.journal) l.no l.at l.ends

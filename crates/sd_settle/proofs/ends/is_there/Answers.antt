@@ -1,6 +1,0 @@
-use Rattle.std.proofs.Common.{◌∙◌}
-use Rattle.sd_settle.proofs.EndLemmas.{found_or_none}
-use Rattle.sd_settle.proofs.ends.is_there.Goals as goal
-
-pub returns : goal.returns
-returns g c = c.is_some.ensures ∙ found_or_none c.args.no c.args.lane c.args.ends.now c.place_of.result c.place_of.ensures.some c.place_of.ensures.none

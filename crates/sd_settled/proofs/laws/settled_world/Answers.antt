@@ -1,5 +1,0 @@
-use Rattle.sd_settled.proofs.SettledWorlds.{settled_world}
-use Rattle.sd_settled.proofs.laws.settled_world.Goals as goal
-
-pub returns : goal.returns
-returns g c = λ meaning table time checked settled told w settles kept becomes. settled_world meaning table time checked settled told w settles kept becomes

@@ -1,5 +1,0 @@
-use Rattle.std.proofs.Common.{length}
-use Rattle.sd_setup.proofs.drives.+unused_of.Given as goal
-
-abbrev pub decreases-unused_of : goal.decreases-unused_of
-decreases-unused_of g l = length l.drives.now

@@ -1,5 +1,0 @@
-use Rattle.std.proofs.Common.{length}
-use Rattle.sd_setup.proofs.hub.+add_drives.Given as goal
-
-abbrev pub decreases-add_drives : goal.decreases-add_drives
-decreases-add_drives g l = length l.confs.now

@@ -1,4 +1,0 @@
-use Rattle.sd_setup.proofs.hub.+lanes_of.Given as goal
-
-abbrev pub decreases-lanes_of : goal.decreases-lanes_of
-decreases-lanes_of l = l.lanes

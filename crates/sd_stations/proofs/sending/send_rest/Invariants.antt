@@ -1,0 +1,10 @@
+use Rattle.std.proofs.Common.{◌≡◌, []}
+use Rattle.sd_jobs.specs.Jobs.{GoesOn}
+use Rattle.sd_stations.proofs.sending.send_rest.Given as goal
+
+-- the part so far, which took no record
+abbrev pub invariant-loop-step : goal.invariant-loop-step
+invariant-loop-step g l = record {
+  goes : GoesOn l.fn.part [] l.part;
+  no : l.part.seat.no ≡ l.station.no;
+}

@@ -1,5 +1,0 @@
-use Rattle.sd_talkers.proofs.talking.play.Given as goal
-
--- the queue that was just made, and the time of the run, for each number
-abbrev pub ghosts-play_with : goal.ghosts-play_with
-ghosts-play_with g a = record { table = λ no. a.made.table; time = λ no. a.made.limits.time }

@@ -1,3 +1,0 @@
-pub mod Closed
-pub mod Threads
-pub mod Stops

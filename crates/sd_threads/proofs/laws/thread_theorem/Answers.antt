@@ -1,5 +1,0 @@
-use Rattle.sd_threads.proofs.Threads.{thread_theorem}
-use Rattle.sd_threads.proofs.laws.thread_theorem.Goals as goal
-
-pub returns : goal.returns
-returns g c = λ meaning table time line ends receipts w from sound. thread_theorem meaning table time line ends receipts w from sound

@@ -1,4 +1,0 @@
-pub mod Since
-pub mod State
-pub mod Stops
-pub mod Threads

@@ -1,9 +1,0 @@
-use Rattle.std.proofs.Common.{ℕ, List, subst}
-use Rattle.sd_printer.specs.Says.{Says, said_view}
-use Rattle.sd_transcript.proofs.TranscriptLemmas.{mounted_other}
-use Rattle.sd_transcript.proofs.replies.print_mounted.Goals as goal
-
-pub returns-in_default : goal.returns-in_default
-returns-in_default g c =
-    let Prints : List ℕ → Type 0 = λ l. Says (said_view g.W.Write.contents c.args.out.now) (said_view g.W.Write.contents c.print_reply.new.out) l in
-    subst Prints (mounted_other c.args.reply.now c.in_default.not-Mounted) c.print_reply.ensures
