@@ -1,5 +1,5 @@
-//! Writes the lines that answer an operator as packets, and keeps which records a sink got: for whatever is the port of a
-//! talk.
+//! Writes the lines that answer an operator as packets, and keeps which records a sink got. Every port of a talk
+//! uses it.
 #![tactic(auto)]
 
 mod adopted;

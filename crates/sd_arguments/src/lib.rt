@@ -1,4 +1,4 @@
-//! The command lines of the programs: what they ask for, and the status where they ask for help or are wrong.
+//! The programs' command lines, and the exit status of those that ask for help or are wrong.
 #![tactic(auto)]
 
 mod daemon;

@@ -1,5 +1,4 @@
-//! What every layer of the storage daemon names: names, numbers, records, refusals and the big-endian
-//! fields of packets and blocks.
+//! The names, numbers, records and refusals that every layer uses, and the big-endian fields of packets and blocks.
 #![tactic(auto)]
 
 mod fields;

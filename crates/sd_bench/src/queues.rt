@@ -4,7 +4,8 @@ ghost use Rattle.std.specs.Prelude.{◌≡◌};
 ghost use Rattle.sd_ruled.specs.Seats.{AreSeats};
 
 use crate::rate::{Length, tell};
-use sd_base::{Bytes, LEAST_BODY, LaneNo, MOST_LANES, SessionKey};
+use sd_base::{LEAST_BODY, LaneNo, MOST_LANES, SessionKey};
+use sd_block::FramedBody;
 use sd_lane::Piece;
 use sd_pack::Body;
 use sd_ruled::{DriveSeat, LaneQueue, LaneSeat, RuledLanes, Split};
@@ -163,9 +164,8 @@ fn make_pieces(alloc: Global, lane: LaneNo, count: u64) -> Vec<Piece> {
 }
 
 fn make_piece(alloc: Global, lane: LaneNo, seq: u64) -> Option<Piece> {
-    let bytes = vec![in alloc; 0u8; LEAST_BODY].ok()?;
     let body = Body {
-        bytes: Bytes::from_vec(bytes),
+        bytes: FramedBody::from_slice(alloc, &[0; LEAST_BODY]).ok()?,
         first: 0,
         last: 0,
     };

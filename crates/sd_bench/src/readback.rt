@@ -1,11 +1,12 @@
 // Reading a session back from a volume in memory, beside what it can't do without: a checksum of each block, and
 // one copy of each byte.
-ghost use Rattle.std.specs.Prelude.{◌≡◌, None};
+ghost use Rattle.std.specs.Prelude.{◌≡◌, None, Some};
 
 use crate::packing::{Bodies, pack, record};
 use crate::rate::{Length, print_rate, tell, tell_sum};
 use crate::volumes::{KEY, add, label};
 use sd_base::{MOST_VOLUME, Rec};
+use sd_block::FramedBody;
 use sd_crc::crc32;
 use sd_driver::Driver;
 use sd_label::VolumeLabel;
@@ -92,13 +93,24 @@ fn store<D: Driver>(alloc: Global, drive: &mut D, volume: &mut Volume, bodies: &
     if drive.load(volume.name()).is_err() {
         return false;
     }
-    let mut image = Vec::new(alloc);
     let mut all = true;
     for body in bodies {
-        all = all && add(drive, volume, &mut image, body.bytes.as_slice());
+        all = all && add_copy(alloc, drive, volume, body);
     }
     drive.unload();
     all
+}
+
+// Whether a block of a copy of the body was added.
+fn add_copy<D: Driver>(alloc: Global, drive: &mut D, volume: &mut Volume, body: &Body) -> bool
+    requires { (D.meaning drive.old).loaded ≡ Some volume.old.name }
+    ensures loaded { (D.meaning drive.new).loaded ≡ (D.meaning drive.old).loaded }
+    ensures name { volume.new.name ≡ volume.old.name }
+{
+    match FramedBody::from_slice(alloc, body.bytes.as_slice()) {
+        Ok(mut copy) => add(drive, volume, &mut copy),
+        Err(_) => false,
+    }
 }
 
 // The checksums of the blocks and one copy of the bodies, as often; and the rate in GB/s that both together allow.

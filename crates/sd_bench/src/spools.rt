@@ -1,5 +1,7 @@
 // Bodies through a spool in a file.
-use sd_base::{Bytes, DriveNo, LaneNo, MOST_VOLUME};
+use crate::volumes::BODY;
+use sd_base::{DriveNo, LaneNo, MOST_VOLUME};
+use sd_block::FramedBody;
 use sd_pack::Body;
 use sd_spool::{FileSpool, JobSpool, SpoolStore};
 use std::alloc::Global;
@@ -20,11 +22,11 @@ pub fn run(rt: HostRuntime, folder: &str, count: u64) -> bool {
 }
 
 fn there_and_back<S: SpoolStore>(alloc: Global, spool: &mut JobSpool<S>, count: u64) -> bool {
-    let Ok(bytes) = vec![in alloc; 0x5au8; 64_488] else {
+    let Ok(bytes) = FramedBody::from_slice(alloc, &BODY) else {
         return false;
     };
     let body = Body {
-        bytes: Bytes::from_vec(bytes),
+        bytes,
         first: 1,
         last: 1,
     };

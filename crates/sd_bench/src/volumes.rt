@@ -3,6 +3,7 @@ ghost use Rattle.std.specs.Prelude.{◌≡◌, None, Some};
 
 use crate::rate::{Length, print_rate, tell, tell_sum};
 use sd_base::{LEAST_BODY, MOST_BODY, MOST_VOLUME, MediaName, PoolName, SessionKey, VolName};
+use sd_block::FramedBody;
 use sd_crc::crc32;
 use sd_driver::{Driver, DriverFault};
 use sd_label::VolumeLabel;
@@ -17,7 +18,8 @@ pub const KEY: SessionKey = SessionKey { time: 1000, id: 1 };
 /// The bytes of a usual block and of its body.
 const BLOCK: usize = 64_512;
 
-static BODY: [u8; 64_488] = [0x5a; 64_488];
+/// The body of a usual block.
+pub static BODY: [u8; 64_488] = [0x5a; 64_488];
 
 static WRITTEN: [u8; 64_512] = [0x5a; 64_512];
 
@@ -105,17 +107,32 @@ fn fill<D: Driver>(alloc: Global, drive: &mut D, volume: &mut Volume, blocks: us
     if drive.load(volume.name()).is_err() {
         return false;
     }
-    let mut image = Vec::new(alloc);
-    let mut all = true;
-    for _ in 0..blocks {
-        all = all && add(drive, volume, &mut image, &BODY);
-    }
+    let all = match FramedBody::from_slice(alloc, &BODY) {
+        Ok(mut body) => add_again(drive, volume, &mut body, blocks),
+        Err(_) => false,
+    };
     drive.unload();
     all
 }
 
+// Whether so many blocks of this body were added.
+fn add_again<D: Driver>(
+    drive: &mut D,
+    volume: &mut Volume,
+    body: &mut FramedBody,
+    blocks: usize,
+) -> bool
+    requires { (D.meaning drive.old).loaded ≡ Some volume.old.name }
+{
+    let mut all = true;
+    for _ in 0..blocks {
+        all = all && add(drive, volume, body);
+    }
+    all
+}
+
 /// Whether one block more was added.
-pub fn add<D: Driver>(drive: &mut D, volume: &mut Volume, image: &mut Vec<u8>, body: &[u8]) -> bool
+pub fn add<D: Driver>(drive: &mut D, volume: &mut Volume, body: &mut FramedBody) -> bool
     requires { (D.meaning drive.old).loaded ≡ Some volume.old.name }
     ensures loaded { (D.meaning drive.new).loaded ≡ (D.meaning drive.old).loaded }
     ensures name { volume.new.name ≡ volume.old.name }
@@ -126,7 +143,7 @@ pub fn add<D: Driver>(drive: &mut D, volume: &mut Volume, image: &mut Vec<u8>, b
     if body.len() < LEAST_BODY || body.len() > MOST_BODY {
         return false;
     }
-    let appended = append_block(drive, volume, image, KEY, body, MOST_VOLUME);
+    let appended = append_block(drive, volume, KEY, body, MOST_VOLUME);
     matches!(appended, Appended::At { .. })
 }
 

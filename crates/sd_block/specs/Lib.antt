@@ -1,4 +1,5 @@
 pub mod Fault
+pub mod Framed
 pub mod Head
 pub mod Image
 pub mod Laws

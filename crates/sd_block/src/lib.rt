@@ -1,5 +1,5 @@
-//! The blocks of a volume, in the form BB02 (as: Bacula Developer's Guide, storage media output format):
-//! a header of 24 bytes, and behind it the body, which is of one session alone.
+//! The blocks of a volume, in the form BB02 (as: Bacula Developer's Guide, storage media output format). A block is
+//! a header of 24 bytes and then the body, which is of one session alone.
 //!
 //! | At | Field | What it says |
 //! |---|---|---|
@@ -14,6 +14,7 @@
 #![tactic(auto)]
 
 mod fault;
+mod framed;
 mod head;
 mod laws;
 mod layout;
@@ -21,7 +22,8 @@ mod opened;
 mod sealed;
 
 pub use fault::BlockFault;
+pub use framed::FramedBody;
 pub use head::{Head, read_head};
 pub use laws::{head_of_an_image, length_of_an_image, one_block_of_an_image, one_image_at_a_place};
 pub use opened::{Opened, open_block};
-pub use sealed::{seal, seal_into};
+pub use sealed::seal;

@@ -1,8 +1,9 @@
 // A block made ready for a volume: the header in front of the body, with the checksum of both.
-ghost use Rattle.std.specs.Prelude.{◌≡◌, ◌+◌, ◌<◌, ◌≤◌, length, drop, vec_capacity, IfOk, OnOk, OnErr};
+ghost use Rattle.std.specs.Prelude.{◌≡◌, ◌+◌, ◌≤◌, length, drop, IfOk};
 ghost use Rattle.sd_base.specs.Limits.{block_header, least_body, most_body, most_block};
 ghost use Rattle.sd_block.specs.Image.{header_fields, FitsHeader, IsBlockImage};
 
+use crate::framed::FramedBody;
 use crate::layout::{
     BLOCK_ID, BLOCK_ID_AT, NUMBER_AT, SESSION_ID_AT, SESSION_TIME_AT, SIZE_AT, SUM_AT, SUMMED_AT,
 };
@@ -17,38 +18,23 @@ pub fn seal(alloc: Global, key: SessionKey, number: u32, body: &[u8]) -> Result<
     requires most { length body.now ≤ most_body }
     ensures { IfOk result (λ image. IsBlockImage most_block image.items key number body.now) }
 {
-    let mut image = Vec::new(alloc);
-    seal_into(&mut image, key, number, body)?;
-    Ok(image)
+    let mut block = FramedBody::from_slice(alloc, body)?;
+    block.seal(key, number);
+    Ok(block.into_block())
 }
 
-/// As `seal`, in the memory of `image`, whatever it held: it takes memory only where that has not room
-/// for the block, so a buffer that goes from block to block soon takes none.
-pub fn seal_into(
-    image: &mut Vec<u8>,
-    key: SessionKey,
-    number: u32,
-    body: &[u8],
-) -> Result<(), AllocError>
-    requires least { least_body ≤ length body.now }
-    requires most { length body.now ≤ most_body }
-    ensures ok { OnOk result (IsBlockImage most_block image.new.items key number body.now) }
-    ensures err { OnErr result (image.new.items ≡ image.old.items) }
-
-    // A buffer with room for the block is enough, and keeps its room.
-    ensures room { OnErr result (vec_capacity image.old < block_header + length body.now) }
-    ensures kept { vec_capacity image.old ≤ vec_capacity image.new }
+/// Makes a block of the body that stands in `block` behind the room for its header, whatever that room holds.
+pub(crate) fn seal_in_place(block: &mut [u8], key: SessionKey, number: u32)
+    requires least { block_header + least_body ≤ length block.old }
+    requires most { length block.old ≤ most_block }
+    ensures image { IsBlockImage most_block block.new key number (drop block_header block.old) }
+    ensures body { drop block_header block.new ≡ drop block_header block.old }
+    ensures length { length block.new ≡ length block.old }
 {
-    let size = BLOCK_HEADER + body.len();
-    image.reserve(size.saturating_sub(image.len()))?;
-    let header = unsummed_header(key, number, size as u32);
-    image.clear();
-    // There is room for both, so neither call asks for memory.
-    image.extend_from_slice(&header).unwrap();
-    image.extend_from_slice(body).unwrap();
-    let sum = crc32(&image[SUMMED_AT..]);
-    put_u32(image, SUM_AT, sum);
-    Ok(())
+    let header = unsummed_header(key, number, block.len() as u32);
+    block[..BLOCK_HEADER].copy_from_slice(&header);
+    let sum = crc32(&block[SUMMED_AT..]);
+    put_u32(block, SUM_AT, sum);
 }
 
 // A header whose checksum is still to come.

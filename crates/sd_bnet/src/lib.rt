@@ -1,6 +1,6 @@
-//! The network packets of the daemon protocol, for the daemon and for its clients (as: Bacula
-//! Developer's Guide, network protocol). A packet is a signed big-endian length of four bytes and
-//! that many bytes; a negative length is a signal and has no bytes.
+//! The packets of the daemon protocol, for the daemon and for its clients (as: Bacula Developer's Guide, network
+//! protocol). A packet is a signed big-endian length of four bytes and that many bytes; a negative length is a
+//! signal and has no bytes.
 #![tactic(auto)]
 
 mod due;

@@ -1,6 +1,5 @@
-//! What lies under the lock of a daemon's desk: the desk, the ends of the lanes that no session uses, the number that was
-//! given last, and a line for each session. None of its calls touches a device
-//! (as: Bacula Main manual, storage daemon, reservation of drives).
+//! What is under the lock of a daemon's desk: the desk, unused lanes' ends, the last number, and a line for each
+//! session. None of its calls touches a device (as: Bacula Main manual, storage daemon, reservation of drives).
 #![tactic(auto)]
 
 mod adding;

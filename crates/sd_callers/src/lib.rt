@@ -1,5 +1,5 @@
-//! The session theorem and the stop theorem as a caller has them, through public calls alone: of a world over devices in memory,
-//! of any world behind a port, and of a session that was closed before a stop.
+//! The theorems as a caller has them, through public calls alone. There is a world over devices in memory, any
+//! world behind a port, and a session that was closed before a stop.
 #![tactic(auto)]
 
 mod behind;

@@ -1,4 +1,4 @@
-//! Tests of the daemon that no run of its program shows: with a client in a second thread of one process.
+//! Tests of the daemon with a client in a second thread of one process, of what no run of its program shows.
 #![tactic(auto)]
 
 #[cfg(test)]

@@ -1,5 +1,5 @@
-//! Reads the daemon's configuration: a TOML text, into the limits, the folders and the drives that the daemon is started with,
-//! or into the first fault in it; and prints either of these.
+//! Reads the daemon's configuration, or finds the first fault in it, and prints either. The configuration is a TOML
+//! text that comes to limits, folders and drives.
 #![tactic(auto)]
 
 mod check;

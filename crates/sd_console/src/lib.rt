@@ -1,4 +1,4 @@
-//! The console of the daemon: what an operator's line asks for, and the words that he is answered.
+//! The console of the daemon: what an operator's line asks for, and the words of the answer.
 #![tactic(auto)]
 
 mod line;

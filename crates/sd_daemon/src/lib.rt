@@ -1,5 +1,5 @@
-//! The daemon, from the file of its configuration on: a worker for each of its drives, and for each client a thread that holds
-//! its talk, on a port of this machine alone; and, where that is asked for, a thread that writes its figures.
+//! The daemon, from its configuration on. Each drive has a worker, and each client a thread that holds its talk, on
+//! a port of this machine alone; if that is asked for, a thread writes the figures.
 #![tactic(auto)]
 
 mod address;

@@ -1,5 +1,5 @@
-//! The operator's desk: at which drive each volume is, which volume a drive takes next, and which drives
-//! asked for one (as: Bacula Main manual, storage daemon, volume requests).
+//! The operator's desk: where each volume is, which one a drive takes next, and which drives asked for one (as:
+//! Bacula Main manual, storage daemon, volume requests).
 #![tactic(auto)]
 
 mod claim;

@@ -19,6 +19,9 @@ use sd_volume::Volume;
 use std::alloc::{AllocError, Global};
 use std::marker::Model;
 
+// For how many volumes a new drive makes room at once.
+const FIRST_VOLUMES: usize = 4;
+
 /// A drive over its device. In a contract it is a `DriveIs`, which holds the device itself beside plain data.
 ///
 /// Its type keeps what `Kept` says, whatever the calls answer: so a core or a lock over it need not know of shelves,
@@ -35,8 +38,6 @@ pub struct Drive<D: Driver> {
     pub(crate) pool: Option<PoolName>,
     pub(crate) hand: Option<Piece>,
     pub(crate) journal: Journal,
-    /// Where blocks are made; kept from block to block.
-    pub(crate) image: Vec<u8>,
 }
 
 /// A device that no drive was made of, for want of memory.
@@ -107,7 +108,7 @@ impl<D: Driver> Drive<D> {
             IsHonest (D.meaning driver) → LeavesStable (D.meaning driver).shelf) }
         ensures err { IfErr result (λ kept. kept.driver ≡ driver) }
     {
-        let Ok(image) = Vec::with_capacity(alloc, limits.block) else {
+        let Ok(volumes) = Vec::with_capacity(alloc, FIRST_VOLUMES) else {
             return Err(NotMade { driver });
         };
         let mut driver = driver;
@@ -117,12 +118,11 @@ impl<D: Driver> Drive<D> {
             driver,
             media,
             limits,
-            volumes: Vec::new(alloc),
+            volumes,
             loaded: None,
             pool: None,
             hand: None,
             journal: Journal::new(alloc),
-            image,
         })
     }
 
@@ -140,7 +140,6 @@ impl<D: Driver> Drive<D> {
             pool: _,
             hand: _,
             journal: _,
-            image: _,
         } = self;
         driver
     }

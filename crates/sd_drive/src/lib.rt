@@ -1,5 +1,5 @@
-//! A drive: its device, its volumes, the loaded one, one piece in hand, and the journal of the blocks that it placed
-//! (as: Bacula Main manual, storage daemon).
+//! A drive: its device, its volumes, one piece in hand, and the journal of the blocks that it placed (as: Bacula
+//! Main manual, storage daemon).
 #![tactic(auto)]
 
 mod adopt;

@@ -55,7 +55,7 @@ impl<D: Driver> Drive<D> {
             → OthersStay (D.meaning self.old.device).loaded
             (D.meaning self.old.device).shelf (D.meaning self.new.device).shelf }
     {
-        let Some(piece) = &self.hand else {
+        let Some(piece) = &mut self.hand else {
             return Ok(Placed::Idle);
         };
         let Some(at) = open_place(&self.volumes, self.loaded, &self.pool) else {
@@ -65,7 +65,6 @@ impl<D: Driver> Drive<D> {
             &mut self.driver,
             &mut self.volumes[at],
             &mut self.journal,
-            &mut self.image,
             piece,
             self.limits.volume,
         );
@@ -108,37 +107,37 @@ fn place_on<D: Driver>(
     driver: &mut D,
     volume: &mut Volume,
     journal: &mut Journal,
-    image: &mut Vec<u8>,
-    piece: &Piece,
+    piece: &mut Piece,
     limit: u64,
 ) -> Result<Placed, AllocError>
     requires loaded { (D.meaning driver.old).loaded ≡ Some volume.old.name }
     requires status { volume.old.status ≡ Append }
     requires limit { limit ≤ most_volume }
-    ensures on { PlacesOn result limit piece.now volume.old volume.new
+    ensures piece { piece.new ≡ piece.old }
+    ensures on { PlacesOn result limit piece.old volume.old volume.new
         journal.old.entries journal.new.entries }
-    ensures room { RoomAfter result piece.now.key journal.old.ready journal.new.ready }
+    ensures room { RoomAfter result piece.old.key journal.old.ready journal.new.ready }
     ensures counted { Counted (result ≡ Ok Placed.VolumeError)
-        ((result ≡ Ok Placed.VolumeFull) × IsWithin limit piece.now volume.old)
+        ((result ≡ Ok Placed.VolumeFull) × IsWithin limit piece.old volume.old)
         (D.meaning driver.old) (D.meaning driver.new) }
     ensures loaded { (D.meaning driver.new).loaded ≡ (D.meaning driver.old).loaded }
     ensures calls { CallsAtMost 1 (D.meaning driver.old) (D.meaning driver.new) }
     ensures later { StillLasts (D.meaning driver.old).shelf (D.meaning driver.new).shelf }
     ensures unchanged { OnErr result (Unchanged (D.meaning driver.old) (D.meaning driver.new)) }
-    ensures not_asked { ¬ IsWithin limit piece.now volume.old
+    ensures not_asked { ¬ IsWithin limit piece.old volume.old
         → Unchanged (D.meaning driver.old) (D.meaning driver.new) }
 
-    ensures at { IsHonest (D.meaning driver.old) → PlacesAt result piece.now
+    ensures at { IsHonest (D.meaning driver.old) → PlacesAt result piece.old
         volume.old (D.meaning driver.old).shelf volume.new (D.meaning driver.new).shelf }
     ensures others { IsHonest (D.meaning driver.old) → (other : List ℕ) → other ≢ volume.old.name
         → (D.meaning driver.new).shelf.volume other ≡ (D.meaning driver.old).shelf.volume other }
 {
-    let body = piece.body.bytes.as_slice();
+    let size = (BLOCK_HEADER + piece.body.bytes.len()) as u64;
     let end = volume.end();
-    if end + (BLOCK_HEADER + body.len()) as u64 <= limit {
+    if end + size <= limit {
         journal.ready(piece.key)?;
     }
-    match append_block(driver, volume, image, piece.key, body, limit) {
+    match append_block(driver, volume, piece.key, &mut piece.body.bytes, limit) {
         Appended::At { start, length } => {
             journal.note(placement(piece, volume, start, length));
             Ok(Placed::At(placement(piece, volume, start, length)))

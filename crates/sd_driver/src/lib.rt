@@ -1,5 +1,4 @@
-//! A device that holds volumes: what every driver promises, said once, so that everything above is proved
-//! for every device.
+//! What every device that holds volumes promises, said once, so that everything above is proved for every device.
 //!
 //! Code that keeps facts of its device takes it as a type parameter, `D: Driver`, since no type can name what
 //! a boxed driver means. Drivers of several kinds in one place are an enum that implements `Driver` by a

@@ -1,5 +1,4 @@
-//! Files that are opened at their own path alone: neither a new one nor one that stands there is reached by a link
-//! that has its name.
+//! Opens files without following a link at the end of their path.
 //!
 //! What the system does with a file can't be known, so nothing is claimed of one.
 #![tactic(auto)]

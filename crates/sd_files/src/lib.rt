@@ -1,5 +1,5 @@
-//! Lists a volume, and reads the records of a session back from the volumes that its JobMedia text names: of files, and on any
-//! device.
+//! Lists a volume, and reads a session back from the volumes that its JobMedia text names. The volumes are files,
+//! or on any device.
 #![tactic(auto)]
 
 mod input;

@@ -1,4 +1,4 @@
-//! Tests of sessions for threads of their own: a session's part at its line, and jobs in threads.
+//! Tests of sessions in threads of their own: a session's part at its line, and jobs.
 #![tactic(auto)]
 
 #[cfg(test)]

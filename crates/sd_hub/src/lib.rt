@@ -1,5 +1,6 @@
-//! Turns a line that no thread uses any more into a world of its one drive: nothing of the line is lost on the way, no receipt
-//! is believed unasked, and by a law that world is a state of the core. It has what a user of lines needs, too.
+//! Turns a line that no thread uses any more into a world of its one drive. Nothing of the line is lost on the way,
+//! no receipt is believed unasked, and by a law that world is a state of the core. It has what a user of lines
+//! needs, too.
 #![tactic(auto)]
 
 mod checked;

@@ -1,4 +1,5 @@
-//! Tests of lines: what an operator does to the drive of one, beside a world; and a list of events, given to a world at once.
+//! Tests of lines: what an operator does to the drive of one, beside a world. A list of events is given to a world
+//! at once, too.
 #![tactic(auto)]
 
 #[cfg(test)]

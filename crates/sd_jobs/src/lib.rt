@@ -1,5 +1,5 @@
-//! Jobs: a thread for each, which gives records to the part of a session until that is closed; and a worker for each line,
-//! which places what they send.
+//! Jobs in threads of their own, and a worker for each line. A job gives records to the part of a session until
+//! that is closed; a worker places what they send.
 #![tactic(auto)]
 
 mod adding;

@@ -1,5 +1,5 @@
-//! The journal of a drive: which blocks were placed where, in the order in which that was noted, which of
-//! them are synced, and what that is for each session.
+//! The journal of a drive: which blocks it placed where, and which of them are synced. They are in the order in
+//! which they were noted, and counted for each session.
 #![tactic(auto)]
 
 mod counts;

@@ -1,5 +1,5 @@
-//! The queue before a drive, by which the closed bodies of its sessions come to it, in order
-//! (as: Bacula Developer's Guide, storage daemon).
+//! The queue before a drive, which brings it the closed bodies of its sessions in order (as: Bacula Developer's
+//! Guide, storage daemon).
 #![tactic(auto)]
 
 mod lane;

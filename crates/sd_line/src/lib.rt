@@ -1,5 +1,5 @@
-//! A line: a drive with its seat under a lock, beside the queue before it; its worker, which places
-//! what the lanes push, and what an operator does to its drive.
+//! A line: a drive under a lock, the queue before it, and its worker. The worker places what the lanes push; an
+//! operator's events come to the drive too.
 #![tactic(auto)]
 
 mod gate;

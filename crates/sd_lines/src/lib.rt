@@ -1,4 +1,4 @@
-//! The port of a talk in a daemon with threads: each talk in a thread of its own, over drives that all of them share.
+//! The port of a talk in the daemon, over drives that all talks share. Each talk is in a thread of its own.
 #![tactic(auto)]
 
 mod adding;

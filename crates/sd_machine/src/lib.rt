@@ -1,5 +1,5 @@
-//! The list machine: what the daemon is to its clients. Its sessions only append records to their own lists; it has no
-//! blocks, volumes, drives, spools or queues (as: Bacula Developer's Guide, daemon protocol).
+//! The list machine: what the daemon is to its clients. Its sessions only append records to their own lists; it has
+//! no blocks, volumes, drives, spools or queues (as: Bacula Developer's Guide, daemon protocol).
 #![tactic(auto)]
 
 mod event;

@@ -1,4 +1,4 @@
-//! What the drives and the operator do to the parts of a world: an event of a drive, and a drive's retirement.
+//! What events of drives and of operators do to the parts of a world.
 #![tactic(auto)]
 
 mod adopting;

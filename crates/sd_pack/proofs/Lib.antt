@@ -1,4 +1,5 @@
 pub mod BodyLemmas
+pub mod FrameLemmas
 pub mod KeptLemmas
 pub mod PackedLabelLemmas
 pub mod PackingLemmas

@@ -1,7 +1,7 @@
 // A body as it goes from the packer to a block.
 ghost use Rattle.std.specs.Prelude.{◌≡◌};
 
-use sd_base::Bytes;
+use sd_block::FramedBody;
 use std::marker::Model;
 
 /// The body of one block (as: Bacula Developer's Guide, storage media output format), of `sd_base::LEAST_BODY` to
@@ -9,7 +9,7 @@ use std::marker::Model;
 /// it, 0 and 0 if none. In a contract it is the `PackedBody` of its parts.
 #[derive(Debug, Drop)]
 pub struct Body {
-    pub bytes: Bytes,
+    pub bytes: FramedBody,
     pub first: u32,
     pub last: u32,
 }
@@ -19,7 +19,7 @@ impl Model for Body {
 
     ghost Value = { PackedBody };
 
-    ghost view = { λ b. record { bytes = b.bytes; first = b.first; last = b.last } };
+    ghost view = { λ b. record { bytes = b.bytes.bytes; first = b.first; last = b.last } };
 
-    ghost invariant = { λ b. IsBody (record { bytes = b.bytes; first = b.first; last = b.last }) };
+    ghost invariant = { λ b. IsBody (record { bytes = b.bytes.bytes; first = b.first; last = b.last }) };
 }

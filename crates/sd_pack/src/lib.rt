@@ -1,8 +1,9 @@
-//! Packing a session's labels and records into the bodies of blocks
-//! (as: Bacula Developer's Guide, storage media output format).
+//! Packs a session's labels and records into the bodies of blocks (as: Bacula Developer's Guide, storage media
+//! output format).
 #![tactic(auto)]
 
 mod body;
+mod frame;
 mod laws;
 mod open_body;
 mod packer;

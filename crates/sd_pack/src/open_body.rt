@@ -4,16 +4,16 @@ ghost use Rattle.sd_label.specs.Label.{IsSessionLabel, session_label_fragment};
 ghost use Rattle.sd_pack.specs.Body.{IsBody, empty_body, with_fragment};
 
 use crate::body::Body;
-use sd_base::Bytes;
-use sd_label::{SessionLabel, put_session_label};
-use sd_record::{Fragment, put_fragment};
+use crate::frame::Frame;
+use sd_label::SessionLabel;
+use sd_record::Fragment;
 use std::alloc::{AllocError, Global};
 use std::marker::Model;
 
 /// A body that more may be added to. In a contract it is the `PackedBody` of what is in it.
 #[derive(Drop)]
 pub struct OpenBody {
-    bytes: Vec<u8>,
+    bytes: Frame,
     first: u32,
     last: u32,
 }
@@ -23,7 +23,7 @@ impl Model for OpenBody {
 
     ghost Value = { PackedBody };
 
-    ghost view = { λ b. record { bytes = b.bytes.items; first = b.first; last = b.last } };
+    ghost view = { λ b. record { bytes = b.bytes; first = b.first; last = b.last } };
 }
 
 impl OpenBody {
@@ -32,7 +32,7 @@ impl OpenBody {
         ensures { result ≡ empty_body }
     {
         OpenBody {
-            bytes: Vec::new(alloc),
+            bytes: Frame::empty(alloc),
             first: 0,
             last: 0,
         }
@@ -43,7 +43,7 @@ impl OpenBody {
         ensures { IfOk result (λ body. body ≡ empty_body) }
     {
         Ok(OpenBody {
-            bytes: Vec::with_capacity(alloc, room)?,
+            bytes: Frame::with_room(alloc, room)?,
             first: 0,
             last: 0,
         })
@@ -84,7 +84,7 @@ impl OpenBody {
         ensures ok { OnOk result (self.new ≡ with_fragment self.old fragment.now) }
         ensures err { OnErr result (self.new ≡ self.old) }
     {
-        put_fragment(&mut self.bytes, fragment)?;
+        self.bytes.put_fragment(fragment)?;
         if fragment.index > 0 {
             let index = fragment.index as u32;
             if self.first == 0 {
@@ -97,12 +97,12 @@ impl OpenBody {
 
     /// Adds a label, which has no FileIndex.
     pub fn add_label(&mut self, label: &SessionLabel) -> Result<(), AllocError>
-        ensures label { IsSessionLabel label.now }
+        ensures label { OnOk result (IsSessionLabel label.now) }
         ensures ok { OnOk result
             (self.new ≡ with_fragment self.old (session_label_fragment label.now)) }
         ensures err { OnErr result (self.new ≡ self.old) }
     {
-        put_session_label(&mut self.bytes, label)
+        self.bytes.put_label(label)
     }
 
     /// The body as one that nothing is added to; takes no memory.
@@ -112,7 +112,7 @@ impl OpenBody {
     {
         let OpenBody { bytes, first, last } = self;
         Body {
-            bytes: Bytes::from_vec(bytes),
+            bytes: bytes.into_body(),
             first,
             last,
         }

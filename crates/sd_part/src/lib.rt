@@ -1,5 +1,5 @@
-//! What threads have of a line without its lock: the end of a lane, with the sessions that used it, and the part of the
-//! session that uses it now.
+//! What a thread has of a line without its lock: the end of a lane, and the part of the session that uses it. The
+//! end has the sessions that used it before.
 #![tactic(auto)]
 
 mod closing;

@@ -1,4 +1,4 @@
-//! Plans of calls that fail, for devices and stores in memory: which call fails, and how.
+//! Plans of calls that fail, for devices and stores in memory.
 #![tactic(auto)]
 
 mod fail;

@@ -1,5 +1,5 @@
-//! A world as the port of talks, one after another: an event waits for rounds, a console's line is obeyed, and all that the
-//! world is given is one run.
+//! A world as the port of talks, one after another. An event waits for rounds, a console's line is obeyed, and all
+//! that the world is given is one run.
 #![tactic(auto)]
 
 mod console;

@@ -1,6 +1,5 @@
-//! What programs print, piece by piece, on any writer. Where the writer fails, what it holds is a front of what was
-//! to be printed, and nothing more is written. Whoever else writes takes its loop (`write_all`) and its lines
-//! (`line_of`).
+//! Prints on any writer, piece by piece. If the writer fails, what it holds is a front of what was to be printed,
+//! and nothing more is written. Whoever else writes takes its loop (`write_all`) and its lines (`line_of`).
 #![tactic(auto)]
 
 mod line;

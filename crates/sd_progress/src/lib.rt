@@ -1,4 +1,4 @@
-//! Where a program has its texts and its volumes, and a device that tells how far a reading of it has come.
+//! Where a program finds its texts and volumes, and a device that shows how far a reading has come.
 #![tactic(auto)]
 
 mod host;

@@ -1,4 +1,4 @@
-//! Tests of the queue before a drive that threads share: with one owner, with its seats in threads of their own, and
+//! Tests of the queue that threads share. They use it with one owner, with its seats in threads of their own, and
 //! joined again.
 #![tactic(auto)]
 

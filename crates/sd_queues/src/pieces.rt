@@ -1,5 +1,6 @@
 // Pieces with numbers, and how many of them went by.
-use sd_base::{Bytes, LEAST_BODY, LaneNo, SessionKey};
+use sd_base::{LEAST_BODY, LaneNo, SessionKey};
+use sd_block::FramedBody;
 use sd_lane::Piece;
 use sd_pack::Body;
 use std::alloc::Global;
@@ -62,9 +63,9 @@ impl Came {
 
 /// The piece with that number of a lane.
 pub fn make_piece(alloc: Global, lane: LaneNo, seq: u64) -> Option<Piece> {
-    let bytes = vec![in alloc; (seq % 251) as u8; LEAST_BODY].ok()?;
+    let bytes = [(seq % 251) as u8; LEAST_BODY];
     let body = Body {
-        bytes: Bytes::from_vec(bytes),
+        bytes: FramedBody::from_slice(alloc, &bytes).ok()?,
         first: 0,
         last: 0,
     };

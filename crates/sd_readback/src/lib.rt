@@ -1,4 +1,4 @@
-//! Reading a session back from its spans, block by block, on any device.
+//! Reads a session back from its spans, block by block, on any device.
 #![tactic(auto)]
 
 mod fault;

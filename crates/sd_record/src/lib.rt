@@ -1,5 +1,5 @@
-//! Record headers and the data behind them, as they stand in a block's body
-//! (as: Bacula Developer's Guide, storage media output format).
+//! Record headers and the data after them, as a block's body has them (as: Bacula Developer's Guide, storage media
+//! output format).
 #![tactic(auto)]
 
 mod fragment;

@@ -1,5 +1,4 @@
-//! Records of a session that are printed as they are read back, whatever is printed of one, and the line of what the
-//! session was read to.
+//! Prints the records of a session as they are read back, and the line of what it was read to.
 #![tactic(auto)]
 
 mod end;

@@ -1,5 +1,5 @@
-//! Which drive takes a new session, and which lane of it
-//! (as: Bacula Main manual, storage daemon, reservation of drives).
+//! Which drive takes a new session, and which lane of it (as: Bacula Main manual, storage daemon, reservation of
+//! drives).
 #![tactic(auto)]
 
 mod drive;

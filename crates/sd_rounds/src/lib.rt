@@ -1,4 +1,4 @@
-//! Rounds over a world: all that is on its way moves one step on, until nothing moves.
+//! Moves all that is on its way in a world one step on, until nothing moves.
 #![tactic(auto)]
 
 mod headway;

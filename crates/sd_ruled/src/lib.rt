@@ -1,4 +1,4 @@
-//! The queue before a drive, shared by threads without a lock: each lane pushes by a seat of its own, and the drive
+//! A queue before a drive that threads share without a lock. Each lane pushes by a seat of its own, and the drive
 //! takes by its seat.
 #![tactic(auto)]
 

@@ -1,5 +1,5 @@
-//! Reads whole volumes block by block, and finds which sessions are on them, where each lies, whether all of its records are
-//! there, and what is damaged.
+//! Finds which sessions are on volumes, where, whether they are whole, and what is damaged. It reads whole volumes,
+//! block by block.
 #![tactic(auto)]
 
 mod behind;

@@ -2,7 +2,8 @@
 ghost use Rattle.std.specs.Prelude.{◌≡◌, None, Some, OnOk, OnErr};
 
 use crate::names::KEY;
-use sd_base::{MOST_VOLUME, VolName};
+use sd_base::{LEAST_BODY, MOST_BODY, MOST_VOLUME, VolName};
+use sd_block::FramedBody;
 use sd_driver::{Driver, DriverFault};
 use sd_label::VolumeLabel;
 use sd_memdrive::MemDrive;
@@ -10,7 +11,7 @@ use sd_volume::{
     AdoptFault, Appended, Volume, VolumeReader, VolumeStatus, adopt, append_block, label_new,
     next_block, purge,
 };
-use std::alloc::Global;
+use std::alloc::{AllocError, Global};
 use std::io;
 
 /// The greatest length of the volume while blocks are added: it is full behind two of them.
@@ -80,11 +81,27 @@ fn fill<D: Driver>(alloc: Global, drive: &mut D, volume: &mut Volume) -> bool
     if load(drive, volume.name()).is_err() {
         return false;
     }
-    let mut image = Vec::new(alloc);
-    let first = add(drive, volume, &mut image);
-    let second = add(drive, volume, &mut image);
-    let third = add(drive, volume, &mut image);
+    let filled = match make_body(alloc) {
+        Ok(mut body) => fill_with(drive, volume, &mut body),
+        Err(_) => false,
+    };
     drive.unload();
+    filled
+}
+
+fn make_body(alloc: Global) -> Result<FramedBody, AllocError> {
+    match FramedBody::from_slice(alloc, &[7; 1000]) {
+        Err(AllocError) => FramedBody::from_slice(alloc, &[7; 1000]),
+        body => body,
+    }
+}
+
+fn fill_with<D: Driver>(drive: &mut D, volume: &mut Volume, body: &mut FramedBody) -> bool
+    requires { (D.meaning drive.old).loaded ≡ Some volume.old.name }
+{
+    let first = add(drive, volume, body);
+    let second = add(drive, volume, body);
+    let third = add(drive, volume, body);
     first && second && !third
 }
 
@@ -100,19 +117,19 @@ fn load<D: Driver>(drive: &mut D, name: &VolName) -> Result<(), DriverFault>
 }
 
 // Whether one block more was added.
-fn add<D: Driver>(drive: &mut D, volume: &mut Volume, image: &mut Vec<u8>) -> bool
+fn add<D: Driver>(drive: &mut D, volume: &mut Volume, body: &mut FramedBody) -> bool
     requires { (D.meaning drive.old).loaded ≡ Some volume.old.name }
     ensures loaded { (D.meaning drive.new).loaded ≡ (D.meaning drive.old).loaded }
     ensures name { volume.new.name ≡ volume.old.name }
 {
-    let appended = match append(drive, volume, image) {
-        Appended::Memory => append(drive, volume, image),
+    let appended = match append(drive, volume, body) {
+        Appended::Memory => append(drive, volume, body),
         appended => appended,
     };
     matches!(appended, Appended::At { .. })
 }
 
-fn append<D: Driver>(drive: &mut D, volume: &mut Volume, image: &mut Vec<u8>) -> Appended
+fn append<D: Driver>(drive: &mut D, volume: &mut Volume, body: &mut FramedBody) -> Appended
     requires { (D.meaning drive.old).loaded ≡ Some volume.old.name }
     ensures loaded { (D.meaning drive.new).loaded ≡ (D.meaning drive.old).loaded }
     ensures name { volume.new.name ≡ volume.old.name }
@@ -120,7 +137,10 @@ fn append<D: Driver>(drive: &mut D, volume: &mut Volume, image: &mut Vec<u8>) ->
     let VolumeStatus::Append = volume.status() else {
         return Appended::Fault;
     };
-    append_block(drive, volume, image, KEY, &[7; 1000], LIMIT)
+    if body.len() < LEAST_BODY || body.len() > MOST_BODY {
+        return Appended::Fault;
+    }
+    append_block(drive, volume, KEY, body, LIMIT)
 }
 
 fn use_anew<D: Driver>(drive: &mut D, volume: &mut Volume) -> Result<(), AdoptFault>

@@ -1,5 +1,5 @@
-//! The script language of `sdtool run`, as far as reading its lines goes: a line's bytes to the line
-//! as a value, or to the refusal that it prints. A console has some of these lines too.
+//! Reads the lines of the script language of `sdtool run`. A line's bytes come to the line as a value, or to the
+//! refusal that it prints. A console has some of these lines too.
 #![tactic(auto)]
 
 mod command;

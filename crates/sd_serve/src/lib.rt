@@ -1,5 +1,5 @@
-//! Takes connections, holds a talk for each in a thread of its own, and writes the log. It has the time of a run, and the moments
-//! of talks, by the clock.
+//! Takes connections, holds a talk for each in a thread of its own, and writes the log. It has the time of a run,
+//! and the moments of talks, by the clock.
 #![tactic(auto)]
 
 mod client;

@@ -1,5 +1,5 @@
-//! One session: its records are cut into bodies, which go through its spool, if it has one, to the queue before its
-//! drive (as: Bacula Developer's Guide, storage daemon; Main manual, data spooling).
+//! One session: its records become bodies, which go through its spool, if it has one, to the queue before its drive
+//! (as: Bacula Developer's Guide, storage daemon; Main manual, data spooling).
 #![tactic(auto)]
 
 mod answer;

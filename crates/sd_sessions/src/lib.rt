@@ -1,4 +1,4 @@
-//! What the events on sessions do to the parts of a world (as: Bacula Developer's Guide, storage daemon).
+//! What events on sessions do to the parts of a world (as: Bacula Developer's Guide, storage daemon).
 #![tactic(auto)]
 
 mod choosing;

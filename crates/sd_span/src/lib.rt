@@ -1,5 +1,4 @@
-//! Where the blocks of sessions lie: placements, the spans of a session, and the JobMedia text that says
-//! them.
+//! Where the blocks of sessions are: placements, spans, and the JobMedia text that tells them.
 #![tactic(auto)]
 
 mod jobmedia;

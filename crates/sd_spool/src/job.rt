@@ -1,10 +1,13 @@
 // The spool of one session.
-ghost use Rattle.std.specs.Prelude.{◌≡◌, ◌≢◌, ◌↔◌, ◌+◌, ◌<◌, [], length, IfOk, IfErr, OnOk, OnErr, IsErrOf, IsTrue, MatchOption};
+ghost use Rattle.std.specs.Prelude.{◌≡◌, ◌≢◌, ◌↔◌, ◌+◌, ◌<◌, ◌≤◌, [], length, take, drop, IfOk, IfErr, OnOk, OnErr, IsErrOf, IsTrue, MatchOption};
+ghost use Rattle.sd_base.specs.Limits.{most_body};
+ghost use Rattle.sd_spool.specs.Meaning.{IsHonest};
 ghost use Rattle.sd_spool.specs.Job.{state_of, empty_on, HoldsUsed, HasCause, FailsToClear, Puts, FailsToPut, Takes, FailsToTake};
 
 use crate::entry::{Entry, Extent};
 use crate::store::{SpoolStore, SpoolStoreFault};
-use sd_base::Bytes;
+use sd_base::BLOCK_HEADER;
+use sd_block::FramedBody;
 use sd_pack::Body;
 use std::alloc::Global;
 use std::collections::VecDeque;
@@ -151,12 +154,33 @@ impl<S: SpoolStore> JobSpool<S> {
             first,
             last,
         } = *entry;
-        let Ok(mut bytes) = vec![in self.alloc; 0; length] else {
-            return Err(SpoolStoreFault::Memory);
-        };
-        self.store.read_at(at, &mut bytes)?;
+        let bytes = read_body(self.alloc, &mut self.store, at, length)?;
         let _ = self.entries.pop_front();
-        let bytes = Bytes::from_vec(bytes);
         Ok(Some(Body { bytes, first, last }))
     }
+}
+
+// The body of `size` bytes that stands at `at` of a store.
+fn read_body<S: SpoolStore>(
+    alloc: Global,
+    store: &mut S,
+    at: u64,
+    size: usize,
+) -> Result<FramedBody, SpoolStoreFault>
+    requires { size ≤ most_body }
+    ensures cause { HasCause (IsErrOf result SpoolStoreFault.Device)
+        (state_of (S.meaning store.old)) (state_of (S.meaning store.new)) }
+    ensures memory { IsErrOf result SpoolStoreFault.Memory
+        → S.meaning store.new ≡ S.meaning store.old }
+    ensures size { IfOk result (λ body. length body.bytes ≡ size) }
+    ensures ok { IsHonest (S.meaning store.old) → IfOk result
+        (λ body. body.bytes ≡ take size (drop at (S.meaning store.old).bytes)) }
+    ensures same { IsHonest (S.meaning store.old)
+        → (S.meaning store.new).bytes ≡ (S.meaning store.old).bytes }
+{
+    let Ok(mut frame) = vec![in alloc; 0; BLOCK_HEADER + size] else {
+        return Err(SpoolStoreFault::Memory);
+    };
+    store.read_at(at, &mut frame[BLOCK_HEADER..])?;
+    Ok(FramedBody::from_frame(frame))
 }

@@ -1,5 +1,4 @@
-//! A drive's line with its worker, how the worker and the talks wait for each other, and the session that a talk goes on
-//! with there.
+//! How a drive's worker and the talks wait for one another, and the session that a talk goes on with there.
 #![tactic(auto)]
 
 mod closing;

@@ -1,6 +1,7 @@
-//! Tests of libraries by their public calls, of what no run of a program shows: vectors of fields and checksums; what a
-//! driver of any kind promises, a box and an enum of drivers; the device in memory beside a plain model, and the spool in
-//! memory, with each call failing and a stop after each call; and a drive of files at its greatest count of failures.
+//! Tests of libraries by their public calls, of what no run of a program shows. There are vectors of fields and
+//! checksums; what a driver of any kind promises, a box and an enum of drivers; the device in memory beside a plain
+//! model, and the spool in memory, with each call failing and a stop after each call; and a drive of files at its
+//! greatest count of failures.
 #![tactic(auto)]
 
 #[cfg(test)]

@@ -1,5 +1,6 @@
 // Bodies through a spool in memory, with each call of its store failing in each way.
-use sd_base::{Bytes, LEAST_BODY, MOST_BODY};
+use sd_base::{LEAST_BODY, MOST_BODY};
+use sd_block::FramedBody;
 use sd_pack::Body;
 use sd_spool::{JobSpool, MemSpool, PutFault, SpoolCall, SpoolFail, SpoolStore, When};
 use std::alloc::{AllocError, Global};
@@ -26,7 +27,7 @@ fn body_of(alloc: Global, length: usize, number: u32) -> Result<Body, AllocError
     let length = length.clamp(LEAST_BODY, MOST_BODY);
     let bytes = vec![in alloc; (number % 256) as u8; length]?;
     Ok(Body {
-        bytes: Bytes::from_vec(bytes),
+        bytes: FramedBody::from_slice(alloc, &bytes)?,
         first: number,
         last: number,
     })

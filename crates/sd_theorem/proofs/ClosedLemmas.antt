@@ -18,8 +18,8 @@ use Rattle.sd_machine.specs.Machine.{Machine, MachineSession, session_of}
 use Rattle.sd_pack.specs.Packing.{bytes_of}
 use Rattle.sd_readback.specs.Reading.{KeepSpans, blocks_of, bytes_of as held_bytes, volumes_on}
 use Rattle.sd_readback.proofs.ReadingLemmas.{kept_read}
-use Rattle.sd_restore.proofs.EndLemmas.{spans_all}
-use Rattle.sd_restore.proofs.ReachLemmas.{of_if}
+use Rattle.sd_world.proofs.EndLemmas.{spans_all}
+use Rattle.sd_world.proofs.ReachLemmas.{of_if}
 use Rattle.sd_scan.specs.Scan.{Scans, ScansVolumes}
 use Rattle.sd_scan.specs.Volume.{ScansVolume}
 use Rattle.sd_scan.specs.declared.print.Told.{Told}

@@ -12,8 +12,8 @@ use Rattle.sd_machine.specs.declared.event.Event.TheVariants.{Adopt}
 use Rattle.sd_machine.specs.declared.reply.Reply.TheVariants.{Adopted}
 use Rattle.sd_readback.specs.Reading.{Reads, volumes_on}
 use Rattle.sd_readback.proofs.ReadingLemmas.{kept_read, reads_one}
-use Rattle.sd_restore.specs.Lasting.{SpansLast}
-use Rattle.sd_restore.proofs.LastLemmas.{lasting_spans_stay, lasting_spans_mark, lasting_spans_kept}
+use Rattle.sd_world.specs.Lasting.{SpansLast}
+use Rattle.sd_world.proofs.LastLemmas.{lasting_spans_stay, lasting_spans_mark, lasting_spans_kept}
 use Rattle.sd_session.specs.declared.status.Status.TheVariants.{Closed}
 use Rattle.sd_span.specs.declared.span.Span.{Span}
 use Rattle.sd_world.specs.Deeds.{Deed, LeadsTo, NonePurges}

@@ -7,8 +7,8 @@ use Rattle.sd_drive.specs.Shelf.{LeavesStable}
 use Rattle.sd_drive.specs.View.{DriveIs}
 use Rattle.sd_readback.specs.Reading.{Volumes, KeepSpans, volumes_on}
 use Rattle.sd_span.specs.declared.span.Span.{Span}
-use Rattle.sd_restore.specs.Lasting.{SpansLast}
-use Rattle.sd_restore.proofs.LastLemmas.{lasting_spans_stay, lasting_spans_kept, lasting_spans_survive}
+use Rattle.sd_world.specs.Lasting.{SpansLast}
+use Rattle.sd_world.proofs.LastLemmas.{lasting_spans_stay, lasting_spans_kept, lasting_spans_survive}
 use Rattle.sd_world.specs.World.{WorldView}
 use Rattle.sd_world.specs.Devices.{GoesOn}
 use Rattle.sd_world.specs.Deeds.{NonePurges}

@@ -10,7 +10,7 @@ use Rattle.sd_drive.specs.Shelf.{block_at, placements_on}
 use Rattle.sd_driver.specs.Shelf.{Shelf}
 use Rattle.sd_scan.specs.Found.{ArePlacements, Found, IsPlacementOf, blocks_in}
 use Rattle.sd_scan.proofs.TableLemmas.{none_placed}
-use Rattle.sd_restore.proofs.ReachLemmas.{of_if}
+use Rattle.sd_world.proofs.ReachLemmas.{of_if}
 use Rattle.sd_theorem.specs.Placed.{FindOwn, FindsOwn, LieAt, LiesAt, SaysIndexes, ScanTellsSpans, placements_over}
 use Rattle.sd_span.specs.Spans.{numbered_from, placements_of, stretches}
 use Rattle.sd_span.specs.declared.placement.Placement.{Placement}

@@ -1,5 +1,5 @@
-//! Runs scripts of `sdtool run`: the settings at the head of a script, the drives in memory that they ask for, and its lines
-//! over a world of these drives, with what each of them comes to printed.
+//! Plays scripts of `sdtool run` over drives in memory, and prints what each line comes to. The settings at the
+//! head of a script say which drives.
 #![tactic(auto)]
 
 mod acting;

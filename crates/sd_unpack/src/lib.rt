@@ -1,5 +1,5 @@
-//! The records of a session out of the bodies of its blocks
-//! (as: Bacula Developer's Guide, storage media output format).
+//! Takes the records of a session out of the bodies of its blocks (as: Bacula Developer's Guide, storage media
+//! output format).
 #![tactic(auto)]
 
 mod batch;

@@ -1,8 +1,8 @@
 -- A volume that is cut to its label block.
-use Rattle.std.proofs.Common.{◌≡◌, ◌≢◌, ℕ, List, [], ◌∷◌, ◌++◌, length, take, drop, refl, ap, sym, ◌∙◌, subst, Some, Result, Ok, Err}
+use Rattle.std.proofs.Common.{◌≡◌, ℕ, List, [], ◌∷◌, ◌++◌, length, take, drop, refl, ap, sym, ◌∙◌, subst, Result, Ok, Err}
 use Rattle.std.specs.Prelude.{OnOk}
 use Rattle.std.proofs.lemmas.List.{append_assoc, append-nil}
-use Rattle.sd_driver.specs.Shelf.{Shelf, Held, BeginsWith}
+use Rattle.sd_driver.specs.Shelf.{Shelf, BeginsWith}
 use Rattle.sd_label.specs.declared.label.VolumeLabel.{VolumeLabel}
 use Rattle.sd_volume.specs.declared.volume.VolumeStatus.TheVariants.{Append, Error}
 use Rattle.sd_volume.specs.Adopt.{CutsAt, KeepsUpTo}

@@ -10,7 +10,7 @@ ghost use Rattle.sd_volume.specs.Device.{Counted, CallsAtMost};
 
 use crate::volume::{Volume, VolumeStatus};
 use sd_base::{BLOCK_HEADER, SessionKey};
-use sd_block::seal_into;
+use sd_block::FramedBody;
 use sd_driver::{Driver, DriverFault};
 
 /// What became of a block that was to be added to a volume.
@@ -27,24 +27,24 @@ pub enum Appended {
 }
 
 /// Adds the next block, with `body` of the session `key`, at the end of the loaded volume. Where it would end
-/// past `limit`, neither memory nor the device is asked for anything; else the block is made in `image`, which
-/// is kept from block to block, and the device is called once.
+/// past `limit`, the device is asked for nothing; else the block is sealed where its body is, and the device is called
+/// once. Takes no memory of its own.
 pub fn append_block<D: Driver>(
     driver: &mut D,
     volume: &mut Volume,
-    image: &mut Vec<u8>,
     key: SessionKey,
-    body: &[u8],
+    body: &mut FramedBody,
     limit: u64,
 ) -> Appended
     requires loaded { (D.meaning driver.old).loaded ≡ Some volume.old.name }
     requires status { volume.old.status ≡ Append }
-    requires least { least_body ≤ length body.now }
-    requires most { length body.now ≤ most_body }
+    requires least { least_body ≤ length body.old.bytes }
+    requires most { length body.old.bytes ≤ most_body }
     requires limit { limit ≤ most_volume }
 
+    ensures body { body.new.bytes ≡ body.old.bytes }
     ensures placed { IfPlaced result (λ start size.
-        (start ≡ volume.old.end) × (size ≡ block_header + length body.now)) }
+        (start ≡ volume.old.end) × (size ≡ block_header + length body.old.bytes)) }
     ensures end { IfPlaced result (λ start size. volume.new ≡ record volume.old {
       end = volume.old.end + size;
       next_number = volume.old.next_number + 1;
@@ -53,18 +53,18 @@ pub fn append_block<D: Driver>(
     ensures error { result ≡ Appended.Fault → volume.new ≡ record volume.old { status = Error } }
     ensures memory { result ≡ Appended.Memory → volume.new ≡ volume.old }
 
-    ensures past { limit < end_with volume.old body.now → result ≡ Appended.NoRoom }
-    ensures unchanged { (limit < end_with volume.old body.now) ⊎ (result ≡ Appended.Memory)
+    ensures past { limit < end_with volume.old body.old.bytes → result ≡ Appended.NoRoom }
+    ensures unchanged { (limit < end_with volume.old body.old.bytes) ⊎ (result ≡ Appended.Memory)
         → Unchanged (D.meaning driver.old) (D.meaning driver.new) }
     ensures counted { Counted (result ≡ Appended.Fault)
-        ((result ≡ Appended.NoRoom) × (end_with volume.old body.now ≤ limit))
+        ((result ≡ Appended.NoRoom) × (end_with volume.old body.old.bytes ≤ limit))
         (D.meaning driver.old) (D.meaning driver.new) }
     ensures calls { CallsAtMost 1 (D.meaning driver.old) (D.meaning driver.new) }
     ensures loaded { (D.meaning driver.new).loaded ≡ (D.meaning driver.old).loaded }
     ensures lasts { StillLasts (D.meaning driver.old).shelf (D.meaning driver.new).shelf }
 
     ensures adds { IsHonest (D.meaning driver.old) → IfPlaced result (λ _ _.
-        AddsBlock (record { key = key; body = body.now })
+        AddsBlock (record { key = key; body = body.old.bytes })
         volume.old (D.meaning driver.old).shelf volume.new (D.meaning driver.new).shelf) }
     ensures keeps { IsHonest (D.meaning driver.old) → IfNotPlaced result (KeepsBlocks
         volume.old (D.meaning driver.old).shelf volume.new (D.meaning driver.new).shelf) }
@@ -76,10 +76,8 @@ pub fn append_block<D: Driver>(
         volume.status = VolumeStatus::Full;
         return Appended::NoRoom;
     }
-    let Ok(()) = seal_into(image, key, volume.next_number, body) else {
-        return Appended::Memory;
-    };
-    let Err(fault) = driver.append(image) else {
+    body.seal(key, volume.next_number);
+    let Err(fault) = driver.append(body.as_block()) else {
         return Appended::At {
             start: volume.advance(size),
             length: size,

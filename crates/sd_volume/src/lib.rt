@@ -1,4 +1,4 @@
-//! A labelled volume on any device: its label, its blocks one behind another, and what may stand behind them.
+//! A labelled volume on any device: its label, its blocks, and what may follow them.
 #![tactic(auto)]
 
 mod adoption;

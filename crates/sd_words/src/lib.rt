@@ -1,4 +1,4 @@
-//! The lines of a text, and the fields of a line: words and decimal numbers, parted by one blank.
+//! The lines of a text, and the words and decimal numbers of a line, with one blank between them.
 #![tactic(auto)]
 
 mod lines;

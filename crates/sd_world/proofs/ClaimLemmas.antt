@@ -8,7 +8,7 @@ use Rattle.sd_driver.specs.Meaning.{Meaning}
 use Rattle.sd_drive.specs.Shelf.{Kept, LiesOn}
 use Rattle.sd_drive.specs.View.{DriveIs}
 use Rattle.sd_journal.specs.Journal.{Entry, placements}
-use Rattle.sd_restore.proofs.EndLemmas.{spans_all}
+use Rattle.sd_world.proofs.EndLemmas.{spans_all}
 use Rattle.sd_span.specs.Spans.{placements_of, spans_of}
 use Rattle.sd_span.specs.declared.placement.Placement.{Placement}
 use Rattle.sd_span.specs.declared.span.Span.{Span}

@@ -7,8 +7,8 @@ use Rattle.sd_drive.specs.View.{DriveIs}
 use Rattle.sd_journal.specs.Journal.{placements}
 use Rattle.sd_machine.specs.declared.event.Event.{Event}
 use Rattle.sd_machine.specs.declared.reply.Reply.{Reply}
-use Rattle.sd_restore.specs.Lasting.{BlocksStillLast}
-use Rattle.sd_restore.proofs.LastLemmas.{adoption_keeps_lasting}
+use Rattle.sd_world.specs.Lasting.{BlocksStillLast}
+use Rattle.sd_world.proofs.LastLemmas.{adoption_keeps_lasting}
 use Rattle.sd_world.specs.Kept.{PurgesName}
 use Rattle.sd_world.specs.Moves.{Moves}
 use Rattle.sd_world.specs.World.{WorldView, BayView, IsOnline}

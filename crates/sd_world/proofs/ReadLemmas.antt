@@ -20,9 +20,9 @@ use Rattle.sd_pack.specs.Packing.{bytes_of}
 use Rattle.sd_record.specs.Fragment.{Fragment}
 use Rattle.sd_readback.specs.Faults.{AreCountable}
 use Rattle.sd_readback.specs.Reading.{Reads, blocks_of, volumes_on}
-use Rattle.sd_restore.specs.Lasting.{SpansLast}
-use Rattle.sd_restore.proofs.LastLemmas.{synced_spans_last}
-use Rattle.sd_restore.proofs.RestoreLemmas.{placed_read}
+use Rattle.sd_world.specs.Lasting.{SpansLast}
+use Rattle.sd_world.proofs.LastLemmas.{synced_spans_last}
+use Rattle.sd_world.proofs.RestoreLemmas.{placed_read}
 use Rattle.sd_session.specs.Session.{parts_of}
 use Rattle.sd_session.specs.declared.status.Status.{Status}
 use Rattle.sd_session.specs.declared.status.Status.TheVariants.{Closed, Cancelled, Purged}

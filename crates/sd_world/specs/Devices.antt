@@ -3,7 +3,7 @@ use Rattle.std.specs.Prelude.{◌≡◌, ◌≤◌, ℕ, Bool, IsTrue, List}
 use Rattle.sd_driver.specs.Meaning.{Meaning, IsHonest}
 use Rattle.sd_machine.specs.declared.event.Event.{Event}
 use Rattle.sd_machine.specs.declared.reply.Reply.{Reply}
-use Rattle.sd_restore.specs.Lasting.{BlocksStillLast}
+use Rattle.sd_world.specs.Lasting.{BlocksStillLast}
 use Rattle.sd_world.specs.World.{WorldView}
 use Rattle.sd_world.specs.Kept.{PurgesName}
 use Rattle.sd_world.specs.Moves.{Moves}

@@ -2,10 +2,12 @@ pub mod Deeds
 pub mod Devices
 pub mod DriveMoves
 pub mod Drives
+pub mod Ends
 pub mod Fails
 pub mod Grows
 pub mod Honest
 pub mod Kept
+pub mod Lasting
 pub mod MachineSteps
 pub mod Matches
 pub mod Memory
@@ -13,6 +15,7 @@ pub mod Moves
 pub mod Operators
 pub mod Reading
 pub mod Reads
+pub mod Restore
 pub mod Rules
 pub mod Seats
 pub mod Sessions

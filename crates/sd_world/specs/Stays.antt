@@ -8,7 +8,7 @@ use Rattle.sd_drive.specs.View.{DriveIs}
 use Rattle.sd_journal.specs.Journal.{placements}
 use Rattle.sd_machine.specs.Machine.{Machine}
 use Rattle.sd_readback.specs.Reading.{volumes_on}
-use Rattle.sd_restore.specs.Lasting.{SpansLast}
+use Rattle.sd_world.specs.Lasting.{SpansLast}
 use Rattle.sd_span.specs.Spans.{spans_of}
 use Rattle.sd_span.specs.declared.placement.Placement.{Placement}
 use Rattle.sd_span.specs.declared.span.Span.{Span}

@@ -1,8 +1,9 @@
-//! A world of sessions and drives, without code: what each event does to it, which list machine it matches, and what stays of
-//! closed sessions, whoever runs it.
+//! A world of sessions and drives, without code: what each event does to it, and what stays of closed sessions. It
+//! says too which list machine a world matches, and what is read back of the blocks that a drive placed.
 #![tactic(auto)]
 
 mod laws;
+mod spans;
 
 pub use laws::{
     cancelled_reads, closed_is_countable, closed_is_found, closed_reads, closed_spans_last,
@@ -11,4 +12,9 @@ pub use laws::{
     moves_keep_honesty, moves_keep_rules, moves_keep_seats, moves_purge_by_cause,
     moves_want_memory, placed_is_found, reading_keeps_matches, steps_keep_spans, steps_lead,
     told_spans_read,
+};
+pub use spans::{
+    adoption_keeps_lasting, adoption_keeps_spans, kept_spans_end_with_blocks, lasting_spans_kept,
+    lasting_spans_mark, lasting_spans_stay, lasting_spans_survive, placed_among_blocks,
+    placed_end_with_blocks, placed_read, synced_spans_last,
 };

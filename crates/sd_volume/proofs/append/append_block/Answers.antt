@@ -8,15 +8,16 @@ use Rattle.sd_volume.proofs.DeviceLemmas.{counted_call, Counted-as, device_fault
 use Rattle.sd_volume.proofs.VolumeLemmas.{block_added, blocks_kept}
 use Rattle.sd_volume.proofs.append.append_block.Goals as goal
 
-pub returns-in_default-append-clause-adds : goal.returns-in_default-append-clause-adds
-returns-in_default-append-clause-adds g c = λ honest label blocks stands.
+pub returns-in_default-clause-adds : goal.returns-in_default-clause-adds
+returns-in_default-clause-adds g c = λ honest label blocks stands.
     let v = c.args.volume.now in
+    let body = c.args.body.now.bytes in
     let number : c.volume.inside.next_number ≡ v.next_number = ap (λ (view : VolumeView). view.next_number) c.volume.view_is in
-    let sealed : IsBlockImage most_block c.deref.result.now c.args.key c.volume.inside.next_number c.args.body.now =
-    subst (λ (i : List ℕ). IsBlockImage most_block i c.args.key c.volume.inside.next_number c.args.body.now) (sym c.deref.ensures.value) c.in-Ok.ensures.ok in
-    let image = subst (λ n. IsBlockImage most_block c.deref.result.now c.args.key n c.args.body.now) number sealed in
+    let sealed : IsBlockImage most_block c.as_block.result.now c.args.key c.volume.inside.next_number body =
+    subst (λ (i : List ℕ). IsBlockImage most_block i c.args.key c.volume.inside.next_number body) (sym c.as_block.ensures) c.seal.ensures.image in
+    let image = subst (λ n. IsBlockImage most_block c.as_block.result.now c.args.key n body) number sealed in
     block_added v c.advance.new.self (g.D.Driver.meaning c.args.driver.now).shelf (g.D.Driver.meaning c.append.new.self).shelf (g.D.Driver.meaning c.args.driver.now).loaded label blocks
-    (record { key = c.args.key; body = c.args.body.now }) c.deref.result.now _ c.requires.loaded image refl c.advance.ensures.volume (c.in_default-append.ensures.ok honest) stands
+    (record { key = c.args.key; body = body }) c.as_block.result.now _ c.requires.loaded image refl (rw c.len.ensures at c.advance.ensures.volume) (c.in_default.ensures.ok honest) stands
 
 pub returns-in-NoRoom-clause-keeps : goal.returns-in-NoRoom-clause-keeps
 returns-in-NoRoom-clause-keeps g c = λ honest label blocks tail stands.

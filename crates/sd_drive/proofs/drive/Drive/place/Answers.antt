@@ -1,12 +1,13 @@
 use Rattle.std.proofs.Common.{rules, refl, ap, sym, ◌∙◌, Some}
 use Rattle.std.proofs.lemmas.Option.{slice_get_read}
 use Rattle.sd_volume.proofs.DeviceLemmas.{Counted-as}
+use Rattle.sd_drive.specs.Moves.{hand_after}
 use Rattle.sd_drive.proofs.PlaceLemmas.{kept_placing, pieces_placing, places_of, takes_here, limit_allows, limit_allowed}
 use Rattle.sd_drive.proofs.SyncLemmas.{loaded_name_is}
 use Rattle.sd_drive.proofs.drive.Drive.place.Goals as goal
 
-pub invariant_of-self : goal.invariant_of-self
-invariant_of-self g c =
+pub invariant_of-self-2 : goal.invariant_of-self-2
+invariant_of-self-2 g c =
     let e = c.place_on-placed.ensures in
     let vs = c.self.inside.volumes.items in
     let v = c.index_mut.result.now in
@@ -44,8 +45,9 @@ returns-clause-keeps g c =
     let v = c.index_mut.result.now in
     let there = slice_get_read vs _ _ v refl (rw c.deref.ensures.value at c.in-Some-open_place.ensures.within) c.index_mut.ensures.value in
     let takes = takes_here vs c.self.inside.loaded c.self.inside.pool _ v (rw c.deref.ensures.value at c.in-Some-open_place.ensures.open) there in
+    let emptied = c.empty_after.ensures ∙ ap (hand_after c.place_on-placed.result) (ap (λ p. Some p) e.piece ∙ sym c.in-Some.is) in
     rw (← c.self.view_is) (pieces_placing c.place_on-placed.result (g.D.Driver.meaning c.self.inside.driver) (g.D.Driver.meaning c.place_on-placed.new.driver) vs c.self.inside.loaded c.self.inside.journal.entries c.place_on-placed.new.journal.entries
-    c.self.inside.hand c.empty_after.new.hand c.in-Some-open_place.at v c.place_on-placed.new.volume c.in-Some.piece c.self.inside.limits.volume c.self.invariant.kept takes.loaded_is there takes.status_is c.in-Some.is c.empty_after.ensures e.on e.counted.honest e.at e.others)
+    c.self.inside.hand c.empty_after.new.hand c.in-Some-open_place.at v c.place_on-placed.new.volume c.in-Some.piece c.self.inside.limits.volume c.self.invariant.kept takes.loaded_is there takes.status_is c.in-Some.is emptied e.on e.counted.honest e.at e.others)
 
 pub returns-clause-later : goal.returns-clause-later
 returns-clause-later g c = rw (← c.self.view_is) c.place_on-placed.ensures.later

@@ -1,4 +1,4 @@
-use Rattle.std.proofs.Common.{◌≡◌, ap, ◌∙◌, sym, subst, refl, arith, ◌++◌, [], ◌∷◌}
+use Rattle.std.proofs.Common.{◌≡◌, ap, ◌∙◌, sym, subst, refl, arith, ◌++◌, [], ◌∷◌, length}
 use Rattle.std.proofs.lemmas.List.{append-nil}
 use Rattle.sd_label.specs.Label.{session_label_fragment, session_label_bytes}
 use Rattle.sd_label.specs.Cutting.{Between, AtEnd}
@@ -30,6 +30,18 @@ invariant_of-self-then-free-session_label_length c =
       (subst (IsWithin p.room) (sym next) (with_fragment_within p.room empty_body f (omega arith)), tt),
     )
     (ap (λ l. l ++ c.replace-full.new.dest ∷ []) items) (omega (arith, c.in_ok-reserve.ensures.ok))
+
+-- a packer with nothing packed has room for any label
+pub returns-then-free-session_label_length-clause-starts : goal.returns-then-free-session_label_length-clause-starts
+returns-then-free-session_label_length-clause-starts c = λ none start.
+    let p = c.self.inside in
+    let was = none_packed p.room p.waiting.items p.open_body _ c.self.invariant (subst (λ v. bodies_of v ≡ []) (sym c.self.view_is) none) in
+    let long : length p.open_body.bytes ≡ 0 = ap (λ b. length b.bytes) was.1 in
+    let least = c.self.invariant.room_least in
+    let most = c.session_label_length.ensures.most in
+    let free = c.if-free-session_label_length.true in
+    let len = c.len.ensures in
+    absurd (omega arith)
 
 pub returns-then-free-session_label_length-clause-ends : goal.returns-then-free-session_label_length-clause-ends
 returns-then-free-session_label_length-clause-ends c = λ has taken records is packs.
@@ -83,7 +95,7 @@ returns-clause-starts c = λ none start.
     ap (λ l. l ++ unless_empty o'.bytes o') (c.reserve-2.ensures.items ∙ was.0) ∙ bodies_and_open [] o' (within_some p.room o' within)
     ∙ ap (λ b. b ∷ []) (c.in_ok-add_label.ensures.ok ∙ ap (λ b. with_fragment b f) was.1) in
     subst (λ l. Packs p.room l [] Between) (sym now)
-    (packs_start p.room label (record { label_is = c.add_label.ensures.label; no_totals = start }) (omega arith))
+    (packs_start p.room label (record { label_is = c.in_ok-add_label.ensures.label; no_totals = start }) (omega arith))
 
 pub returns-clause-ends : goal.returns-clause-ends
 returns-clause-ends c = λ has taken records is packs.

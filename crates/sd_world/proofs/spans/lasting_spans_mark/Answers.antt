@@ -1,0 +1,5 @@
+use Rattle.sd_world.proofs.LastLemmas.{lasting_spans_mark}
+use Rattle.sd_world.proofs.spans.lasting_spans_mark.Goals as goal
+
+pub returns : goal.returns
+returns c = lasting_spans_mark
