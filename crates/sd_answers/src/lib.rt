@@ -10,4 +10,4 @@ mod watched;
 pub use adopted::AdoptedLine;
 pub use lines::{one_line, show};
 pub use reply::tell;
-pub use watched::{Before, Watched};
+pub use watched::{Before, WatchedSink};

@@ -22,13 +22,13 @@ impl Before for Brand {
 /// A sink, and the records that were handed over to it since a reading began. Its type keeps that the sink got just
 /// those. They are seen by contracts alone, and none is held.
 #[derive(Drop)]
-pub struct Watched<B: Before, K: Sink> {
+pub struct WatchedSink<B: Before, K: Sink> {
     sink: K,
     handed: Shown<Rec>,
     of: PhantomData<B>,
 }
 
-impl<B: Before, K: Sink> Model for Watched<B, K> {
+impl<B: Before, K: Sink> Model for WatchedSink<B, K> {
     ghost use Rattle.std.specs.Prelude.{◌≡◌, ◌++◌};
     ghost use Rattle.sd_answers.specs.Watched.{WatchedIs};
 
@@ -39,13 +39,13 @@ impl<B: Before, K: Sink> Model for Watched<B, K> {
     ghost invariant = { λ w. K.got w.sink ≡ B.before ++ w.handed };
 }
 
-impl<B: Before, K: Sink> Watched<B, K> {
+impl<B: Before, K: Sink> WatchedSink<B, K> {
     /// A sink to which nothing was handed over yet.
     pub fn new(sink: K) -> Self
         requires { K.got sink ≡ B.before }
         ensures { result ≡ record { sink = sink; handed = [] } }
     {
-        Watched {
+        WatchedSink {
             sink,
             handed: Shown::nothing(),
             of: PhantomData,
@@ -57,7 +57,7 @@ impl<B: Before, K: Sink> Watched<B, K> {
         ensures parts { self ≡ record { sink = result.0; handed = result.1 } }
         ensures got { K.got result.0 ≡ B.before ++ result.1 }
     {
-        let Watched {
+        let WatchedSink {
             sink,
             handed,
             of: _,
@@ -66,7 +66,7 @@ impl<B: Before, K: Sink> Watched<B, K> {
     }
 }
 
-impl<B: Before, K: Sink> Sink for Watched<B, K> {
+impl<B: Before, K: Sink> Sink for WatchedSink<B, K> {
     ghost got = { λ w. w.handed };
 
     fn put(&mut self, rec: Rec) -> Result<(), AllocError> {

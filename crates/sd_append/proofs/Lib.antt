@@ -2,8 +2,8 @@ mod Appended
 mod AskedLemmas
 pub mod CommandLemmas
 pub mod ConverseLemmas
+pub mod ExchangeLemmas
 pub mod HeaderLemmas
-pub mod LogLemmas
 pub mod OutLemmas
 mod PacketSteps
 mod PhaseLemmas

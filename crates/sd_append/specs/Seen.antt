@@ -1,8 +1,8 @@
 -- What a port was asked, as exchanges.
 use Rattle.std.specs.Prelude.{List, map}
 use Rattle.sd_append.specs.Port.{Exchange, Stepped, WasRead, Said}
-use Rattle.sd_append.specs.declared.log.Seen.{Seen}
-use Rattle.sd_append.specs.declared.log.Seen.TheVariants as seen
+use Rattle.sd_append.specs.declared.exchanges.Seen.{Seen}
+use Rattle.sd_append.specs.declared.exchanges.Seen.TheVariants as seen
 
 -- the exchange that was seen
 abbrev pub exchange_of : Seen → Exchange

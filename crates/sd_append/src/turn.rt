@@ -23,7 +23,7 @@ use std::marker::Brand;
 
 /// Where the talk stands behind a packet, and its outbox.
 #[derive(Drop)]
-pub(crate) struct Taken<W> {
+pub(crate) struct TalkTurn<W> {
     pub(crate) stage: Stage,
     pub(crate) outbox: Outbox<W>,
 }
@@ -35,7 +35,7 @@ pub(crate) fn take<W: Write, P: SessionPort>(
     packet: Packet,
     port: &mut P,
     mut outbox: Outbox<W>,
-) -> Taken<W>
+) -> TalkTurn<W>
     ensures does { Does (λ asked out. Takes (P.clock port.old) stage packet asked out result.stage)
         (P.asked port.old) (P.asked port.new)
         (out_view W.contents outbox) (out_view W.contents result.outbox) }
@@ -44,7 +44,7 @@ pub(crate) fn take<W: Write, P: SessionPort>(
     match packet {
         Packet::Bytes(payload) => {
             let stage = take_bytes(alloc, stage, payload, port, &mut outbox);
-            Taken { stage, outbox }
+            TalkTurn { stage, outbox }
         }
         Packet::Signal(signal) => take_signal(alloc, meaning_of(signal), stage, port, outbox),
     }
@@ -56,7 +56,7 @@ fn take_signal<W: Write, P: SessionPort>(
     stage: Stage,
     port: &mut P,
     outbox: Outbox<W>,
-) -> Taken<W>
+) -> TalkTurn<W>
     ensures does { Does (λ asked out. TakesSignal meaning stage asked out result.stage)
         (P.asked port.old) (P.asked port.new)
         (out_view W.contents outbox) (out_view W.contents result.outbox) }
@@ -64,16 +64,16 @@ fn take_signal<W: Write, P: SessionPort>(
 {
     match meaning {
         Meaning::EndOfData => take_end(alloc, stage, port, outbox),
-        Meaning::Terminate => Taken {
+        Meaning::Terminate => TalkTurn {
             stage: Stage::Over(stage.own()),
             outbox,
         },
         Meaning::Poll => {
             let mut outbox = outbox;
             answer_poll(&stage, &mut outbox);
-            Taken { stage, outbox }
+            TalkTurn { stage, outbox }
         }
-        Meaning::Other => Taken { stage, outbox },
+        Meaning::Other => TalkTurn { stage, outbox },
     }
 }
 
@@ -93,48 +93,48 @@ fn take_end<W: Write, P: SessionPort>(
     stage: Stage,
     port: &mut P,
     mut outbox: Outbox<W>,
-) -> Taken<W>
+) -> TalkTurn<W>
     ensures does { Does (λ asked out. TakesEnd stage asked out result.stage)
         (P.asked port.old) (P.asked port.new)
         (out_view W.contents outbox) (out_view W.contents result.outbox) }
     ensures clock { P.clock port.new ≡ P.clock port.old }
 {
     match stage {
-        Stage::Command(own) => Taken {
+        Stage::Command(own) => TalkTurn {
             stage: Stage::Command(own),
             outbox,
         },
         Stage::Header(own) => {
             say(&mut outbox, Line::Appended);
-            Taken {
+            TalkTurn {
                 stage: Stage::Command(Some(own)),
                 outbox,
             }
         }
-        Stage::Records(own, _) => Taken {
+        Stage::Records(own, _) => TalkTurn {
             stage: Stage::Header(own),
             outbox,
         },
         Stage::Refused(own, refusal) => {
             refuse(&mut outbox, refusal);
-            Taken {
+            TalkTurn {
                 stage: Stage::Command(Some(own)),
                 outbox,
             }
         }
-        Stage::Dropped(own, refusal) => Taken {
+        Stage::Dropped(own, refusal) => TalkTurn {
             stage: Stage::Refused(own, refusal),
             outbox,
         },
         Stage::Spans(own, text) => read_back(alloc, own, text, port, outbox),
         Stage::BadSpans(own, refusal) => {
             say_read_end(&mut outbox, Err(refusal));
-            Taken {
+            TalkTurn {
                 stage: Stage::Command(own),
                 outbox,
             }
         }
-        Stage::Over(own) => Taken {
+        Stage::Over(own) => TalkTurn {
             stage: Stage::Over(own),
             outbox,
         },
@@ -148,7 +148,7 @@ fn read_back<W: Write, P: SessionPort>(
     text: SpanText,
     port: &mut P,
     mut outbox: Outbox<W>,
-) -> Taken<W>
+) -> TalkTurn<W>
     ensures does { Does (λ asked out. ReadsBack own text asked out result.stage)
         (P.asked port.old) (P.asked port.new)
         (out_view W.contents outbox) (out_view W.contents result.outbox) }
@@ -158,14 +158,14 @@ fn read_back<W: Write, P: SessionPort>(
         Ok(read) => {
             let mut out = read_out::<Brand, W, P>(outbox, port, read.key, read.spans.as_slice());
             say_read_end(&mut out.outbox, out.answer);
-            Taken {
+            TalkTurn {
                 stage: Stage::Command(own),
                 outbox: out.outbox,
             }
         }
         Err(fault) => {
             say_read_end(&mut outbox, Err(fault.refusal()));
-            Taken {
+            TalkTurn {
                 stage: Stage::Command(own),
                 outbox,
             }
@@ -180,14 +180,14 @@ pub(crate) fn take_all<W: Write, P: SessionPort>(
     packets: Vec<Packet>,
     port: &mut P,
     outbox: Outbox<W>,
-) -> Taken<W>
+) -> TalkTurn<W>
     ensures does { Does (λ asked out. Converses
         (P.clock port.old) stage packets.items asked out result.stage)
         (P.asked port.old) (P.asked port.new)
         (out_view W.contents outbox) (out_view W.contents result.outbox) }
     ensures clock { P.clock port.new ≡ P.clock port.old }
 {
-    let mut taken = Taken { stage, outbox };
+    let mut taken = TalkTurn { stage, outbox };
     for packet in packets {
         taken = take_next(alloc, taken, packet, port);
     }
@@ -196,16 +196,16 @@ pub(crate) fn take_all<W: Write, P: SessionPort>(
 
 fn take_next<W: Write, P: SessionPort>(
     alloc: Global,
-    taken: Taken<W>,
+    taken: TalkTurn<W>,
     packet: Packet,
     port: &mut P,
-) -> Taken<W>
+) -> TalkTurn<W>
     ensures does { Does (λ asked out. Takes
         (P.clock port.old) taken.stage packet asked out result.stage)
         (P.asked port.old) (P.asked port.new)
         (out_view W.contents taken.outbox) (out_view W.contents result.outbox) }
     ensures clock { P.clock port.new ≡ P.clock port.old }
 {
-    let Taken { stage, outbox } = taken;
+    let TalkTurn { stage, outbox } = taken;
     take(alloc, stage, packet, port, outbox)
 }

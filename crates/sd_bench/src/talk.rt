@@ -2,7 +2,7 @@
 ghost use Rattle.std.specs.Prelude.{◌≡◌, [], pos};
 
 use crate::rate::{Length, print_copies, print_rate, tell};
-use sd_append::{Log, ReadBack, SessionPort, TalkEnd, talk};
+use sd_append::{Exchanges, ReadBack, SessionPort, TalkEnd, talk};
 use sd_base::{Bytes, DriveNo, Items, Refusal, SessionKey, Ticket};
 use sd_bnet::{Packet, Payload, SignalNo, put_packet};
 use sd_machine::{Event, Reply};
@@ -120,7 +120,7 @@ fn put_signal(bytes: &mut Vec<u8>, number: i32) -> bool {
 // A port that counts the records that it is given, and lets them go.
 #[derive(Drop)]
 struct Counting {
-    log: Log,
+    exchanges: Exchanges,
     records: u64,
     bytes: u64,
 }
@@ -128,14 +128,14 @@ struct Counting {
 impl Counting {
     fn new() -> Self {
         Counting {
-            log: Log::new(),
+            exchanges: Exchanges::new(),
             records: 0,
             bytes: 0,
         }
     }
 
     fn answer(&mut self, event: &Event) -> Reply
-        ensures { self.new.log ≡ self.old.log }
+        ensures { self.new.exchanges ≡ self.old.exchanges }
     {
         match event {
             Event::Open { .. } => match (Ticket::new(1), DriveNo::new(1)) {
@@ -156,28 +156,28 @@ impl Counting {
 }
 
 impl SessionPort for Counting {
-    ghost asked = { λ p. p.log };
+    ghost asked = { λ p. p.exchanges };
 
     ghost clock = { λ p. pos 0 };
 
     fn step(&mut self, event: Event) -> Reply {
         let given = Snapshot::of(&event);
         let reply = self.answer(&event);
-        self.log = self.log.stepped(given, &reply);
+        self.exchanges = self.exchanges.stepped(given, &reply);
         reply
     }
 
     fn read<S: Sink>(&mut self, key: SessionKey, spans: &[Span], sink: S) -> ReadBack<S> {
         let answer: std::result::Result<ReadEnd, Refusal> = Err(Refusal::BadCommand);
-        self.log = self
-            .log
+        self.exchanges = self
+            .exchanges
             .was_read(key, spans, sd_append::Shown::nothing(), &answer);
         ReadBack { sink, answer }
     }
 
     fn console(&mut self, line: &[u8]) -> std::result::Result<Items<Payload>, Refusal> {
         let answer = Err(Refusal::BadCommand);
-        self.log = self.log.said(0, line, &answer);
+        self.exchanges = self.exchanges.said(0, line, &answer);
         answer
     }
 

@@ -8,7 +8,7 @@ ghost use Rattle.sd_bnet.specs.declared.packet.Packet.{Packet};
 use crate::due::Due;
 use crate::length::LengthBytes;
 use crate::packet::Packet;
-use crate::stream::{Taken, take_packets, take_whole};
+use crate::stream::{TakenPackets, take_packets, take_whole};
 use sd_base::Items;
 use std::alloc::{AllocError, Global};
 use std::marker::Model;
@@ -94,7 +94,7 @@ impl Feeder {
         }
     }
 
-    fn hand_out(&mut self, taken: Taken) -> Fed
+    fn hand_out(&mut self, taken: TakenPackets) -> Fed
         requires { IsStillDue taken.due }
         ensures due { self.new ≡ state_of taken.due }
         ensures packets { result.packets ≡ taken.packets.items }

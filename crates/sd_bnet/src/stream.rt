@@ -26,7 +26,7 @@ pub(crate) enum Step<'a> {
 
 /// The packets of a piece, and what is due behind them.
 #[derive(Drop)]
-pub(crate) struct Taken {
+pub(crate) struct TakenPackets {
     pub(crate) packets: Vec<Packet>,
     pub(crate) due: Due,
 }
@@ -36,7 +36,7 @@ pub(crate) fn take_packets(
     alloc: Global,
     begun: &LengthBytes,
     piece: &[u8],
-) -> Result<Taken, AllocError>
+) -> Result<TakenPackets, AllocError>
     ensures due { IfOk result (λ taken. IsStillDue taken.due) }
     ensures packets { IfOk result (λ taken.
         Fits (state_of taken.due) (begun.now ++ piece.now) taken.packets.items) }
@@ -49,7 +49,7 @@ pub(crate) fn take_packets(
                 packets.push(packet)?;
                 (field, rest) = LengthBytes::new().with(after);
             }
-            Step::Part(due) => return Ok(Taken { packets, due }),
+            Step::Part(due) => return Ok(TakenPackets { packets, due }),
         }
     }
 }
@@ -59,7 +59,7 @@ pub(crate) fn take_whole(
     alloc: Global,
     pending: &mut Pending,
     piece: &[u8],
-) -> Result<Taken, AllocError>
+) -> Result<TakenPackets, AllocError>
     requires begun { vec_len pending.old.bytes < pending.old.size }
     requires within { pending.old.size ≤ most_data }
     requires whole { pending.old.size ≤ vec_len pending.old.bytes + length piece.now }

@@ -19,7 +19,7 @@ use sd_conf::{Conf, Text};
 use sd_filedrive::FileDrive;
 use sd_line::Naming;
 use sd_lines::shares_hub;
-use sd_serve::{Log, LogLine, since_1970, time_of};
+use sd_serve::{Log, since_1970, time_of};
 use sd_spool::FileSpool;
 use std::io::Write;
 use std::marker::Brand;
@@ -117,13 +117,6 @@ fn serve_drives<
     let Ok(hub) = hub_of::<N, W>(run.rt, run.wait, conf, run.time, drives, keeps_receipts) else {
         return Err(ServeFault::Memory);
     };
-    run.log.line(
-        &run.wait,
-        LogLine::Listening {
-            port: conf.port,
-            time: run.time,
-        },
-    );
     if !hold_all(run, listener, &hub) {
         return Err(ServeFault::Memory);
     }
@@ -144,6 +137,7 @@ fn hold_all<
         rt: run.rt,
         wait: run.wait,
         conf: run.conf,
+        time: run.time,
         hub,
         log: run.log,
         patience: run.bounds.wait,

@@ -18,6 +18,8 @@ pub(crate) struct FileTalks<'d, N: Naming, W: Wait + Drop, L> {
     pub(crate) rt: &'d HostRuntime,
     pub(crate) wait: W,
     pub(crate) conf: &'d Conf,
+    // The time of the run.
+    pub(crate) time: u32,
     pub(crate) hub: &'d FileHub<N, W>,
     pub(crate) log: &'d Log<L>,
     // How many seconds a record and a close wait for a volume that their drive needs.

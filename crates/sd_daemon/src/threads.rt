@@ -33,6 +33,7 @@ fn hold_beside_workers<W: Threads + Wait + Clock + Sync, K: TalkHolder + DriveWo
     thread::scope(thread::scope_env(), rt, move |workers| {
         let all = start_workers(workers, talks);
         if all {
+            talks.ready();
             serve_each(rt, listener, connections, talks);
         }
         talks.close();

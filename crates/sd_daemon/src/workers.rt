@@ -16,6 +16,9 @@ pub(crate) trait DriveWorker: Sync {
     /// Works for the drive at this place until no talk comes any more.
     fn work(&self, at: usize);
 
+    /// Tells that each drive has its worker, so that talks are held from now on.
+    fn ready(&self);
+
     /// Tells that no talk comes any more.
     fn close(&self);
 }
@@ -49,6 +52,16 @@ impl<N: Naming + Send + Sync, W: Wait + Clock + Sync + Copy + Drop, L: Write + S
             }
             tell(&hub.rt, drive, &worked, self.log);
         }
+    }
+
+    fn ready(&self) {
+        self.log.line(
+            &self.wait,
+            LogLine::Listening {
+                port: self.conf.port,
+                time: self.time,
+            },
+        );
     }
 
     fn close(&self) {

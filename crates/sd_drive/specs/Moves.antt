@@ -40,6 +40,10 @@ pub record TakesOn (volumes : List VolumeView) (loaded : Option ℕ) (pool : Opt
 abbrev pub TakesBlocks : {D : Type 0} → DriveIs D → Type 0
 TakesBlocks d = (at : ℕ) × (volume : VolumeView) × TakesOn d.volumes d.loaded d.pool at volume
 
+-- the drive needs no volume: the loaded one takes blocks of its pool, or it never had a session
+abbrev pub NeedsNone : {D : Type 0} → DriveIs D → Type 0
+NeedsNone d = TakesBlocks d ⊎ (d.pool ≡ None)
+
 -- this piece is in the hand, and this volume takes its block
 pub record IsReady {D : Type 0} (d : DriveIs D) (piece : Piece) (at : ℕ) (volume : VolumeView) : Type 0 where
   pub hand : d.hand ≡ Some piece

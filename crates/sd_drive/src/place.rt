@@ -1,12 +1,12 @@
 // The piece in the hand becomes a block of the loaded volume.
-ghost use Rattle.std.specs.Prelude.{◌≡◌, ◌≢◌, ◌≤◌, ◌<◌, ℕ, List, length, OnErr, IfSome, IfNone, Some, Ok};
+ghost use Rattle.std.specs.Prelude.{◌≡◌, ◌≢◌, ◌≤◌, ◌<◌, ℕ, List, length, OnErr, IfSome, IfNone, MatchOption, Some, Ok};
 ghost use Rattle.sd_base.specs.Limits.{most_volume};
 ghost use Rattle.sd_driver.specs.Meaning.{IsHonest, Unchanged};
 ghost use Rattle.sd_driver.specs.Shelf.{StillLasts};
 ghost use Rattle.sd_volume.specs.declared.volume.VolumeStatus.TheVariants.{Append};
 ghost use Rattle.sd_volume.specs.Device.{Counted, CallsAtMost, OthersStay};
 ghost use Rattle.sd_drive.specs.Shelf.{KeepsPieces};
-ghost use Rattle.sd_drive.specs.Moves.{Places, PlacesOn, RoomAfter, TakesOn, IsWithin, LimitAllows, hand_after};
+ghost use Rattle.sd_drive.specs.Moves.{Places, PlacesOn, RoomAfter, TakesOn, TakesBlocks, NeedsNone, IsWithin, LimitAllows, hand_after};
 ghost use Rattle.sd_drive.specs.Placing.{PlacesAt};
 
 use crate::drive::Drive;
@@ -70,6 +70,21 @@ impl<D: Driver> Drive<D> {
         );
         empty_after(&placed, &mut self.hand);
         placed
+    }
+
+    /// The pool of which the drive needs a volume. None if its loaded volume takes blocks of its pool, or if it never served a
+    /// session.
+    pub fn wanted_pool(&self) -> Option<PoolName>
+        ensures { MatchOption result (NeedsNone self.now)
+            (λ pool. ¬ TakesBlocks self.now × (self.now.pool ≡ Some pool)) }
+    {
+        let None = open_place(&self.volumes, self.loaded, &self.pool) else {
+            return None;
+        };
+        let Some(pool) = &self.pool else {
+            return None;
+        };
+        Some(pool.copy())
     }
 }
 

@@ -1,10 +1,7 @@
 // What an operator does to the drive of a line, where no desk is.
-ghost use Rattle.std.specs.Prelude.{◌≡◌, ◌↔◌, ℕ, Some, IsTrue, MatchOption};
-ghost use Rattle.sd_drive.specs.Moves.{TakesBlocks, TakesOn};
+ghost use Rattle.std.specs.Prelude.{◌≡◌, ℕ};
 ghost use Rattle.sd_machine.specs.declared.event.Event.TheVariants.{Sync, Label, Adopt, Mount, Unmount, Seek};
 ghost use Rattle.sd_line.specs.Operates.{Operates, AnswersAlone, operated_at};
-ghost use Rattle.sd_volume.specs.Volume.{VolumeView};
-ghost use Rattle.sd_world.specs.Operators.{NeedsNone};
 
 use sd_base::{DriveNo, MediaName, PoolName, Refusal, VolName};
 use sd_desk::next_volume;
@@ -120,7 +117,7 @@ fn seek<D: Driver>(drive: &mut Drive<D>) -> Reply
     ensures { (own : ℕ) → AnswersAlone (λ d. D.meaning d) own (Seek own) result
         drive.old drive.new }
 {
-    let Some(pool) = wanted(drive) else {
+    let Some(pool) = drive.wanted_pool() else {
         return Reply::NoNeed;
     };
     drive.know();
@@ -128,30 +125,4 @@ fn seek<D: Driver>(drive: &mut Drive<D>) -> Reply
         Some(name) => mount(drive, &name),
         None => Reply::Requested,
     }
-}
-
-// The pool of which the drive needs a volume.
-fn wanted<D: Driver>(drive: &Drive<D>) -> Option<PoolName>
-    ensures { MatchOption result (NeedsNone drive.now)
-        (λ pool. (TakesBlocks drive.now → ⊥) × (drive.now.pool ≡ Some pool)) }
-{
-    let Some(pool) = drive.pool() else {
-        return None;
-    };
-    if takes_blocks_of(drive, pool) {
-        return None;
-    }
-    Some(pool.copy())
-}
-
-// Whether the drive's loaded volume takes blocks of the pool.
-fn takes_blocks_of<D: Driver>(drive: &Drive<D>, pool: &PoolName) -> bool
-    ensures { IsTrue result ↔ ((at : ℕ) × (volume : VolumeView)
-        × TakesOn drive.now.volumes drive.now.loaded (Some pool.now) at volume) }
-{
-    let Some(at) = drive.loaded() else {
-        return false;
-    };
-    drive.know();
-    drive.volumes()[at].is_appendable_for(pool)
 }

@@ -9,7 +9,7 @@ use crate::console::obey_line;
 use crate::held::Held;
 use crate::hub::Hub;
 use crate::reading::{Reading, read};
-use sd_append::{Log, ReadBack};
+use sd_append::{Exchanges, ReadBack};
 use sd_base::{Items, Refusal, SessionKey};
 use sd_bnet::Payload;
 use sd_driver::Driver;
@@ -34,7 +34,7 @@ pub struct LinePort<'h, D: Driver, N: Naming, R: Wait + Drop, S: SpoolStore, P> 
     // drive from its work. Of a drive that has none here the drive itself is used.
     readers: Vec<D>,
     moment: i64,
-    log: Log,
+    exchanges: Exchanges,
 }
 
 impl<'h, D: Driver, N: Naming, R: Wait + Drop, S: SpoolStore, P> Model
@@ -44,10 +44,10 @@ impl<'h, D: Driver, N: Naming, R: Wait + Drop, S: SpoolStore, P> Model
 
     ghost Value = { LinePortIs };
 
-    ghost view = { λ p. record { last = last_of p.held; moment = p.moment; asked = p.log } };
+    ghost view = { λ p. record { last = last_of p.held; moment = p.moment; asked = p.exchanges } };
 
     ghost invariant = { λ p.
-        KeepsPort (record { last = last_of p.held; moment = p.moment; asked = p.log }) };
+        KeepsPort (record { last = last_of p.held; moment = p.moment; asked = p.exchanges }) };
 }
 
 impl<
@@ -67,7 +67,7 @@ impl<
             held: Held::nothing(hub, patience),
             readers,
             moment,
-            log: Log::new(),
+            exchanges: Exchanges::new(),
         }
     }
 
@@ -85,7 +85,7 @@ impl<
     {
         let given = Snapshot::of(&event);
         let reply = self.held.answer(event);
-        self.log = self.log.stepped(given, &reply);
+        self.exchanges = self.exchanges.stepped(given, &reply);
         reply
     }
 
@@ -108,7 +108,7 @@ impl<
             handed,
             answer,
         } = read;
-        self.log = self.log.was_read(key, spans, handed, &answer);
+        self.exchanges = self.exchanges.was_read(key, spans, handed, &answer);
         ReadBack { sink, answer }
     }
 
@@ -120,7 +120,7 @@ impl<
             self.old }
     {
         let answer = obey_line(&mut self.held, self.moment, line);
-        self.log = self.log.said(self.moment, line, &answer);
+        self.exchanges = self.exchanges.said(self.moment, line, &answer);
         answer
     }
 
@@ -130,7 +130,7 @@ impl<
             mut held,
             readers: _,
             moment: _,
-            log: _,
+            exchanges: _,
         } = self;
         held.give_up();
     }

@@ -3,7 +3,7 @@ ghost use Rattle.std.specs.Prelude.{◌≡◌, ◌++◌};
 
 use crate::counted::Counted;
 use crate::hub::Hub;
-use sd_answers::{Before, Watched};
+use sd_answers::{Before, WatchedSink};
 use sd_append::Shown;
 use sd_base::{DriveNo, Rec, Refusal, SessionKey};
 use sd_driver::Driver;
@@ -39,7 +39,7 @@ pub(crate) fn read<
         sink,
         given: &hub.given,
     };
-    let mut watched: Watched<B, Counted<'_, K>> = Watched::new(counted);
+    let mut watched: WatchedSink<B, Counted<'_, K>> = WatchedSink::new(counted);
     let answer = match drive_of(hub, spans) {
         Ok(drive) => read_at(hub, drive, readers, key, spans, &mut watched),
         Err(why) => Err(why),

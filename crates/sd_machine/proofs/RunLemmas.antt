@@ -158,9 +158,9 @@ turn_keeps : (old new : Machine) (event : Event) (reply : Reply) → Turns old e
 turn_keeps old new event (Refused why) turns = stays old new turns.1
 turn_keeps old new (Open job pool media moment) (Opened ticket drive) turns = opens old new turns.2
 turn_keeps old new (Append ticket r) (Taken n) turns =
-    changes old new ticket turns.0 (record turns.0 { records = turns.0.records ++ r ∷ [] }) turns.1 (inl turns.2) refl turns.5
+    changes old new ticket turns.0 (record turns.0 { records = turns.0.records ++ r ∷ [] }) turns.1 (inl turns.2) refl turns.3.2
 turn_keeps old new (End ticket moment) Ended turns = changes old new ticket turns.0 _ turns.1 (inl turns.2) refl turns.3
-turn_keeps old new (Close ticket) (Closed key spans) turns = changes old new ticket turns.0 _ turns.1 (inr turns.2) refl turns.4
+turn_keeps old new (Close ticket) (Closed key spans) turns = changes old new ticket turns.0 _ turns.1 (inr turns.2) refl turns.3.1
 turn_keeps old new (Cancel ticket) Cancelled turns = changes old new ticket turns.0 _ turns.1 turns.2 refl turns.3
 turn_keeps old new (Spool ticket) Spooled turns = stays old new turns.3
 turn_keeps old new (Spool ticket) SpoolFull turns = stays old new turns.3

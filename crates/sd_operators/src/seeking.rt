@@ -1,13 +1,9 @@
 // A drive looks for a volume of its pool.
-ghost use Rattle.std.specs.Prelude.{◌≡◌, ◌↔◌, ℕ, Some, IsTrue, MatchOption};
-ghost use Rattle.sd_drive.specs.Moves.{TakesBlocks, TakesOn};
 ghost use Rattle.sd_machine.specs.declared.event.Event.TheVariants.{Seek};
-ghost use Rattle.sd_volume.specs.Volume.{VolumeView};
-ghost use Rattle.sd_world.specs.Operators.{NeedsNone};
 ghost use Rattle.sd_operators.specs.AtStations.{MovesAtDesk};
 
 use crate::mounting::mount_named;
-use sd_base::{DriveNo, PoolName, Refusal};
+use sd_base::{DriveNo, Refusal};
 use sd_desk::{Desk, Request, next_volume};
 use sd_drive::Drive;
 use sd_driver::Driver;
@@ -19,7 +15,7 @@ pub(crate) fn seek<D: Driver>(at: &mut Drive<D>, desk: &mut Desk, drive: DriveNo
     ensures { MovesAtDesk (λ d. D.meaning d) drive (Seek drive)
         at.old desk.old result at.new desk.new }
 {
-    let Some(pool) = wanted(at) else {
+    let Some(pool) = at.wanted_pool() else {
         return Reply::NoNeed;
     };
     at.know();
@@ -36,30 +32,4 @@ pub(crate) fn seek<D: Driver>(at: &mut Drive<D>, desk: &mut Desk, drive: DriveNo
             }
         }
     }
-}
-
-// The pool of which the drive needs a volume.
-fn wanted<D: Driver>(drive: &Drive<D>) -> Option<PoolName>
-    ensures { MatchOption result (NeedsNone drive.now)
-        (λ pool. (TakesBlocks drive.now → ⊥) × (drive.now.pool ≡ Some pool)) }
-{
-    let Some(pool) = drive.pool() else {
-        return None;
-    };
-    if takes_blocks_of(drive, pool) {
-        return None;
-    }
-    Some(pool.copy())
-}
-
-// Whether the drive's loaded volume takes blocks of the pool.
-fn takes_blocks_of<D: Driver>(drive: &Drive<D>, pool: &PoolName) -> bool
-    ensures { IsTrue result ↔ ((at : ℕ) × (volume : VolumeView)
-        × TakesOn drive.now.volumes drive.now.loaded (Some pool.now) at volume) }
-{
-    let Some(at) = drive.loaded() else {
-        return false;
-    };
-    drive.know();
-    drive.volumes()[at].is_appendable_for(pool)
 }

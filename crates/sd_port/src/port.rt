@@ -15,7 +15,7 @@ use crate::console::obey_line;
 use crate::reading::{Reading, read_watched};
 use crate::syncing::Syncing;
 use crate::tries::answer;
-use sd_append::{Log, ReadBack};
+use sd_append::{Exchanges, ReadBack};
 use sd_base::{Items, Refusal, SessionKey};
 use sd_bnet::Payload;
 use sd_core::World;
@@ -40,7 +40,7 @@ pub struct WorldPort<D: Driver, Q: Lanes, S: SpoolStore> {
     syncing: Syncing,
     rounds: u32,
     opening: Snapshot<World<D, Q, S>>,
-    log: Log,
+    exchanges: Exchanges,
 }
 
 impl<D: Driver, Q: Lanes, S: SpoolStore> Model for WorldPort<D, Q, S> {
@@ -54,7 +54,7 @@ impl<D: Driver, Q: Lanes, S: SpoolStore> Model for WorldPort<D, Q, S> {
       syncing = p.syncing;
       rounds = p.rounds;
       opening = p.opening.value;
-      asked = p.log;
+      asked = p.exchanges;
     } };
 
     ghost invariant = { λ p. IsOver (λ d. D.meaning d) (record {
@@ -63,7 +63,7 @@ impl<D: Driver, Q: Lanes, S: SpoolStore> Model for WorldPort<D, Q, S> {
       syncing = p.syncing;
       rounds = p.rounds;
       opening = p.opening.value;
-      asked = p.log;
+      asked = p.exchanges;
     }) };
 }
 
@@ -89,7 +89,7 @@ impl<D: Driver + Drop, Q: Lanes, S: SpoolStore + Drop> WorldPort<D, Q, S> {
             syncing,
             rounds,
             opening,
-            log: Log::new(),
+            exchanges: Exchanges::new(),
         }
     }
 
@@ -105,7 +105,7 @@ impl<D: Driver + Drop, Q: Lanes, S: SpoolStore + Drop> WorldPort<D, Q, S> {
     {
         let given = Snapshot::of(&event);
         let reply = answer(&mut self.world, self.syncing, self.rounds, event);
-        self.log = self.log.stepped(given, &reply);
+        self.exchanges = self.exchanges.stepped(given, &reply);
         reply
     }
 
@@ -125,7 +125,7 @@ impl<D: Driver + Drop, Q: Lanes, S: SpoolStore + Drop> WorldPort<D, Q, S> {
             handed,
             answer,
         } = read;
-        self.log = self.log.was_read(key, spans, handed, &answer);
+        self.exchanges = self.exchanges.was_read(key, spans, handed, &answer);
         ReadBack { sink, answer }
     }
 
@@ -141,7 +141,7 @@ impl<D: Driver + Drop, Q: Lanes, S: SpoolStore + Drop> WorldPort<D, Q, S> {
             self.old }
     {
         let answer = obey_line(self.alloc, &mut self.world, self.syncing, self.moment, line);
-        self.log = self.log.said(self.moment, line, &answer);
+        self.exchanges = self.exchanges.said(self.moment, line, &answer);
         answer
     }
 
@@ -188,7 +188,7 @@ impl<D: Driver + Drop, Q: Lanes, S: SpoolStore + Drop> WorldPort<D, Q, S> {
             syncing: _,
             rounds: _,
             opening: _,
-            log: _,
+            exchanges: _,
         } = self;
         world
     }

@@ -2,7 +2,7 @@
 ghost use Rattle.std.specs.Prelude.{◌≡◌, ◌++◌, []};
 ghost use Rattle.sd_world.specs.Deeds.{IsRead};
 
-use sd_answers::{Before, Watched};
+use sd_answers::{Before, WatchedSink};
 use sd_append::Shown;
 use sd_base::{Rec, Refusal, SessionKey};
 use sd_core::World;
@@ -32,7 +32,7 @@ pub(crate) fn read_watched<B: Before, D: Driver, Q: Lanes, S: SpoolStore + Drop,
     ensures reads { IsRead (λ d. D.meaning d) key spans.now [] result.handed result.answer
         world.old world.new }
 {
-    let mut watched: Watched<B, K> = Watched::new(sink);
+    let mut watched: WatchedSink<B, K> = WatchedSink::new(sink);
     let answer = world.read(key, spans, &mut watched);
     let (sink, handed) = watched.into_parts();
     Reading {

@@ -4,7 +4,7 @@ use Rattle.sd_driver.specs.Meaning.{Meaning}
 use Rattle.sd_filedrive.specs.Drive.{folder_of, unused}
 use Rattle.sd_filedrive.specs.declared.drive.FileDrive.{FileDrive}
 use Rattle.sd_progress.specs.declared.watched.Progress.{Progress}
-use Rattle.sd_progress.specs.declared.watched.Watched.{Watched}
+use Rattle.sd_progress.specs.declared.watched.WatchedDevice.{WatchedDevice}
 
 -- nothing is said of what a file of the system holds
 abbrev pub unknown_text : List ℕ → Option (List ℕ)
@@ -15,9 +15,9 @@ abbrev pub unused_device : List ℕ → Progress → Meaning
 unused_device folder progress = unused
 
 -- the path of the folder that the device inside has its volumes in
-abbrev pub folder_inside : {R F D S : Type 0} → Watched (FileDrive R F D) S → List ℕ
+abbrev pub folder_inside : {R F D S : Type 0} → WatchedDevice (FileDrive R F D) S → List ℕ
 folder_inside watched = folder_of watched.device
 
 -- whether its reading is told of
-abbrev pub told_of : {D R : Type 0} → Watched D R → Progress
+abbrev pub told_of : {D R : Type 0} → WatchedDevice D R → Progress
 told_of watched = watched.progress

@@ -3,7 +3,7 @@ ghost use Rattle.std.specs.Prelude.{◌≡◌, ◌≤◌, ℕ, List, length, Opt
 ghost use Rattle.sd_driver.specs.Meaning.{Meaning};
 ghost use Rattle.sd_progress.specs.declared.watched.Progress.{Progress as SpecProgress};
 
-use crate::watched::{Progress, Watched};
+use crate::watched::{Progress, WatchedDevice};
 use sd_base::VolName;
 use sd_driver::Driver;
 use sd_filedrive::FileDrive;
@@ -42,7 +42,7 @@ impl Host for HostRuntime {
 
     type Text = File;
 
-    type Shelf = Watched<FileDrive<HostRuntime>, HostRuntime>;
+    type Shelf = WatchedDevice<FileDrive<HostRuntime>, HostRuntime>;
 
     ghost text_at = { λ _. unknown_text };
 
@@ -56,15 +56,15 @@ impl Host for HostRuntime {
         &self,
         path: &str,
         progress: Progress,
-    ) -> Result<Watched<FileDrive<HostRuntime>, HostRuntime>, AllocError>
+    ) -> Result<WatchedDevice<FileDrive<HostRuntime>, HostRuntime>, AllocError>
         ensures device { IfOk result (λ shelf.
-            ⟦<Watched<FileDrive<HostRuntime>, HostRuntime> as Driver>⟧.meaning shelf
+            ⟦<WatchedDevice<FileDrive<HostRuntime>, HostRuntime> as Driver>⟧.meaning shelf
             ≡ unused_device path.now progress) }
         ensures folder { IfOk result (λ shelf. folder_inside shelf ≡ folder_named path.now) }
         ensures told { IfOk result (λ shelf. told_of shelf ≡ progress) }
     {
         let drive = FileDrive::new(self.clone()?, self.alloc(), path)?;
-        Ok(Watched::new(drive, self.clone()?, progress))
+        Ok(WatchedDevice::new(drive, self.clone()?, progress))
     }
 
     fn files_in(&self, path: &str) -> io::Result<Vec<VolName>> {

@@ -33,7 +33,7 @@ impl Progress {
 
 /// The device inside, with a count of the bytes that were read of it.
 #[derive(Drop)]
-pub struct Watched<D, R: Eprint + Clock + Drop> {
+pub struct WatchedDevice<D, R: Eprint + Clock + Drop> {
     device: D,
     system: R,
     progress: Progress,
@@ -42,13 +42,13 @@ pub struct Watched<D, R: Eprint + Clock + Drop> {
     begun: Option<Instant>,
 }
 
-impl<D, R: Eprint + Clock + Drop> Watched<D, R> {
+impl<D, R: Eprint + Clock + Drop> WatchedDevice<D, R> {
     pub fn new(device: D, system: R, progress: Progress) -> Self
         ensures device { result.device ≡ device }
         ensures progress { result.progress ≡ progress }
     {
         let begun = Instant::now(&system).ok();
-        Watched {
+        WatchedDevice {
             device,
             system,
             progress,
@@ -120,7 +120,7 @@ fn is_due(before: u64, after: u64) -> bool
     before / STEP < after / STEP
 }
 
-impl<D: Driver, R: Eprint + Clock + Send + Drop> Driver for Watched<D, R> {
+impl<D: Driver, R: Eprint + Clock + Send + Drop> Driver for WatchedDevice<D, R> {
     ghost meaning = { λ w. D.meaning w.device };
 
     fn create(&mut self, name: &VolName) -> Result<(), DriverFault> {

@@ -1,7 +1,7 @@
 // What the daemon's log is told of a talk.
 use crate::fault::FaultPlace;
 use crate::log::Log;
-use crate::log_line::{LogLine, Taken};
+use crate::log_line::{LogLine, TakenAmount};
 use sd_append::TalkEnd;
 use sd_base::{Refusal, SessionKey};
 use sd_machine::{Event, Reply};
@@ -40,7 +40,7 @@ pub struct Heard<'l, R, L> {
     log: &'l Log<L>,
     talk: u64,
     session: Option<Place>,
-    taken: Taken,
+    taken: TakenAmount,
 }
 
 impl<'l, R, L> Heard<'l, R, L> {
@@ -50,7 +50,7 @@ impl<'l, R, L> Heard<'l, R, L> {
             log,
             talk,
             session: None,
-            taken: Taken::default(),
+            taken: TakenAmount::default(),
         }
     }
 
@@ -90,7 +90,7 @@ impl<R: Wait + Clock, L: Write> Heard<'_, R, L> {
     pub fn reply(&mut self, about: About, reply: &Reply) {
         match reply {
             Reply::Opened { ticket, drive } => self.opened(about, ticket.get(), drive.get()),
-            Reply::Taken { count } => self.took(about, *count),
+            Reply::TakenAmount { count } => self.took(about, *count),
             Reply::Closed { .. } => self.closed(about),
             Reply::Cancelled => {
                 if let About::Cancel(ticket) = about {
@@ -104,7 +104,7 @@ impl<R: Wait + Clock, L: Write> Heard<'_, R, L> {
 
     fn opened(&mut self, about: About, ticket: u32, drive: u32) {
         self.session = Some(Place { ticket, drive });
-        self.taken = Taken::default();
+        self.taken = TakenAmount::default();
         if let About::Job(job) = about {
             self.line(LogLine::Opened {
                 talk: self.talk,

@@ -18,7 +18,7 @@ pub use client::ClientPatience;
 pub use clock::{moment_now, moment_of, since_1970, time_of};
 pub use fault::FaultPlace;
 pub use log::Log;
-pub use log_line::{LogLine, Taken};
+pub use log_line::{LogLine, TakenAmount};
 pub use logged::LoggedPort;
 pub use server::{MOST_TALKS, QUIET_SECONDS, TalkHolder, serve_each};
 pub use talk::{TURNS, hold_talk};

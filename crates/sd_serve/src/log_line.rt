@@ -7,7 +7,7 @@ use std::fmt;
 
 /// How much of a session was taken: its records, and the bytes of their data.
 #[derive(Clone, Copy, Debug, Default, PartialEq, Eq)]
-pub struct Taken {
+pub struct TakenAmount {
     pub records: u64,
     pub bytes: u64,
 }
@@ -39,12 +39,12 @@ pub enum LogLine<'a> {
     Closed {
         talk: u64,
         ticket: u32,
-        taken: Taken,
+        taken: TakenAmount,
     },
     Cancelled {
         talk: u64,
         ticket: u32,
-        taken: Taken,
+        taken: TakenAmount,
     },
     /// A device or a spool failed, or a session by it, and a talk was told so.
     Fault {

@@ -151,7 +151,7 @@ close_closed meaning old new ticket key spans m rules c h =
     (subst (λ status. HasBodies e.session.packer.room sent (sent ++ parts_of e.session) status s.records) (f.matches.status_is ∙ c.closes.may.ended) b))
     f.matches)
     (λ closed out. none_outstanding old ticket key spans new c rules out)
-    (s, f.there, f.matches.status_is ∙ c.closes.may.ended, c.key_is ∙ sym f.matches.key_is, refl)
+    (s, f.there, f.matches.status_is ∙ c.closes.may.ended, (c.key_is ∙ sym f.matches.key_is, refl))
     refl
 
 close_refused : {D : Type 0} (meaning : D → Meaning) (old : WorldView D) (ticket : ℕ) (why : Refusal) (m : Machine)
@@ -169,7 +169,7 @@ close_refused meaning old ticket why m refused h =
           | inl (inl r) ↦ absurd (r.0 c.0)
           | inl (inr (inl r)) ↦ inl r.2
           | inl (inr (inr r)) ↦ inr (inl r.3)
-          | inr r ↦ inr (inr r.1)
+          | inr r ↦ inr (inr (inl r.1))
         ]),
       )
     ])

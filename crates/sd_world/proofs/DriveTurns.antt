@@ -1,12 +1,12 @@
 -- What happens at a drive is a turn of the list machine, which stays as it is.
-use Rattle.std.proofs.Common.{◌≡◌, ◌⊎◌, ℕ, cond, refl, sym, subst, inl, inr, Bool, true, false, Option, Some, None, List, slice_get}
+use Rattle.std.proofs.Common.{◌≡◌, ◌⊎◌, ℕ, cond, refl, sym, subst, inl, inr, [], pos, Bool, true, false, Option, Some, None, List, slice_get}
 use Rattle.sd_base.specs.declared.refusal.Refusal.{Refusal}
-use Rattle.sd_base.specs.declared.refusal.Refusal.TheVariants.{OtherPoolOrMedia, InUse, VolumeNotOnShelf, NotAppendable}
+use Rattle.sd_base.specs.declared.refusal.Refusal.TheVariants.{NoSuchDrive, DriveOffline, OtherPoolOrMedia, InUse, VolumeNotOnShelf, NotAppendable}
 use Rattle.sd_driver.specs.Meaning.{Meaning}
 use Rattle.sd_drive.specs.Moves.{mount_due_at, mount_due_of, mount_due_from, place_of, is_append, is_at, is_other_pool}
 use Rattle.sd_drive.specs.View.{DriveIs}
 use Rattle.sd_machine.specs.Machine.{Machine}
-use Rattle.sd_machine.specs.Step.{Turns, NoDrive, MayRefuse, MayRefuseLabel, MayRefuseAdopt, MayRefuseMount}
+use Rattle.sd_machine.specs.Step.{Turns, MayRefuse, IsAmong, drive_refusals}
 use Rattle.sd_machine.specs.declared.event.Event.{Event}
 use Rattle.sd_machine.specs.declared.event.Event.TheVariants.{Take, Place, Sync, Label, Adopt, Mount, Unmount, Seek}
 use Rattle.sd_machine.specs.declared.reply.Reply.{Reply}
@@ -24,8 +24,11 @@ use Rattle.sd_world.specs.Stations.{Station, Outcome}
 
 -- The drive isn't there.
 
+abbrev pub NoDrive : Refusal → Type 0
+NoDrive why = (why ≡ NoSuchDrive) ⊎ (why ≡ DriveOffline)
+
 pub may_miss : (m : Machine) (event : Event) (own : ℕ) (why : Refusal) → IsOfDrive event own → NoDrive why → MayRefuse m event why
-may_miss m (Take drive) own why is none = none
+may_miss m (Take drive) own why is none = inl none
 may_miss m (Place drive) own why is none = inl none
 may_miss m (Sync drive) own why is none = inl none
 may_miss m (Label drive name pool media moment) own why is none = inl none
@@ -37,19 +40,32 @@ may_miss m event own why is none = absurd is
 
 -- Label and adopt.
 
-label_may : (cause : LabelFault) → MayRefuseLabel (label_refusal cause)
+-- it is one for which such an event may be refused, whatever else the event says
+abbrev IsOf : Event → Refusal → Type 0
+IsOf event why = NoDrive why ⊎ IsAmong (drive_refusals event) why
+
+abbrev MayLabel : Refusal → Type 0
+MayLabel = IsOf (Label 0 [] [] [] (pos 0))
+
+abbrev MayAdopt : Refusal → Type 0
+MayAdopt = IsOf (Adopt 0 [])
+
+abbrev MayMount : Refusal → Type 0
+MayMount = IsOf (Mount 0 [])
+
+label_may : (cause : LabelFault) → MayLabel (label_refusal cause)
 label_may label.AlreadyLabelled = inr (inr (inr (inl refl)))
 label_may label.NoRoom = inr (inr (inr (inr (inl refl))))
 label_may label.Device = inr (inr (inr (inr (inr (inl refl)))))
-label_may label.Memory = inr (inr (inr (inr (inr (inr refl)))))
+label_may label.Memory = inr (inr (inr (inr (inr (inr (inl refl))))))
 
-adopt_may : (cause : AdoptFault) → MayRefuseAdopt (adopt_refusal cause)
+adopt_may : (cause : AdoptFault) → MayAdopt (adopt_refusal cause)
 adopt_may adopt.NotOnShelf = inr (inr (inr (inl refl)))
 adopt_may adopt.NotOurVolume = inr (inr (inr (inr (inl refl))))
 adopt_may adopt.OtherMedia = inr (inr (inr (inr (inr (inl refl)))))
 adopt_may adopt.BlocksOfThisRun = inr (inr (inr (inr (inr (inr (inl refl))))))
 adopt_may adopt.Device = inr (inr (inr (inr (inr (inr (inr (inl refl)))))))
-adopt_may adopt.Memory = inr (inr (inr (inr (inr (inr (inr (inr refl)))))))
+adopt_may adopt.Memory = inr (inr (inr (inr (inr (inr (inr (inr (inl refl))))))))
 
 -- Mount.
 
@@ -86,20 +102,20 @@ due_from d (Some at) why h = due_of d at (slice_get d.volumes at) why h
 -- Refusals.
 
 module _ {D : Type 0} {meaning : D → Meaning} {s : Station D} {o : Outcome D} where
-  label_refused : (name media : List ℕ) (why : Refusal) → LabelRefused meaning name media why s o → MayRefuseLabel why
+  label_refused : (name media : List ℕ) (why : Refusal) → LabelRefused meaning name media why s o → MayLabel why
   label_refused name media why (inl m) = inr (inl m.1)
   label_refused name media why (inr (inl m)) = inr (inr (inl m.2))
   label_refused name media why (inr (inr (inl m))) = inr (inr (inr (inl m.3)))
-  label_refused name media why (inr (inr (inr (inl m)))) = inr (inr (inr (inr (inr (inr m.3)))))
-  label_refused name media why (inr (inr (inr (inr m)))) = subst MayRefuseLabel (sym m.why_is) (label_may m.cause)
+  label_refused name media why (inr (inr (inr (inl m)))) = inr (inr (inr (inr (inr (inr (inl m.3))))))
+  label_refused name media why (inr (inr (inr (inr m)))) = subst MayLabel (sym m.why_is) (label_may m.cause)
 
-  adopt_refused : (name : List ℕ) (why : Refusal) → AdoptRefused meaning name why s o → MayRefuseAdopt why
+  adopt_refused : (name : List ℕ) (why : Refusal) → AdoptRefused meaning name why s o → MayAdopt why
   adopt_refused name why (inl m) = inr (inl m.1)
   adopt_refused name why (inr (inl m)) = inr (inr (inl m.2))
-  adopt_refused name why (inr (inr (inl m))) = inr (inr (inr (inr (inr (inr (inr (inr m.2)))))))
-  adopt_refused name why (inr (inr (inr m))) = subst MayRefuseAdopt (sym m.why_is) (adopt_may m.cause)
+  adopt_refused name why (inr (inr (inl m))) = inr (inr (inr (inr (inr (inr (inr (inr (inl m.2))))))))
+  adopt_refused name why (inr (inr (inr m))) = subst MayAdopt (sym m.why_is) (adopt_may m.cause)
 
-  mount_refused : (name : List ℕ) (why : Refusal) → MountRefused meaning name why s o → MayRefuseMount why
+  mount_refused : (name : List ℕ) (why : Refusal) → MountRefused meaning name why s o → MayMount why
   mount_refused name why (inl m) = elim (due_from s.drive (place_of s.drive.volumes name) why m.0) [
     | inl is ↦ inr (inl is)
     | inr (inl is) ↦ inr (inr (inl is))
@@ -110,16 +126,16 @@ module _ {D : Type 0} {meaning : D → Meaning} {s : Station D} {o : Outcome D} 
   mount_refused name why (inr (inr m)) = elim m.refuses [
     | inl is ↦ inr (inl is)
     | inr (inl is) ↦ inr (inr (inr (inr (inr (inl is)))))
-    | inr (inr is) ↦ inr (inr (inr (inr (inr (inr is)))))
+    | inr (inr is) ↦ inr (inr (inr (inr (inr (inr (inl is))))))
   ]
 
   seek_refused : (m : Machine) (drive own : ℕ) (why : Refusal) → SeekRefused meaning own why s o → MayRefuse m (Seek drive) why
-  seek_refused m drive own why (inl c) = inr (inr (inr c.2))
+  seek_refused m drive own why (inl c) = inr (inr (inr (inl c.2)))
   seek_refused m drive own why (inr (name, next, inl c)) = inr (inr (inl c.1))
   seek_refused m drive own why (inr (name, next, inr c)) = elim c.refuses [
     | inl is ↦ inr (inl is)
     | inr (inl is) ↦ inr (inr (inl is))
-    | inr (inr is) ↦ inr (inr (inr is))
+    | inr (inr is) ↦ inr (inr (inr (inl is)))
   ]
 
 -- Every event of a drive.
@@ -134,9 +150,9 @@ drive_turns meaning m own (Place drive) NeedVolume s o c = refl
 drive_turns meaning m own (Place drive) VolumeFull s o c = refl
 drive_turns meaning m own (Place drive) VolumeError s o c = refl
 drive_turns meaning m own (Place drive) Idle s o c = refl
-drive_turns meaning m own (Place drive) (Refused why) s o c = (inr c.0, refl)
+drive_turns meaning m own (Place drive) (Refused why) s o c = (inr (inl c.0), refl)
 drive_turns meaning m own (Sync drive) Synced s o c = refl
-drive_turns meaning m own (Sync drive) (Refused why) s o c = (inr c.0, refl)
+drive_turns meaning m own (Sync drive) (Refused why) s o c = (inr (inl c.0), refl)
 drive_turns meaning m own (Label drive name pool media moment) Labelled s o c = refl
 drive_turns meaning m own (Label drive name pool media moment) (Refused why) s o c = (label_refused name media why c, refl)
 drive_turns meaning m own (Adopt drive name) (Adopted end next) s o c = refl
@@ -144,7 +160,7 @@ drive_turns meaning m own (Adopt drive name) (Refused why) s o c = (adopt_refuse
 drive_turns meaning m own (Mount drive name) (Mounted mounted) s o c = (c.0, refl)
 drive_turns meaning m own (Mount drive name) (Refused why) s o c = (mount_refused name why c, refl)
 drive_turns meaning m own (Unmount drive) Unmounted s o c = refl
-drive_turns meaning m own (Unmount drive) (Refused why) s o c = (inr c.0, refl)
+drive_turns meaning m own (Unmount drive) (Refused why) s o c = (inr (inl c.0), refl)
 drive_turns meaning m own (Seek drive) (Mounted name) s o c = refl
 drive_turns meaning m own (Seek drive) Requested s o c = refl
 drive_turns meaning m own (Seek drive) NoNeed s o c = refl

@@ -9,12 +9,13 @@ use Rattle.sd_journal.specs.declared.mark.Mark.TheVariants.{Lost}
 use Rattle.sd_lane.specs.Queue.{LanesView}
 use Rattle.sd_lane.specs.declared.piece.Piece.{Piece}
 use Rattle.sd_machine.specs.Machine.{Machine, Strike}
-use Rattle.sd_machine.specs.Step.{Turns, MayStrike, MayRefuse, NoDrive, AreFailures}
+use Rattle.sd_machine.specs.Step.{Turns, MayStrike, MayRefuse, StrikeWith}
 use Rattle.sd_machine.specs.declared.event.Event.{Event}
 use Rattle.sd_machine.specs.declared.event.Event.TheVariants.{Take, Place, Sync, Label, Adopt, Mount, Unmount, Seek, Retire}
 use Rattle.sd_machine.specs.declared.reply.Reply.{Reply}
 use Rattle.sd_machine.specs.declared.reply.Reply.TheVariants.{Refused, Retired}
 use Rattle.sd_session.specs.Session.{IsRunning}
+use Rattle.sd_session.specs.declared.status.Status.TheVariants.{Failed}
 use Rattle.sd_world.specs.Drives.{DriveMissing, IsOfDrive, AtDrive, MovesDrive, FailsWhere, FailExactly, loses_by}
 use Rattle.sd_world.specs.Fails.{IsOfSync}
 use Rattle.sd_world.specs.Moves.{Moves}
@@ -29,7 +30,7 @@ use Rattle.sd_world.specs.Matches.{Matches, IsOutstanding, body_of_piece, bodies
 use Rattle.sd_world.specs.MachineSteps.{StepsTo, newly_struck}
 use Rattle.sd_world.proofs.Bodies.{sent_taken, bodies_queued}
 use Rattle.sd_world.proofs.Drives.{Settles, settles_same, settles_settled, settles_synced, settles_placed, drive_frame, drive_step, desk_step}
-use Rattle.sd_world.proofs.DriveTurns.{may_miss, drive_turns}
+use Rattle.sd_world.proofs.DriveTurns.{NoDrive, may_miss, drive_turns}
 use Rattle.sd_world.proofs.Striking.{IsFailure, Struck, StruckOrStay, drops_struck, steps, stays, struck_step, unstruck_stay, all_struck, machine_failures}
 use Rattle.sd_world.proofs.Frames.{Framed, frame_in_bay}
 use Rattle.sd_world.proofs.Honesty.{honest_back, honest_here, fail_stores}
@@ -104,7 +105,7 @@ fall_exactly meaning w w' loses (e ∷ es) (e' ∷ es') runs frames h =
 
 -- the sessions that lose a block fail, and the machine's with them
 pub loses_step : {D : Type 0} (meaning : D → Meaning) (old new : WorldView D) (m : Machine) (event : Event) (drive : ℕ) → IsWorld old → LosesIn meaning old drive new
-    → MayRefuse m event DeviceFault → ((strikes : List Strike) → AreFailures m strikes → MayStrike m event (Refused DeviceFault) strikes)
+    → MayRefuse m event DeviceFault → ((strikes : List Strike) → StrikeWith Failed IsRunning m strikes → MayStrike m event (Refused DeviceFault) strikes)
     → Matches meaning old m → StepsTo meaning m old event (Refused DeviceFault) new
 loses_step {D} meaning old new m event drive rules l may fail h =
     let d = l.d in
@@ -139,7 +140,7 @@ may_strike_none m (Adopt drive name) own reply is = refl
 may_strike_none m event own reply is = absurd is
 
 -- or any that go on, where a sync failed
-sync_may_strike : (m : Machine) (event : Event) (own : ℕ) (strikes : List Strike) → IsOfSync event own → AreFailures m strikes → MayStrike m event (Refused DeviceFault) strikes
+sync_may_strike : (m : Machine) (event : Event) (own : ℕ) (strikes : List Strike) → IsOfSync event own → StrikeWith Failed IsRunning m strikes → MayStrike m event (Refused DeviceFault) strikes
 sync_may_strike m (Sync drive) own strikes is are = are
 sync_may_strike m (Mount drive name) own strikes is are = are
 sync_may_strike m (Unmount drive) own strikes is are = are
@@ -214,5 +215,5 @@ retire_steps {D} meaning old new drive Retired m rules moves h =
     steps meaning old new m m (Retire drive) Retired (ap (λ w. newly_struck old.sessions w.sessions) moves.new_is ∙ unstruck_stay old.sessions) refl refl
     (subst (λ w. Matches meaning w m) (sym moves.new_is) (all_same meaning old w' m refl refl refl (retired_frame meaning old moves.at gone refl) h))
 retire_steps meaning old new drive (Refused why) m rules (same, inl none) h = missing meaning old new m (Retire drive) drive why none (λ r no. inl no) refl refl h same
-retire_steps meaning old new drive (Refused why) m rules (same, inr used) h = stays meaning old new m (Retire drive) (Refused why) (inr used.0, refl) refl h same
+retire_steps meaning old new drive (Refused why) m rules (same, inr used) h = stays meaning old new m (Retire drive) (Refused why) (inr (inl used.0), refl) refl h same
 retire_steps meaning old new drive reply m rules moves h = absurd moves

@@ -1,5 +1,5 @@
 -- A move of the world on an open is a step of the list machine.
-use Rattle.std.proofs.Common.{◌≡◌, ℕ, zero, suc, ◌+◌, ◌<◌, ◌≤◌, cond, refl, sym, ap, ap₂, subst, subst₂, ◌∙◌, arith, inl, inr, ℤ, Option, Some, None, List, [], ◌∷◌, ◌++◌, map, append-nil, slice_set}
+use Rattle.std.proofs.Common.{◌≡◌, ℕ, zero, suc, ◌+◌, ◌<◌, ◌≤◌, cond, refl, sym, ap, ap₂, subst, subst₂, ◌∙◌, arith, inl, inr, ℤ, pos, Option, Some, None, List, [], ◌∷◌, ◌++◌, map, append-nil, slice_set}
 use Rattle.std.specs.Prelude.{IsTrue}
 use Rattle.sd_base.specs.Limits.{most_number}
 use Rattle.sd_base.specs.declared.number.SessionKey.{SessionKey}
@@ -13,7 +13,7 @@ use Rattle.sd_label.specs.Cutting.{Between}
 use Rattle.sd_lane.specs.Queue.{LanesView}
 use Rattle.sd_lane.specs.declared.piece.Queued.{Queued}
 use Rattle.sd_machine.specs.Machine.{Machine, MachineSession, opened}
-use Rattle.sd_machine.specs.Step.{MayRefuseOpen}
+use Rattle.sd_machine.specs.Step.{MayRefuse}
 use Rattle.sd_machine.specs.declared.event.Event.TheVariants.{Open}
 use Rattle.sd_machine.specs.declared.reply.Reply.{Reply}
 use Rattle.sd_machine.specs.declared.reply.Reply.TheVariants.{Refused, Opened}
@@ -186,11 +186,11 @@ opens_not {D} meaning old new job pool media moment why m rules low o h =
       elsewhere = honest_elsewhere meaning old w' at o.place bay o.lane o.before es' takes rules on.there lane_there (λ t x there. there);
     } in
     let frames : (x : WorldSession) → Framed meaning old w' x = λ x. frame_in_bay meaning old w' at bay bay' d d' x change (λ here honest. refl) (λ here u. u) in
-    let may : MayRefuseOpen m why = inr (
+    let may : MayRefuse m (Open job pool media moment) why = inr (
       subst (λ n. n ≤ most_number) (sym h.next_is) low,
       (elim o.cause [
         | inl c ↦ inr (inr (inr (inl c.0)))
-        | inr c ↦ inr (inr (inr (inr c.1)))
+        | inr c ↦ inr (inr (inr (inr (inl c.1))))
       ]),
     ) in
     steps meaning old new m m (Open job pool media moment) (Refused why)
@@ -202,7 +202,7 @@ opens_not {D} meaning old new job pool media moment why m rules low o h =
       sessions = taken_match meaning old w' m o.lane o.before es' takes rules frames h;
     }))
 
-none_reserved : {D : Type 0} (old : WorldView D) (pool media : List ℕ) (why : Refusal) (m : Machine) → m.next ≤ most_number → NoneReserved old pool media why → MayRefuseOpen m why
+none_reserved : {D : Type 0} (old : WorldView D) (pool media : List ℕ) (why : Refusal) (m : Machine) → m.next ≤ most_number → NoneReserved old pool media why → MayRefuse m (Open 0 pool media (pos 0)) why
 none_reserved old pool media why m low (inl c) = inr (low, inl c.1)
 none_reserved old pool media why m low (inr (inl c)) = inr (low, inr (inl c.2))
 none_reserved old pool media why m low (inr (inr c)) = inr (low, inr (inr (inl c.2)))

@@ -15,8 +15,9 @@ use Rattle.sd_drive.specs.View.{DriveIs, items}
 use Rattle.sd_journal.specs.Journal.{Entry, item_of, placements, is_synced, is_purged, purged, live, has_on}
 use Rattle.sd_journal.specs.declared.mark.Mark.TheVariants.{Purged as IsGone}
 use Rattle.sd_machine.specs.Machine.{Machine, Strike}
-use Rattle.sd_machine.specs.Step.{Turns, MayStrike, MayRefusePurge, ArePurges}
+use Rattle.sd_machine.specs.Step.{Turns, MayStrike, MayRefuse, StrikeWith}
 use Rattle.sd_machine.specs.declared.event.Event.TheVariants.{Purge}
+use Rattle.sd_session.specs.declared.status.Status.TheVariants.{Purged as IsPurged}
 use Rattle.sd_machine.specs.declared.reply.Reply.{Reply}
 use Rattle.sd_machine.specs.declared.reply.Reply.TheVariants.{Refused, Purged}
 use Rattle.sd_session.specs.Session.{IsRunning, store_of}
@@ -207,7 +208,7 @@ module _ {D : Type 0} {meaning : D → Meaning} {old new : WorldView D} {drive :
 
   -- the sessions that have a block on the volume are purged, and the machine's with them
   purged_step : (machine : Machine) (reply : Reply) → IsWorld old → Turns machine (Purge drive name) reply machine
-      → ((strikes : List Strike) → ArePurges machine strikes → MayStrike machine (Purge drive name) reply strikes)
+      → ((strikes : List Strike) → StrikeWith IsPurged (λ status. IsRunning status → ⊥) machine strikes → MayStrike machine (Purge drive name) reply strikes)
       → Matches meaning old machine → StepsTo meaning machine old (Purge drive name) reply new
   purged_step machine reply rules turns may h =
       let es' = purged_sessions drive name m.d.journal old.sessions in
@@ -222,7 +223,7 @@ module _ {D : Type 0} {meaning : D → Meaning} {old new : WorldView D} {drive :
 -- nothing changes but the device
 purges_none : {D : Type 0} (meaning : D
     → Meaning) (old new : WorldView D) (drive : ℕ) (name : List ℕ) (why reason : Refusal) (m : Machine) → why ≡ reason
-    → MayRefusePurge reason
+    → MayRefuse m (Purge drive name) reason
     → MayStrike m (Purge drive name) (Refused reason) [] → LeavesVolume meaning old drive name why new → Matches meaning old m
     → StepsTo meaning m old (Purge drive name) (Refused why) new
 purges_none {D} meaning old new drive name why reason m is may strike p h =
@@ -242,7 +243,7 @@ purge_refused meaning old new drive name why m rules (inr (inl p)) h = elim (ref
 ]
 purge_refused meaning old new drive name why m rules (inr (inr (inl p))) h = elim p.none.why_is [
   | inl is ↦ purges_none meaning old new drive name why VolumeNotOnShelf m is (inr (inl refl)) refl p h
-  | inr is ↦ purges_none meaning old new drive name why Memory m is (inr (inr (inr (inr (inr refl))))) refl p h
+  | inr is ↦ purges_none meaning old new drive name why Memory m is (inr (inr (inr (inr (inr (inl refl)))))) refl p h
 ]
 purge_refused meaning old new drive name why m rules (inr (inr (inr p))) h =
     subst (λ r. StepsTo meaning m old (Purge drive name) (Refused r) new) (sym p.0)

@@ -8,7 +8,7 @@ use Rattle.sd_base.specs.declared.refusal.Refusal.TheVariants.{SessionNotOpen, S
 use Rattle.sd_driver.specs.Meaning.{Meaning}
 use Rattle.sd_machine.proofs.Lookups.{chosen, not_closed}
 use Rattle.sd_machine.specs.Machine.{Machine, MachineSession, Strike, failure, session_of, changed}
-use Rattle.sd_machine.specs.Step.{Turns, MayStrike, MayRefuse, MayRefuseSpool, StatusRefused, HasSession}
+use Rattle.sd_machine.specs.Step.{Turns, MayStrike, MayRefuse, RefusedFor, StatusRefused, HasSession}
 use Rattle.sd_machine.specs.declared.event.Event.{Event}
 use Rattle.sd_machine.specs.declared.event.Event.TheVariants.{Append, End, Cancel, Spool, Media}
 use Rattle.sd_machine.specs.declared.reply.Reply.{Reply}
@@ -61,7 +61,7 @@ append_taken meaning old new ticket r n m rules moves h =
     (subst StoreIsTrue (ap store_of takes.is))
     (takes_record meaning old e moves.1 s r n takes f.matches)
     (λ c. absurd (cc (sym c ∙ f.matches.status_is ∙ takes.active)))
-    (s, f.there, f.matches.status_is ∙ takes.active, machine_may_take meaning old e s r f.matches takes.may_take, takes.number ∙ ap (λ k. k + 1) (sym f.matches.count_is), refl)
+    (s, f.there, f.matches.status_is ∙ takes.active, (machine_may_take meaning old e s r f.matches takes.may_take, takes.number ∙ ap (λ k. k + 1) (sym f.matches.count_is), refl))
     refl
 
 append_refused : {D : Type 0} (meaning : D → Meaning) (old : WorldView D) (ticket : ℕ) (r : Record) (why : Refusal) (m : Machine)
@@ -73,7 +73,7 @@ append_refused meaning old ticket r why m refused h =
       | inl c ↦ inl (inr (s, there, (λ active. c.0 (sym match.status_is ∙ active)), c.1 ∙ ap status_refusal (sym match.status_is)))
       | inr (inl c) ↦ inr (inl (s, there, match.status_is ∙ c.0, ((λ may. c.1 (world_may_take meaning old e s r match may)), c.2)))
       | inr (inr (inl c)) ↦ inr (inr (s, there, match.status_is ∙ c.0, (machine_may_take meaning old e s r match c.1, inl c.3)))
-      | inr (inr (inr c)) ↦ inr (inr (s, there, match.status_is ∙ c.0, (machine_may_take meaning old e s r match c.1, inr c.3)))
+      | inr (inr (inr c)) ↦ inr (inr (s, there, match.status_is ∙ c.0, (machine_may_take meaning old e s r match c.1, inr (inl c.3))))
     ])
     refused
 
@@ -108,7 +108,7 @@ end_refused meaning old ticket moment why m refused h =
     (λ none is. inl (inl (none, is)))
     (λ e s there match causes. elim causes [
       | inl c ↦ inl (inr (s, there, (λ active. c.0 (sym match.status_is ∙ active)), c.1 ∙ ap status_refusal (sym match.status_is)))
-      | inr c ↦ inr (s, there, match.status_is ∙ c.0, c.1)
+      | inr c ↦ inr (s, there, match.status_is ∙ c.0, inl c.1)
     ])
     refused
 
@@ -169,7 +169,7 @@ media_refused meaning old ticket why m refused h =
     (λ none is. inl (none, is))
     (λ e s there match causes. elim causes [
       | inl c ↦ inr (s, there, inl c.5)
-      | inr c ↦ inr (s, there, inr c.4)
+      | inr c ↦ inr (s, there, inr (inl c.4))
     ])
     refused
 
@@ -319,7 +319,7 @@ SpoolCauses why e v =
 pub refused_with : {D : Type 0} (meaning : D → Meaning) (old new : WorldView D) (m : Machine) (ticket : ℕ) (why : Refusal) (event : Event) (change : SessionView → SessionView → Type 0)
     → IsWorld old → Matches meaning old m → RefusedWith old ticket why new change
     → ((e : WorldSession) (v : SessionView) → change e.session v → SpoolCauses why e v)
-    → ((r : Refusal) → MayRefuseSpool m ticket r → MayRefuse m event r)
+    → ((r : Refusal) → RefusedFor (SpoolFault ∷ Memory ∷ []) IsRunning m ticket r → MayRefuse m event r)
     → ((strikes : List Strike) → strikes ≡ failure ticket ∷ [] → MayStrike m event (Refused SpoolFault) strikes)
     → MayStrike m event (Refused SessionNotOpen) [] → MayStrike m event (Refused SessionCancelled) [] → MayStrike m event (Refused SessionFailed) [] → MayStrike m event (Refused Memory) []
     → StepsTo meaning m old event (Refused why) new
@@ -341,7 +341,7 @@ refused_with {D} meaning old new m ticket why event change rules h (inr r) cases
           (spool_fails meaning old new m ticket e v c.0 event rules h r.2 r.4 c.1 c.3 (λ s there runs. may SpoolFault (inr (s, there, runs, inl refl))) fault)
       | inr (inr c) ↦
           subst (λ x. StepsTo meaning m old event (Refused x) new) (sym c.1)
-          (stays meaning old new m event (Refused Memory) (may Memory (inr (f.session, f.there, subst IsRunning (sym f.matches.status_is) c.0, inr refl)), refl) memory h
+          (stays meaning old new m event (Refused Memory) (may Memory (inr (f.session, f.there, subst IsRunning (sym f.matches.status_is) c.0, inr (inl refl))), refl) memory h
           (session_same old new ticket e v r.2 r.4 c.2))
     ]
 

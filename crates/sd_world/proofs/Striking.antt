@@ -7,7 +7,7 @@ use Rattle.sd_base.specs.declared.number.SessionKey.{SessionKey}
 use Rattle.sd_driver.specs.Meaning.{Meaning}
 use Rattle.sd_machine.proofs.Lookups.{chosen}
 use Rattle.sd_machine.specs.Machine.{Machine, MachineSession, Strike, failure, purging, failed_status, status_after, struck, with_strikes}
-use Rattle.sd_machine.specs.Step.{Step, Turns, MayStrike, AreFailures, ArePurges}
+use Rattle.sd_machine.specs.Step.{Step, Turns, MayStrike, StrikeWith}
 use Rattle.sd_machine.specs.declared.event.Event.{Event}
 use Rattle.sd_machine.specs.declared.reply.Reply.{Reply}
 use Rattle.sd_pack.specs.Body.{PackedBody}
@@ -420,7 +420,7 @@ all_struck P meaning w w' time least next (e ∷ es) (e' ∷ es') rise h =
 -- the machine's sessions are struck so
 pub machine_failures : {D : Type 0} (meaning : D → Meaning) (w : WorldView D) (m : Machine) (strikes : List Strike)
     → Matches meaning w m → AllStruck IsFailure w.sessions strikes
-    → AreFailures m strikes
+    → StrikeWith Failed IsRunning m strikes
 machine_failures meaning w m [] h all = tt
 machine_failures meaning w m (x ∷ xs) h all =
     let f = found_session meaning w x.ticket w.sessions m.sessions all.0.0 h.sessions all.0.1 in
@@ -428,7 +428,7 @@ machine_failures meaning w m (x ∷ xs) h all =
 
 pub machine_purges : {D : Type 0} (meaning : D → Meaning) (w : WorldView D) (m : Machine) (strikes : List Strike)
     → Matches meaning w m → AllStruck IsPurge w.sessions strikes
-    → ArePurges m strikes
+    → StrikeWith Purged (λ status. IsRunning status → ⊥) m strikes
 machine_purges meaning w m [] h all = tt
 machine_purges meaning w m (x ∷ xs) h all =
     let f = found_session meaning w x.ticket w.sessions m.sessions all.0.0 h.sessions all.0.1 in

@@ -2,14 +2,14 @@
 use Rattle.std.specs.Prelude.{◌≡◌, ℕ, None, IsSome, [], Ok}
 use Rattle.sd_base.specs.declared.refusal.Refusal.TheVariants.{DeviceFault, Memory}
 use Rattle.sd_driver.specs.Meaning.{Meaning}
-use Rattle.sd_drive.specs.Moves.{Places, Unmounts}
+use Rattle.sd_drive.specs.Moves.{Places, Unmounts, NeedsNone}
 use Rattle.sd_drive.specs.declared.place.Placed.TheVariants as place
 use Rattle.sd_machine.specs.declared.event.Event.{Event}
 use Rattle.sd_machine.specs.declared.event.Event.TheVariants.{Take, Place, Sync, Label, Adopt, Mount, Unmount, Seek}
 use Rattle.sd_machine.specs.declared.reply.Reply.{Reply}
 use Rattle.sd_machine.specs.declared.reply.Reply.TheVariants.{Refused, InHand, HandFull, Idle, Placed, NeedVolume, VolumeFull, VolumeError, Synced, Labelled, Adopted, Mounted, Unmounted, Requested, NoNeed}
 use Rattle.sd_world.specs.Stations.{Station, Outcome, stays, CallsDrive, TakesPiece, PlacesAt, FindsFull, FindsError, PlacesNone, SyncsLoaded, LosesBlocks}
-use Rattle.sd_world.specs.Operators.{LabelsVolume, LabelRefused, AdoptsAt, AdoptRefused, MountsAt, MountRefused, NeedsNone, NextIs, AsksFor, SeekRefused}
+use Rattle.sd_world.specs.Operators.{LabelsVolume, LabelRefused, AdoptsAt, AdoptRefused, MountsAt, MountRefused, NextIs, AsksFor, SeekRefused}
 
 -- At the drive of the number `own` the event is answered so, which leaves that. There is nothing for any other pair of
 -- event and reply. `meaning` tells what a device is.

@@ -165,10 +165,6 @@ MountRefused meaning name why s o = ((mount_due s.drive name ≡ Some why) × (o
 
 -- Seeking.
 
--- the drive needs no volume: the loaded one takes blocks of its pool, or it never had a session
-abbrev pub NeedsNone : {D : Type 0} → DriveIs D → Type 0
-NeedsNone d = TakesBlocks d ⊎ (d.pool ≡ None)
-
 -- the first of the drive's volumes that takes blocks of its pool has this name, and isn't the loaded one
 abbrev pub NextIs : {D : Type 0} → List ℕ → DriveIs D → Type 0
 NextIs name d = (TakesBlocks d → ⊥) × (pool : List ℕ) × (d.pool ≡ Some pool)

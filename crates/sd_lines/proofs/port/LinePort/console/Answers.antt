@@ -9,5 +9,5 @@ pub invariant_of-self : goal.invariant_of-self
 invariant_of-self g c =
     let old = last_of c.self.inside.held in
     let new = last_of c.obey_line-answer.new.held in
-    keeps_still c.self.inside.log (Said (to_z w64 (of_z w64 c.self.inside.moment)) c.args.line.now c.obey_line-answer.result) old new c.self.invariant (gives_up_told old new c.obey_line-answer.ensures.own) (λ so_far. refl)
+    keeps_still c.self.inside.exchanges (Said (to_z w64 (of_z w64 c.self.inside.moment)) c.args.line.now c.obey_line-answer.result) old new c.self.invariant (gives_up_told old new c.obey_line-answer.ensures.own) (λ so_far. refl)
     ∙ ap taken_last (sym c.said.ensures)

@@ -1,7 +1,7 @@
 -- One question more.
 use Rattle.std.proofs.Common.{◌≡◌, List, [], ◌∷◌, ◌++◌, refl, ap}
 use Rattle.sd_append.specs.Seen.{exchange_of, asked_of}
-use Rattle.sd_append.specs.declared.log.Seen.{Seen}
+use Rattle.sd_append.specs.declared.exchanges.Seen.{Seen}
 
 -- what was seen last is the last exchange
 pub asked_more : (xs : List Seen) (x : Seen) → asked_of (xs ++ x ∷ []) ≡ asked_of xs ++ exchange_of x ∷ []

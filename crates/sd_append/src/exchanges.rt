@@ -22,11 +22,11 @@ pub(crate) enum Seen {
 /// What a port was asked so far, with the answers, for its `asked`. In a contract it is that list; it takes no
 /// memory.
 #[derive(Drop)]
-pub struct Log {
+pub struct Exchanges {
     seen: Shown<Seen>,
 }
 
-impl Model for Log {
+impl Model for Exchanges {
     ghost use Rattle.std.specs.Prelude.{List};
     ghost use Rattle.sd_append.specs.Port.{Exchange};
     ghost use Rattle.sd_append.specs.Seen.{asked_of};
@@ -36,28 +36,28 @@ impl Model for Log {
     ghost view = { λ l. asked_of l.seen };
 }
 
-impl Log {
+impl Exchanges {
     pub fn new() -> Self
         ensures { result ≡ [] }
     {
-        Log {
+        Exchanges {
             seen: Shown::nothing(),
         }
     }
 
-    /// The log with an event and its reply.
-    #[tactic(auto, using(crate::proofs::LogLemmas::asked_more))]
+    /// These with an event and its reply.
+    #[tactic(auto, using(crate::proofs::ExchangeLemmas::asked_more))]
     pub fn stepped(&self, event: Snapshot<Event>, reply: &Reply) -> Self
         ensures { result ≡ self.now ++ Stepped event.value reply.now ∷ [] }
     {
         let seen = Seen::Stepped(event, Snapshot::of(reply));
-        Log {
+        Exchanges {
             seen: self.seen.with(&seen),
         }
     }
 
-    /// The log with a session that was read back, and the records that were handed over.
-    #[tactic(auto, using(crate::proofs::LogLemmas::asked_more))]
+    /// These with a session that was read back, and the records that were handed over.
+    #[tactic(auto, using(crate::proofs::ExchangeLemmas::asked_more))]
     pub fn was_read(
         &self,
         key: SessionKey,
@@ -68,18 +68,18 @@ impl Log {
         ensures { result ≡ self.now ++ WasRead key spans.now records answer.now ∷ [] }
     {
         let seen = Seen::WasRead(key, Shown::of(spans), records, Snapshot::of(answer));
-        Log {
+        Exchanges {
             seen: self.seen.with(&seen),
         }
     }
 
-    /// The log with a console's line that was said at this moment.
-    #[tactic(auto, using(crate::proofs::LogLemmas::asked_more))]
+    /// These with a console's line that was said at this moment.
+    #[tactic(auto, using(crate::proofs::ExchangeLemmas::asked_more))]
     pub fn said(&self, moment: i64, line: &[u8], answer: &Result<Items<Payload>, Refusal>) -> Self
         ensures { result ≡ self.now ++ Said moment line.now answer.now ∷ [] }
     {
         let seen = Seen::Said(moment, Shown::of(line), Snapshot::of(answer));
-        Log {
+        Exchanges {
             seen: self.seen.with(&seen),
         }
     }
