@@ -90,7 +90,7 @@ impl<R: Wait + Clock, L: Write> Heard<'_, R, L> {
     pub fn reply(&mut self, about: About, reply: &Reply) {
         match reply {
             Reply::Opened { ticket, drive } => self.opened(about, ticket.get(), drive.get()),
-            Reply::TakenAmount { count } => self.took(about, *count),
+            Reply::Taken { count } => self.took(about, *count),
             Reply::Closed { .. } => self.closed(about),
             Reply::Cancelled => {
                 if let About::Cancel(ticket) = about {
