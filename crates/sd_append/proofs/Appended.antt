@@ -9,8 +9,8 @@ use Rattle.sd_bnet.specs.declared.packet.Packet.{Packet}
 use Rattle.sd_bnet.specs.declared.packet.Packet.TheVariants.{Bytes}
 use Rattle.sd_words.specs.Lines.{line}
 use Rattle.sd_append.specs.Talk.{said}
-use Rattle.sd_append.specs.declared.line.Line.{Line}
-use Rattle.sd_append.specs.declared.line.Line.TheVariants as lines
+use Rattle.sd_append.specs.declared.line.ReplyLine.{ReplyLine}
+use Rattle.sd_append.specs.declared.line.ReplyLine.TheVariants as lines
 use Rattle.sd_append.specs.Laws.{AppendedIsTaken}
 use Rattle.sd_append.specs.Phases.{AreTaken, AskFor, BecomesOf}
 
@@ -46,9 +46,9 @@ other_digit : (a b : ℕ) → a ≡ b → a + 9 ≡ b → ⊥
 other_digit a b same more = omega arith
 
 -- so none is the line that accepts
-no_refusal : (refusal : Refusal) (answer : Line) → answer ≡ lines.Refused refusal → said answer ≡ said lines.Appended → ⊥
+no_refusal : (refusal : Refusal) (answer : ReplyLine) → answer ≡ lines.Refused refusal → said answer ≡ said lines.Appended → ⊥
 no_refusal refusal answer is same =
-    other_digit 48 57 (sym (ap second_byte same) ∙ ap (λ (l : Line). second_byte (said l)) is ∙ refusal_begins refusal) refl
+    other_digit 48 57 (sym (ap second_byte same) ∙ ap (λ (l : ReplyLine). second_byte (said l)) is ∙ refusal_begins refusal) refl
 
 second_is : (a b c d : Packet) → a ∷ b ∷ [] ≡ c ∷ d ∷ [] → b ≡ d
 second_is a b c d e = cc

@@ -13,17 +13,17 @@ use Rattle.sd_machine.specs.declared.reply.Reply.TheVariants as replies
 use Rattle.sd_append.specs.Conversation.{Converses, GivesUpLast}
 use Rattle.sd_append.specs.Header.{HeaderParts}
 use Rattle.sd_append.specs.Port.{Exchange, Stepped}
-use Rattle.sd_append.specs.Stage.{by_open, by_reply, is_running, is_taken, meaning_of, own_of, own_with, refusal_in}
+use Rattle.sd_append.specs.TalkStage.{by_open, by_reply, is_running, is_taken, meaning_of, own_of, own_with, refusal_in}
 use Rattle.sd_append.specs.Text.{trimmed}
 use Rattle.sd_append.specs.Talk.{AppendsIf, Drops, GivesUpIf, Obeys, ObeysClose, ObeysData, ObeysEnd, ObeysOpen, Only, ReadsBack, Takes, TakesBytes, TakesCommand, TakesEnd, TakesHeader, TakesRecordPacket, TakesSignal, TakesSpan, is_one_line, poll_said, refused, said}
 use Rattle.sd_append.specs.declared.command.Command.{Command as Asked}
 use Rattle.sd_append.specs.declared.command.Command.TheVariants as commands
-use Rattle.sd_append.specs.declared.line.Line.TheVariants as lines
+use Rattle.sd_append.specs.declared.line.ReplyLine.TheVariants as lines
 use Rattle.sd_append.specs.declared.signal.Meaning.{Meaning}
 use Rattle.sd_append.specs.declared.signal.Meaning.TheVariants.{EndOfData, Terminate, Poll, Other}
 use Rattle.sd_append.specs.declared.stage.Own.{Own}
-use Rattle.sd_append.specs.declared.stage.Stage.{Stage}
-use Rattle.sd_append.specs.declared.stage.Stage.TheVariants.{Command, Header, Records, Refused, Dropped, Spans, BadSpans, Over}
+use Rattle.sd_append.specs.declared.stage.TalkStage.{TalkStage}
+use Rattle.sd_append.specs.declared.stage.TalkStage.TheVariants.{Command, Header, Records, Refused, Dropped, Spans, BadSpans, Over}
 use Rattle.sd_append.specs.Sessions.{IsGivenUp, Known, LastIsGivenUp, MayAsk, goes_on_by, known_behind, known_by, known_by_event, known_by_open, none_opened}
 
 -- what is known of a session, as the code keeps it
@@ -119,13 +119,13 @@ named (Some own) (Some ticket) = by (own.ticket == ticket) refl
 -- Steps.
 
 -- one that asks nothing
-only_tells : (moment : ℤ) (own : Option Own) (says : List Packet) (next : Stage) (asked : List Exchange) (out : List Packet) (new : Stage) → own_of next ≡ own
+only_tells : (moment : ℤ) (own : Option Own) (says : List Packet) (next : TalkStage) (asked : List Exchange) (out : List Packet) (new : TalkStage) → own_of next ≡ own
     → Only says next asked out new → Tells moment (known_in own) asked (known_in (own_of new))
 only_tells moment own says next asked out new same only =
     subst (λ (l : List Exchange). Tells moment (known_in own) l (known_in (own_of new))) (sym only.0) (ap known_in (ap own_of only.2 ∙ same))
 
 -- an event of its own
-own_tells : (moment : ℤ) (it : Own) (own : Option Own) (event : Event) (reply : Reply) (asked : List Exchange) (new : Stage) → own ≡ Some it
+own_tells : (moment : ℤ) (it : Own) (own : Option Own) (event : Event) (reply : Reply) (asked : List Exchange) (new : TalkStage) → own ≡ Some it
     → MayAsk moment (known_in (Some it)) event → known_by_event (known_in (Some it)) event reply ≡ known_in (Some (by_reply it reply))
     → asked ≡ Stepped event reply ∷ [] → own_of new ≡ Some (by_reply it reply) → Tells moment (known_in own) asked (known_in (own_of new))
 own_tells moment it own event reply asked new is may known asked_is new_is =
@@ -140,25 +140,25 @@ given_tells moment true own left asked gives =
 given_tells moment false own left asked gives =
     subst (λ (l : List Exchange). Tells moment (known_in (Some own)) l (known_in (Some left))) (sym gives.0) (ap (λ (o : Own). known_in (Some o)) gives.1)
 
-drops_tell : (moment : ℤ) (own : Own) (refusal : Refusal) (asked : List Exchange) (out : List Packet) (new : Stage) → Drops own refusal asked out new
+drops_tell : (moment : ℤ) (own : Own) (refusal : Refusal) (asked : List Exchange) (out : List Packet) (new : TalkStage) → Drops own refusal asked out new
     → Tells moment (known_in (Some own)) asked (known_in (own_of new))
 drops_tell moment own refusal asked out new d =
-    subst (λ (s : Stage). Tells moment (known_in (Some own)) asked (known_in (own_of s))) (sym d.new_is) (given_tells moment own.runs own d.left asked d.gives_up)
+    subst (λ (s : TalkStage). Tells moment (known_in (Some own)) asked (known_in (own_of s))) (sym d.new_is) (given_tells moment own.runs own d.left asked d.gives_up)
 
 -- Commands.
 
-open_tells : (moment : ℤ) (running : Bool) (own : Option Own) (job : ℕ) (pool media : List ℕ) (asked : List Exchange) (out : List Packet) (new : Stage) → is_running own ≡ running
+open_tells : (moment : ℤ) (running : Bool) (own : Option Own) (job : ℕ) (pool media : List ℕ) (asked : List Exchange) (out : List Packet) (new : TalkStage) → is_running own ≡ running
     → ObeysOpen moment running own job pool media asked out new → Tells moment (known_in own) asked (known_in (own_of new))
 open_tells moment true own job pool media asked out new is obeys = only_tells moment own (refused refusals.BadCommand ∷ []) (Command own) asked out new refl obeys
 open_tells moment false own job pool media asked out new is obeys =
     subst (λ (l : List Exchange). Tells moment (known_in own) l (known_in (own_of new))) (sym obeys.1)
-    ((refl, running_known own ∙ is), ap (λ (s : Stage). known_in (own_of s)) obeys.3 ∙ open_known own obeys.0)
+    ((refl, running_known own ∙ is), ap (λ (s : TalkStage). known_in (own_of s)) obeys.3 ∙ open_known own obeys.0)
 
-unnamed_tells : (moment : ℤ) (own : Option Own) (asked : List Exchange) (out : List Packet) (new : Stage) → Only (refused refusals.SessionNotOpen ∷ []) (Command own) asked out new
+unnamed_tells : (moment : ℤ) (own : Option Own) (asked : List Exchange) (out : List Packet) (new : TalkStage) → Only (refused refusals.SessionNotOpen ∷ []) (Command own) asked out new
     → Tells moment (known_in own) asked (known_in (own_of new))
 unnamed_tells moment own asked out new only = only_tells moment own (refused refusals.SessionNotOpen ∷ []) (Command own) asked out new refl only
 
-data_tells : (moment : ℤ) (own : Option Own) (ticket : Option ℕ) (asked : List Exchange) (out : List Packet) (new : Stage) → ObeysData (own_with own ticket) asked out new
+data_tells : (moment : ℤ) (own : Option Own) (ticket : Option ℕ) (asked : List Exchange) (out : List Packet) (new : TalkStage) → ObeysData (own_with own ticket) asked out new
     → Tells moment (known_in own) asked (known_in (own_of new))
 data_tells moment own ticket asked out new obeys = elim (named own ticket) [
   | inl n ↦ only_tells moment own (said lines.Data ∷ []) (Header n.0) asked out new (sym n.1.own_is)
@@ -166,7 +166,7 @@ data_tells moment own ticket asked out new obeys = elim (named own ticket) [
   | inr n ↦ unnamed_tells moment own asked out new (subst (λ (w : Result Own (Option Own)). ObeysData w asked out new) n.with_is obeys)
 ]
 
-end_tells : (moment : ℤ) (own : Option Own) (ticket : Option ℕ) (asked : List Exchange) (out : List Packet) (new : Stage) → ObeysEnd moment (own_with own ticket) asked out new
+end_tells : (moment : ℤ) (own : Option Own) (ticket : Option ℕ) (asked : List Exchange) (out : List Packet) (new : TalkStage) → ObeysEnd moment (own_with own ticket) asked out new
     → Tells moment (known_in own) asked (known_in (own_of new))
 end_tells moment own ticket asked out new obeys = elim (named own ticket) [
   | inl n ↦ (let o : ObeysEnd moment (Ok n.0) asked out new = subst (λ (w : Result Own (Option Own)). ObeysEnd moment w asked out new) n.1.with_is obeys in
@@ -174,7 +174,7 @@ end_tells moment own ticket asked out new obeys = elim (named own ticket) [
   | inr n ↦ unnamed_tells moment own asked out new (subst (λ (w : Result Own (Option Own)). ObeysEnd moment w asked out new) n.with_is obeys)
 ]
 
-close_tells : (moment : ℤ) (own : Option Own) (ticket : Option ℕ) (asked : List Exchange) (out : List Packet) (new : Stage) → ObeysClose (own_with own ticket) asked out new
+close_tells : (moment : ℤ) (own : Option Own) (ticket : Option ℕ) (asked : List Exchange) (out : List Packet) (new : TalkStage) → ObeysClose (own_with own ticket) asked out new
     → Tells moment (known_in own) asked (known_in (own_of new))
 close_tells moment own ticket asked out new obeys = elim (named own ticket) [
   | inl n ↦ (let o : ObeysClose (Ok n.0) asked out new = subst (λ (w : Result Own (Option Own)). ObeysClose w asked out new) n.1.with_is obeys in
@@ -182,7 +182,7 @@ close_tells moment own ticket asked out new obeys = elim (named own ticket) [
   | inr n ↦ unnamed_tells moment own asked out new (subst (λ (w : Result Own (Option Own)). ObeysClose w asked out new) n.with_is obeys)
 ]
 
-obeys_tell : (moment : ℤ) (own : Option Own) (command : Asked) (asked : List Exchange) (out : List Packet) (new : Stage) → Obeys moment own command asked out new
+obeys_tell : (moment : ℤ) (own : Option Own) (command : Asked) (asked : List Exchange) (out : List Packet) (new : TalkStage) → Obeys moment own command asked out new
     → Tells moment (known_in own) asked (known_in (own_of new))
 obeys_tell moment own (commands.Open job pool media) asked out new obeys = open_tells moment (is_running own) own job pool media asked out new refl obeys
 obeys_tell moment own (commands.Data ticket) asked out new obeys = data_tells moment own ticket asked out new obeys
@@ -190,9 +190,9 @@ obeys_tell moment own (commands.End ticket) asked out new obeys = end_tells mome
 obeys_tell moment own (commands.Close ticket) asked out new obeys = close_tells moment own ticket asked out new obeys
 obeys_tell moment own (commands.Read key) asked out new obeys = only_tells moment own [] (Spans own _) asked out new refl obeys
 obeys_tell moment own (commands.Console text) asked out new obeys =
-    subst (λ (l : List Exchange). Tells moment (known_in own) l (known_in (own_of new))) (sym obeys.1) (tt, ap (λ (s : Stage). known_in (own_of s)) obeys.3)
+    subst (λ (l : List Exchange). Tells moment (known_in own) l (known_in (own_of new))) (sym obeys.1) (tt, ap (λ (s : TalkStage). known_in (own_of s)) obeys.3)
 
-command_tells : (moment : ℤ) (own : Option Own) (bytes : List ℕ) (asked : List Exchange) (out : List Packet) (new : Stage) → TakesCommand moment own bytes asked out new
+command_tells : (moment : ℤ) (own : Option Own) (bytes : List ℕ) (asked : List Exchange) (out : List Packet) (new : TalkStage) → TakesCommand moment own bytes asked out new
     → Tells moment (known_in own) asked (known_in (own_of new))
 command_tells moment own bytes asked out new (inl (command, spells, obeys)) = obeys_tell moment own command asked out new obeys
 command_tells moment own bytes asked out new (inr (inl (command, shape, none, only))) =
@@ -201,19 +201,19 @@ command_tells moment own bytes asked out new (inr (inr (none, only))) = only_tel
 
 -- Phases.
 
-header_tells : (moment : ℤ) (own : Own) (bytes : List ℕ) (asked : List Exchange) (out : List Packet) (new : Stage) → TakesHeader own bytes asked out new
+header_tells : (moment : ℤ) (own : Own) (bytes : List ℕ) (asked : List Exchange) (out : List Packet) (new : TalkStage) → TakesHeader own bytes asked out new
     → Tells moment (known_in (Some own)) asked (known_in (own_of new))
 header_tells moment own bytes asked out new (inl (header, form, only)) = only_tells moment (Some own) [] (Records own header) asked out new refl only
 header_tells moment own bytes asked out new (inr (none, drops)) = drops_tell moment own refusals.BadFileIndex asked out new drops
 
-appends_tell : (moment : ℤ) (own : Own) (header : HeaderParts) (reply : Reply) (taken : Bool) (asked : List Exchange) (out : List Packet) (new : Stage) → is_taken reply ≡ taken
+appends_tell : (moment : ℤ) (own : Own) (header : HeaderParts) (reply : Reply) (taken : Bool) (asked : List Exchange) (out : List Packet) (new : TalkStage) → is_taken reply ≡ taken
     → AppendsIf taken own header reply asked out new → Tells moment (known_in (Some (by_reply own reply))) asked (known_in (own_of new))
 appends_tell moment own header reply true asked out new is only =
     let t = taken_is reply is in
     only_tells moment (Some (by_reply own reply)) [] (Records own header) asked out new (sym (ap (λ (r : Reply). Some (by_reply own r)) t.1)) only
 appends_tell moment own header reply false asked out new is drops = drops_tell moment (by_reply own reply) (refusal_in reply) asked out new drops
 
-record_tells : (moment : ℤ) (own : Own) (header : HeaderParts) (bytes : List ℕ) (asked : List Exchange) (out : List Packet) (new : Stage) → TakesRecordPacket own header bytes asked out new
+record_tells : (moment : ℤ) (own : Own) (header : HeaderParts) (bytes : List ℕ) (asked : List Exchange) (out : List Packet) (new : TalkStage) → TakesRecordPacket own header bytes asked out new
     → Tells moment (known_in (Some own)) asked (known_in (own_of new))
 record_tells moment own header bytes asked out new t =
     subst (λ (l : List Exchange). Tells moment (known_in (Some own)) l (known_in (own_of new))) (sym t.asked_is) (
@@ -222,23 +222,23 @@ record_tells moment own header bytes asked out new t =
           (appends_tell moment own header t.reply (is_taken t.reply) t.more out new refl t.behind_it),
     )
 
-span_tells : (moment : ℤ) (plain : Bool) (own : Option Own) (text more : List ℕ) (asked : List Exchange) (out : List Packet) (new : Stage) → TakesSpan plain own text more asked out new
+span_tells : (moment : ℤ) (plain : Bool) (own : Option Own) (text more : List ℕ) (asked : List Exchange) (out : List Packet) (new : TalkStage) → TakesSpan plain own text more asked out new
     → Tells moment (known_in own) asked (known_in (own_of new))
 span_tells moment true own text more asked out new (inl (is, only)) = only_tells moment own [] (Spans own _) asked out new refl only
 span_tells moment true own text more asked out new (inr (inl (none, only))) = only_tells moment own [] (BadSpans own refusals.BadSpan) asked out new refl only
 span_tells moment true own text more asked out new (inr (inr only)) = only_tells moment own [] (BadSpans own refusals.Memory) asked out new refl only
 span_tells moment false own text more asked out new only = only_tells moment own [] (BadSpans own refusals.BadSpan) asked out new refl only
 
-reads_tell : (moment : ℤ) (own : Option Own) (text : List ℕ) (asked : List Exchange) (out : List Packet) (new : Stage) → ReadsBack own text asked out new
+reads_tell : (moment : ℤ) (own : Option Own) (text : List ℕ) (asked : List Exchange) (out : List Packet) (new : TalkStage) → ReadsBack own text asked out new
     → Tells moment (known_in own) asked (known_in (own_of new))
 reads_tell moment own text asked out new (inl (key, spans, records, answer, is, asked_is, out_is, new_is)) =
-    subst (λ (l : List Exchange). Tells moment (known_in own) l (known_in (own_of new))) (sym asked_is) (tt, ap (λ (s : Stage). known_in (own_of s)) new_is)
+    subst (λ (l : List Exchange). Tells moment (known_in own) l (known_in (own_of new))) (sym asked_is) (tt, ap (λ (s : TalkStage). known_in (own_of s)) new_is)
 reads_tell moment own text asked out new (inr (inl (none, only))) = only_tells moment own _ (Command own) asked out new refl only
 reads_tell moment own text asked out new (inr (inr only)) = only_tells moment own _ (Command own) asked out new refl only
 
 -- Packets.
 
-bytes_tell : (moment : ℤ) (old : Stage) (bytes : List ℕ) (asked : List Exchange) (out : List Packet) (new : Stage) → TakesBytes moment old bytes asked out new
+bytes_tell : (moment : ℤ) (old : TalkStage) (bytes : List ℕ) (asked : List Exchange) (out : List Packet) (new : TalkStage) → TakesBytes moment old bytes asked out new
     → Tells moment (known_in (own_of old)) asked (known_in (own_of new))
 bytes_tell moment (Command own) bytes asked out new t = command_tells moment own bytes asked out new t
 bytes_tell moment (Header own) bytes asked out new t = header_tells moment own bytes asked out new t
@@ -249,7 +249,7 @@ bytes_tell moment (Spans own text) bytes asked out new t = span_tells moment (is
 bytes_tell moment (BadSpans own refusal) bytes asked out new t = only_tells moment own [] (BadSpans own refusal) asked out new refl t
 bytes_tell moment (Over own) bytes asked out new t = only_tells moment own [] (Over own) asked out new refl t
 
-end_of_data_tells : (moment : ℤ) (old : Stage) (asked : List Exchange) (out : List Packet) (new : Stage) → TakesEnd old asked out new
+end_of_data_tells : (moment : ℤ) (old : TalkStage) (asked : List Exchange) (out : List Packet) (new : TalkStage) → TakesEnd old asked out new
     → Tells moment (known_in (own_of old)) asked (known_in (own_of new))
 end_of_data_tells moment (Command own) asked out new t = only_tells moment own [] (Command own) asked out new refl t
 end_of_data_tells moment (Header own) asked out new t = only_tells moment (Some own) _ (Command (Some own)) asked out new refl t
@@ -260,22 +260,22 @@ end_of_data_tells moment (Spans own text) asked out new t = reads_tell moment ow
 end_of_data_tells moment (BadSpans own refusal) asked out new t = only_tells moment own _ (Command own) asked out new refl t
 end_of_data_tells moment (Over own) asked out new t = only_tells moment own [] (Over own) asked out new refl t
 
-signal_tells : (moment : ℤ) (meaning : Meaning) (old : Stage) (asked : List Exchange) (out : List Packet) (new : Stage) → TakesSignal meaning old asked out new
+signal_tells : (moment : ℤ) (meaning : Meaning) (old : TalkStage) (asked : List Exchange) (out : List Packet) (new : TalkStage) → TakesSignal meaning old asked out new
     → Tells moment (known_in (own_of old)) asked (known_in (own_of new))
 signal_tells moment EndOfData old asked out new t = end_of_data_tells moment old asked out new t
 signal_tells moment Terminate old asked out new t = only_tells moment (own_of old) [] (Over (own_of old)) asked out new refl t
 signal_tells moment Poll old asked out new t = only_tells moment (own_of old) (poll_said old) old asked out new refl t
 signal_tells moment Other old asked out new t = only_tells moment (own_of old) [] old asked out new refl t
 
-pub takes_tell : (moment : ℤ) (old : Stage) (packet : Packet) (asked : List Exchange) (out : List Packet) (new : Stage) → Takes moment old packet asked out new
+pub takes_tell : (moment : ℤ) (old : TalkStage) (packet : Packet) (asked : List Exchange) (out : List Packet) (new : TalkStage) → Takes moment old packet asked out new
     → Tells moment (known_in (own_of old)) asked (known_in (own_of new))
 takes_tell moment old (Bytes bytes) asked out new t = bytes_tell moment old bytes asked out new t
 takes_tell moment old (Signal number) asked out new t = signal_tells moment (meaning_of number) old asked out new t
 
-pub converses_tell : (moment : ℤ) (old : Stage) (packets : List Packet) (asked : List Exchange) (out : List Packet) (new : Stage) → Converses moment old packets asked out new
+pub converses_tell : (moment : ℤ) (old : TalkStage) (packets : List Packet) (asked : List Exchange) (out : List Packet) (new : TalkStage) → Converses moment old packets asked out new
     → Tells moment (known_in (own_of old)) asked (known_in (own_of new))
 converses_tell moment old [] asked out new (none, said_is, stands) =
-    subst (λ (l : List Exchange). Tells moment (known_in (own_of old)) l (known_in (own_of new))) (sym none) (ap (λ (s : Stage). known_in (own_of s)) stands)
+    subst (λ (l : List Exchange). Tells moment (known_in (own_of old)) l (known_in (own_of new))) (sym none) (ap (λ (s : TalkStage). known_in (own_of s)) stands)
 converses_tell moment old (packet ∷ packets) asked out new (between, first, more, says, later, takes, rest, asked_is, out_is) =
     subst (λ (l : List Exchange). Tells moment (known_in (own_of old)) l (known_in (own_of new))) (sym asked_is)
     (tells_append moment first more (known_in (own_of old)) (known_in (own_of between)) (known_in (own_of new))

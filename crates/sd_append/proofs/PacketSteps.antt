@@ -13,15 +13,15 @@ use Rattle.sd_words.specs.Lines.{line}
 use Rattle.sd_append.specs.Command.{SpellsCommand}
 use Rattle.sd_append.specs.Header.{HeaderParts}
 use Rattle.sd_append.specs.Port.{Exchange, Stepped}
-use Rattle.sd_append.specs.Stage.{by_reply, is_running, is_taken, own_of, own_with, refusal_in}
+use Rattle.sd_append.specs.TalkStage.{by_reply, is_running, is_taken, own_of, own_with, refusal_in}
 use Rattle.sd_append.specs.Talk.{AppendsIf, Drops, Obeys, ObeysClose, ObeysData, ObeysEnd, ObeysOpen, Only, TakesBytes, TakesCommand, TakesHeader, TakesRecordPacket, TakesSpan, end_of_data, is_one_line, record_of, refused, said}
 use Rattle.sd_append.specs.Text.{trimmed}
 use Rattle.sd_append.specs.declared.command.Command.{Command as Asked}
 use Rattle.sd_append.specs.declared.command.Command.TheVariants as commands
-use Rattle.sd_append.specs.declared.line.Line.TheVariants as lines
+use Rattle.sd_append.specs.declared.line.ReplyLine.TheVariants as lines
 use Rattle.sd_append.specs.declared.stage.Own.{Own}
-use Rattle.sd_append.specs.declared.stage.Stage.{Stage}
-use Rattle.sd_append.specs.declared.stage.Stage.TheVariants.{Command, Header, Records, Refused, Dropped, Spans, BadSpans, Over}
+use Rattle.sd_append.specs.declared.stage.TalkStage.{TalkStage}
+use Rattle.sd_append.specs.declared.stage.TalkStage.TheVariants.{Command, Header, Records, Refused, Dropped, Spans, BadSpans, Over}
 use Rattle.sd_append.specs.Phases.{BecomesOf}
 use Rattle.sd_append.specs.Sessions.{IsGivenUp, Known, goes_on_by, known_behind}
 use Rattle.sd_append.specs.Turns.{Answers, IsAnswered, IsOfTurns, Place, Between, Within, Ended, Turn}
@@ -31,7 +31,7 @@ use Rattle.sd_append.proofs.SpanPackets.{Read, RefusalLeft, SpansLeft, read_back
 use Rattle.sd_append.proofs.TurnLists.{LeavesOut, last_alone, lies_within, nothing_more, of_turns_at, turn_then}
 
 -- What packets are from where a talk stands: turns; or the rest of a phase and then turns; or nothing that is heard.
-abbrev pub GoesOn : ℤ → Place → Stage → List Packet → List Exchange → List Packet → Type 0
+abbrev pub GoesOn : ℤ → Place → TalkStage → List Packet → List Exchange → List Packet → Type 0
 GoesOn moment place (Command own) packets asked out = IsOfTurns moment place (known_in own) packets asked out
 GoesOn moment place (Header own) packets asked out = Phase moment place (known_in (Some own)) (HeaderLeft own) packets asked out
 GoesOn moment place (Records own header) packets asked out = Phase moment place (known_in (Some own)) (RecordsLeft own header) packets asked out
@@ -42,13 +42,13 @@ GoesOn moment place (BadSpans own refusal) packets asked out = Read moment place
 GoesOn moment place (Over own) packets asked out = (asked ≡ []) × (out ≡ []) × (place ≡ Ended)
 
 -- where that is
-abbrev pub place_of : Stage → Place
+abbrev pub place_of : TalkStage → Place
 place_of (Command own) = Between
 place_of (Over own) = Ended
 place_of stage = Within
 
 -- nothing is heard any more
-pub stops : (moment : ℤ) (place : Place) (stage : Stage) (left_out : List Packet) → LeavesOut (place_of stage) place left_out → GoesOn moment place stage left_out [] []
+pub stops : (moment : ℤ) (place : Place) (stage : TalkStage) (left_out : List Packet) → LeavesOut (place_of stage) place left_out → GoesOn moment place stage left_out [] []
 stops moment place (Command own) left_out is = nothing_more moment place (known_in own) left_out is
 stops moment place (Header own) left_out is = phase_stops moment place (known_in (Some own)) (HeaderLeft own) [] lines.Appended left_out (no_header own) (inl refl) is
 stops moment place (Records own header) left_out is =
@@ -65,26 +65,26 @@ stops moment place (Over own) left_out (inl (is, none)) = (refl, refl, is)
 stops moment place (Over own) left_out (inr (is, more)) = (refl, refl, is)
 
 -- a step that only says something
-pub only_then : (moment : ℤ) (place : Place) (old : Stage) (packet : Packet) (packets : List Packet) (more : List Exchange) (later : List Packet) (says : List Packet) (next : Stage)
-    (asked : List Exchange) (out : List Packet) (new : Stage) → Only says next asked out new
+pub only_then : (moment : ℤ) (place : Place) (old : TalkStage) (packet : Packet) (packets : List Packet) (more : List Exchange) (later : List Packet) (says : List Packet) (next : TalkStage)
+    (asked : List Exchange) (out : List Packet) (new : TalkStage) → Only says next asked out new
     → (GoesOn moment place next packets more later → GoesOn moment place old (packet ∷ packets) more (says ++ later))
     → GoesOn moment place new packets more later → GoesOn moment place old (packet ∷ packets) (asked ++ more) (out ++ later)
 only_then moment place old packet packets more later says next asked out new (none, said_is, stands) step rest =
     subst (λ (l : List Exchange). GoesOn moment place old (packet ∷ packets) (l ++ more) (out ++ later)) (sym none)
     (subst (λ (l : List Packet). GoesOn moment place old (packet ∷ packets) more (l ++ later)) (sym said_is)
-    (step (subst (λ (s : Stage). GoesOn moment place s packets more later) stands rest)))
+    (step (subst (λ (s : TalkStage). GoesOn moment place s packets more later) stands rest)))
 
 -- Commands.
 
 -- one that is answered at once
-answered_then : (moment : ℤ) (place : Place) (own : Option Own) (bytes : List ℕ) (packets : List Packet) (more : List Exchange) (later : List Packet) (next : Option Own) (asked : List Exchange) (out : List Packet) (new : Stage)
+answered_then : (moment : ℤ) (place : Place) (own : Option Own) (bytes : List ℕ) (packets : List Packet) (more : List Exchange) (later : List Packet) (next : Option Own) (asked : List Exchange) (out : List Packet) (new : TalkStage)
     → IsAnswered moment (known_in own) bytes asked out → new ≡ Command next → known_behind (known_in own) asked ≡ known_in (own_of new)
     → GoesOn moment place new packets more later → IsOfTurns moment place (known_in own) (Bytes bytes ∷ packets) (asked ++ more) (out ++ later)
 answered_then moment place own bytes packets more later next asked out new is stands known rest =
     let turn : Turn = record { packets = Bytes bytes ∷ []; asked = asked; says = out } in
     turn_then moment place (known_in own) turn packets more later (inr (inl (record { bytes = bytes; packets_are = refl; is_answered = is })))
-    (subst (λ (k : Known). IsOfTurns moment place k packets more later) (sym (known ∙ ap (λ (s : Stage). known_in (own_of s)) stands))
-    (subst (λ (s : Stage). GoesOn moment place s packets more later) stands rest))
+    (subst (λ (k : Known). IsOfTurns moment place k packets more later) (sym (known ∙ ap (λ (s : TalkStage). known_in (own_of s)) stands))
+    (subst (λ (s : TalkStage). GoesOn moment place s packets more later) stands rest))
 
 -- a data phase behind its command
 data_then : (moment : ℤ) (place : Place) (known : Known) (own : Own) (bytes : List ℕ) (packets : List Packet) (more : List Exchange) (later : List Packet) → known ≡ known_in (Some own)
@@ -180,7 +180,7 @@ read_then moment place known key bytes packets more later spells (inr s) =
       }));
     })
 
-module _ (moment : ℤ) (place : Place) (own : Option Own) (bytes : List ℕ) (packets : List Packet) (more : List Exchange) (later : List Packet) (asked : List Exchange) (out : List Packet) (new : Stage)
+module _ (moment : ℤ) (place : Place) (own : Option Own) (bytes : List ℕ) (packets : List Packet) (more : List Exchange) (later : List Packet) (asked : List Exchange) (out : List Packet) (new : TalkStage)
     (known : known_behind (known_in own) asked ≡ known_in (own_of new)) (rest : GoesOn moment place new packets more later) where
   -- the turns that a packet and those behind it are
   abbrev Follows : Type 0
@@ -245,16 +245,16 @@ module _ (moment : ℤ) (place : Place) (own : Option Own) (bytes : List ℕ) (p
 -- Payloads of a data phase.
 
 -- the session is given up, and the rest is dropped
-dropped_then : (moment : ℤ) (place : Place) (own : Own) (refusal : Refusal) (packets : List Packet) (more : List Exchange) (later : List Packet) (asked : List Exchange) (out : List Packet) (new : Stage)
+dropped_then : (moment : ℤ) (place : Place) (own : Own) (refusal : Refusal) (packets : List Packet) (more : List Exchange) (later : List Packet) (asked : List Exchange) (out : List Packet) (new : TalkStage)
     → (d : Drops own refusal asked out new) → GoesOn moment place new packets more later → Phase moment place (known_in (Some d.left)) (DroppedLeft refusal) packets more later
-dropped_then moment place own refusal packets more later asked out new d rest = subst (λ (s : Stage). GoesOn moment place s packets more later) d.new_is rest
+dropped_then moment place own refusal packets more later asked out new d rest = subst (λ (s : TalkStage). GoesOn moment place s packets more later) d.new_is rest
 
 -- a packet of which nothing goes out
-pub quiet : (moment : ℤ) (place : Place) (old : Stage) (packets : List Packet) (asked : List Exchange) (says later : List Packet) → says ≡ [] → GoesOn moment place old packets asked later
+pub quiet : (moment : ℤ) (place : Place) (old : TalkStage) (packets : List Packet) (asked : List Exchange) (says later : List Packet) → says ≡ [] → GoesOn moment place old packets asked later
     → GoesOn moment place old packets asked (says ++ later)
 quiet moment place old packets asked says later none rest = subst (λ (l : List Packet). GoesOn moment place old packets asked (l ++ later)) (sym none) rest
 
-header_then : (moment : ℤ) (place : Place) (own : Own) (bytes : List ℕ) (packets : List Packet) (more : List Exchange) (later : List Packet) (asked : List Exchange) (out : List Packet) (new : Stage)
+header_then : (moment : ℤ) (place : Place) (own : Own) (bytes : List ℕ) (packets : List Packet) (more : List Exchange) (later : List Packet) (asked : List Exchange) (out : List Packet) (new : TalkStage)
     → known_behind (known_in (Some own)) asked ≡ known_in (own_of new) → GoesOn moment place new packets more later → TakesHeader own bytes asked out new
     → GoesOn moment place (Header own) (Bytes bytes ∷ packets) (asked ++ more) (out ++ later)
 header_then moment place own bytes packets more later asked out new known rest (inl (header, form, only)) =
@@ -264,7 +264,7 @@ header_then moment place own bytes packets more later asked out new known rest (
 header_then moment place own bytes packets more later asked out new known rest (inr (none, d)) =
     quiet moment place (Header own) (Bytes bytes ∷ packets) (asked ++ more) out later d.out_is
     (phase_more moment place (known_in (Some own)) (known_in (Some d.left)) (HeaderLeft own) (DroppedLeft refusals.BadFileIndex) (Bytes bytes) (Bytes bytes ∷ []) asked packets more later
-    (known ∙ ap (λ (s : Stage). known_in (own_of s)) d.new_is) (λ l. refl)
+    (known ∙ ap (λ (s : TalkStage). known_in (own_of s)) d.new_is) (λ l. refl)
     (λ hears asks answer left. header_unread own bytes asked hears asks answer none (given_up own.runs own d.left asked d.gives_up) left)
     (dropped_then moment place own refusals.BadFileIndex packets more later asked out new d rest))
 
@@ -283,7 +283,7 @@ given_by own reply asked given =
     (subst (λ (b : Bool). IsGivenUp b (by_reply own reply).ticket asked) (runs_by own reply) given)
 
 appended_then : (moment : ℤ) (place : Place) (own : Own) (header : HeaderParts) (bytes : List ℕ) (packets : List Packet) (more : List Exchange) (later : List Packet) (reply : Reply) (taken : Bool)
-    (asked : List Exchange) (out : List Packet) (new : Stage) → is_taken reply ≡ taken
+    (asked : List Exchange) (out : List Packet) (new : TalkStage) → is_taken reply ≡ taken
     → known_behind (known_in (Some own)) (Stepped (events.Append own.ticket (record_of header bytes)) reply ∷ asked) ≡ known_in (own_of new)
     → GoesOn moment place new packets more later → AppendsIf taken own header reply asked out new
     → GoesOn moment place (Records own header) (Bytes bytes ∷ packets) ((Stepped (events.Append own.ticket (record_of header bytes)) reply ∷ asked) ++ more) (out ++ later)
@@ -297,17 +297,17 @@ appended_then moment place own header bytes packets more later reply true asked 
     (subst (λ (e : Exchange). GoesOn moment place (Records own header) (Bytes bytes ∷ packets) (e ∷ more) later) same
     (phase_more moment place (known_in (Some own)) (known_in (Some own)) (RecordsLeft own header) (RecordsLeft own header) (Bytes bytes) (Bytes bytes ∷ []) (given ∷ []) packets more later
     refl (λ l. refl) (λ hears asks answer left. record_taken own header bytes t.0 hears asks answer left)
-    (subst (λ (s : Stage). GoesOn moment place s packets more later) only.2 rest))))
+    (subst (λ (s : TalkStage). GoesOn moment place s packets more later) only.2 rest))))
 appended_then moment place own header bytes packets more later reply false asked out new is known rest d =
     let one : Exchange = Stepped (events.Append own.ticket (record_of header bytes)) reply in
     let left = by_reply own reply in
     quiet moment place (Records own header) (Bytes bytes ∷ packets) ((one ∷ asked) ++ more) out later d.out_is
     (phase_more moment place (known_in (Some own)) (known_in (Some d.left)) (RecordsLeft own header) (DroppedLeft (refusal_in reply)) (Bytes bytes) (Bytes bytes ∷ []) (one ∷ asked) packets more later
-    (known ∙ ap (λ (s : Stage). known_in (own_of s)) d.new_is) (λ l. refl)
+    (known ∙ ap (λ (s : TalkStage). known_in (own_of s)) d.new_is) (λ l. refl)
     (λ hears asks answer rest_left. record_refused own header bytes reply asked hears asks answer is (given_by own reply asked (given_up left.runs left d.left asked d.gives_up)) rest_left)
     (dropped_then moment place left (refusal_in reply) packets more later asked out new d rest))
 
-record_then : (moment : ℤ) (place : Place) (own : Own) (header : HeaderParts) (bytes : List ℕ) (packets : List Packet) (more : List Exchange) (later : List Packet) (asked : List Exchange) (out : List Packet) (new : Stage)
+record_then : (moment : ℤ) (place : Place) (own : Own) (header : HeaderParts) (bytes : List ℕ) (packets : List Packet) (more : List Exchange) (later : List Packet) (asked : List Exchange) (out : List Packet) (new : TalkStage)
     → known_behind (known_in (Some own)) asked ≡ known_in (own_of new) → GoesOn moment place new packets more later → TakesRecordPacket own header bytes asked out new
     → GoesOn moment place (Records own header) (Bytes bytes ∷ packets) (asked ++ more) (out ++ later)
 record_then moment place own header bytes packets more later asked out new known rest t =
@@ -330,7 +330,7 @@ refused_more moment place own refusal bytes packets more later phase =
 
 -- Payloads of a read.
 
-span_then : (moment : ℤ) (place : Place) (plain : Bool) (own : Option Own) (text bytes : List ℕ) (packets : List Packet) (more : List Exchange) (later : List Packet) (asked : List Exchange) (out : List Packet) (new : Stage)
+span_then : (moment : ℤ) (place : Place) (plain : Bool) (own : Option Own) (text bytes : List ℕ) (packets : List Packet) (more : List Exchange) (later : List Packet) (asked : List Exchange) (out : List Packet) (new : TalkStage)
     → is_one_line (trimmed bytes) ≡ plain → GoesOn moment place new packets more later → TakesSpan plain own text (trimmed bytes) asked out new
     → GoesOn moment place (Spans own text) (Bytes bytes ∷ packets) (asked ++ more) (out ++ later)
 span_then moment place true own text bytes packets more later asked out new is rest (inl (says, only)) =
@@ -350,7 +350,7 @@ span_then moment place false own text bytes packets more later asked out new is 
     (λ read. read_more moment place (known_in own) (SpansLeft text) (RefusalLeft refusals.BadSpan) bytes packets more later
     (λ payloads first out left. span_bad text bytes payloads first out (inl is) left) read) rest
 
-pub bytes_then : (moment : ℤ) (place : Place) (old : Stage) (bytes : List ℕ) (packets : List Packet) (more : List Exchange) (later : List Packet) (asked : List Exchange) (out : List Packet) (new : Stage)
+pub bytes_then : (moment : ℤ) (place : Place) (old : TalkStage) (bytes : List ℕ) (packets : List Packet) (more : List Exchange) (later : List Packet) (asked : List Exchange) (out : List Packet) (new : TalkStage)
     → known_behind (known_in (own_of old)) asked ≡ known_in (own_of new) → GoesOn moment place new packets more later → TakesBytes moment old bytes asked out new
     → GoesOn moment place old (Bytes bytes ∷ packets) (asked ++ more) (out ++ later)
 bytes_then moment place (Command own) bytes packets more later asked out new known rest t = command_then moment place own bytes packets more later asked out new known rest t

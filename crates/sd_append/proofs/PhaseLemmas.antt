@@ -11,10 +11,10 @@ use Rattle.sd_machine.specs.declared.reply.Reply.{Reply}
 use Rattle.sd_machine.specs.declared.reply.Reply.TheVariants as replies
 use Rattle.sd_append.specs.Header.{HasHeaderForm, HeaderParts}
 use Rattle.sd_append.specs.Port.{Exchange, Stepped}
-use Rattle.sd_append.specs.Stage.{is_taken, refusal_in}
+use Rattle.sd_append.specs.TalkStage.{is_taken, refusal_in}
 use Rattle.sd_append.specs.Talk.{end_of_data, record_of, said}
-use Rattle.sd_append.specs.declared.line.Line.{Line}
-use Rattle.sd_append.specs.declared.line.Line.TheVariants as lines
+use Rattle.sd_append.specs.declared.line.ReplyLine.{ReplyLine}
+use Rattle.sd_append.specs.declared.line.ReplyLine.TheVariants as lines
 use Rattle.sd_append.specs.declared.stage.Own.{Own}
 use Rattle.sd_append.specs.Phases.{AskFor, BecomesOf, Group, StopsAtHeader, heard, packets_of, is_heard}
 use Rattle.sd_append.specs.Sessions.{IsGivenUp, Known, goes_on_by, known_behind}
@@ -25,7 +25,7 @@ use Rattle.sd_append.proofs.TurnLists.{LeavesOut}
 -- What is left of a phase: what is heard until its end, what is asked, and the answer that is due then.
 
 -- where a header is due
-pub record HeaderLeft (own : Own) (hears : List Packet) (asked : List Exchange) (answer : Line) : Type 0 where
+pub record HeaderLeft (own : Own) (hears : List Packet) (asked : List Exchange) (answer : ReplyLine) : Type 0 where
   pub groups : List Group
   pub records : List Record
   pub unread : List Group
@@ -34,7 +34,7 @@ pub record HeaderLeft (own : Own) (hears : List Packet) (asked : List Exchange) 
   pub becomes : BecomesOf own.ticket own.runs records unread asked answer
 
 -- under a header
-pub record RecordsLeft (own : Own) (header : HeaderParts) (hears : List Packet) (asked : List Exchange) (answer : Line) : Type 0 where
+pub record RecordsLeft (own : Own) (header : HeaderParts) (hears : List Packet) (asked : List Exchange) (answer : ReplyLine) : Type 0 where
   pub payloads : List (List ℕ)
   pub groups : List Group
   pub records : List Record
@@ -44,14 +44,14 @@ pub record RecordsLeft (own : Own) (header : HeaderParts) (hears : List Packet) 
   pub becomes : BecomesOf own.ticket own.runs (map (record_of header) payloads ++ records) unread asked answer
 
 -- where a header is due, of a phase that was refused
-pub record RefusedLeft (refusal : Refusal) (hears : List Packet) (asked : List Exchange) (answer : Line) : Type 0 where
+pub record RefusedLeft (refusal : Refusal) (hears : List Packet) (asked : List Exchange) (answer : ReplyLine) : Type 0 where
   pub groups : List Group
   pub heard_is : hears ≡ packets_of groups
   pub asked_is : asked ≡ []
   pub answer_is : answer ≡ lines.Refused refusal
 
 -- under a header, of such a phase
-pub record DroppedLeft (refusal : Refusal) (hears : List Packet) (asked : List Exchange) (answer : Line) : Type 0 where
+pub record DroppedLeft (refusal : Refusal) (hears : List Packet) (asked : List Exchange) (answer : ReplyLine) : Type 0 where
   pub payloads : List (List ℕ)
   pub groups : List Group
   pub heard_is : hears ≡ map Bytes payloads ++ end_of_data ∷ packets_of groups
@@ -66,7 +66,7 @@ no_header own = record { groups = []; records = []; unread = []; heard_is = refl
 pub no_header_refused : (refusal : Refusal) → RefusedLeft refusal [] [] (lines.Refused refusal)
 no_header_refused refusal = record { groups = []; heard_is = refl; asked_is = refl; answer_is = refl }
 
-pub header_behind : (own : Own) (header : HeaderParts) (hears : List Packet) (asked : List Exchange) (answer : Line) → HeaderLeft own hears asked answer
+pub header_behind : (own : Own) (header : HeaderParts) (hears : List Packet) (asked : List Exchange) (answer : ReplyLine) → HeaderLeft own hears asked answer
     → RecordsLeft own header (end_of_data ∷ hears) asked answer
 header_behind own header hears asked answer l = record {
   payloads = [];
@@ -78,7 +78,7 @@ header_behind own header hears asked answer l = record {
   becomes = l.becomes;
 }
 
-pub refused_behind : (refusal : Refusal) (hears : List Packet) (asked : List Exchange) (answer : Line) → RefusedLeft refusal hears asked answer
+pub refused_behind : (refusal : Refusal) (hears : List Packet) (asked : List Exchange) (answer : ReplyLine) → RefusedLeft refusal hears asked answer
     → DroppedLeft refusal (end_of_data ∷ hears) asked answer
 refused_behind refusal hears asked answer l = record {
   payloads = [];
@@ -91,7 +91,7 @@ refused_behind refusal hears asked answer l = record {
 -- Payloads.
 
 -- a header
-pub header_read : (own : Own) (header : HeaderParts) (bytes : List ℕ) (hears : List Packet) (asked : List Exchange) (answer : Line) → HasHeaderForm bytes header
+pub header_read : (own : Own) (header : HeaderParts) (bytes : List ℕ) (hears : List Packet) (asked : List Exchange) (answer : ReplyLine) → HasHeaderForm bytes header
     → RecordsLeft own header hears asked answer → HeaderLeft own (Bytes bytes ∷ hears) asked answer
 header_read own header bytes hears asked answer form l =
     let group : Group = record { header = bytes; payloads = l.payloads } in
@@ -114,7 +114,7 @@ asks_none : (a b : List Exchange) → b ≡ [] → a ++ b ≡ a
 asks_none a b none = ap (λ (l : List Exchange). a ++ l) none ∙ append-nil a
 
 -- a header that can't be read
-pub header_unread : (own : Own) (bytes : List ℕ) (gives_up : List Exchange) (hears : List Packet) (asked : List Exchange) (answer : Line)
+pub header_unread : (own : Own) (bytes : List ℕ) (gives_up : List Exchange) (hears : List Packet) (asked : List Exchange) (answer : ReplyLine)
     → ((header : HeaderParts) → HasHeaderForm bytes header → ⊥) → IsGivenUp own.runs own.ticket gives_up → DroppedLeft BadFileIndex hears asked answer
     → HeaderLeft own (Bytes bytes ∷ hears) (gives_up ++ asked) answer
 header_unread own bytes gives_up hears asked answer none given l =
@@ -136,7 +136,7 @@ header_unread own bytes gives_up hears asked answer none given l =
     }
 
 -- one record more before others
-becomes_more : (ticket : ℕ) (goes_on : Bool) (r : Record) (count : ℕ) (records : List Record) (unread : List Group) (asked : List Exchange) (answer : Line)
+becomes_more : (ticket : ℕ) (goes_on : Bool) (r : Record) (count : ℕ) (records : List Record) (unread : List Group) (asked : List Exchange) (answer : ReplyLine)
     → BecomesOf ticket goes_on records unread asked answer
     → BecomesOf ticket goes_on (r ∷ records) unread (Stepped (events.Append ticket r) (replies.Taken count) ∷ asked) answer
 becomes_more ticket goes_on r count records unread asked answer (inl (all, taken, is)) = inl (all, (count, asked, refl, taken), is)
@@ -175,7 +175,7 @@ becomes_more ticket goes_on r count records unread asked answer (inr (inr (begin
     ))
 
 -- a record that is taken
-pub record_taken : (own : Own) (header : HeaderParts) (bytes : List ℕ) (count : ℕ) (hears : List Packet) (asked : List Exchange) (answer : Line)
+pub record_taken : (own : Own) (header : HeaderParts) (bytes : List ℕ) (count : ℕ) (hears : List Packet) (asked : List Exchange) (answer : ReplyLine)
     → RecordsLeft own header hears asked answer
     → RecordsLeft own header (Bytes bytes ∷ hears) (Stepped (events.Append own.ticket (record_of header bytes)) (replies.Taken count) ∷ asked) answer
 record_taken own header bytes count hears asked answer l = record {
@@ -189,7 +189,7 @@ record_taken own header bytes count hears asked answer l = record {
 }
 
 -- a record that isn't
-pub record_refused : (own : Own) (header : HeaderParts) (bytes : List ℕ) (reply : Reply) (gives_up : List Exchange) (hears : List Packet) (asked : List Exchange) (answer : Line)
+pub record_refused : (own : Own) (header : HeaderParts) (bytes : List ℕ) (reply : Reply) (gives_up : List Exchange) (hears : List Packet) (asked : List Exchange) (answer : ReplyLine)
     → is_taken reply ≡ false → IsGivenUp (goes_on_by own.runs reply) own.ticket gives_up → DroppedLeft (refusal_in reply) hears asked answer
     → RecordsLeft own header (Bytes bytes ∷ hears) (Stepped (events.Append own.ticket (record_of header bytes)) reply ∷ (gives_up ++ asked)) answer
 record_refused own header bytes reply gives_up hears asked answer refuses given l =
@@ -222,7 +222,7 @@ record_refused own header bytes reply gives_up hears asked answer refuses given 
     }
 
 -- a payload that is dropped
-pub payload_dropped : (refusal : Refusal) (bytes : List ℕ) (hears : List Packet) (asked : List Exchange) (answer : Line) → DroppedLeft refusal hears asked answer
+pub payload_dropped : (refusal : Refusal) (bytes : List ℕ) (hears : List Packet) (asked : List Exchange) (answer : ReplyLine) → DroppedLeft refusal hears asked answer
     → DroppedLeft refusal (Bytes bytes ∷ hears) asked answer
 payload_dropped refusal bytes hears asked answer l = record {
   payloads = bytes ∷ l.payloads;
@@ -233,7 +233,7 @@ payload_dropped refusal bytes hears asked answer l = record {
 }
 
 -- a header that is dropped
-pub header_dropped : (refusal : Refusal) (bytes : List ℕ) (hears : List Packet) (asked : List Exchange) (answer : Line) → DroppedLeft refusal hears asked answer
+pub header_dropped : (refusal : Refusal) (bytes : List ℕ) (hears : List Packet) (asked : List Exchange) (answer : ReplyLine) → DroppedLeft refusal hears asked answer
     → RefusedLeft refusal (Bytes bytes ∷ hears) asked answer
 header_dropped refusal bytes hears asked answer l =
     let group : Group = record { header = bytes; payloads = l.payloads } in
@@ -242,12 +242,12 @@ header_dropped refusal bytes hears asked answer l =
 -- Packets of a phase.
 
 -- the phase comes to its end, and turns stand behind it
-pub record PhaseEnds (moment : ℤ) (place : Place) (known : Known) (Left : List Packet → List Exchange → Line → Type 0) (packets : List Packet) (asked : List Exchange) (out : List Packet) : Type 0 where
+pub record PhaseEnds (moment : ℤ) (place : Place) (known : Known) (Left : List Packet → List Exchange → ReplyLine → Type 0) (packets : List Packet) (asked : List Exchange) (out : List Packet) : Type 0 where
   pub phase : List Packet
   pub behind : List Packet
   pub first : List Exchange
   pub more : List Exchange
-  pub answer : Line
+  pub answer : ReplyLine
   pub later : List Packet
   pub left : Left (heard phase) first answer
   pub turns : IsOfTurns moment place (known_behind known first) behind more later
@@ -256,11 +256,11 @@ pub record PhaseEnds (moment : ℤ) (place : Place) (known : Known) (Left : List
   pub out_is : out ≡ said answer ∷ later
 
 -- or it doesn't
-pub record PhaseStops (place : Place) (Left : List Packet → List Exchange → Line → Type 0) (packets : List Packet) (asked : List Exchange) (out : List Packet) : Type 0 where
+pub record PhaseStops (place : Place) (Left : List Packet → List Exchange → ReplyLine → Type 0) (packets : List Packet) (asked : List Exchange) (out : List Packet) : Type 0 where
   pub phase : List Packet
   pub left_out : List Packet
   pub missing : List Packet
-  pub due : Line
+  pub due : ReplyLine
   pub left : Left (heard phase ++ missing) asked due
   pub leaves : LeavesOut Within place left_out
   pub missing_is : (missing ≡ []) ⊎ (missing ≡ end_of_data ∷ [])
@@ -268,14 +268,14 @@ pub record PhaseStops (place : Place) (Left : List Packet → List Exchange → 
   pub out_is : out ≡ []
 
 -- these packets go on with a phase
-abbrev pub Phase : ℤ → Place → Known → (List Packet → List Exchange → Line → Type 0) → List Packet → List Exchange → List Packet → Type 0
+abbrev pub Phase : ℤ → Place → Known → (List Packet → List Exchange → ReplyLine → Type 0) → List Packet → List Exchange → List Packet → Type 0
 Phase moment place known Left packets asked out = PhaseEnds moment place known Left packets asked out ⊎ PhaseStops place Left packets asked out
 
 -- one packet more before others, of which this is heard, and for which this is asked
-pub phase_more : (moment : ℤ) (place : Place) (known between : Known) (Left Later : List Packet → List Exchange → Line → Type 0) (packet : Packet) (hears : List Packet) (a : List Exchange)
+pub phase_more : (moment : ℤ) (place : Place) (known between : Known) (Left Later : List Packet → List Exchange → ReplyLine → Type 0) (packet : Packet) (hears : List Packet) (a : List Exchange)
     (packets : List Packet) (asked : List Exchange) (out : List Packet)
     → known_behind known a ≡ between → ((rest : List Packet) → heard (packet ∷ rest) ≡ hears ++ heard rest)
-    → ((rest : List Packet) (more : List Exchange) (answer : Line) → Later rest more answer → Left (hears ++ rest) (a ++ more) answer)
+    → ((rest : List Packet) (more : List Exchange) (answer : ReplyLine) → Later rest more answer → Left (hears ++ rest) (a ++ more) answer)
     → Phase moment place between Later packets asked out → Phase moment place known Left (packet ∷ packets) (a ++ asked) out
 phase_more moment place known between Left Later packet hears a packets asked out same hear turn (inl e) = inl (record {
   phase = packet ∷ e.phase;
@@ -309,13 +309,13 @@ phase_more moment place known between Left Later packet hears a packets asked ou
 pub unheard : (number : ℤ) (rest : List Packet) → is_heard number ≡ false → heard (Signal number ∷ rest) ≡ heard rest
 unheard number rest is = ap (λ (b : Bool). if b then Signal number ∷ heard rest else heard rest) is
 
-pub phase_passes : (moment : ℤ) (place : Place) (known : Known) (Left : List Packet → List Exchange → Line → Type 0) (number : ℤ) (packets : List Packet) (asked : List Exchange) (out : List Packet)
+pub phase_passes : (moment : ℤ) (place : Place) (known : Known) (Left : List Packet → List Exchange → ReplyLine → Type 0) (number : ℤ) (packets : List Packet) (asked : List Exchange) (out : List Packet)
     → is_heard number ≡ false → Phase moment place known Left packets asked out → Phase moment place known Left (Signal number ∷ packets) asked out
 phase_passes moment place known Left number packets asked out is p =
     phase_more moment place known known Left Left (Signal number) [] [] packets asked out refl (λ rest. unheard number rest is) (λ rest more answer l. l) p
 
 -- the phase is at its end
-pub phase_ends : (moment : ℤ) (place : Place) (known : Known) (Left : List Packet → List Exchange → Line → Type 0) (answer : Line) (packets : List Packet) (asked : List Exchange) (out : List Packet)
+pub phase_ends : (moment : ℤ) (place : Place) (known : Known) (Left : List Packet → List Exchange → ReplyLine → Type 0) (answer : ReplyLine) (packets : List Packet) (asked : List Exchange) (out : List Packet)
     → Left [] [] answer → IsOfTurns moment place known packets asked out → Phase moment place known Left (end_of_data ∷ packets) asked (said answer ∷ out)
 phase_ends moment place known Left answer packets asked out left turns = inl (record {
   phase = [];
@@ -332,7 +332,7 @@ phase_ends moment place known Left answer packets asked out left turns = inl (re
 })
 
 -- nothing of it is heard any more
-pub phase_stops : (moment : ℤ) (place : Place) (known : Known) (Left : List Packet → List Exchange → Line → Type 0) (missing : List Packet) (due : Line) (left_out : List Packet)
+pub phase_stops : (moment : ℤ) (place : Place) (known : Known) (Left : List Packet → List Exchange → ReplyLine → Type 0) (missing : List Packet) (due : ReplyLine) (left_out : List Packet)
     → Left missing [] due → (missing ≡ []) ⊎ (missing ≡ end_of_data ∷ []) → LeavesOut Within place left_out → Phase moment place known Left left_out [] []
 phase_stops moment place known Left missing due left_out left is leaves = inr (record {
   phase = [];

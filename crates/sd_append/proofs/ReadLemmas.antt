@@ -6,9 +6,9 @@ use Rattle.sd_bnet.specs.Packet.{packet_bytes}
 use Rattle.sd_bnet.specs.Stream.{stream_of}
 use Rattle.sd_bnet.specs.declared.packet.Packet.{Packet}
 use Rattle.sd_bnet.specs.declared.packet.Packet.TheVariants.{Bytes}
-use Rattle.sd_append.specs.declared.line.Line.TheVariants as lines
+use Rattle.sd_append.specs.declared.line.ReplyLine.TheVariants as lines
 use Rattle.sd_append.specs.Header.{HeaderParts}
-use Rattle.sd_append.specs.Line.{line_text}
+use Rattle.sd_append.specs.ReplyLine.{line_text}
 use Rattle.sd_append.specs.Out.{OutView, PutsOut}
 use Rattle.sd_append.specs.Talk.{end_of_data, record_said}
 use Rattle.sd_append.proofs.OutLemmas.{puts_then}

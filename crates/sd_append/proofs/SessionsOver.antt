@@ -6,7 +6,7 @@ use Rattle.sd_machine.specs.declared.event.Event.TheVariants as events
 use Rattle.sd_machine.specs.declared.reply.Reply.{Reply}
 use Rattle.sd_machine.specs.declared.reply.Reply.TheVariants as replies
 use Rattle.sd_append.specs.Port.{Exchange, Stepped}
-use Rattle.sd_append.specs.Stage.{own_of}
+use Rattle.sd_append.specs.TalkStage.{own_of}
 use Rattle.sd_append.specs.Laws.{SessionsAreOver}
 use Rattle.sd_append.specs.Sessions.{AsksOpen, IsGivenUp, IsOf, IsSessionOver, Known, LastIsGivenUp, MayAsk, goes_on_by, is_over, known_behind, known_by, known_by_event, none_opened}
 use Rattle.sd_append.proofs.AskedLemmas.{MayTell, Tells, converses_tell, known_in, last_given_up, last_tells, same_ticket, tells_append}

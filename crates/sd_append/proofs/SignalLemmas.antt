@@ -2,7 +2,7 @@
 use Rattle.std.proofs.Common.{◌≡◌, ◌≢◌, ◌⊎◌, ℕ, ℤ, pos, negsuc, refl, sym, ap, ap₂, ◌∙◌, inl, inr, Bool, true, false, if◌then◌else◌, eqb-true, eq-eqb}
 use Rattle.std.specs.Prelude.{◌==◌, ◌||◌}
 use Rattle.std.proofs.lemmas.Bool.{true≢false}
-use Rattle.sd_append.specs.Stage.{meaning_of}
+use Rattle.sd_append.specs.TalkStage.{meaning_of}
 use Rattle.sd_append.specs.declared.signal.Meaning.{Meaning}
 use Rattle.sd_append.specs.declared.signal.Meaning.TheVariants.{EndOfData, Terminate, Poll, Other}
 use Rattle.sd_append.specs.Phases.{is_heard}

@@ -19,8 +19,8 @@ use Rattle.sd_span.specs.JobMedia.{IsJobMedia, KeyFits, SpanFits, jobmedia_refus
 use Rattle.sd_span.proofs.JobMediaLemmas.{decimal_lacks, newline_is_none}
 use Rattle.sd_span.proofs.TextLemmas.{none_taken, line_says_none, jobmedia_is_one}
 use Rattle.sd_append.specs.declared.stage.Own.{Own}
-use Rattle.sd_append.specs.declared.stage.Stage.{Stage}
-use Rattle.sd_append.specs.declared.stage.Stage.TheVariants.{Spans, BadSpans}
+use Rattle.sd_append.specs.declared.stage.TalkStage.{TalkStage}
+use Rattle.sd_append.specs.declared.stage.TalkStage.TheVariants.{Spans, BadSpans}
 use Rattle.sd_append.specs.Talk.{IsSpanLine, TakesSpan, is_one_line}
 
 -- A line behind that of a session.
@@ -95,7 +95,7 @@ some_fits = record { time_fits = lit< tt; id_fits = lit< tt }
 
 -- In a talk.
 
-pub span_added : (b : Bool) (own : Option Own) (text more slice : List ℕ) (next : Stage) → b ≡ true → slice ≡ more → IsSpanLine slice
+pub span_added : (b : Bool) (own : Option Own) (text more slice : List ℕ) (next : TalkStage) → b ≡ true → slice ≡ more → IsSpanLine slice
     → (next ≡ Spans own (text ++ line slice)) ⊎ (next ≡ BadSpans own refusals.Memory) → TakesSpan b own text more [] [] next
 span_added b own text more slice next is same says (inl e) =
     subst (λ (x : Bool). TakesSpan x own text more [] [] next) (sym is)

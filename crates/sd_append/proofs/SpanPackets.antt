@@ -19,8 +19,8 @@ use Rattle.sd_append.specs.Talk.{IsSpanLine, ReadsBack, end_of_data, read_end_sa
 use Rattle.sd_append.specs.Text.{trimmed}
 use Rattle.sd_append.specs.declared.command.Command.TheVariants as commands
 use Rattle.sd_append.specs.declared.stage.Own.{Own}
-use Rattle.sd_append.specs.declared.stage.Stage.{Stage}
-use Rattle.sd_append.specs.declared.stage.Stage.TheVariants.{Command}
+use Rattle.sd_append.specs.declared.stage.TalkStage.{TalkStage}
+use Rattle.sd_append.specs.declared.stage.TalkStage.TheVariants.{Command}
 use Rattle.sd_append.specs.Phases.{OneSaysNoSpan, ReadsBy, SayEach, SaysNoSpan, heard, is_heard}
 use Rattle.sd_append.specs.Sessions.{Known, known_behind}
 use Rattle.sd_append.specs.Turns.{IsOfTurns, Place, Within}
@@ -94,7 +94,7 @@ pub span_memory : (text bytes : List ℕ) (payloads : List (List ℕ)) (asked : 
 span_memory text bytes payloads asked says left key done key_fits done_fit text_is = inr (inr left)
 
 -- at the end of the spans
-pub spans_end : (own : Option Own) (text : List ℕ) (asked : List Exchange) (out : List Packet) (new : Stage) → ReadsBack own text asked out new
+pub spans_end : (own : Option Own) (text : List ℕ) (asked : List Exchange) (out : List Packet) (new : TalkStage) → ReadsBack own text asked out new
     → SpansLeft text [] asked out × (new ≡ Command own)
 spans_end own text asked out new (inl (key, spans, records, answer, is, asked_is, out_is, stands)) = (
   (λ of done key_fits done_fit text_is.

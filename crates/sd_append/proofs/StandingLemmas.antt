@@ -14,8 +14,8 @@ use Rattle.sd_append.specs.declared.end.TalkEnd.{TalkEnd}
 use Rattle.sd_append.specs.declared.end.TalkEnd.TheVariants.{Finished, Truncated, TooLong, ReadFault, WriteFault, OutOfTurns}
 use Rattle.sd_append.specs.declared.outbox.OutFault.{OutFault}
 use Rattle.sd_append.specs.declared.outbox.OutFault.TheVariants as faults
-use Rattle.sd_append.specs.declared.stage.Stage.{Stage}
-use Rattle.sd_append.specs.declared.stage.Stage.TheVariants.{Command}
+use Rattle.sd_append.specs.declared.stage.TalkStage.{TalkStage}
+use Rattle.sd_append.specs.declared.stage.TalkStage.TheVariants.{Command}
 use Rattle.sd_append.specs.Conversation.{Converses}
 use Rattle.sd_append.specs.Does.{Does}
 use Rattle.sd_append.specs.Out.{OutView, PutsOut}
@@ -104,7 +104,7 @@ does_written f before after a b c does puts = record {
 }
 
 -- what waited was written out
-pub stands_written : (moment : ℤ) (start : Around) (left : Option (List ℕ)) (asked : List Exchange) (old new : OutView) (state : FeederState) (stage : Stage) (bytes : List ℕ) → PutsOut old new []
+pub stands_written : (moment : ℤ) (start : Around) (left : Option (List ℕ)) (asked : List Exchange) (old new : OutView) (state : FeederState) (stage : TalkStage) (bytes : List ℕ) → PutsOut old new []
     → Stands moment start (around left asked old) state stage bytes → Stands moment start (around left asked new) state stage bytes
 stands_written moment start left asked old new state stage bytes puts h = record {
   packets = h.packets;
@@ -118,7 +118,7 @@ stands_written moment start left asked old new state stage bytes puts h = record
 
 -- the packets of a piece were taken
 pub piece_taken : (moment : ℤ) (end : Option (Result TalkEnd AllocError)) (start : Around) (left remains : Option (List ℕ)) (asked asks : List Exchange) (old new : OutView)
-    (state next : FeederState) (stage stands : Stage) (bytes piece : List ℕ) (found : List Packet) (failed : Bool)
+    (state next : FeederState) (stage stands : TalkStage) (bytes piece : List ℕ) (found : List Packet) (failed : Bool)
     → Consumes left remains piece → Stands moment start (around left asked old) state stage bytes
     → ((front : List ℕ) (before : List Packet) → Fits state front before → Fits next (front ++ piece) (before ++ found))
     → IsTrue failed ↔ (next ≡ Failed) → Does (λ more out. Converses moment stage found more out stands) asked asks old new → EndsBehind end failed stands
@@ -163,13 +163,13 @@ piece_taken moment (Some (Err e)) start left remains asked asks old new state ne
 -- Ends without a piece.
 
 -- nothing was read
-pub no_piece : (moment : ℤ) (end : Result TalkEnd AllocError) (start now : Around) (state : FeederState) (stage : Stage) (bytes : List ℕ) (room : ℕ) → Comes moment (Some end) start now state stage bytes
+pub no_piece : (moment : ℤ) (end : Result TalkEnd AllocError) (start now : Around) (state : FeederState) (stage : TalkStage) (bytes : List ℕ) (room : ℕ) → Comes moment (Some end) start now state stage bytes
     → (piece : List ℕ) × (length piece ≤ room) × (IsNone (Some end) → 0 < length piece) × Comes moment (Some end) start now state stage (bytes ++ piece)
 no_piece moment end start now state stage bytes room comes =
     ([], omega arith, (λ none. absurd (cc none)), subst (λ (l : List ℕ). Comes moment (Some end) start now state stage l) (sym (append-nil bytes)) comes)
 
 -- writing has failed
-pub writing_failed : (moment : ℤ) (fault : OutFault) (start : Around) (left : Option (List ℕ)) (asked : List Exchange) (out : OutView) (state : FeederState) (stage : Stage) (bytes : List ℕ)
+pub writing_failed : (moment : ℤ) (fault : OutFault) (start : Around) (left : Option (List ℕ)) (asked : List Exchange) (out : OutView) (state : FeederState) (stage : TalkStage) (bytes : List ℕ)
     → Stands moment start (around left asked out) state stage bytes → Comes moment (Some (fault_end fault)) start (around left asked out) state stage bytes
 writing_failed moment faults.Write start left asked out state stage bytes h =
     let p = parts state bytes h.packets h.fits in
@@ -179,7 +179,7 @@ writing_failed moment faults.Memory start left asked out state stage bytes h =
     (record { packets = h.packets; rest = p.0; read = h.read; parted = (bytes, [], sym (append-nil bytes), p.1); takes = h.takes; ends = tt }, λ wrong. cc wrong)
 
 -- reading has failed
-pub reading_failed : (moment : ℤ) (start : Around) (left remains : Option (List ℕ)) (asked : List Exchange) (out : OutView) (state : FeederState) (stage : Stage) (bytes : List ℕ)
+pub reading_failed : (moment : ℤ) (start : Around) (left remains : Option (List ℕ)) (asked : List Exchange) (out : OutView) (state : FeederState) (stage : TalkStage) (bytes : List ℕ)
     → Keeps left remains → Stands moment start (around left asked out) state stage bytes → Comes moment (Some (Ok ReadFault)) start (around remains asked out) state stage bytes
 reading_failed moment start left remains asked out state stage bytes keeps h =
     let w = waits state bytes h.packets h.goes_on.1 h.fits in (
@@ -195,7 +195,7 @@ reading_failed moment start left remains asked out state stage bytes keeps h =
     )
 
 -- the input has ended
-pub input_ended : (moment : ℤ) (end : TalkEnd) (start : Around) (left remains : Option (List ℕ)) (asked : List Exchange) (out : OutView) (state : FeederState) (stage : Stage) (bytes : List ℕ)
+pub input_ended : (moment : ℤ) (end : TalkEnd) (start : Around) (left remains : Option (List ℕ)) (asked : List Exchange) (out : OutView) (state : FeederState) (stage : TalkStage) (bytes : List ℕ)
     → EndsInput end state stage → Consumes left remains [] → IsAtEnd remains → Stands moment start (around left asked out) state stage bytes
     → Comes moment (Some (Ok end)) start (around remains asked out) state stage bytes
 input_ended moment Finished start left remains asked out state stage bytes ends more empty h = (
@@ -239,7 +239,7 @@ input_ended moment WriteFault start left remains asked out state stage bytes end
 input_ended moment OutOfTurns start left remains asked out state stage bytes ends more empty h = absurd ends
 
 -- the turns ran out
-pub turns_ended : (moment : ℤ) (start : Around) (left : Option (List ℕ)) (asked : List Exchange) (out : OutView) (state : FeederState) (stage : Stage) (bytes : List ℕ)
+pub turns_ended : (moment : ℤ) (start : Around) (left : Option (List ℕ)) (asked : List Exchange) (out : OutView) (state : FeederState) (stage : TalkStage) (bytes : List ℕ)
     → Stands moment start (around left asked out) state stage bytes → Halts moment start (around left asked out) stage (Ok OutOfTurns) bytes
 turns_ended moment start left asked out state stage bytes h =
     let w = waits state bytes h.packets h.goes_on.1 h.fits in
@@ -248,12 +248,12 @@ turns_ended moment start left asked out state stage bytes h =
 -- Turns.
 
 -- one more turn comes to this
-abbrev pub TurnComes : ℤ → Option (Result TalkEnd AllocError) → Around → Around → FeederState → Stage → List ℕ → ℕ → Type 0
+abbrev pub TurnComes : ℤ → Option (Result TalkEnd AllocError) → Around → Around → FeederState → TalkStage → List ℕ → ℕ → Type 0
 TurnComes moment end start now state stage bytes room =
     (piece : List ℕ) × (length piece ≤ room) × (IsNone end → 0 < length piece) × Comes moment end start now state stage (bytes ++ piece)
 
 -- what waited could not be written out
-pub turn_unwritten : (moment : ℤ) (fault : OutFault) (end : Result TalkEnd AllocError) (start : Around) (left : Option (List ℕ)) (asked : List Exchange) (old new : OutView) (state : FeederState) (stage : Stage) (bytes : List ℕ) (room : ℕ)
+pub turn_unwritten : (moment : ℤ) (fault : OutFault) (end : Result TalkEnd AllocError) (start : Around) (left : Option (List ℕ)) (asked : List Exchange) (old new : OutView) (state : FeederState) (stage : TalkStage) (bytes : List ℕ) (room : ℕ)
     → end ≡ fault_end fault → PutsOut old new [] → Stands moment start (around left asked old) state stage bytes → TurnComes moment (Some end) start (around left asked new) state stage bytes room
 turn_unwritten moment fault end start left asked old new state stage bytes room is puts h =
     no_piece moment end start (around left asked new) state stage bytes room
@@ -265,7 +265,7 @@ take_none [] = refl
 take_none (x ∷ xs) = refl
 
 -- the reader gave nothing
-pub turn_at_end : (moment : ℤ) (end : TalkEnd) (start : Around) (left remains : Option (List ℕ)) (asked : List Exchange) (old new : OutView) (state : FeederState) (stage : Stage) (bytes gave : List ℕ) (count room : ℕ)
+pub turn_at_end : (moment : ℤ) (end : TalkEnd) (start : Around) (left remains : Option (List ℕ)) (asked : List Exchange) (old new : OutView) (state : FeederState) (stage : TalkStage) (bytes gave : List ℕ) (count room : ℕ)
     → count ≡ 0 → 0 < length gave → (Consumes left remains (take count gave) × (count ≡ 0 → 0 < length gave → IsAtEnd remains)) → EndsInput end state stage
     → PutsOut old new [] → Stands moment start (around left asked old) state stage bytes → TurnComes moment (Some (Ok end)) start (around remains asked new) state stage bytes room
 turn_at_end moment end start left remains asked old new state stage bytes gave count room none some_there read ends puts h =
@@ -275,14 +275,14 @@ turn_at_end moment end start left remains asked old new state stage bytes gave c
     (stands_written moment start left asked old new state stage bytes puts h))
 
 -- the reader failed
-pub turn_unread : (moment : ℤ) (start : Around) (left remains : Option (List ℕ)) (asked : List Exchange) (old new : OutView) (state : FeederState) (stage : Stage) (bytes : List ℕ) (room : ℕ)
+pub turn_unread : (moment : ℤ) (start : Around) (left remains : Option (List ℕ)) (asked : List Exchange) (old new : OutView) (state : FeederState) (stage : TalkStage) (bytes : List ℕ) (room : ℕ)
     → Keeps left remains → PutsOut old new [] → Stands moment start (around left asked old) state stage bytes → TurnComes moment (Some (Ok ReadFault)) start (around remains asked new) state stage bytes room
 turn_unread moment start left remains asked old new state stage bytes room keeps puts h =
     no_piece moment (Ok ReadFault) start (around remains asked new) state stage bytes room
     (reading_failed moment start left remains asked new state stage bytes keeps (stands_written moment start left asked old new state stage bytes puts h))
 
 -- the reader gave a piece
-pub turn_taken : (moment : ℤ) (end : Option (Result TalkEnd AllocError)) (start now : Around) (left remains : Option (List ℕ)) (asked : List Exchange) (old new : OutView) (state next : FeederState) (stage stands : Stage)
+pub turn_taken : (moment : ℤ) (end : Option (Result TalkEnd AllocError)) (start now : Around) (left remains : Option (List ℕ)) (asked : List Exchange) (old new : OutView) (state next : FeederState) (stage stands : TalkStage)
     (bytes gave : List ℕ) (count room : ℕ) → 0 < count → count ≤ length gave → length gave ≤ room → (Consumes left remains (take count gave) × (count ≡ 0 → 0 < length gave → IsAtEnd remains))
     → PutsOut old new [] → Stands moment start (around left asked old) state stage bytes
     → (Consumes left remains (take count gave) → Stands moment start (around left asked new) state stage bytes → Comes moment end start now next stands (bytes ++ take count gave))

@@ -16,14 +16,14 @@ use Rattle.sd_append.specs.declared.command.Command.TheVariants as commands
 use Rattle.sd_append.specs.declared.command.CommandFault.{CommandFault}
 use Rattle.sd_append.specs.declared.command.CommandFault.TheVariants.{BadCommand, BadName}
 use Rattle.sd_append.specs.declared.stage.Own.{Own}
-use Rattle.sd_append.specs.declared.stage.Stage.{Stage}
-use Rattle.sd_append.specs.declared.stage.Stage.TheVariants.{Command, Header, Records, Spans, BadSpans}
+use Rattle.sd_append.specs.declared.stage.TalkStage.{TalkStage}
+use Rattle.sd_append.specs.declared.stage.TalkStage.TheVariants.{Command, Header, Records, Spans, BadSpans}
 use Rattle.sd_append.specs.Command.{AreNames, SpellsCommand, HasShape, command_refusal}
 use Rattle.sd_append.specs.Does.{Does}
 use Rattle.sd_append.specs.Header.{HeaderParts}
 use Rattle.sd_append.specs.Out.{OutView, PutsOut}
 use Rattle.sd_append.specs.Port.{Exchange}
-use Rattle.sd_append.specs.Stage.{is_running, own_with}
+use Rattle.sd_append.specs.TalkStage.{is_running, own_with}
 use Rattle.sd_append.specs.Talk.{Only, TakesSpan, is_one_line, Obeys, ObeysOpen, ObeysData, ObeysEnd, ObeysClose, ObeysConsole, TakesCommand, TakesHeader, TakesRecordPacket, TakesBytes, refused}
 use Rattle.sd_append.specs.Text.{trimmed}
 use Rattle.sd_append.proofs.OutLemmas.{puts_none}
@@ -40,35 +40,35 @@ does_map f h before after old new gives does = record {
   puts = does.puts;
 }
 
-pub open_obeyed : (moment : ℤ) (own : Option Own) (command : Asked) (running : Bool) (job : ℕ) (pool media : List ℕ) (next : Stage) (before after : List Exchange) (old new : OutView)
+pub open_obeyed : (moment : ℤ) (own : Option Own) (command : Asked) (running : Bool) (job : ℕ) (pool media : List ℕ) (next : TalkStage) (before after : List Exchange) (old new : OutView)
     → command ≡ commands.Open job pool media → running ≡ is_running own → Does (λ asked out. ObeysOpen moment running own job pool media asked out next) before after old new
     → Does (λ asked out. Obeys moment own command asked out next) before after old new
 open_obeyed moment own command running job pool media next before after old new is same does =
     obeys_as moment own command (commands.Open job pool media) next before after old new is
     (subst (λ (b : Bool). Does (λ asked out. ObeysOpen moment b own job pool media asked out next) before after old new) same does)
 
-pub data_obeyed : (moment : ℤ) (own : Option Own) (command : Asked) (ticket : Option ℕ) (named : Result Own (Option Own)) (next : Stage) (before after : List Exchange) (old new : OutView)
+pub data_obeyed : (moment : ℤ) (own : Option Own) (command : Asked) (ticket : Option ℕ) (named : Result Own (Option Own)) (next : TalkStage) (before after : List Exchange) (old new : OutView)
     → command ≡ commands.Data ticket → named ≡ own_with own ticket → Does (λ asked out. ObeysData named asked out next) before after old new
     → Does (λ asked out. Obeys moment own command asked out next) before after old new
 data_obeyed moment own command ticket named next before after old new is same does =
     obeys_as moment own command (commands.Data ticket) next before after old new is
     (subst (λ (n : Result Own (Option Own)). Does (λ asked out. ObeysData n asked out next) before after old new) same does)
 
-pub end_obeyed : (moment : ℤ) (own : Option Own) (command : Asked) (ticket : Option ℕ) (named : Result Own (Option Own)) (next : Stage) (before after : List Exchange) (old new : OutView)
+pub end_obeyed : (moment : ℤ) (own : Option Own) (command : Asked) (ticket : Option ℕ) (named : Result Own (Option Own)) (next : TalkStage) (before after : List Exchange) (old new : OutView)
     → command ≡ commands.End ticket → named ≡ own_with own ticket → Does (λ asked out. ObeysEnd moment named asked out next) before after old new
     → Does (λ asked out. Obeys moment own command asked out next) before after old new
 end_obeyed moment own command ticket named next before after old new is same does =
     obeys_as moment own command (commands.End ticket) next before after old new is
     (subst (λ (n : Result Own (Option Own)). Does (λ asked out. ObeysEnd moment n asked out next) before after old new) same does)
 
-pub close_obeyed : (moment : ℤ) (own : Option Own) (command : Asked) (ticket : Option ℕ) (named : Result Own (Option Own)) (next : Stage) (before after : List Exchange) (old new : OutView)
+pub close_obeyed : (moment : ℤ) (own : Option Own) (command : Asked) (ticket : Option ℕ) (named : Result Own (Option Own)) (next : TalkStage) (before after : List Exchange) (old new : OutView)
     → command ≡ commands.Close ticket → named ≡ own_with own ticket → Does (λ asked out. ObeysClose named asked out next) before after old new
     → Does (λ asked out. Obeys moment own command asked out next) before after old new
 close_obeyed moment own command ticket named next before after old new is same does =
     obeys_as moment own command (commands.Close ticket) next before after old new is
     (subst (λ (n : Result Own (Option Own)). Does (λ asked out. ObeysClose n asked out next) before after old new) same does)
 
-pub console_obeyed : (moment : ℤ) (own : Option Own) (command : Asked) (text slice : List ℕ) (next : Stage) (before after : List Exchange) (old new : OutView)
+pub console_obeyed : (moment : ℤ) (own : Option Own) (command : Asked) (text slice : List ℕ) (next : TalkStage) (before after : List Exchange) (old new : OutView)
     → command ≡ commands.Console text → slice ≡ text → Does (λ asked out. ObeysConsole moment own slice asked out next) before after old new
     → Does (λ asked out. Obeys moment own command asked out next) before after old new
 console_obeyed moment own command text slice next before after old new is same does =
@@ -96,7 +96,7 @@ fault_taken moment own bytes r BadCommand asked old new is bad_name bad_command 
     (λ more out says. inr (inr (bad_command.0 is, says)))
     (only_says (refused refusals.BadCommand ∷ []) (Command own) asked old new puts)
 
-pub command_taken : (moment : ℤ) (own : Option Own) (bytes : List ℕ) (command : Asked) (next : Stage) (before after : List Exchange) (old new : OutView) → SpellsCommand bytes command
+pub command_taken : (moment : ℤ) (own : Option Own) (bytes : List ℕ) (command : Asked) (next : TalkStage) (before after : List Exchange) (old new : OutView) → SpellsCommand bytes command
     → Does (λ asked out. Obeys moment own command asked out next) before after old new → Does (λ asked out. TakesCommand moment own bytes asked out next) before after old new
 command_taken moment own bytes command next before after old new form does =
     does_map (λ asked out. Obeys moment own command asked out next) (λ asked out. TakesCommand moment own bytes asked out next) before after old new
@@ -126,37 +126,37 @@ pub quiet_step : (f : List Exchange → List Packet → Type 0) (before after : 
 quiet_step f before after v step = record { asked = step.0; out = []; outcome_is = step.1; after_is = step.2; puts = puts_none v }
 
 -- a payload is taken as where the talk stands
-bytes_as : (moment : ℤ) (stage given : Stage) (bytes : List ℕ) (next : Stage) (before after : List Exchange) (old new : OutView) → stage ≡ given
+bytes_as : (moment : ℤ) (stage given : TalkStage) (bytes : List ℕ) (next : TalkStage) (before after : List Exchange) (old new : OutView) → stage ≡ given
     → Does (λ asked out. TakesBytes moment given bytes asked out next) before after old new → Does (λ asked out. TakesBytes moment stage bytes asked out next) before after old new
 bytes_as moment stage given bytes next before after old new is does =
-    subst (λ (s : Stage). Does (λ asked out. TakesBytes moment s bytes asked out next) before after old new) (sym is) does
+    subst (λ (s : TalkStage). Does (λ asked out. TakesBytes moment s bytes asked out next) before after old new) (sym is) does
 
-pub command_step : (moment : ℤ) (stage : Stage) (own : Option Own) (bytes slice : List ℕ) (next : Stage) (before after : List Exchange) (old new : OutView) → stage ≡ Command own → slice ≡ bytes
+pub command_step : (moment : ℤ) (stage : TalkStage) (own : Option Own) (bytes slice : List ℕ) (next : TalkStage) (before after : List Exchange) (old new : OutView) → stage ≡ Command own → slice ≡ bytes
     → Does (λ asked out. TakesCommand moment own slice asked out next) before after old new → Does (λ asked out. TakesBytes moment stage bytes asked out next) before after old new
 command_step moment stage own bytes slice next before after old new is same does =
     bytes_as moment stage (Command own) bytes next before after old new is
     (subst (λ (b : List ℕ). Does (λ asked out. TakesCommand moment own b asked out next) before after old new) same does)
 
-pub header_step : (moment : ℤ) (stage : Stage) (own : Own) (bytes slice : List ℕ) (next : Stage) (before after : List Exchange) (v : OutView) → stage ≡ Header own → slice ≡ bytes
+pub header_step : (moment : ℤ) (stage : TalkStage) (own : Own) (bytes slice : List ℕ) (next : TalkStage) (before after : List Exchange) (v : OutView) → stage ≡ Header own → slice ≡ bytes
     → ((asked : List Exchange) × TakesHeader own slice asked [] next × (after ≡ before ++ asked)) → Does (λ asked out. TakesBytes moment stage bytes asked out next) before after v v
 header_step moment stage own bytes slice next before after v is same step =
     bytes_as moment stage (Header own) bytes next before after v v is
     (subst (λ (b : List ℕ). Does (λ asked out. TakesHeader own b asked out next) before after v v) same
     (quiet_step (λ asked out. TakesHeader own slice asked out next) before after v step))
 
-pub record_step : (moment : ℤ) (stage : Stage) (own : Own) (header : HeaderParts) (bytes : List ℕ) (next : Stage) (before after : List Exchange) (v : OutView) → stage ≡ Records own header
+pub record_step : (moment : ℤ) (stage : TalkStage) (own : Own) (header : HeaderParts) (bytes : List ℕ) (next : TalkStage) (before after : List Exchange) (v : OutView) → stage ≡ Records own header
     → ((asked : List Exchange) × TakesRecordPacket own header bytes asked [] next × (after ≡ before ++ asked)) → Does (λ asked out. TakesBytes moment stage bytes asked out next) before after v v
 record_step moment stage own header bytes next before after v is step =
     bytes_as moment stage (Records own header) bytes next before after v v is (quiet_step (λ asked out. TakesRecordPacket own header bytes asked out next) before after v step)
 
-pub span_step : (moment : ℤ) (stage : Stage) (own : Option Own) (text bytes slice : List ℕ) (next : Stage) (before : List Exchange) (v : OutView) → stage ≡ Spans own text → slice ≡ bytes
+pub span_step : (moment : ℤ) (stage : TalkStage) (own : Option Own) (text bytes slice : List ℕ) (next : TalkStage) (before : List Exchange) (v : OutView) → stage ≡ Spans own text → slice ≡ bytes
     → TakesSpan (is_one_line (trimmed slice)) own text (trimmed slice) [] [] next → Does (λ asked out. TakesBytes moment stage bytes asked out next) before before v v
 span_step moment stage own text bytes slice next before v is same step =
     bytes_as moment stage (Spans own text) bytes next before before v v is
     (subst (λ (b : List ℕ). Does (λ asked out. TakesSpan (is_one_line (trimmed b)) own text (trimmed b) asked out next) before before v v) same
     (quiet_step (λ asked out. TakesSpan (is_one_line (trimmed slice)) own text (trimmed slice) asked out next) before before v ([], step, sym (append-nil before))))
 
-pub plain_step : (moment : ℤ) (stage given : Stage) (bytes : List ℕ) (next : Stage) (before : List Exchange) (v : OutView) → stage ≡ given
+pub plain_step : (moment : ℤ) (stage given : TalkStage) (bytes : List ℕ) (next : TalkStage) (before : List Exchange) (v : OutView) → stage ≡ given
     → TakesBytes moment given bytes [] [] next → Does (λ asked out. TakesBytes moment stage bytes asked out next) before before v v
 plain_step moment stage given bytes next before v is step =
     bytes_as moment stage given bytes next before before v v is

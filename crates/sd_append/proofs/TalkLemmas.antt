@@ -13,10 +13,10 @@ use Rattle.sd_machine.specs.declared.reply.Reply.{Reply}
 use Rattle.sd_machine.specs.declared.reply.Reply.TheVariants as replies
 use Rattle.sd_readback.specs.declared.read.ReadEnd.{ReadEnd}
 use Rattle.sd_append.specs.declared.command.Command.{Command as Asked}
-use Rattle.sd_append.specs.declared.line.Line.TheVariants as lines
+use Rattle.sd_append.specs.declared.line.ReplyLine.TheVariants as lines
 use Rattle.sd_append.specs.declared.stage.Own.{Own}
-use Rattle.sd_append.specs.declared.stage.Stage.{Stage}
-use Rattle.sd_append.specs.declared.stage.Stage.TheVariants.{Command, Header, Dropped}
+use Rattle.sd_append.specs.declared.stage.TalkStage.{TalkStage}
+use Rattle.sd_append.specs.declared.stage.TalkStage.TheVariants.{Command, Header, Dropped}
 use Rattle.sd_append.specs.Does.{Does}
 use Rattle.sd_append.specs.Header.{HasHeaderForm, HeaderParts}
 use Rattle.sd_append.specs.Out.{OutView, PutsOut}
@@ -77,7 +77,7 @@ close_says a b c d e reply key spans slice is same p q r s =
 -- Steps.
 
 -- a step that only says something
-pub only_says : (says : List Packet) (next : Stage) (asked : List Exchange) (old new : OutView) → PutsOut old new (stream_of says)
+pub only_says : (says : List Packet) (next : TalkStage) (asked : List Exchange) (old new : OutView) → PutsOut old new (stream_of says)
     → Does (λ more out. Only says next more out next) asked asked old new
 only_says says next asked old new puts = record {
   asked = [];
@@ -113,12 +113,12 @@ pub close_refuses : (own : Option Own) (named : Result Own (Option Own)) (asked 
 close_refuses own named asked old new is puts =
     subst (λ (n : Result Own (Option Own)). Does (λ more out. ObeysClose n more out (Command own)) asked asked old new) (sym is) (refuses_ticket own asked old new puts)
 
-pub end_obeys : (moment : ℤ) (named : Result Own (Option Own)) (it : Own) (next : Stage) (before after : List Exchange) (old new : OutView) → named ≡ Ok it
+pub end_obeys : (moment : ℤ) (named : Result Own (Option Own)) (it : Own) (next : TalkStage) (before after : List Exchange) (old new : OutView) → named ≡ Ok it
     → Does (λ asked out. ObeysEnd moment (Ok it) asked out next) before after old new → Does (λ asked out. ObeysEnd moment named asked out next) before after old new
 end_obeys moment named it next before after old new is does =
     subst (λ (n : Result Own (Option Own)). Does (λ asked out. ObeysEnd moment n asked out next) before after old new) (sym is) does
 
-pub close_obeys : (named : Result Own (Option Own)) (it : Own) (next : Stage) (before after : List Exchange) (old new : OutView) → named ≡ Ok it
+pub close_obeys : (named : Result Own (Option Own)) (it : Own) (next : TalkStage) (before after : List Exchange) (old new : OutView) → named ≡ Ok it
     → Does (λ asked out. ObeysClose (Ok it) asked out next) before after old new → Does (λ asked out. ObeysClose named asked out next) before after old new
 close_obeys named it next before after old new is does =
     subst (λ (n : Result Own (Option Own)). Does (λ asked out. ObeysClose n asked out next) before after old new) (sym is) does
@@ -139,7 +139,7 @@ header_drops own left bytes before after none gave =
     (gave.0, inr (none, record { left = left; gives_up = gave.1; out_is = refl; new_is = refl }), gave.2)
 
 -- a command is obeyed as the one that it is
-pub obeys_as : (moment : ℤ) (own : Option Own) (command given : Asked) (next : Stage) (before after : List Exchange) (old new : OutView) → command ≡ given
+pub obeys_as : (moment : ℤ) (own : Option Own) (command given : Asked) (next : TalkStage) (before after : List Exchange) (old new : OutView) → command ≡ given
     → Does (λ asked out. Obeys moment own given asked out next) before after old new → Does (λ asked out. Obeys moment own command asked out next) before after old new
 obeys_as moment own command given next before after old new is does =
     subst (λ (k : Asked). Does (λ asked out. Obeys moment own k asked out next) before after old new) (sym is) does

@@ -5,16 +5,16 @@ use Rattle.sd_bnet.specs.declared.packet.Packet.{Packet}
 use Rattle.sd_bnet.specs.declared.packet.Packet.TheVariants.{Bytes, Signal}
 use Rattle.sd_append.specs.Conversation.{Converses, IsCommandDue, IsEndedByClient, MayEnd}
 use Rattle.sd_append.specs.Port.{Exchange}
-use Rattle.sd_append.specs.Stage.{meaning_of, own_of}
+use Rattle.sd_append.specs.TalkStage.{meaning_of, own_of}
 use Rattle.sd_append.specs.Talk.{Takes, TakesEnd, TakesSignal, end_of_data, heartbeat_response, poll_said, refused, said}
 use Rattle.sd_append.specs.declared.end.TalkEnd.{TalkEnd}
 use Rattle.sd_append.specs.declared.end.TalkEnd.TheVariants.{Finished, Truncated, TooLong, ReadFault, WriteFault, OutOfTurns}
-use Rattle.sd_append.specs.declared.line.Line.TheVariants as lines
+use Rattle.sd_append.specs.declared.line.ReplyLine.TheVariants as lines
 use Rattle.sd_append.specs.declared.signal.Meaning.{Meaning}
 use Rattle.sd_append.specs.declared.signal.Meaning.TheVariants.{Poll, Other}
 use Rattle.sd_append.specs.declared.stage.Own.{Own}
-use Rattle.sd_append.specs.declared.stage.Stage.{Stage}
-use Rattle.sd_append.specs.declared.stage.Stage.TheVariants.{Command, Header, Records, Refused, Dropped, Spans, BadSpans, Over}
+use Rattle.sd_append.specs.declared.stage.TalkStage.{TalkStage}
+use Rattle.sd_append.specs.declared.stage.TalkStage.TheVariants.{Command, Header, Records, Refused, Dropped, Spans, BadSpans, Over}
 use Rattle.sd_append.specs.Laws.{EndsAt, RepliesAnswerTurns}
 use Rattle.sd_append.specs.Turns.{Place, Between, Within, Ended}
 use Rattle.sd_append.specs.Sessions.{LastIsGivenUp, Known, known_behind, none_opened}
@@ -29,13 +29,13 @@ use Rattle.sd_append.proofs.TurnLists.{signal_then}
 
 -- a read at its end, behind which a command is due
 read_over : (moment : ℤ) (place : Place) (own : Option Own) (Left : List (List ℕ) → List Exchange → List Packet → Type 0) (packets : List Packet) (more : List Exchange) (later : List Packet)
-    (asked : List Exchange) (out : List Packet) (new : Stage) → known_behind (known_in own) asked ≡ known_in (own_of new) → GoesOn moment place new packets more later
+    (asked : List Exchange) (out : List Packet) (new : TalkStage) → known_behind (known_in own) asked ≡ known_in (own_of new) → GoesOn moment place new packets more later
     → Left [] asked out → new ≡ Command own → Read moment place (known_in own) Left (end_of_data ∷ packets) (asked ++ more) (out ++ later)
 read_over moment place own Left packets more later asked out new known rest left stands =
-    read_ends moment place (known_in own) (known_in own) Left asked out packets more later (known ∙ ap (λ (s : Stage). known_in (own_of s)) stands) left
-    (subst (λ (s : Stage). GoesOn moment place s packets more later) stands rest)
+    read_ends moment place (known_in own) (known_in own) Left asked out packets more later (known ∙ ap (λ (s : TalkStage). known_in (own_of s)) stands) left
+    (subst (λ (s : TalkStage). GoesOn moment place s packets more later) stands rest)
 
-end_then : (moment : ℤ) (place : Place) (old : Stage) (packets : List Packet) (more : List Exchange) (later : List Packet) (asked : List Exchange) (out : List Packet) (new : Stage)
+end_then : (moment : ℤ) (place : Place) (old : TalkStage) (packets : List Packet) (more : List Exchange) (later : List Packet) (asked : List Exchange) (out : List Packet) (new : TalkStage)
     → known_behind (known_in (own_of old)) asked ≡ known_in (own_of new) → GoesOn moment place new packets more later → TakesEnd old asked out new
     → GoesOn moment place old (end_of_data ∷ packets) (asked ++ more) (out ++ later)
 end_then moment place (Command own) packets more later asked out new known rest t =
@@ -75,7 +75,7 @@ none_said true = refl
 none_said false = refl
 
 -- one that means nothing here, or is answered where a command is due
-minor_passes : (moment : ℤ) (place : Place) (stage : Stage) (number : ℤ) (polls : Bool) (meaning : Meaning) (packets : List Packet) (more : List Exchange) (later : List Packet) → IsMinor number polls meaning
+minor_passes : (moment : ℤ) (place : Place) (stage : TalkStage) (number : ℤ) (polls : Bool) (meaning : Meaning) (packets : List Packet) (more : List Exchange) (later : List Packet) → IsMinor number polls meaning
     → (says : List Packet) → says ≡ (if polls then poll_said stage else []) → GoesOn moment place stage packets more later
     → GoesOn moment place stage (Signal number ∷ packets) more (says ++ later)
 minor_passes moment place (Command own) number polls meaning packets more later minor says is rest =
@@ -103,7 +103,7 @@ minor_passes moment place (BadSpans own refusal) number polls meaning packets mo
 minor_passes moment place (Over own) number polls meaning packets more later minor says is rest =
     quiet moment place (Over own) (Signal number ∷ packets) more says later (is ∙ none_said polls) rest
 
-signal_then_any : (moment : ℤ) (place : Place) (old : Stage) (number : ℤ) (packets : List Packet) (more : List Exchange) (later : List Packet) (asked : List Exchange) (out : List Packet) (new : Stage)
+signal_then_any : (moment : ℤ) (place : Place) (old : TalkStage) (number : ℤ) (packets : List Packet) (more : List Exchange) (later : List Packet) (asked : List Exchange) (out : List Packet) (new : TalkStage)
     → known_behind (known_in (own_of old)) asked ≡ known_in (own_of new) → GoesOn moment place new packets more later → TakesSignal (meaning_of number) old asked out new
     → GoesOn moment place old (Signal number ∷ packets) (asked ++ more) (out ++ later)
 signal_then_any moment place old number packets more later asked out new known rest t = elim (signal_is number) [
@@ -124,7 +124,7 @@ signal_then_any moment place old number packets more later asked out new known r
 
 -- Talks.
 
-packet_then : (moment : ℤ) (place : Place) (old : Stage) (packet : Packet) (packets : List Packet) (more : List Exchange) (later : List Packet) (asked : List Exchange) (out : List Packet) (new : Stage)
+packet_then : (moment : ℤ) (place : Place) (old : TalkStage) (packet : Packet) (packets : List Packet) (more : List Exchange) (later : List Packet) (asked : List Exchange) (out : List Packet) (new : TalkStage)
     → Takes moment old packet asked out new → GoesOn moment place new packets more later → GoesOn moment place old (packet ∷ packets) (asked ++ more) (out ++ later)
 packet_then moment place old (Bytes bytes) packets more later asked out new t rest =
     bytes_then moment place old bytes packets more later asked out new (tells_known moment asked (known_in (own_of old)) (known_in (own_of new)) (takes_tell moment old (Bytes bytes) asked out new t)) rest t
@@ -132,7 +132,7 @@ packet_then moment place old (Signal number) packets more later asked out new t 
     signal_then_any moment place old number packets more later asked out new
     (tells_known moment asked (known_in (own_of old)) (known_in (own_of new)) (takes_tell moment old (Signal number) asked out new t)) rest t
 
-goes_on : (moment : ℤ) (old : Stage) (packets : List Packet) (asked : List Exchange) (out : List Packet) (new : Stage) → Converses moment old packets asked out new
+goes_on : (moment : ℤ) (old : TalkStage) (packets : List Packet) (asked : List Exchange) (out : List Packet) (new : TalkStage) → Converses moment old packets asked out new
     → GoesOn moment (place_of new) old packets asked out
 goes_on moment old [] asked out new (none, said_is, stands) =
     subst (λ (l : List Exchange). GoesOn moment (place_of new) old [] l out) (sym none)
@@ -144,24 +144,24 @@ goes_on moment old (packet ∷ packets) asked out new (between, first, more, say
 
 -- Ends.
 
-ended_place : (stage : Stage) → IsEndedByClient stage → place_of stage ≡ Ended
+ended_place : (stage : TalkStage) → IsEndedByClient stage → place_of stage ≡ Ended
 ended_place (Over own) is = refl
 ended_place stage is = absurd is
 
-other_place : (stage : Stage) → (IsEndedByClient stage → ⊥) → place_of stage ≢ Ended
+other_place : (stage : TalkStage) → (IsEndedByClient stage → ⊥) → place_of stage ≢ Ended
 other_place (Over own) not_ended is = not_ended tt
 other_place stage not_ended is = absurd (cc is)
 
-between_place : (stage : Stage) → IsCommandDue stage → place_of stage ≡ Between
+between_place : (stage : TalkStage) → IsCommandDue stage → place_of stage ≡ Between
 between_place (Command own) is = refl
 between_place stage is = absurd is
 
-within_place : (stage : Stage) → (IsEndedByClient stage → ⊥) → (IsCommandDue stage → ⊥) → place_of stage ≡ Within
+within_place : (stage : TalkStage) → (IsEndedByClient stage → ⊥) → (IsCommandDue stage → ⊥) → place_of stage ≡ Within
 within_place (Over own) not_ended not_due = absurd (not_ended tt)
 within_place (Command own) not_ended not_due = absurd (not_due tt)
 within_place stage not_ended not_due = refl
 
-ends_at : (end : Result TalkEnd AllocError) (stage : Stage) (rest : List ℕ) (ended : Type 0) → MayEnd end stage rest ended → EndsAt end (place_of stage) rest ended
+ends_at : (end : Result TalkEnd AllocError) (stage : TalkStage) (rest : List ℕ) (ended : Type 0) → MayEnd end stage rest ended → EndsAt end (place_of stage) rest ended
 ends_at (Ok Finished) stage rest ended (inl is) = inl (ended_place stage is)
 ends_at (Ok Finished) stage rest ended (inr (due, none, all)) = inr (between_place stage due, none, all)
 ends_at (Ok Truncated) stage rest ended (other, unfinished, inl not_due, all) = (other_place stage other, unfinished, inl (within_place stage other not_due), all)

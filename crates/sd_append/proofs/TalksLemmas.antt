@@ -11,12 +11,12 @@ use Rattle.sd_append.specs.declared.end.TalkEnd.TheVariants.{OutOfTurns}
 use Rattle.sd_append.specs.declared.outbox.OutFault.{OutFault}
 use Rattle.sd_append.specs.declared.outbox.OutFault.TheVariants as faults
 use Rattle.sd_append.specs.declared.stage.Own.{Own}
-use Rattle.sd_append.specs.declared.stage.Stage.{Stage}
-use Rattle.sd_append.specs.declared.stage.Stage.TheVariants.{Command}
+use Rattle.sd_append.specs.declared.stage.TalkStage.{TalkStage}
+use Rattle.sd_append.specs.declared.stage.TalkStage.TheVariants.{Command}
 use Rattle.sd_append.specs.Conversation.{GivesUpLast, end_says}
 use Rattle.sd_append.specs.Out.{OutView, PutsOut, PutsBy}
 use Rattle.sd_append.specs.Port.{Exchange}
-use Rattle.sd_append.specs.Stage.{own_of}
+use Rattle.sd_append.specs.TalkStage.{own_of}
 use Rattle.sd_append.specs.Standing.{Around, Halts, Stands, around, written_end}
 use Rattle.sd_append.specs.Talks.{AreWritten, IsCutOff, IsWithin, Talks}
 use Rattle.sd_append.proofs.OutLemmas.{puts_all, puts_front, puts_then_nothing}
@@ -41,7 +41,7 @@ written_of fault old new bytes end first well last fails puts =
     (subst (λ (b : Bool). PutsBy old.written new.written b new.failed old.waiting new.waiting bytes) well puts))))
 
 -- a talk that has come to its end is given up, and what waits is written out
-pub talk_ended : (moment : ℤ) (fault : Option OutFault) (start : Around) (left : Option (List ℕ)) (asked after : List Exchange) (old said new : OutView) (stage : Stage) (end : Result TalkEnd AllocError) (bytes : List ℕ)
+pub talk_ended : (moment : ℤ) (fault : Option OutFault) (start : Around) (left : Option (List ℕ)) (asked after : List Exchange) (old said new : OutView) (stage : TalkStage) (end : Result TalkEnd AllocError) (bytes : List ℕ)
     → start.out.waiting ≡ [] → start.out.failed ≡ false → Halts moment start (around left asked old) stage end bytes
     → ((giving : List Exchange) × GivesUpLast (own_of stage) giving × (after ≡ asked ++ giving))
     → PutsOut old said (stream_of (end_says end)) → PutsOut said new [] → new.waiting ≡ [] → new.failed ≡ is_some fault
@@ -71,7 +71,7 @@ talk_ended moment fault start left asked after old said new stage end bytes firs
 }
 
 -- the same, by what was answered on the way
-pub talk_done : (moment : ℤ) (fault given : Option OutFault) (start : Around) (left : Option (List ℕ)) (asked after : List Exchange) (old said new : OutView) (stage : Stage) (own : Option Own)
+pub talk_done : (moment : ℤ) (fault given : Option OutFault) (start : Around) (left : Option (List ℕ)) (asked after : List Exchange) (old said new : OutView) (stage : TalkStage) (own : Option Own)
     (end ended : Result TalkEnd AllocError) (holds : Option (List ℕ)) (bytes : List ℕ)
     → given ≡ fault → own ≡ own_of stage → ended ≡ written_end given end → holds ≡ new.written
     → start.out.waiting ≡ [] → start.out.failed ≡ false → Halts moment start (around left asked old) stage end bytes
@@ -133,7 +133,7 @@ within_all turns i end bytes least most_turns each most = record { most = omega 
 -- Turns, one after another.
 
 -- a turn behind which the talk goes on
-pub turn_goes_on : (moment : ℤ) (end : Option (Result TalkEnd AllocError)) (start now : Around) (state : FeederState) (stage : Stage) (bytes : List ℕ) (room i : ℕ) → end ≡ None → TurnComes moment end start now state stage bytes room
+pub turn_goes_on : (moment : ℤ) (end : Option (Result TalkEnd AllocError)) (start now : Around) (state : FeederState) (stage : TalkStage) (bytes : List ℕ) (room i : ℕ) → end ≡ None → TurnComes moment end start now state stage bytes room
     → room ≡ 65536 → i ≤ length bytes → length bytes ≤ i * 65536
     → (all : List ℕ) × Stands moment start now state stage all × (i + 1 ≤ length all) × (length all ≤ (i + 1) * 65536)
 turn_goes_on moment end start now state stage bytes room i is comes wide each most =
@@ -143,7 +143,7 @@ turn_goes_on moment end start now state stage bytes room i is comes wide each mo
     (bytes ++ t.0, t.3, omega (arith, length-append bytes t.0), omega (arith, length-append bytes t.0))
 
 -- a turn behind which it has ended
-pub turn_ended : (moment : ℤ) (end : Option (Result TalkEnd AllocError)) (due : Result TalkEnd AllocError) (start now : Around) (state : FeederState) (stage : Stage) (bytes : List ℕ) (room : ℕ) → end ≡ Some due
+pub turn_ended : (moment : ℤ) (end : Option (Result TalkEnd AllocError)) (due : Result TalkEnd AllocError) (start now : Around) (state : FeederState) (stage : TalkStage) (bytes : List ℕ) (room : ℕ) → end ≡ Some due
     → TurnComes moment end start now state stage bytes room → TurnComes moment (Some due) start now state stage bytes room
 turn_ended moment end due start now state stage bytes room is comes =
     subst (λ (e : Option (Result TalkEnd AllocError)). TurnComes moment e start now state stage bytes room) is comes

@@ -16,39 +16,39 @@ use Rattle.sd_span.specs.declared.jobmedia.JobMediaFault.TheVariants.{BadSpan, M
 use Rattle.sd_readback.specs.declared.read.ReadEnd.{ReadEnd}
 use Rattle.sd_append.specs.declared.signal.Meaning.{Meaning}
 use Rattle.sd_append.specs.declared.stage.Own.{Own}
-use Rattle.sd_append.specs.declared.stage.Stage.{Stage}
-use Rattle.sd_append.specs.declared.stage.Stage.TheVariants.{Command}
+use Rattle.sd_append.specs.declared.stage.TalkStage.{TalkStage}
+use Rattle.sd_append.specs.declared.stage.TalkStage.TheVariants.{Command}
 use Rattle.sd_append.specs.Does.{Does}
 use Rattle.sd_append.specs.Out.{OutView, PutsOut}
 use Rattle.sd_append.specs.Port.{Exchange, WasRead}
-use Rattle.sd_append.specs.Stage.{meaning_of}
+use Rattle.sd_append.specs.TalkStage.{meaning_of}
 use Rattle.sd_append.specs.Talk.{Only, ReadsBack, Takes, TakesEnd, TakesSignal, end_of_data, read_end_said, record_said, refused}
 use Rattle.sd_append.proofs.TakeLemmas.{does_map}
 use Rattle.sd_append.proofs.TalkLemmas.{only_says, says_then}
 
 -- a packet is taken as the one that it is
-pub packet_as : (moment : ℤ) (stage : Stage) (packet given : Packet) (next : Stage) (before after : List Exchange) (old new : OutView) → packet ≡ given
+pub packet_as : (moment : ℤ) (stage : TalkStage) (packet given : Packet) (next : TalkStage) (before after : List Exchange) (old new : OutView) → packet ≡ given
     → Does (λ asked out. Takes moment stage given asked out next) before after old new → Does (λ asked out. Takes moment stage packet asked out next) before after old new
 packet_as moment stage packet given next before after old new is does =
     subst (λ (p : Packet). Does (λ asked out. Takes moment stage p asked out next) before after old new) (sym is) does
 
-pub signal_as : (moment : ℤ) (stage : Stage) (packet : Packet) (number : ℤ) (meaning : Meaning) (next : Stage) (before after : List Exchange) (old new : OutView) → packet ≡ Signal number
+pub signal_as : (moment : ℤ) (stage : TalkStage) (packet : Packet) (number : ℤ) (meaning : Meaning) (next : TalkStage) (before after : List Exchange) (old new : OutView) → packet ≡ Signal number
     → meaning ≡ meaning_of number → Does (λ asked out. TakesSignal meaning stage asked out next) before after old new → Does (λ asked out. Takes moment stage packet asked out next) before after old new
 signal_as moment stage packet number meaning next before after old new is same does =
     packet_as moment stage packet (Signal number) next before after old new is
     (subst (λ (m : Meaning). Does (λ asked out. TakesSignal m stage asked out next) before after old new) same does)
 
 -- a signal is taken as what it means
-pub meaning_as : (meaning given : Meaning) (stage next : Stage) (before after : List Exchange) (old new : OutView) → meaning ≡ given
+pub meaning_as : (meaning given : Meaning) (stage next : TalkStage) (before after : List Exchange) (old new : OutView) → meaning ≡ given
     → Does (λ asked out. TakesSignal given stage asked out next) before after old new → Does (λ asked out. TakesSignal meaning stage asked out next) before after old new
 meaning_as meaning given stage next before after old new is does =
     subst (λ (m : Meaning). Does (λ asked out. TakesSignal m stage asked out next) before after old new) (sym is) does
 
 -- the end of data is taken as where the talk stands
-pub end_as : (stage given next : Stage) (before after : List Exchange) (old new : OutView) → stage ≡ given
+pub end_as : (stage given next : TalkStage) (before after : List Exchange) (old new : OutView) → stage ≡ given
     → Does (λ asked out. TakesEnd given asked out next) before after old new → Does (λ asked out. TakesEnd stage asked out next) before after old new
 end_as stage given next before after old new is does =
-    subst (λ (s : Stage). Does (λ asked out. TakesEnd s asked out next) before after old new) (sym is) does
+    subst (λ (s : TalkStage). Does (λ asked out. TakesEnd s asked out next) before after old new) (sym is) does
 
 -- a session was read back
 pub read_done : (own : Option Own) (text : List ℕ) (key : SessionKey) (spans slice : List Span) (answer : Result ReadEnd Refusal) (before after : List Exchange) (a b c : OutView)

@@ -7,27 +7,27 @@ use Rattle.sd_bnet.specs.declared.packet.Packet.{Packet}
 use Rattle.sd_append.specs.declared.end.TalkEnd.{TalkEnd}
 use Rattle.sd_append.specs.declared.end.TalkEnd.TheVariants.{Finished, Truncated, TooLong, ReadFault, WriteFault, OutOfTurns}
 use Rattle.sd_append.specs.declared.stage.Own.{Own}
-use Rattle.sd_append.specs.declared.stage.Stage.{Stage}
-use Rattle.sd_append.specs.declared.stage.Stage.TheVariants.{Command, Over}
+use Rattle.sd_append.specs.declared.stage.TalkStage.{TalkStage}
+use Rattle.sd_append.specs.declared.stage.TalkStage.TheVariants.{Command, Over}
 use Rattle.sd_append.specs.Port.{Exchange}
-use Rattle.sd_append.specs.Stage.{own_of}
+use Rattle.sd_append.specs.TalkStage.{own_of}
 use Rattle.sd_append.specs.Talk.{GivesUp, Takes, refused}
 
 -- packets one after another, all at this moment, and where the talk stands behind them
-abbrev pub Converses : ℤ → Stage → List Packet → List Exchange → List Packet → Stage → Type 0
+abbrev pub Converses : ℤ → TalkStage → List Packet → List Exchange → List Packet → TalkStage → Type 0
 Converses moment old [] asked out new = (asked ≡ []) × (out ≡ []) × (new ≡ old)
 Converses moment old (packet ∷ packets) asked out new =
-    (between : Stage) × (first : List Exchange) × (more : List Exchange) × (says : List Packet) × (later : List Packet)
+    (between : TalkStage) × (first : List Exchange) × (more : List Exchange) × (says : List Packet) × (later : List Packet)
     × Takes moment old packet first says between × Converses moment between packets more later new
     × (asked ≡ first ++ more) × (out ≡ says ++ later)
 
 -- the client has ended the talk
-abbrev pub IsEndedByClient : Stage → Type 0
+abbrev pub IsEndedByClient : TalkStage → Type 0
 IsEndedByClient (Over own) = Unit {0}
 IsEndedByClient stage = ⊥
 
 -- a command is due
-abbrev pub IsCommandDue : Stage → Type 0
+abbrev pub IsCommandDue : TalkStage → Type 0
 IsCommandDue (Command own) = Unit {0}
 IsCommandDue stage = ⊥
 
@@ -45,7 +45,7 @@ end_says end = []
 -- them: finished by the client, or where the input ended between two commands; cut off where it ended elsewhere, within
 -- a packet or where no command was due; by a length above the limit; or, before any of these, by a fault of the reader
 -- or by its last turn; or, at any place, by a fault of the writer or for want of memory.
-abbrev pub MayEnd : Result TalkEnd AllocError → Stage → List ℕ → Type 0 → Type 0
+abbrev pub MayEnd : Result TalkEnd AllocError → TalkStage → List ℕ → Type 0 → Type 0
 MayEnd (Ok Finished) stage rest ended = IsEndedByClient stage ⊎ (IsCommandDue stage × (rest ≡ []) × ended)
 MayEnd (Ok Truncated) stage rest ended =
     (IsEndedByClient stage → ⊥) × IsUnfinished rest × ((IsCommandDue stage → ⊥) ⊎ IsFront rest) × ended
@@ -59,7 +59,7 @@ MayEnd (Err e) stage rest ended = Unit {0}
 -- this and answered so, where each open, each end and each line of a console bears this moment; these packets went out;
 -- and the talk ended so.
 pub record Conversation (moment : ℤ) (packets : List Packet) (rest : List ℕ) (ended : Type 0) (asked : List Exchange) (out : List Packet) (end : Result TalkEnd AllocError) : Type 0 where
-  pub last : Stage
+  pub last : TalkStage
   pub before : List Exchange
   pub giving : List Exchange
   pub says : List Packet

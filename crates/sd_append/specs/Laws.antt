@@ -8,7 +8,7 @@ use Rattle.sd_append.specs.Port.{Exchange}
 use Rattle.sd_append.specs.Talk.{said}
 use Rattle.sd_append.specs.declared.end.TalkEnd.{TalkEnd}
 use Rattle.sd_append.specs.declared.end.TalkEnd.TheVariants.{Finished, Truncated, TooLong, ReadFault, WriteFault, OutOfTurns}
-use Rattle.sd_append.specs.declared.line.Line.TheVariants as lines
+use Rattle.sd_append.specs.declared.line.ReplyLine.TheVariants as lines
 use Rattle.sd_append.specs.Phases.{AreTaken, AskFor}
 use Rattle.sd_append.specs.Sessions.{AreOver, Known, LastIsGivenUp, known_behind, none_opened}
 use Rattle.sd_append.specs.Turns.{IsDataPhase, IsOfTurns, Place, Between, Within, Ended, Turn}

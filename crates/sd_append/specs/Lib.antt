@@ -3,7 +3,7 @@ pub mod Conversation
 pub mod Does
 pub mod Header
 pub mod Laws
-pub mod Line
+pub mod ReplyLine
 pub mod Out
 pub mod Phases
 pub mod Port
@@ -11,7 +11,7 @@ pub mod Reader
 pub mod Reading
 pub mod Seen
 pub mod Sessions
-pub mod Stage
+pub mod TalkStage
 pub mod Standing
 pub mod Talk
 pub mod Talks

@@ -15,10 +15,10 @@ use Rattle.sd_span.specs.JobMedia.{SpanFits, span_text}
 use Rattle.sd_span.specs.declared.span.Span.{Span}
 use Rattle.sd_append.specs.Header.{HasHeaderForm, HeaderParts}
 use Rattle.sd_append.specs.Port.{Exchange, Stepped, WasRead}
-use Rattle.sd_append.specs.Stage.{refusal_in}
+use Rattle.sd_append.specs.TalkStage.{refusal_in}
 use Rattle.sd_append.specs.Talk.{IsSpanLine, end_of_data, is_one_line, read_end_said, record_said, refused}
-use Rattle.sd_append.specs.declared.line.Line.{Line}
-use Rattle.sd_append.specs.declared.line.Line.TheVariants as lines
+use Rattle.sd_append.specs.declared.line.ReplyLine.{ReplyLine}
+use Rattle.sd_append.specs.declared.line.ReplyLine.TheVariants as lines
 use Rattle.sd_append.specs.Sessions.{IsGivenUp, goes_on_by}
 
 -- What is heard.
@@ -91,7 +91,7 @@ pub record StopsAtHeader (ticket : ℕ) (goes_on : Bool) (records : List Record)
 
 -- What becomes of the records that a data phase asks for, with groups that weren't read, and the answer at its end: every group
 -- was read and every record taken; or the first record that isn't stops it; or the first header that can't be read does.
-abbrev pub BecomesOf : ℕ → Bool → List Record → List Group → List Exchange → Line → Type 0
+abbrev pub BecomesOf : ℕ → Bool → List Record → List Group → List Exchange → ReplyLine → Type 0
 BecomesOf ticket goes_on records unread asked answer =
     ((unread ≡ []) × AreTaken ticket records asked × (answer ≡ lines.Appended))
     ⊎ ((refusal : Refusal) × StopsAtRecord ticket goes_on records asked refusal × (answer ≡ lines.Refused refusal))

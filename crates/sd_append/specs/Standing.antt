@@ -10,8 +10,8 @@ use Rattle.sd_append.specs.declared.end.TalkEnd.{TalkEnd}
 use Rattle.sd_append.specs.declared.end.TalkEnd.TheVariants.{Finished, Truncated, TooLong, OutOfTurns, WriteFault}
 use Rattle.sd_append.specs.declared.outbox.OutFault.{OutFault}
 use Rattle.sd_append.specs.declared.outbox.OutFault.TheVariants as faults
-use Rattle.sd_append.specs.declared.stage.Stage.{Stage}
-use Rattle.sd_append.specs.declared.stage.Stage.TheVariants.{Command}
+use Rattle.sd_append.specs.declared.stage.TalkStage.{TalkStage}
+use Rattle.sd_append.specs.declared.stage.TalkStage.TheVariants.{Command}
 use Rattle.sd_append.specs.Conversation.{Converses, IsCommandDue, IsEndedByClient, MayEnd}
 use Rattle.sd_append.specs.Does.{Does}
 use Rattle.sd_append.specs.Out.{OutView}
@@ -28,11 +28,11 @@ abbrev pub around : Option (List ℕ) → List Exchange → OutView → Around
 around left asked out = record { left = left; asked = asked; out = out }
 
 -- the client hasn't ended the talk, and no length was too great
-abbrev pub GoesOn : FeederState → Stage → Type 0
+abbrev pub GoesOn : FeederState → TalkStage → Type 0
 GoesOn state stage = (IsEndedByClient stage → ⊥) × (state ≢ Failed)
 
 -- A talk goes on that has read these bytes and taken their packets at this moment, one after another.
-pub record Stands (moment : ℤ) (start now : Around) (state : FeederState) (stage : Stage) (bytes : List ℕ) : Type 0 where
+pub record Stands (moment : ℤ) (start now : Around) (state : FeederState) (stage : TalkStage) (bytes : List ℕ) : Type 0 where
   pub packets : List Packet
   pub read : Consumes start.left now.left bytes
   pub fits : Fits state bytes packets
@@ -46,7 +46,7 @@ AreRead (Ok end) bytes packets rest = Packets bytes packets rest
 AreRead (Err e) bytes packets rest = (front : List ℕ) × (piece : List ℕ) × (bytes ≡ front ++ piece) × Packets front packets rest
 
 -- A talk has come to this end that has read these bytes and taken their packets at this moment, one after another.
-pub record Halts (moment : ℤ) (start now : Around) (stage : Stage) (end : Result TalkEnd AllocError) (bytes : List ℕ) : Type 0 where
+pub record Halts (moment : ℤ) (start now : Around) (stage : TalkStage) (end : Result TalkEnd AllocError) (bytes : List ℕ) : Type 0 where
   pub packets : List Packet
   pub rest : List ℕ
   pub read : Consumes start.left now.left bytes
@@ -55,19 +55,19 @@ pub record Halts (moment : ℤ) (start now : Around) (stage : Stage) (end : Resu
   pub ends : MayEnd end stage rest (IsAtEnd now.left)
 
 -- a talk goes on, or it has come to an end that isn't its last turn
-abbrev pub Comes : ℤ → Option (Result TalkEnd AllocError) → Around → Around → FeederState → Stage → List ℕ → Type 0
+abbrev pub Comes : ℤ → Option (Result TalkEnd AllocError) → Around → Around → FeederState → TalkStage → List ℕ → Type 0
 Comes moment None start now state stage bytes = Stands moment start now state stage bytes
 Comes moment (Some end) start now state stage bytes = Halts moment start now stage end bytes × (end ≢ Ok OutOfTurns)
 
 -- how a talk ends that stands so behind a piece of its input, and whether the piece left its feeder failed; if it ends
-abbrev pub EndsBehind : Option (Result TalkEnd AllocError) → Bool → Stage → Type 0
+abbrev pub EndsBehind : Option (Result TalkEnd AllocError) → Bool → TalkStage → Type 0
 EndsBehind None failed stage = (IsEndedByClient stage → ⊥) × (IsTrue failed → ⊥)
 EndsBehind (Some (Ok Finished)) failed stage = IsEndedByClient stage
 EndsBehind (Some (Ok TooLong)) failed stage = (IsEndedByClient stage → ⊥) × IsTrue failed
 EndsBehind (Some end) failed stage = ⊥
 
 -- how a talk ends that stands so where its input ends
-abbrev pub EndsInput : TalkEnd → FeederState → Stage → Type 0
+abbrev pub EndsInput : TalkEnd → FeederState → TalkStage → Type 0
 EndsInput Finished state stage = IsCommandDue stage × (IsMidway state → ⊥)
 EndsInput Truncated state stage = (IsCommandDue stage → ⊥) ⊎ IsMidway state
 EndsInput end state stage = ⊥

@@ -16,18 +16,18 @@ use Rattle.sd_machine.specs.declared.reply.Reply.TheVariants as replies
 use Rattle.sd_readback.specs.declared.read.ReadEnd.{ReadEnd}
 use Rattle.sd_append.specs.declared.command.Command.{Command as Asked}
 use Rattle.sd_append.specs.declared.command.Command.TheVariants as commands
-use Rattle.sd_append.specs.declared.line.Line.{Line}
-use Rattle.sd_append.specs.declared.line.Line.TheVariants as lines
+use Rattle.sd_append.specs.declared.line.ReplyLine.{ReplyLine}
+use Rattle.sd_append.specs.declared.line.ReplyLine.TheVariants as lines
 use Rattle.sd_append.specs.declared.signal.Meaning.{Meaning}
 use Rattle.sd_append.specs.declared.signal.Meaning.TheVariants.{EndOfData, Terminate, Poll, Other}
 use Rattle.sd_append.specs.declared.stage.Own.{Own}
-use Rattle.sd_append.specs.declared.stage.Stage.{Stage}
-use Rattle.sd_append.specs.declared.stage.Stage.TheVariants.{Command, Header, Records, Refused, Dropped, Spans, BadSpans, Over}
+use Rattle.sd_append.specs.declared.stage.TalkStage.{TalkStage}
+use Rattle.sd_append.specs.declared.stage.TalkStage.TheVariants.{Command, Header, Records, Refused, Dropped, Spans, BadSpans, Over}
 use Rattle.sd_append.specs.Command.{AreNames, SpellsCommand, HasShape}
 use Rattle.sd_append.specs.Header.{HasHeaderForm, HeaderParts}
-use Rattle.sd_append.specs.Line.{line_text}
+use Rattle.sd_append.specs.ReplyLine.{line_text}
 use Rattle.sd_append.specs.Port.{Exchange, Stepped, WasRead, Said}
-use Rattle.sd_append.specs.Stage.{meaning_of, own_of, refusal_in, by_reply, by_open, is_running, is_taken, own_with}
+use Rattle.sd_append.specs.TalkStage.{meaning_of, own_of, refusal_in, by_reply, by_open, is_running, is_taken, own_with}
 use Rattle.sd_append.specs.Text.{trimmed}
 
 -- What goes out.
@@ -41,7 +41,7 @@ abbrev pub heartbeat_response : Packet
 heartbeat_response = Signal (negsuc 6)
 
 -- the packet of a line, which a newline ends
-abbrev pub said : Line → Packet
+abbrev pub said : ReplyLine → Packet
 said text = Bytes (line (line_text text))
 
 -- the packet of a refusal
@@ -83,7 +83,7 @@ read_end_said (Ok end) = said (lines.Read end)
 read_end_said (Err refusal) = refused refusal
 
 -- the port is asked nothing, this goes out, and the talk stands so
-abbrev pub Only : List Packet → Stage → List Exchange → List Packet → Stage → Type 0
+abbrev pub Only : List Packet → TalkStage → List Exchange → List Packet → TalkStage → Type 0
 Only says next asked out new = (asked ≡ []) × (out ≡ says) × (new ≡ next)
 
 -- The session is given up, where it goes on: with these exchanges, and this is then known of it.
@@ -99,39 +99,39 @@ GivesUp own asked new = GivesUpIf own.runs own asked new
 -- Commands.
 
 -- an open: refused while the talk's session goes on, or given with this moment
-abbrev pub ObeysOpen : ℤ → Bool → Option Own → ℕ → List ℕ → List ℕ → List Exchange → List Packet → Stage → Type 0
+abbrev pub ObeysOpen : ℤ → Bool → Option Own → ℕ → List ℕ → List ℕ → List Exchange → List Packet → TalkStage → Type 0
 ObeysOpen moment true own job pool media asked out new = Only (refused BadCommand ∷ []) (Command own) asked out new
 ObeysOpen moment false own job pool media asked out new =
     (reply : Reply) × (asked ≡ Stepped (events.Open job pool media moment) reply ∷ [])
     × (out ≡ open_said reply) × (new ≡ Command (by_open own reply))
 
 -- a data phase, of the session that the ticket names
-abbrev pub ObeysData : Result Own (Option Own) → List Exchange → List Packet → Stage → Type 0
+abbrev pub ObeysData : Result Own (Option Own) → List Exchange → List Packet → TalkStage → Type 0
 ObeysData (Err own) asked out new = Only (refused SessionNotOpen ∷ []) (Command own) asked out new
 ObeysData (Ok it) asked out new = Only (said lines.Data ∷ []) (Header it) asked out new
 
 -- the end of the session that the ticket names, given with this moment
-abbrev pub ObeysEnd : ℤ → Result Own (Option Own) → List Exchange → List Packet → Stage → Type 0
+abbrev pub ObeysEnd : ℤ → Result Own (Option Own) → List Exchange → List Packet → TalkStage → Type 0
 ObeysEnd moment (Err own) asked out new = Only (refused SessionNotOpen ∷ []) (Command own) asked out new
 ObeysEnd moment (Ok it) asked out new =
     (reply : Reply) × (asked ≡ Stepped (events.End it.ticket moment) reply ∷ [])
     × (out ≡ end_said reply) × (new ≡ Command (Some (by_reply it reply)))
 
 -- the close of the session that the ticket names
-abbrev pub ObeysClose : Result Own (Option Own) → List Exchange → List Packet → Stage → Type 0
+abbrev pub ObeysClose : Result Own (Option Own) → List Exchange → List Packet → TalkStage → Type 0
 ObeysClose (Err own) asked out new = Only (refused SessionNotOpen ∷ []) (Command own) asked out new
 ObeysClose (Ok it) asked out new =
     (reply : Reply) × (asked ≡ Stepped (events.Close it.ticket) reply ∷ [])
     × (out ≡ close_said reply) × (new ≡ Command (Some (by_reply it reply)))
 
 -- a console's line, said at this moment
-abbrev pub ObeysConsole : ℤ → Option Own → List ℕ → List Exchange → List Packet → Stage → Type 0
+abbrev pub ObeysConsole : ℤ → Option Own → List ℕ → List Exchange → List Packet → TalkStage → Type 0
 ObeysConsole moment own text asked out new =
     (answer : Result (List (List ℕ)) Refusal) × (asked ≡ Said moment text answer ∷ [])
     × (out ≡ console_said answer) × (new ≡ Command own)
 
 -- what a command comes to at this moment: an open, an end and a console's line bear it
-abbrev pub Obeys : ℤ → Option Own → Asked → List Exchange → List Packet → Stage → Type 0
+abbrev pub Obeys : ℤ → Option Own → Asked → List Exchange → List Packet → TalkStage → Type 0
 Obeys moment own (commands.Open job pool media) asked out new = ObeysOpen moment (is_running own) own job pool media asked out new
 Obeys moment own (commands.Data ticket) asked out new = ObeysData (own_with own ticket) asked out new
 Obeys moment own (commands.End ticket) asked out new = ObeysEnd moment (own_with own ticket) asked out new
@@ -140,7 +140,7 @@ Obeys moment own (commands.Read key) asked out new = Only [] (Spans own (line (s
 Obeys moment own (commands.Console text) asked out new = ObeysConsole moment own text asked out new
 
 -- what a packet comes to at this moment where a command is due: a command; or one but for its names; or none
-abbrev pub TakesCommand : ℤ → Option Own → List ℕ → List Exchange → List Packet → Stage → Type 0
+abbrev pub TakesCommand : ℤ → Option Own → List ℕ → List Exchange → List Packet → TalkStage → Type 0
 TakesCommand moment own bytes asked out new =
     ((command : Asked) × SpellsCommand bytes command × Obeys moment own command asked out new)
     ⊎ ((command : Asked) × HasShape bytes command × (AreNames command → ⊥) × Only (refused BadName ∷ []) (Command own) asked out new)
@@ -149,14 +149,14 @@ TakesCommand moment own bytes asked out new =
 -- Data phases.
 
 -- The rest of the phase is dropped for this refusal, and the session is given up.
-pub record Drops (own : Own) (refusal : Refusal) (asked : List Exchange) (out : List Packet) (new : Stage) : Type 0 where
+pub record Drops (own : Own) (refusal : Refusal) (asked : List Exchange) (out : List Packet) (new : TalkStage) : Type 0 where
   pub left : Own
   pub gives_up : GivesUp own asked left
   pub out_is : out ≡ []
   pub new_is : new ≡ Dropped left refusal
 
 -- what a packet comes to where a header is due
-abbrev pub TakesHeader : Own → List ℕ → List Exchange → List Packet → Stage → Type 0
+abbrev pub TakesHeader : Own → List ℕ → List Exchange → List Packet → TalkStage → Type 0
 TakesHeader own bytes asked out new =
     ((header : HeaderParts) × HasHeaderForm bytes header × Only [] (Records own header) asked out new)
     ⊎ (((header : HeaderParts) → HasHeaderForm bytes header → ⊥) × Drops own BadFileIndex asked out new)
@@ -166,12 +166,12 @@ abbrev pub record_of : HeaderParts → List ℕ → Record
 record_of header bytes = record { index = header.index; stream = header.stream; bytes = bytes }
 
 -- what a record comes to, taken or not
-abbrev pub AppendsIf : Bool → Own → HeaderParts → Reply → List Exchange → List Packet → Stage → Type 0
+abbrev pub AppendsIf : Bool → Own → HeaderParts → Reply → List Exchange → List Packet → TalkStage → Type 0
 AppendsIf true own header reply asked out new = Only [] (Records own header) asked out new
 AppendsIf false own header reply asked out new = Drops (by_reply own reply) (refusal_in reply) asked out new
 
 -- what a packet comes to where a record is due
-pub record TakesRecordPacket (own : Own) (header : HeaderParts) (bytes : List ℕ) (asked : List Exchange) (out : List Packet) (new : Stage) : Type 0 where
+pub record TakesRecordPacket (own : Own) (header : HeaderParts) (bytes : List ℕ) (asked : List Exchange) (out : List Packet) (new : TalkStage) : Type 0 where
   pub reply : Reply
   pub more : List Exchange
   pub asked_is : asked ≡ Stepped (events.Append own.ticket (record_of header bytes)) reply ∷ more
@@ -184,7 +184,7 @@ abbrev pub is_one_line : List ℕ → Bool
 is_one_line text = list_all (λ c. nat_lt c 128 && not (c == 10)) text
 
 -- The session is read back by the spans that the JobMedia text says; or that says none; or memory is wanted for them.
-abbrev pub ReadsBack : Option Own → List ℕ → List Exchange → List Packet → Stage → Type 0
+abbrev pub ReadsBack : Option Own → List ℕ → List Exchange → List Packet → TalkStage → Type 0
 ReadsBack own text asked out new =
     ((key : SessionKey) × (spans : List Span) × (records : List Record) × (answer : Result ReadEnd Refusal)
     × IsJobMedia text key spans × (asked ≡ WasRead key spans records answer ∷ [])
@@ -199,7 +199,7 @@ IsSpanLine text = (span : Span) × SpanFits span × (text ≡ span_text span)
 
 -- what a span's packet comes to: its line is added to the text; or it says no span, and from then on nothing of the spans
 -- is kept; or memory is wanted for it
-abbrev pub TakesSpan : Bool → Option Own → List ℕ → List ℕ → List Exchange → List Packet → Stage → Type 0
+abbrev pub TakesSpan : Bool → Option Own → List ℕ → List ℕ → List Exchange → List Packet → TalkStage → Type 0
 TakesSpan true own text more asked out new =
     (IsSpanLine more × Only [] (Spans own (text ++ line more)) asked out new)
     ⊎ ((IsSpanLine more → ⊥) × Only [] (BadSpans own BadSpan) asked out new)
@@ -209,7 +209,7 @@ TakesSpan false own text more asked out new = Only [] (BadSpans own BadSpan) ask
 -- Packets.
 
 -- what a payload comes to at this moment
-abbrev pub TakesBytes : ℤ → Stage → List ℕ → List Exchange → List Packet → Stage → Type 0
+abbrev pub TakesBytes : ℤ → TalkStage → List ℕ → List Exchange → List Packet → TalkStage → Type 0
 TakesBytes moment (Command own) bytes asked out new = TakesCommand moment own bytes asked out new
 TakesBytes moment (Header own) bytes asked out new = TakesHeader own bytes asked out new
 TakesBytes moment (Records own header) bytes asked out new = TakesRecordPacket own header bytes asked out new
@@ -220,7 +220,7 @@ TakesBytes moment (BadSpans own refusal) bytes asked out new = Only [] (BadSpans
 TakesBytes moment (Over own) bytes asked out new = Only [] (Over own) asked out new
 
 -- what the end of data comes to
-abbrev pub TakesEnd : Stage → List Exchange → List Packet → Stage → Type 0
+abbrev pub TakesEnd : TalkStage → List Exchange → List Packet → TalkStage → Type 0
 TakesEnd (Command own) asked out new = Only [] (Command own) asked out new
 TakesEnd (Header own) asked out new = Only (said lines.Appended ∷ []) (Command (Some own)) asked out new
 TakesEnd (Records own header) asked out new = Only [] (Header own) asked out new
@@ -231,18 +231,18 @@ TakesEnd (BadSpans own refusal) asked out new = Only (end_of_data ∷ refused re
 TakesEnd (Over own) asked out new = Only [] (Over own) asked out new
 
 -- what goes out for a poll or a heartbeat: an answer where a command is due
-abbrev pub poll_said : Stage → List Packet
+abbrev pub poll_said : TalkStage → List Packet
 poll_said (Command own) = heartbeat_response ∷ []
 poll_said stage = []
 
 -- what a signal comes to
-abbrev pub TakesSignal : Meaning → Stage → List Exchange → List Packet → Stage → Type 0
+abbrev pub TakesSignal : Meaning → TalkStage → List Exchange → List Packet → TalkStage → Type 0
 TakesSignal EndOfData old asked out new = TakesEnd old asked out new
 TakesSignal Terminate old asked out new = Only [] (Over (own_of old)) asked out new
 TakesSignal Poll old asked out new = Only (poll_said old) old asked out new
 TakesSignal Other old asked out new = Only [] old asked out new
 
 -- what a packet comes to at this moment, in microseconds
-abbrev pub Takes : ℤ → Stage → Packet → List Exchange → List Packet → Stage → Type 0
+abbrev pub Takes : ℤ → TalkStage → Packet → List Exchange → List Packet → TalkStage → Type 0
 Takes moment old (Bytes bytes) asked out new = TakesBytes moment old bytes asked out new
 Takes moment old (Signal number) asked out new = TakesSignal (meaning_of number) old asked out new

@@ -15,8 +15,8 @@ use Rattle.sd_append.specs.Talk.{close_said, console_said, end_of_data, end_said
 use Rattle.sd_append.specs.Text.{trimmed}
 use Rattle.sd_append.specs.declared.command.Command.{Command}
 use Rattle.sd_append.specs.declared.command.Command.TheVariants as commands
-use Rattle.sd_append.specs.declared.line.Line.{Line}
-use Rattle.sd_append.specs.declared.line.Line.TheVariants as lines
+use Rattle.sd_append.specs.declared.line.ReplyLine.{ReplyLine}
+use Rattle.sd_append.specs.declared.line.ReplyLine.TheVariants as lines
 use Rattle.sd_append.specs.Phases.{AskFor, BecomesOf, Group, ReadsBy, heard, packets_of}
 use Rattle.sd_append.specs.Sessions.{Known, known_behind}
 
@@ -100,7 +100,7 @@ pub record IsDataPhase (known : Known) (turn : Turn) : Type 0 where
   pub groups : List Group
   pub records : List Record
   pub unread : List Group
-  pub answer : Line
+  pub answer : ReplyLine
   pub spells : SpellsCommand bytes (commands.Data (Some ticket))
   pub own : known.ticket ≡ Some ticket
   pub packets_are : turn.packets ≡ Bytes bytes ∷ (phase ++ end_of_data ∷ [])
@@ -136,7 +136,7 @@ pub record IsDataBegun (known : Known) (packets : List Packet) (asked : List Exc
   pub groups : List Group
   pub records : List Record
   pub unread : List Group
-  pub due : Line
+  pub due : ReplyLine
   pub spells : SpellsCommand bytes (commands.Data (Some ticket))
   pub own : known.ticket ≡ Some ticket
   pub packets_are : packets ≡ Bytes bytes ∷ phase

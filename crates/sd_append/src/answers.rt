@@ -6,7 +6,7 @@ ghost use Rattle.sd_append.specs.Out.{PutsOut, out_view};
 ghost use Rattle.sd_append.specs.Talk.{close_said, console_said, end_of_data, end_said, open_said, read_end_said, record_said, refused, said, span_said};
 
 use crate::header::Header;
-use crate::line::Line;
+use crate::line::ReplyLine;
 use crate::outbox::Outbox;
 use crate::stage::refusal_in;
 use sd_base::{Items, Rec, Refusal};
@@ -17,7 +17,7 @@ use sd_span::Span;
 use std::io::Write;
 
 /// Says a line.
-pub(crate) fn say<W: Write>(outbox: &mut Outbox<W>, text: Line)
+pub(crate) fn say<W: Write>(outbox: &mut Outbox<W>, text: ReplyLine)
     ensures { PutsOut (out_view W.contents outbox.old) (out_view W.contents outbox.new)
         (stream_of (said text ∷ [])) }
 {
@@ -29,7 +29,7 @@ pub(crate) fn refuse<W: Write>(outbox: &mut Outbox<W>, refusal: Refusal)
     ensures { PutsOut (out_view W.contents outbox.old) (out_view W.contents outbox.new)
         (stream_of (refused refusal ∷ [])) }
 {
-    say(outbox, Line::Refused(refusal));
+    say(outbox, ReplyLine::Refused(refusal));
 }
 
 /// Says the reply to an open.
@@ -38,7 +38,7 @@ pub(crate) fn say_open<W: Write>(outbox: &mut Outbox<W>, reply: &Reply)
         (stream_of (open_said reply.now)) }
 {
     match reply {
-        Reply::Opened { ticket, .. } => say(outbox, Line::Opened(*ticket)),
+        Reply::Opened { ticket, .. } => say(outbox, ReplyLine::Opened(*ticket)),
         _ => refuse(outbox, refusal_in(reply)),
     }
 }
@@ -49,7 +49,7 @@ pub(crate) fn say_end<W: Write>(outbox: &mut Outbox<W>, reply: &Reply)
         (stream_of (end_said reply.now)) }
 {
     match reply {
-        Reply::Ended => say(outbox, Line::Ended),
+        Reply::Ended => say(outbox, ReplyLine::Ended),
         _ => refuse(outbox, refusal_in(reply)),
     }
 }
@@ -61,8 +61,8 @@ pub(crate) fn say_close<W: Write>(outbox: &mut Outbox<W>, reply: &Reply)
 {
     match reply {
         Reply::Closed { key, spans } => {
-            say(outbox, Line::Closed);
-            say(outbox, Line::Session(*key));
+            say(outbox, ReplyLine::Closed);
+            say(outbox, ReplyLine::Session(*key));
             say_spans(outbox, spans.as_slice());
             outbox.end_of_data();
         }
@@ -112,7 +112,7 @@ pub(crate) fn say_read_end<W: Write>(outbox: &mut Outbox<W>, answer: Result<Read
 {
     outbox.end_of_data();
     match answer {
-        Ok(end) => say(outbox, Line::Read(end)),
+        Ok(end) => say(outbox, ReplyLine::Read(end)),
         Err(refusal) => refuse(outbox, refusal),
     }
 }
@@ -122,7 +122,7 @@ pub(crate) fn say_record<W: Write>(outbox: &mut Outbox<W>, rec: &Rec)
     ensures { PutsOut (out_view W.contents outbox.old) (out_view W.contents outbox.new)
         (stream_of (record_said rec.now)) }
 {
-    outbox.text(Line::Header(Header::of(rec)));
+    outbox.text(ReplyLine::Header(Header::of(rec)));
     outbox.packet(rec.bytes.as_slice());
     outbox.end_of_data();
 }

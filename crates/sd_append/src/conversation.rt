@@ -14,7 +14,7 @@ use crate::granted::GrantedReader;
 use crate::obey::give_up;
 use crate::outbox::{OUT_BYTES, Outbox};
 use crate::port::SessionPort;
-use crate::stage::{Own, Stage};
+use crate::stage::{Own, TalkStage};
 use crate::standing::{Standing, Turned, end_behind, fault_end, input_end, written_end};
 use crate::turn::take_all;
 use sd_base::Refusal;
@@ -82,7 +82,7 @@ pub fn talk<R: Read, W: Write, P: SessionPort>(
     let Buffers { mut input, waiting } = buffers;
     let standing = Standing {
         feeder: Feeder::new(alloc),
-        stage: Stage::Command(None),
+        stage: TalkStage::Command(None),
         outbox: Outbox::new(writer, waiting),
     };
     let mut granted = GrantedReader::new(reader, turns);

@@ -33,7 +33,7 @@ pub use end::TalkEnd;
 pub use exchanges::Exchanges;
 pub use header::{Header, read_header};
 pub use laws::{appended_is_taken, replies_answer_turns, sessions_are_over};
-pub use line::Line;
+pub use line::ReplyLine;
 pub use port::{ReadBack, SessionPort};
 pub use read::read_command;
 pub use shown::Shown;

@@ -8,7 +8,7 @@ use std::fmt;
 
 /// A line of a reply. Displays it without the newline.
 #[derive(Drop)]
-pub enum Line {
+pub enum ReplyLine {
     /// The session is open.
     Opened(Ticket),
     /// Records may follow.
@@ -29,35 +29,35 @@ pub enum Line {
     Refused(Refusal),
 }
 
-impl fmt::Display for Line {
+impl fmt::Display for ReplyLine {
     ghost use Rattle.std.specs.Prelude.{Some};
-    ghost use Rattle.sd_append.specs.Line.{line_text};
+    ghost use Rattle.sd_append.specs.ReplyLine.{line_text};
 
     ghost output = { λ l. Some (line_text l) };
 
     fn fmt<W: fmt::Write>(&self, f: &mut fmt::Formatter<W>) -> fmt::Result {
         match self {
-            Line::Opened(ticket) => {
+            ReplyLine::Opened(ticket) => {
                 let ticket = ticket.get();
                 write!(f, "3000 OK open ticket = {ticket}")
             }
-            Line::Data => write!(f, "3000 OK data"),
-            Line::Appended => write!(f, "3000 OK append data"),
-            Line::Ended => write!(f, "3000 OK end"),
-            Line::Closed => write!(f, "3000 OK close Status = 84"),
-            Line::Session(key) => write!(f, "session {} {}", key.time, key.id),
-            Line::Read(end) if end.ended => write!(
+            ReplyLine::Data => write!(f, "3000 OK data"),
+            ReplyLine::Appended => write!(f, "3000 OK append data"),
+            ReplyLine::Ended => write!(f, "3000 OK end"),
+            ReplyLine::Closed => write!(f, "3000 OK close Status = 84"),
+            ReplyLine::Session(key) => write!(f, "session {} {}", key.time, key.id),
+            ReplyLine::Read(end) if end.ended => write!(
                 f,
                 "3000 OK read Records={} Bytes={} Ended=1",
                 end.records, end.bytes
             ),
-            Line::Read(end) => write!(
+            ReplyLine::Read(end) => write!(
                 f,
                 "3000 OK read Records={} Bytes={} Ended=0",
                 end.records, end.bytes
             ),
-            Line::Header(header) => write!(f, "{} {} 0", header.index(), header.stream()),
-            Line::Refused(refusal) => write!(f, "{refusal}"),
+            ReplyLine::Header(header) => write!(f, "{} {} 0", header.index(), header.stream()),
+            ReplyLine::Refused(refusal) => write!(f, "{refusal}"),
         }
     }
 }

@@ -6,10 +6,10 @@ ghost use Rattle.sd_append.specs.Port.{Exchange};
 ghost use Rattle.sd_append.specs.Talk.{GivesUp, ObeysClose, ObeysConsole, ObeysData, ObeysEnd, ObeysOpen};
 
 use crate::answers::{refuse, say, say_close, say_console, say_end, say_open};
-use crate::line::Line;
+use crate::line::ReplyLine;
 use crate::outbox::Outbox;
 use crate::port::SessionPort;
-use crate::stage::{Own, Stage, by_open, by_reply};
+use crate::stage::{Own, TalkStage, by_open, by_reply};
 use sd_base::{JobId, MediaName, PoolName, Refusal};
 use sd_machine::Event;
 use std::io::Write;
@@ -23,7 +23,7 @@ pub(crate) fn open<W: Write, P: SessionPort>(
     media: MediaName,
     port: &mut P,
     outbox: &mut Outbox<W>,
-) -> Stage
+) -> TalkStage
     ensures does { Does (λ asked out.
         ObeysOpen (P.clock port.old) running own job pool media asked out result)
         (P.asked port.old) (P.asked port.new)
@@ -32,7 +32,7 @@ pub(crate) fn open<W: Write, P: SessionPort>(
 {
     if running {
         refuse(outbox, Refusal::BadCommand);
-        return Stage::Command(own);
+        return TalkStage::Command(own);
     }
     let moment = port.moment();
     let reply = port.step(Event::Open {
@@ -42,23 +42,23 @@ pub(crate) fn open<W: Write, P: SessionPort>(
         moment,
     });
     say_open(outbox, &reply);
-    Stage::Command(by_open(own, &reply))
+    TalkStage::Command(by_open(own, &reply))
 }
 
 /// Begins the data phase of the session that a command names.
-pub(crate) fn data<W: Write>(named: Result<Own, Option<Own>>, outbox: &mut Outbox<W>) -> Stage
+pub(crate) fn data<W: Write>(named: Result<Own, Option<Own>>, outbox: &mut Outbox<W>) -> TalkStage
     ensures { (asked : List Exchange) → Does
         (λ more out. ObeysData named more out result) asked asked
         (out_view W.contents outbox.old) (out_view W.contents outbox.new) }
 {
     match named {
         Ok(it) => {
-            say(outbox, Line::Data);
-            Stage::Header(it)
+            say(outbox, ReplyLine::Data);
+            TalkStage::Header(it)
         }
         Err(own) => {
             refuse(outbox, Refusal::SessionNotOpen);
-            Stage::Command(own)
+            TalkStage::Command(own)
         }
     }
 }
@@ -68,7 +68,7 @@ pub(crate) fn end<W: Write, P: SessionPort>(
     named: Result<Own, Option<Own>>,
     port: &mut P,
     outbox: &mut Outbox<W>,
-) -> Stage
+) -> TalkStage
     ensures does { Does (λ asked out. ObeysEnd (P.clock port.old) named asked out result)
         (P.asked port.old) (P.asked port.new)
         (out_view W.contents outbox.old) (out_view W.contents outbox.new) }
@@ -78,12 +78,12 @@ pub(crate) fn end<W: Write, P: SessionPort>(
         Ok(it) => end_own(it, port, outbox),
         Err(own) => {
             refuse(outbox, Refusal::SessionNotOpen);
-            Stage::Command(own)
+            TalkStage::Command(own)
         }
     }
 }
 
-fn end_own<W: Write, P: SessionPort>(it: Own, port: &mut P, outbox: &mut Outbox<W>) -> Stage
+fn end_own<W: Write, P: SessionPort>(it: Own, port: &mut P, outbox: &mut Outbox<W>) -> TalkStage
     ensures does { Does (λ asked out. ObeysEnd (P.clock port.old) (Ok it) asked out result)
         (P.asked port.old) (P.asked port.new)
         (out_view W.contents outbox.old) (out_view W.contents outbox.new) }
@@ -95,7 +95,7 @@ fn end_own<W: Write, P: SessionPort>(it: Own, port: &mut P, outbox: &mut Outbox<
         moment,
     });
     say_end(outbox, &reply);
-    Stage::Command(Some(by_reply(it, &reply)))
+    TalkStage::Command(Some(by_reply(it, &reply)))
 }
 
 /// Closes the session that a command names.
@@ -103,7 +103,7 @@ pub(crate) fn close<W: Write, P: SessionPort>(
     named: Result<Own, Option<Own>>,
     port: &mut P,
     outbox: &mut Outbox<W>,
-) -> Stage
+) -> TalkStage
     ensures does { Does (λ asked out. ObeysClose named asked out result)
         (P.asked port.old) (P.asked port.new)
         (out_view W.contents outbox.old) (out_view W.contents outbox.new) }
@@ -113,12 +113,12 @@ pub(crate) fn close<W: Write, P: SessionPort>(
         Ok(it) => close_own(it, port, outbox),
         Err(own) => {
             refuse(outbox, Refusal::SessionNotOpen);
-            Stage::Command(own)
+            TalkStage::Command(own)
         }
     }
 }
 
-fn close_own<W: Write, P: SessionPort>(it: Own, port: &mut P, outbox: &mut Outbox<W>) -> Stage
+fn close_own<W: Write, P: SessionPort>(it: Own, port: &mut P, outbox: &mut Outbox<W>) -> TalkStage
     ensures does { Does (λ asked out. ObeysClose (Ok it) asked out result)
         (P.asked port.old) (P.asked port.new)
         (out_view W.contents outbox.old) (out_view W.contents outbox.new) }
@@ -126,7 +126,7 @@ fn close_own<W: Write, P: SessionPort>(it: Own, port: &mut P, outbox: &mut Outbo
 {
     let reply = port.step(Event::Close { ticket: it.ticket });
     say_close(outbox, &reply);
-    Stage::Command(Some(by_reply(it, &reply)))
+    TalkStage::Command(Some(by_reply(it, &reply)))
 }
 
 /// Hands a console's line on.
@@ -135,7 +135,7 @@ pub(crate) fn console<W: Write, P: SessionPort>(
     line: &[u8],
     port: &mut P,
     outbox: &mut Outbox<W>,
-) -> Stage
+) -> TalkStage
     ensures does { Does (λ asked out.
         ObeysConsole (P.clock port.old) own line.now asked out result)
         (P.asked port.old) (P.asked port.new)
@@ -144,7 +144,7 @@ pub(crate) fn console<W: Write, P: SessionPort>(
 {
     let answer = port.console(line);
     say_console(outbox, &answer);
-    Stage::Command(own)
+    TalkStage::Command(own)
 }
 
 /// Gives the session up, where it goes on.

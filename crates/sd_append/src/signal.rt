@@ -1,6 +1,6 @@
 // What the signals of a client mean.
 ghost use Rattle.std.specs.Prelude.{◌≡◌};
-ghost use Rattle.sd_append.specs.Stage.{meaning_of};
+ghost use Rattle.sd_append.specs.TalkStage.{meaning_of};
 
 use sd_bnet::SignalNo;
 

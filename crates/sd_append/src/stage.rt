@@ -1,6 +1,6 @@
 // Where a talk stands between two packets.
 ghost use Rattle.std.specs.Prelude.{◌≡◌};
-ghost use Rattle.sd_append.specs.Stage.{by_open, by_reply, goes_on, is_running, is_taken, own_of, own_with, refusal_in, stopped};
+ghost use Rattle.sd_append.specs.TalkStage.{by_open, by_reply, goes_on, is_running, is_taken, own_of, own_with, refusal_in, stopped};
 
 use crate::header::Header;
 use crate::spans::SpanText;
@@ -16,7 +16,7 @@ pub(crate) struct Own {
 
 /// What is due next, and of which session.
 #[derive(Drop)]
-pub(crate) enum Stage {
+pub(crate) enum TalkStage {
     /// A command.
     Command(Option<Own>),
     /// A header of a data phase, or its end.
@@ -35,20 +35,20 @@ pub(crate) enum Stage {
     Over(Option<Own>),
 }
 
-impl Stage {
+impl TalkStage {
     /// The session that the talk opened last.
     pub(crate) fn own(&self) -> Option<Own>
         ensures { result ≡ own_of self.now }
     {
         match self {
-            Stage::Command(own)
-            | Stage::Spans(own, _)
-            | Stage::BadSpans(own, _)
-            | Stage::Over(own) => *own,
-            Stage::Header(own)
-            | Stage::Records(own, _)
-            | Stage::Refused(own, _)
-            | Stage::Dropped(own, _) => Some(*own),
+            TalkStage::Command(own)
+            | TalkStage::Spans(own, _)
+            | TalkStage::BadSpans(own, _)
+            | TalkStage::Over(own) => *own,
+            TalkStage::Header(own)
+            | TalkStage::Records(own, _)
+            | TalkStage::Refused(own, _)
+            | TalkStage::Dropped(own, _) => Some(*own),
         }
     }
 }

@@ -5,7 +5,7 @@ ghost use Rattle.sd_append.specs.Standing.{EndsBehind, EndsInput, fault_end, wri
 
 use crate::end::TalkEnd;
 use crate::outbox::{OutFault, Outbox};
-use crate::stage::Stage;
+use crate::stage::TalkStage;
 use sd_bnet::Feeder;
 use std::alloc::AllocError;
 
@@ -13,7 +13,7 @@ use std::alloc::AllocError;
 #[derive(Drop)]
 pub(crate) struct Standing<W> {
     pub(crate) feeder: Feeder,
-    pub(crate) stage: Stage,
+    pub(crate) stage: TalkStage,
     pub(crate) outbox: Outbox<W>,
 }
 
@@ -25,22 +25,22 @@ pub(crate) struct Turned<W> {
 }
 
 /// Whether the client has ended the talk.
-fn is_over(stage: &Stage) -> bool
+fn is_over(stage: &TalkStage) -> bool
     ensures { IsTrue result ↔ IsEndedByClient stage.now }
 {
-    matches!(stage, Stage::Over(_))
+    matches!(stage, TalkStage::Over(_))
 }
 
 /// Whether a command is due.
-fn is_command_due(stage: &Stage) -> bool
+fn is_command_due(stage: &TalkStage) -> bool
     ensures { IsTrue result ↔ IsCommandDue stage.now }
 {
-    matches!(stage, Stage::Command(_))
+    matches!(stage, TalkStage::Command(_))
 }
 
 /// How a talk ends behind a piece of its input, if it does: the client has ended it, or a length was too
 /// great, which is what `failed` says.
-pub(crate) fn end_behind(stage: &Stage, failed: bool) -> Option<Result<TalkEnd, AllocError>>
+pub(crate) fn end_behind(stage: &TalkStage, failed: bool) -> Option<Result<TalkEnd, AllocError>>
     ensures { EndsBehind result failed stage.now }
 {
     if is_over(stage) {
@@ -53,7 +53,7 @@ pub(crate) fn end_behind(stage: &Stage, failed: bool) -> Option<Result<TalkEnd, 
 }
 
 /// How a talk ends where its input ends.
-pub(crate) fn input_end(feeder: &Feeder, stage: &Stage) -> TalkEnd
+pub(crate) fn input_end(feeder: &Feeder, stage: &TalkStage) -> TalkEnd
     ensures { EndsInput result feeder.now stage.now }
 {
     if !is_command_due(stage) || feeder.midway() {

@@ -14,7 +14,7 @@ use crate::outbox::Outbox;
 use crate::port::SessionPort;
 use crate::read::read_command;
 use crate::spans::{SpanText, read_span};
-use crate::stage::{Own, Stage, is_running, own_with};
+use crate::stage::{Own, TalkStage, is_running, own_with};
 use crate::text::{ascii_text, trimmed};
 use sd_base::Refusal;
 use sd_bnet::Payload;
@@ -28,7 +28,7 @@ pub(crate) fn take_command<W: Write, P: SessionPort>(
     bytes: &[u8],
     port: &mut P,
     outbox: &mut Outbox<W>,
-) -> Stage
+) -> TalkStage
     ensures does { Does (λ asked out. TakesCommand
         (P.clock port.old) own bytes.now asked out result)
         (P.asked port.old) (P.asked port.new)
@@ -39,7 +39,7 @@ pub(crate) fn take_command<W: Write, P: SessionPort>(
         Ok(command) => obey(alloc, own, command, port, outbox),
         Err(fault) => {
             refuse(outbox, fault.refusal());
-            Stage::Command(own)
+            TalkStage::Command(own)
         }
     }
 }
@@ -50,7 +50,7 @@ fn obey<W: Write, P: SessionPort>(
     command: Command<'_>,
     port: &mut P,
     outbox: &mut Outbox<W>,
-) -> Stage
+) -> TalkStage
     ensures does { Does (λ asked out. Obeys (P.clock port.old) own command.entry asked out result)
         (P.asked port.old) (P.asked port.new)
         (out_view W.contents outbox.old) (out_view W.contents outbox.new) }
@@ -62,33 +62,33 @@ fn obey<W: Write, P: SessionPort>(
         Command::Data(ticket) => data(own_with(own, ticket), outbox),
         Command::End(ticket) => end(own_with(own, ticket), port, outbox),
         Command::Close(ticket) => close(own_with(own, ticket), port, outbox),
-        Command::Read(key) => Stage::Spans(own, SpanText::new(alloc, key)),
+        Command::Read(key) => TalkStage::Spans(own, SpanText::new(alloc, key)),
         Command::Console(line) => console(own, line.as_slice(), port, outbox),
     }
 }
 
 /// Takes a packet where a span is due. Behind one that is none nothing is kept of those that came or come.
-fn take_span(alloc: Global, own: Option<Own>, text: SpanText, bytes: &[u8]) -> Stage
+fn take_span(alloc: Global, own: Option<Own>, text: SpanText, bytes: &[u8]) -> TalkStage
     ensures { TakesSpan (is_one_line (trimmed bytes.now)) own text (trimmed bytes.now)
         [] [] result }
 {
     let Some(line) = one_line(trimmed(bytes)) else {
-        return Stage::BadSpans(own, Refusal::BadSpan);
+        return TalkStage::BadSpans(own, Refusal::BadSpan);
     };
     match read_span(alloc, line) {
         Ok(()) => add_span(own, text, line),
-        Err(fault) => Stage::BadSpans(own, fault.refusal()),
+        Err(fault) => TalkStage::BadSpans(own, fault.refusal()),
     }
 }
 
 /// Adds the line of a span to the text.
-fn add_span(own: Option<Own>, text: SpanText, more: &str) -> Stage
-    ensures { (result ≡ Stage.Spans own (text ++ line more.now))
-        ⊎ (result ≡ Stage.BadSpans own Refusal.Memory) }
+fn add_span(own: Option<Own>, text: SpanText, more: &str) -> TalkStage
+    ensures { (result ≡ TalkStage.Spans own (text ++ line more.now))
+        ⊎ (result ≡ TalkStage.BadSpans own Refusal.Memory) }
 {
     match text.with(more) {
-        Ok(longer) => Stage::Spans(own, longer),
-        Err(_) => Stage::BadSpans(own, Refusal::Memory),
+        Ok(longer) => TalkStage::Spans(own, longer),
+        Err(_) => TalkStage::BadSpans(own, Refusal::Memory),
     }
 }
 
@@ -116,24 +116,24 @@ fn is_one_line(bytes: &[u8]) -> bool
 /// Takes a payload.
 pub(crate) fn take_bytes<W: Write, P: SessionPort>(
     alloc: Global,
-    stage: Stage,
+    stage: TalkStage,
     payload: Payload,
     port: &mut P,
     outbox: &mut Outbox<W>,
-) -> Stage
+) -> TalkStage
     ensures does { Does (λ asked out. TakesBytes (P.clock port.old) stage payload asked out result)
         (P.asked port.old) (P.asked port.new)
         (out_view W.contents outbox.old) (out_view W.contents outbox.new) }
     ensures clock { P.clock port.new ≡ P.clock port.old }
 {
     match stage {
-        Stage::Command(own) => take_command(alloc, own, payload.as_slice(), port, outbox),
-        Stage::Header(own) => take_header(own, payload.as_slice(), port),
-        Stage::Records(own, header) => take_record(own, header, payload, port),
-        Stage::Refused(own, refusal) => Stage::Dropped(own, refusal),
-        Stage::Dropped(own, refusal) => Stage::Dropped(own, refusal),
-        Stage::Spans(own, text) => take_span(alloc, own, text, payload.as_slice()),
-        Stage::BadSpans(own, refusal) => Stage::BadSpans(own, refusal),
-        Stage::Over(own) => Stage::Over(own),
+        TalkStage::Command(own) => take_command(alloc, own, payload.as_slice(), port, outbox),
+        TalkStage::Header(own) => take_header(own, payload.as_slice(), port),
+        TalkStage::Records(own, header) => take_record(own, header, payload, port),
+        TalkStage::Refused(own, refusal) => TalkStage::Dropped(own, refusal),
+        TalkStage::Dropped(own, refusal) => TalkStage::Dropped(own, refusal),
+        TalkStage::Spans(own, text) => take_span(alloc, own, text, payload.as_slice()),
+        TalkStage::BadSpans(own, refusal) => TalkStage::BadSpans(own, refusal),
+        TalkStage::Over(own) => TalkStage::Over(own),
     }
 }

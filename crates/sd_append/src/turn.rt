@@ -7,13 +7,13 @@ ghost use Rattle.sd_append.specs.Out.{PutsOut, out_view};
 ghost use Rattle.sd_append.specs.Talk.{ReadsBack, Takes, TakesEnd, TakesSignal, poll_said};
 
 use crate::answers::{refuse, say, say_read_end};
-use crate::line::Line;
+use crate::line::ReplyLine;
 use crate::outbox::Outbox;
 use crate::port::SessionPort;
 use crate::reading::read_out;
 use crate::signal::{Meaning, meaning_of};
 use crate::spans::SpanText;
-use crate::stage::{Own, Stage};
+use crate::stage::{Own, TalkStage};
 use crate::take::take_bytes;
 use sd_base::Refusal;
 use sd_bnet::Packet;
@@ -24,14 +24,14 @@ use std::marker::Brand;
 /// Where the talk stands behind a packet, and its outbox.
 #[derive(Drop)]
 pub(crate) struct TalkTurn<W> {
-    pub(crate) stage: Stage,
+    pub(crate) stage: TalkStage,
     pub(crate) outbox: Outbox<W>,
 }
 
 /// Takes a packet.
 pub(crate) fn take<W: Write, P: SessionPort>(
     alloc: Global,
-    stage: Stage,
+    stage: TalkStage,
     packet: Packet,
     port: &mut P,
     mut outbox: Outbox<W>,
@@ -53,7 +53,7 @@ pub(crate) fn take<W: Write, P: SessionPort>(
 fn take_signal<W: Write, P: SessionPort>(
     alloc: Global,
     meaning: Meaning,
-    stage: Stage,
+    stage: TalkStage,
     port: &mut P,
     outbox: Outbox<W>,
 ) -> TalkTurn<W>
@@ -65,7 +65,7 @@ fn take_signal<W: Write, P: SessionPort>(
     match meaning {
         Meaning::EndOfData => take_end(alloc, stage, port, outbox),
         Meaning::Terminate => TalkTurn {
-            stage: Stage::Over(stage.own()),
+            stage: TalkStage::Over(stage.own()),
             outbox,
         },
         Meaning::Poll => {
@@ -78,11 +78,11 @@ fn take_signal<W: Write, P: SessionPort>(
 }
 
 /// Answers a poll or a heartbeat, where a command is due.
-fn answer_poll<W: Write>(stage: &Stage, outbox: &mut Outbox<W>)
+fn answer_poll<W: Write>(stage: &TalkStage, outbox: &mut Outbox<W>)
     ensures { PutsOut (out_view W.contents outbox.old) (out_view W.contents outbox.new)
         (stream_of (poll_said stage.now)) }
 {
-    if let Stage::Command(_) = stage {
+    if let TalkStage::Command(_) = stage {
         outbox.heartbeat_response();
     }
 }
@@ -90,7 +90,7 @@ fn answer_poll<W: Write>(stage: &Stage, outbox: &mut Outbox<W>)
 /// Takes the end of data.
 fn take_end<W: Write, P: SessionPort>(
     alloc: Global,
-    stage: Stage,
+    stage: TalkStage,
     port: &mut P,
     mut outbox: Outbox<W>,
 ) -> TalkTurn<W>
@@ -100,42 +100,42 @@ fn take_end<W: Write, P: SessionPort>(
     ensures clock { P.clock port.new ≡ P.clock port.old }
 {
     match stage {
-        Stage::Command(own) => TalkTurn {
-            stage: Stage::Command(own),
+        TalkStage::Command(own) => TalkTurn {
+            stage: TalkStage::Command(own),
             outbox,
         },
-        Stage::Header(own) => {
-            say(&mut outbox, Line::Appended);
+        TalkStage::Header(own) => {
+            say(&mut outbox, ReplyLine::Appended);
             TalkTurn {
-                stage: Stage::Command(Some(own)),
+                stage: TalkStage::Command(Some(own)),
                 outbox,
             }
         }
-        Stage::Records(own, _) => TalkTurn {
-            stage: Stage::Header(own),
+        TalkStage::Records(own, _) => TalkTurn {
+            stage: TalkStage::Header(own),
             outbox,
         },
-        Stage::Refused(own, refusal) => {
+        TalkStage::Refused(own, refusal) => {
             refuse(&mut outbox, refusal);
             TalkTurn {
-                stage: Stage::Command(Some(own)),
+                stage: TalkStage::Command(Some(own)),
                 outbox,
             }
         }
-        Stage::Dropped(own, refusal) => TalkTurn {
-            stage: Stage::Refused(own, refusal),
+        TalkStage::Dropped(own, refusal) => TalkTurn {
+            stage: TalkStage::Refused(own, refusal),
             outbox,
         },
-        Stage::Spans(own, text) => read_back(alloc, own, text, port, outbox),
-        Stage::BadSpans(own, refusal) => {
+        TalkStage::Spans(own, text) => read_back(alloc, own, text, port, outbox),
+        TalkStage::BadSpans(own, refusal) => {
             say_read_end(&mut outbox, Err(refusal));
             TalkTurn {
-                stage: Stage::Command(own),
+                stage: TalkStage::Command(own),
                 outbox,
             }
         }
-        Stage::Over(own) => TalkTurn {
-            stage: Stage::Over(own),
+        TalkStage::Over(own) => TalkTurn {
+            stage: TalkStage::Over(own),
             outbox,
         },
     }
@@ -159,14 +159,14 @@ fn read_back<W: Write, P: SessionPort>(
             let mut out = read_out::<Brand, W, P>(outbox, port, read.key, read.spans.as_slice());
             say_read_end(&mut out.outbox, out.answer);
             TalkTurn {
-                stage: Stage::Command(own),
+                stage: TalkStage::Command(own),
                 outbox: out.outbox,
             }
         }
         Err(fault) => {
             say_read_end(&mut outbox, Err(fault.refusal()));
             TalkTurn {
-                stage: Stage::Command(own),
+                stage: TalkStage::Command(own),
                 outbox,
             }
         }
@@ -176,7 +176,7 @@ fn read_back<W: Write, P: SessionPort>(
 /// Takes packets one after another.
 pub(crate) fn take_all<W: Write, P: SessionPort>(
     alloc: Global,
-    stage: Stage,
+    stage: TalkStage,
     packets: Vec<Packet>,
     port: &mut P,
     outbox: Outbox<W>,

@@ -3,8 +3,8 @@ use Rattle.std.specs.Prelude.{◌≡◌, ◌⊎◌, Bool, if◌then◌else◌, L
 use Rattle.clap.specs.Lexer.{usize_max}
 use Rattle.clap.specs.Words.{App, IsAmong, Row, Rule, Shape, Text, all_of, fault_of, first_of, kind_of, new_rule, one_of}
 use Rattle.clap.specs.declared.builder.ArgAction.TheVariants.{Append}
-use Rattle.sd_progress.specs.declared.watched.Progress.{Progress}
-use Rattle.sd_progress.specs.declared.watched.Progress.TheVariants as progress
+use Rattle.sd_progress.specs.declared.watched.ShownProgress.{ShownProgress}
+use Rattle.sd_progress.specs.declared.watched.ShownProgress.TheVariants as progress
 use Rattle.sd_arguments.specs.Lines.{IsFlagOf, IsGiven, NamesCommand, command_shape, flag_rule, program_line, required_rule}
 use Rattle.sd_arguments.specs.declared.tool.ToolTask.{ToolTask}
 use Rattle.sd_arguments.specs.declared.tool.ToolTask.TheVariants as asks
@@ -56,7 +56,7 @@ abbrev pub texts_at : Text → List Row → List Text
 texts_at argument given = unwrap_or (all_of argument given) []
 
 -- a reading is told of where `--progress` is given
-pub record IsProgress (given : List Row) (told : Progress) : Type 0 where
+pub record IsProgress (given : List Row) (told : ShownProgress) : Type 0 where
   pub is_told : Bool
   pub flag : IsFlagOf (one_of (codes "progress") given) is_told
   pub is : told ≡ (if is_told then progress.Told else progress.Silent)

@@ -8,7 +8,7 @@ ghost use Rattle.sd_arguments.specs.Tool.{scan_shape, texts_at, tool_line, verif
 
 use crate::status::lacks_memory;
 use clap::{Arg, ArgAction, ArgMatches, Command, Error};
-use sd_progress::Progress;
+use sd_progress::ShownProgress;
 use std::alloc::{AllocError, Global};
 
 /// What a command line of `sdtool` asks for.
@@ -19,19 +19,19 @@ pub enum ToolTask<'a> {
     /// To list the volume in the file at this path.
     List {
         volume: &'a str,
-        progress: Progress,
+        progress: ShownProgress,
     },
     /// To read the session back whose JobMedia text is in the file `spans`, from the volumes in `folder`.
     Read {
         spans: &'a str,
         folder: &'a str,
-        progress: Progress,
+        progress: ShownProgress,
     },
     /// To find the sessions on the volumes of these names in `folder`; of all volumes there where none is named.
     Scan {
         folder: &'a str,
         volumes: Vec<&'a str>,
-        progress: Progress,
+        progress: ShownProgress,
     },
     /// To look for damage on all volumes in `folder`.
     Verify {
@@ -130,13 +130,13 @@ fn words_of<'a>(
     }
 }
 
-fn progress_of(given: &ArgMatches<'_>) -> Progress
+fn progress_of(given: &ArgMatches<'_>) -> ShownProgress
     ensures { IsProgress (rows_of (found_of given.now)) result }
 {
     if given.get_flag(PROGRESS) {
-        Progress::Told
+        ShownProgress::Told
     } else {
-        Progress::Silent
+        ShownProgress::Silent
     }
 }
 

@@ -3,7 +3,7 @@ ghost use Rattle.std.specs.Prelude.{◌≡◌, ◌↔◌, Ok, Err, IfOk};
 ghost use Rattle.sd_base.specs.declared.refusal.Refusal.TheVariants as refusals;
 ghost use Rattle.sd_script.specs.Grammar.{AreNames, HasForm, HasShape};
 ghost use Rattle.sd_script.specs.declared.console.ConsoleCmd.{ConsoleCmd as SpecConsole};
-ghost use Rattle.sd_script.specs.declared.line.Line.TheVariants.{Console};
+ghost use Rattle.sd_script.specs.declared.line.ScriptLine.TheVariants.{Console};
 
 use sd_base::Refusal;
 use sd_script::{ConsoleCmd, read_console};

@@ -1,5 +1,6 @@
 -- What a read answers at the bay of the first span's drive.
 use Rattle.std.proofs.Common.{◌≡◌, ℕ, suc, Some, None, Result, Err, List, [], ◌∷◌, slice_get, refl, sym, ap, ap₂, subst, ◌∙◌, inl, inr, true, false, arith}
+use Rattle.std.specs.Option.{option_map_or}
 use Rattle.sd_base.specs.Record.{Record}
 use Rattle.sd_base.specs.declared.number.SessionKey.{SessionKey}
 use Rattle.sd_base.specs.declared.refusal.Refusal.{Refusal}
@@ -11,7 +12,7 @@ use Rattle.sd_readback.specs.declared.read.ReadEnd.{ReadEnd}
 use Rattle.sd_span.specs.declared.span.Span.{Span}
 use Rattle.sd_world.specs.World.{WorldView, BayView, with_bay}
 use Rattle.sd_world.proofs.Bays.{IsBayAt, bay_stays, drive_stays, online_in}
-use Rattle.sd_world.specs.Reading.{ReadsDrive, ReadsWorld, are_at_drive, is_gone, due_at, due_in, due_with, read_due}
+use Rattle.sd_world.specs.Reading.{ReadsDrive, ReadsWorld, are_at_drive, is_gone, due_at, due_with, read_due}
 
 -- which refusal is due at that drive
 due_at_bay : {D : Type 0} (w : WorldView D) (key : SessionKey) (spans : List Span) (number at : ℕ) (bay : BayView D)
@@ -19,7 +20,7 @@ due_at_bay : {D : Type 0} (w : WorldView D) (key : SessionKey) (spans : List Spa
 due_at_bay w key spans number at bay b =
     let rises : number ≡ suc at = omega (arith, b.number) in
     subst (λ k. due_at w key spans (Some k) ≡ due_with (is_gone w key spans) w.desk k spans bay.drive) (sym rises)
-    (ap (due_in (is_gone w key spans) w.desk (suc at) spans) b.there)
+    (ap (λ found. option_map_or (λ (b : BayView _). due_with (is_gone w key spans) w.desk (suc at) spans b.drive) found (Some VolumeNotOnShelf)) b.there)
 
 -- so it is for the spans of which the first is at that drive
 due_here : {D : Type 0} (w : WorldView D) (key : SessionKey) (spans : List Span) (first : Span) (number at : ℕ) (bay : BayView D)

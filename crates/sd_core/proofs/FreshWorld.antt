@@ -1,6 +1,6 @@
 -- A world that was just made keeps its rules.
 use Rattle.std.proofs.Common.{◌≡◌, ◌≤◌, ℕ, zero, suc, ◌+◌, ◌∷◌, [], List, None, Some, Vec, All, length, map, slice_get, refl, sym, ap, subst, ◌∙◌, arith}
-use Rattle.std.specs.List.{AllZip}
+use Rattle.std.specs.List.{AllZip, AllByRecursion}
 use Rattle.std.proofs.lemmas.List.{length-map}
 use Rattle.std.proofs.lemmas.Option.{get_or_from_slice_get, slice_get_within}
 use Rattle.sd_base.specs.Limits.{most_lanes, most_number}
@@ -14,7 +14,7 @@ use Rattle.sd_drive.specs.declared.limits.Limits.{Limits}
 use Rattle.sd_lane.specs.Queue.{LanesView}
 use Rattle.sd_spool.specs.Meaning.{Meaning as StoreMeaning}
 use Rattle.sd_world.specs.World.{WorldView, WorldSession, BayView, LaneView, session_at, items_before}
-use Rattle.sd_world.specs.Rules.{NumbersRise, AreOfOpened, IsLane, IsBay, IsWorld}
+use Rattle.sd_world.specs.Rules.{NumbersRise, IsOfOpened, IsLane, IsBay, IsWorld}
 use Rattle.sd_core.specs.Conf.{IsConf, AreQueues, AreStores, empty_queue, limits_of}
 use Rattle.sd_core.specs.Fresh.{IsNewDrive, AreNewDrives, IsFresh, new_lane, new_bay, new_bays}
 use Rattle.sd_core.specs.declared.conf.WorldConf.{WorldConf}
@@ -94,8 +94,8 @@ new_bay_is {D} meaning store room medias w at bay b queue_is most =
       limits_are = λ e is. ap (λ (x : DriveIs D). x.limits) (one e is);
       claimed = λ e is place v there. let none : None ≡ Some v = subst (λ (x : DriveIs D). slice_get x.volumes place ≡ Some v) (one e is) there in absurd (cc none);
       of_opened = λ e is.
-          subst (λ (x : DriveIs D). AreOfOpened w.limits.time w.next (items_before x b.queue)) (sym (one e is))
-          (subst (λ (q : LanesView). AreOfOpened w.limits.time w.next (items_before new q)) (sym b.empty) tt);
+          subst (λ (x : DriveIs D). AllByRecursion (IsOfOpened w.limits.time w.next) (items_before x b.queue)) (sym (one e is))
+          (subst (λ (q : LanesView). AllByRecursion (IsOfOpened w.limits.time w.next) (items_before new q)) (sym b.empty) tt);
       lanes = λ place lane there. new_lanes store b.stores.items w.sessions (at + 1) place place lane there;
     })
 

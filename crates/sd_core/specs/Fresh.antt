@@ -51,10 +51,8 @@ new_bay store d queue stores = record {
 
 -- the bays of these drives, with the queues and stores at their places
 abbrev pub new_bays : {D Q S Z : Type 0} → (Q → LanesView) → (S → StoreMeaning) → List (DriveIs D) → List Q → List (Vec S Z) → List (BayView D)
-new_bays queue store [] qs ss = []
-new_bays queue store (d ∷ ds) [] ss = []
-new_bays queue store (d ∷ ds) (q ∷ qs) [] = []
 new_bays queue store (d ∷ ds) (q ∷ qs) (s ∷ ss) = new_bay store d (queue q) s ∷ new_bays queue store ds qs ss
+new_bays queue store ds qs ss = []
 
 -- A world that was just made: no session was opened, no volume is known and none asked for, and each drive is new, with
 -- its queue and its stores.

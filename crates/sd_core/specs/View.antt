@@ -1,6 +1,7 @@
 -- What a world tells of itself.
-use Rattle.std.specs.Prelude.{ℕ, ◌+◌, Option, None, Some, List, [], ◌∷◌, ◌++◌, map, if◌then◌else◌}
-use Rattle.std.specs.Option.{option_map}
+use Rattle.std.specs.Prelude.{ℕ, ◌+◌, Option, List, [], ◌∷◌, map, if◌then◌else◌}
+use Rattle.std.specs.Option.{option_map, option_map_or}
+use Rattle.std.specs.List.{flat_map}
 use Rattle.sd_drive.specs.View.{DriveIs, name_loaded}
 use Rattle.sd_session.specs.declared.status.Status.{Status}
 use Rattle.sd_view.specs.declared.view.DriveLine.{DriveLine}
@@ -24,25 +25,17 @@ running_tickets (e ∷ es) = if is_running e.session.status then e.session.key.i
 
 -- the device of a drive that is online
 abbrev pub device_of : {D : Type 0} → Option (DriveIs D) → List D
-device_of None = []
-device_of (Some d) = d.device ∷ []
+device_of drive = option_map_or (λ d. d.device ∷ []) drive []
 
 -- the devices of the drives that are online, by rising number
 abbrev pub devices_of : {D : Type 0} → List (BayView D) → List D
-devices_of [] = []
-devices_of (b ∷ bs) = device_of b.drive ++ devices_of bs
+devices_of bays = flat_map (λ b. device_of b.drive) bays
 
 -- A view: for each drive its number, its media, what is loaded in it, and how many of its lanes aren't free.
 
--- a volume of this name is loaded, or none
-abbrev pub loaded_name : Option (List ℕ) → Loaded
-loaded_name None = Nothing
-loaded_name (Some name) = Volume name
-
 -- what is loaded in a drive, which is offline once it is retired
 abbrev pub loaded_in : {D : Type 0} → Option (DriveIs D) → Loaded
-loaded_in None = Offline
-loaded_in (Some d) = loaded_name (name_loaded d.volumes d.loaded)
+loaded_in drive = option_map_or (λ d. option_map_or Volume (name_loaded d.volumes d.loaded) Nothing) drive Offline
 
 -- the line of the drive in this bay, which stands at this place
 abbrev pub drive_line : {D : Type 0} → List WorldSession → ℕ → BayView D → DriveLine
@@ -66,13 +59,11 @@ volume_line v = record { name = v.name; pool = v.pool; media = v.media; status =
 
 -- the lines of the volumes of a drive that is online
 abbrev pub lines_of : {D : Type 0} → Option (DriveIs D) → List VolumeLine
-lines_of None = []
-lines_of (Some d) = map volume_line d.volumes
+lines_of drive = option_map_or (λ d. map volume_line d.volumes) drive []
 
 -- the lines of all volumes, in the order of the drives, and of labelling and adoption
 abbrev pub volume_lines : {D : Type 0} → List (BayView D) → List VolumeLine
-volume_lines [] = []
-volume_lines (b ∷ bs) = lines_of b.drive ++ volume_lines bs
+volume_lines bays = flat_map (λ b. lines_of b.drive) bays
 
 -- For each session its ticket, its status and how many records it took.
 

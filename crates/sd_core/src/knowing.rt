@@ -9,7 +9,7 @@ ghost use Rattle.sd_core.specs.Numbers.{NumbersAreTickets};
 use sd_base::{SessionKey, Ticket};
 use sd_driver::Driver;
 use sd_lane::Lanes;
-use sd_parts::{Bay, Entry, find};
+use sd_parts::{Bay, SessionEntry, find};
 use sd_session::Session;
 use sd_spool::SpoolStore;
 
@@ -32,7 +32,7 @@ fn know_drive<D: Driver, Q: Lanes, S: SpoolStore>(bay: &Bay<D, Q, S>)
 }
 
 /// How wide the counts of a session are. Does nothing.
-pub(crate) fn know_counts<S: SpoolStore + Drop>(sessions: &[Entry<S>], key: SessionKey)
+pub(crate) fn know_counts<S: SpoolStore + Drop>(sessions: &[SessionEntry<S>], key: SessionKey)
     requires rise { (time : ℕ) × (next : ℕ) × NumbersRise time 1 next sessions.now }
     requires most { NumbersAreTickets sessions.now }
     ensures { CountsFit sessions.now key }

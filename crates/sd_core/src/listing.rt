@@ -7,7 +7,7 @@ ghost use Rattle.sd_core.specs.View.{running_tickets};
 use sd_base::Ticket;
 use sd_driver::Driver;
 use sd_lane::Lanes;
-use sd_parts::{Bay, Entry, LaneSlot, find};
+use sd_parts::{Bay, LaneSlot, SessionEntry, find};
 use sd_session::Status;
 use sd_spool::SpoolStore;
 use std::alloc::{AllocError, Global};
@@ -16,7 +16,7 @@ use std::alloc::{AllocError, Global};
 /// looked at.
 pub(crate) fn list_running<D: Driver, Q: Lanes, S: SpoolStore + Drop>(
     alloc: Global,
-    sessions: &[Entry<S>],
+    sessions: &[SessionEntry<S>],
     bays: &[Bay<D, Q, S>],
 ) -> Result<Vec<Ticket>, AllocError>
     requires rise { (time : ℕ) × (next : ℕ) × NumbersRise time 1 next sessions.now }
@@ -32,7 +32,7 @@ pub(crate) fn list_running<D: Driver, Q: Lanes, S: SpoolStore + Drop>(
 
 // Lists those that keep one of these lanes.
 fn list_lanes<S: SpoolStore + Drop>(
-    sessions: &[Entry<S>],
+    sessions: &[SessionEntry<S>],
     lanes: &[LaneSlot<S>],
     tickets: &mut Vec<Ticket>,
 ) -> Result<(), AllocError>
@@ -50,7 +50,7 @@ fn list_lanes<S: SpoolStore + Drop>(
 
 // Lists the session that used a lane last, if it goes on.
 fn list_holder<S: SpoolStore + Drop>(
-    sessions: &[Entry<S>],
+    sessions: &[SessionEntry<S>],
     holder: Option<Ticket>,
     tickets: &mut Vec<Ticket>,
 ) -> Result<(), AllocError>
@@ -70,7 +70,7 @@ fn list_holder<S: SpoolStore + Drop>(
 }
 
 // Whether the session of a ticket goes on.
-fn goes_on<S: SpoolStore + Drop>(sessions: &[Entry<S>], ticket: Ticket) -> bool
+fn goes_on<S: SpoolStore + Drop>(sessions: &[SessionEntry<S>], ticket: Ticket) -> bool
     requires rise { (time : ℕ) × (next : ℕ) × NumbersRise time 1 next sessions.now }
     ensures { IsTrue result ↔ GoesOn sessions.now ticket }
 {

@@ -16,7 +16,7 @@ use sd_desk::Desk;
 use sd_drive::Drive;
 use sd_driver::Driver;
 use sd_lane::Lanes;
-use sd_parts::{Entry, Parts, find};
+use sd_parts::{Parts, SessionEntry, find};
 use sd_readback::{ReadEnd, Sink};
 use sd_session::Status;
 use sd_span::Span;
@@ -80,7 +80,7 @@ fn read_parts<D: Driver, Q: Lanes, S: SpoolStore + Drop, K: Sink>(
 // Whether what is read was purged: the session is purged; or it is of another run, and the volume of a span was purged in
 // this one.
 fn is_gone<S: SpoolStore + Drop>(
-    sessions: &[Entry<S>],
+    sessions: &[SessionEntry<S>],
     time: u32,
     desk: &Desk,
     key: SessionKey,
@@ -95,7 +95,7 @@ fn is_gone<S: SpoolStore + Drop>(
 }
 
 // Whether the session of the key is there, and purged.
-fn is_purged_session<S: SpoolStore + Drop>(sessions: &[Entry<S>], key: SessionKey) -> bool
+fn is_purged_session<S: SpoolStore + Drop>(sessions: &[SessionEntry<S>], key: SessionKey) -> bool
     requires rise { (run : ℕ) × (next : ℕ) × NumbersRise run 1 next sessions.now }
     requires most { NumbersAreTickets sessions.now }
     ensures { result ≡ is_purged_session key (session_at key.id sessions.now) }

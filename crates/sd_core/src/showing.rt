@@ -10,7 +10,7 @@ ghost use Rattle.sd_core.specs.View.{drive_line, drive_lines, lines_of, loaded_i
 use sd_base::{DriveNo, Items, Ticket};
 use sd_driver::Driver;
 use sd_lane::Lanes;
-use sd_parts::{Bay, Entry, free_lanes};
+use sd_parts::{Bay, SessionEntry, free_lanes};
 use sd_spool::SpoolStore;
 use sd_view::{DriveLine, Loaded, SessionLine, VolumeLine};
 use sd_volume::Volume;
@@ -19,7 +19,7 @@ use std::alloc::{AllocError, Global};
 /// A line for each drive, by rising number.
 pub(crate) fn show_drives<D: Driver, Q: Lanes, S: SpoolStore + Drop>(
     alloc: Global,
-    sessions: &[Entry<S>],
+    sessions: &[SessionEntry<S>],
     bays: &[Bay<D, Q, S>],
 ) -> Result<Items<DriveLine>, AllocError>
     requires rise { (time : ℕ) × (next : ℕ) × NumbersRise time 1 next sessions.now }
@@ -37,7 +37,7 @@ pub(crate) fn show_drives<D: Driver, Q: Lanes, S: SpoolStore + Drop>(
 
 // The line of the drive in this bay, at this place.
 fn show_drive<D: Driver, Q: Lanes, S: SpoolStore + Drop>(
-    sessions: &[Entry<S>],
+    sessions: &[SessionEntry<S>],
     at: usize,
     bay: &Bay<D, Q, S>,
 ) -> DriveLine
@@ -70,7 +70,7 @@ fn show_loaded<D: Driver, Q: Lanes, S: SpoolStore>(bay: &Bay<D, Q, S>) -> Loaded
 
 // How many lanes of the drive aren't free; none of one that is retired.
 fn count_busy<D: Driver, Q: Lanes, S: SpoolStore + Drop>(
-    sessions: &[Entry<S>],
+    sessions: &[SessionEntry<S>],
     bay: &Bay<D, Q, S>,
 ) -> usize
     requires rise { (time : ℕ) × (next : ℕ) × NumbersRise time 1 next sessions.now }
@@ -150,7 +150,7 @@ fn show_volume(volume: &Volume) -> VolumeLine
 /// A line for each session, by rising ticket.
 pub(crate) fn show_sessions<S: SpoolStore + Drop>(
     alloc: Global,
-    sessions: &[Entry<S>],
+    sessions: &[SessionEntry<S>],
 ) -> Result<Items<SessionLine>, AllocError>
     requires rise { (time : ℕ) × (next : ℕ) × (next ≤ most_number + 1)
         × NumbersRise time 1 next sessions.now }
@@ -164,7 +164,7 @@ pub(crate) fn show_sessions<S: SpoolStore + Drop>(
 }
 
 // The line of this session.
-fn show_session<S: SpoolStore + Drop>(entry: &Entry<S>) -> SessionLine
+fn show_session<S: SpoolStore + Drop>(entry: &SessionEntry<S>) -> SessionLine
     requires least { 1 ≤ entry.now.session.key.id }
     requires most { entry.now.session.key.id ≤ most_number }
     ensures { result ≡ session_line entry.now }

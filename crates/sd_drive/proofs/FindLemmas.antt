@@ -1,15 +1,17 @@
 -- The volume of a name, and which refusals are due.
 use Rattle.std.proofs.Common.{◌≡◌, ◌≢◌, ℕ, zero, suc, ◌<◌, Bool, true, false, List, [], ◌∷◌, length, slice_get, Option, Some, None, refl, ap, sym, ◌∙◌, arith, nat_lt, cond}
 use Rattle.std.specs.List.{position_or_len, find}
-use Rattle.std.specs.Option.{is_some}
+use Rattle.std.specs.Option.{is_some, option_map_or}
 use Rattle.std.specs.Str.{bytes_eq}
 use Rattle.std.proofs.lemmas.Slice.Eq.{bytes_eq-Decides}
 use Rattle.std.proofs.lemmas.List.Folds.{find_at}
 use Rattle.std.proofs.lemmas.Option.{cond_some, slice_get_past}
 use Rattle.std.proofs.lemmas.Bool.{ltb-true, ltb-false}
+use Rattle.sd_base.specs.declared.refusal.Refusal.{Refusal}
+use Rattle.sd_base.specs.declared.refusal.Refusal.TheVariants.{VolumeNotOnShelf}
 use Rattle.sd_volume.specs.Volume.{VolumeView}
 use Rattle.sd_drive.specs.View.{DriveIs, names}
-use Rattle.sd_drive.specs.Moves.{place_of, mount_due, mount_due_at, mount_due_of, mount_due_from}
+use Rattle.sd_drive.specs.Moves.{index_of, mount_due, mount_due_at}
 use Rattle.sd_drive.proofs.Places.{some_is, get_mapped}
 
 get_some : {A : Type 0} (xs : List A) (at : ℕ) → at < length xs → (x : A) × (slice_get xs at ≡ Some x)
@@ -35,7 +37,7 @@ find_none p (y ∷ ys) at x none there is = from (λ n e t. find_none p ys n x e
     from later false miss e (suc at) there = later at e there
 
 -- the volume of a name has that name
-pub place_there : (vs : List VolumeView) (name : List ℕ) (at : ℕ) → place_of vs name ≡ Some at → (v : VolumeView) × (slice_get vs at ≡ Some v) × (v.name ≡ name)
+pub place_there : (vs : List VolumeView) (name : List ℕ) (at : ℕ) → index_of vs name ≡ Some at → (v : VolumeView) × (slice_get vs at ≡ Some v) × (v.name ≡ name)
 place_there vs name at is =
     let p : VolumeView → Bool = λ v. bytes_eq v.name name in
     let here = cond_some (nat_lt (position_or_len p vs) (length vs)) (position_or_len p vs) at is in
@@ -48,7 +50,7 @@ cond_none true x e = cc
 cond_none false x e = refl
 
 -- where there is none, no volume has it
-pub place_none : (vs : List VolumeView) (name : List ℕ) → place_of vs name ≡ None → (at : ℕ) → slice_get (names vs) at ≢ Some name
+pub place_none : (vs : List VolumeView) (name : List ℕ) → index_of vs name ≡ None → (at : ℕ) → slice_get (names vs) at ≢ Some name
 place_none vs name none at there =
     let p : VolumeView → Bool = λ v. bytes_eq v.name name in
     let past = ltb-false _ _ (cond_none (nat_lt (position_or_len p vs) (length vs)) (position_or_len p vs) none) in
@@ -56,8 +58,11 @@ place_none vs name none at there =
     find_none p vs at m.value (find_at p vs ∙ slice_get_past vs (position_or_len p vs) past) m.there ((bytes_eq-Decides m.value.name name).1 (sym m.is))
 
 -- which refusal is due at a volume that was found
-pub due_there : {D : Type 0} (d : DriveIs D) (name : List ℕ) (at : ℕ) (v : VolumeView) → place_of d.volumes name ≡ Some at → slice_get d.volumes at ≡ Some v → mount_due d name ≡ mount_due_at d.loaded d.pool at v
-due_there d name at v is there = ap (mount_due_from d) is ∙ ap (mount_due_of d at) there
+pub due_there : {D : Type 0} (d : DriveIs D) (name : List ℕ) (at : ℕ) (v : VolumeView) → index_of d.volumes name ≡ Some at → slice_get d.volumes at ≡ Some v → mount_due d name ≡ mount_due_at d.loaded d.pool at v
+due_there d name at v is there =
+    let none : Option Refusal = Some VolumeNotOnShelf in
+    ap (λ o. option_map_or (λ at. option_map_or (mount_due_at d.loaded d.pool at) (slice_get d.volumes at) none) o none) is
+    ∙ ap (λ o. option_map_or (mount_due_at d.loaded d.pool at) o none) there
 
 pub none_found : (found : Option ℕ) → is_some found ≡ false → found ≡ None
 none_found None e = refl

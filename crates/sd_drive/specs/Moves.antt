@@ -1,6 +1,6 @@
 -- What each call of a drive does to it, by its answer.
 use Rattle.std.specs.Prelude.{◌≡◌, ℕ, ℤ, ◌+◌, ◌≤◌, ◌⊎◌, ◌==◌, Bool, true, false, not, List, [], ◌∷◌, ◌++◌, Option, None, Some, IsSome, is_some, position, Result, Ok, Err, OnOk, if◌then◌else◌, slice_get, slice_set}
-use Rattle.std.specs.Option.{option_and_then}
+use Rattle.std.specs.Option.{option_and_then, option_map_or}
 use Rattle.std.specs.Str.{bytes_eq}
 use Rattle.sd_base.specs.declared.number.SessionKey.{SessionKey}
 use Rattle.sd_base.specs.declared.refusal.Refusal.{Refusal}
@@ -74,14 +74,13 @@ abbrev pub PlacesOn : {E : Type 0} → Result Placed E → ℕ → Piece → Vol
 PlacesOn (Ok (At p)) limit piece old new journal journal' =
     IsWithin limit piece old × (p ≡ next_placement piece old) × (new ≡ with_block piece old)
     × (journal' ≡ journal ++ noted p ∷ [])
-PlacesOn (Ok NeedVolume) limit piece old new journal journal' = ⊥
 PlacesOn (Ok VolumeFull) limit piece old new journal journal' =
     (new ≡ record old { status = status.Full }) × (journal' ≡ journal)
 PlacesOn (Ok VolumeError) limit piece old new journal journal' =
     IsWithin limit piece old × (new ≡ record old { status = status.Error }) × (journal' ≡ journal)
-PlacesOn (Ok Idle) limit piece old new journal journal' = ⊥
 PlacesOn (Err error) limit piece old new journal journal' =
     IsWithin limit piece old × (new ≡ old) × (journal' ≡ journal)
+PlacesOn result limit piece old new journal journal' = ⊥
 
 -- room was made for the session's next placement, or not
 abbrev pub MayHaveRoom : SessionKey → List SessionKey → List SessionKey → Type 0
@@ -90,21 +89,15 @@ MayHaveRoom key old new = (new ≡ old) ⊎ (new ≡ with_key key old)
 -- what is in the hand after that answer: the piece stays there until it is placed
 abbrev pub hand_after : {E : Type 0} → Result Placed E → Option Piece → Option Piece
 hand_after (Ok (At p)) hand = None
-hand_after (Ok NeedVolume) hand = hand
-hand_after (Ok VolumeFull) hand = hand
-hand_after (Ok VolumeError) hand = hand
-hand_after (Ok Idle) hand = hand
-hand_after (Err error) hand = hand
+hand_after result hand = hand
 
 -- The sessions for whose next placement there is room after that answer: what was placed used the room of its session up;
 -- else room may have been made for it.
 abbrev pub RoomAfter : {E : Type 0} → Result Placed E → SessionKey → List SessionKey → List SessionKey → Type 0
 RoomAfter (Ok (At p)) key old new = new ≡ without_key key (with_key key old)
 RoomAfter (Ok NeedVolume) key old new = new ≡ old
-RoomAfter (Ok VolumeFull) key old new = MayHaveRoom key old new
-RoomAfter (Ok VolumeError) key old new = MayHaveRoom key old new
 RoomAfter (Ok Idle) key old new = new ≡ old
-RoomAfter (Err error) key old new = MayHaveRoom key old new
+RoomAfter result key old new = MayHaveRoom key old new
 
 -- the piece in the hand met a volume that takes blocks; nothing changes but that volume, the journal and the hand
 pub record PlacesPiece {D E : Type 0} (result : Result Placed E) (old new : DriveIs D) : Type 0 where
@@ -141,13 +134,11 @@ LimitAllows d = (piece : Piece) × (at : ℕ) × (volume : VolumeView) × IsRead
 
 -- an entry awaits a sync of the loaded volume
 abbrev pub awaits_on : Option (List ℕ) → List Entry → Bool
-awaits_on None entries = false
-awaits_on (Some name) entries = any_awaits_sync name entries
+awaits_on loaded entries = option_map_or (λ name. any_awaits_sync name entries) loaded false
 
 -- the entries once a sync of the loaded volume is over
 abbrev pub settled_on : Mark → Option (List ℕ) → List Entry → List Entry
-settled_on mark None entries = entries
-settled_on mark (Some name) entries = settled mark name entries
+settled_on mark loaded entries = option_map_or (λ name. settled mark name entries) loaded entries
 
 -- an entry of the drive's journal awaits a sync of its loaded volume
 abbrev pub awaits_sync : {D : Type 0} → DriveIs D → Bool
@@ -186,24 +177,21 @@ abbrev pub Unmounts : {D : Type 0} → DriveIs D → DriveIs D → Type 0
 Unmounts old new = new ≡ record old { device = new.device; loaded = None; journal = synced_journal old }
 
 -- the place of the volume of a name
-abbrev pub place_of : List VolumeView → List ℕ → Option ℕ
-place_of volumes name = position (λ v. bytes_eq v.name name) volumes
+abbrev pub index_of : List VolumeView → List ℕ → Option ℕ
+index_of volumes name = position (λ v. bytes_eq v.name name) volumes
 
 -- blocks are added to the volume
 abbrev pub is_append : VolumeStatus → Bool
 is_append status.Append = true
-is_append status.Full = false
-is_append status.Error = false
+is_append status = false
 
 -- the loaded volume stands at this place
 abbrev pub is_at : Option ℕ → ℕ → Bool
-is_at None at = false
-is_at (Some loaded) at = loaded == at
+is_at loaded at = option_map_or (λ place. place == at) loaded false
 
 -- the drive has a pool, and it is another than this one
 abbrev pub is_other_pool : Option (List ℕ) → List ℕ → Bool
-is_other_pool None pool = false
-is_other_pool (Some own) pool = not (bytes_eq own pool)
+is_other_pool own pool = option_map_or (λ name. not (bytes_eq name pool)) own false
 
 -- which refusal is due where this volume, at this place, is to be mounted, with that one loaded and of that pool
 abbrev pub mount_due_at : Option ℕ → Option (List ℕ) → ℕ → VolumeView → Option Refusal
@@ -214,20 +202,12 @@ mount_due_at loaded pool at v =
     else if is_other_pool pool v.pool then Some refusal.OtherPoolOrMedia else None
     else Some refusal.NotAppendable
 
--- the same where perhaps no volume was found
-abbrev pub mount_due_of : {D : Type 0} → DriveIs D → ℕ → Option VolumeView → Option Refusal
-mount_due_of d at None = Some refusal.VolumeNotOnShelf
-mount_due_of d at (Some v) = mount_due_at d.loaded d.pool at v
-
--- the same where perhaps no place was found
-abbrev pub mount_due_from : {D : Type 0} → DriveIs D → Option ℕ → Option Refusal
-mount_due_from d None = Some refusal.VolumeNotOnShelf
-mount_due_from d (Some at) = mount_due_of d at (slice_get d.volumes at)
-
 -- which refusal of a mount is due before the device is asked: the volume isn't the drive's; it takes blocks and is
 -- loaded; it takes none; it is of another pool than the drive
 abbrev pub mount_due : {D : Type 0} → DriveIs D → List ℕ → Option Refusal
-mount_due d name = mount_due_from d (place_of d.volumes name)
+mount_due d name = option_map_or
+    (λ at. option_map_or (mount_due_at d.loaded d.pool at) (slice_get d.volumes at) (Some refusal.VolumeNotOnShelf))
+    (index_of d.volumes name) (Some refusal.VolumeNotOnShelf)
 
 -- the refusal that a device's answer to a load is; no load is answered that the name stands already, or that there is no room
 abbrev pub load_refusal : DriverFault → Refusal
@@ -258,13 +238,13 @@ abbrev pub label_due : {D : Type 0} → DriveIs D → List ℕ → List ℕ → 
 label_due d name media =
     if not (bytes_eq d.media media) then Some refusal.OtherPoolOrMedia
     else if is_some d.loaded then Some refusal.InUse
-    else if is_some (place_of d.volumes name) then Some refusal.AlreadyLabelled
+    else if is_some (index_of d.volumes name) then Some refusal.AlreadyLabelled
     else None
 
 -- which refusal of an adoption is due before the device is asked
 abbrev pub adopt_due : {D : Type 0} → DriveIs D → List ℕ → Option Refusal
 adopt_due d name =
-    if is_some (place_of d.volumes name) then Some refusal.AlreadyLabelled
+    if is_some (index_of d.volumes name) then Some refusal.AlreadyLabelled
     else if is_some d.loaded then Some refusal.InUse
     else None
 
@@ -296,23 +276,17 @@ pub record AdoptsVolume {D : Type 0} (name : List ℕ) (answer : Adopted) (devic
 
 -- the volume takes no more blocks, since one found no room
 abbrev pub is_full : VolumeStatus → Bool
-is_full status.Append = false
 is_full status.Full = true
-is_full status.Error = false
+is_full status = false
 
 -- which refusal is due where this volume is to be purged, with that one loaded
 abbrev pub purge_due_at : Option ℕ → VolumeView → Option Refusal
 purge_due_at loaded v =
     if is_full v.status then if is_some loaded then Some refusal.InUse else None else Some refusal.VolumeNotFull
 
--- the same where perhaps no volume was found
-abbrev pub purge_due_of : Option ℕ → Option VolumeView → Option Refusal
-purge_due_of loaded None = Some refusal.VolumeNotOnShelf
-purge_due_of loaded (Some v) = purge_due_at loaded v
-
 -- which refusal of a purge is due before the device is asked: the volume isn't the drive's; it isn't full; a volume is loaded
 abbrev pub purge_due : {D : Type 0} → DriveIs D → List ℕ → Option Refusal
-purge_due d name = purge_due_of d.loaded (option_and_then (slice_get d.volumes) (place_of d.volumes name))
+purge_due d name = option_map_or (purge_due_at d.loaded) (option_and_then (slice_get d.volumes) (index_of d.volumes name)) (Some refusal.VolumeNotOnShelf)
 
 -- the volume, which stands at this place, has no block and this status now, and the blocks of all entries on it are gone
 abbrev pub EmptiesVolume : {D : Type 0} → ℕ → VolumeView → VolumeStatus → DriveIs D → DriveIs D → Type 0

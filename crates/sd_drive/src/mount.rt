@@ -6,7 +6,7 @@ ghost use Rattle.sd_driver.specs.Shelf.{SameShelf, StillLasts};
 ghost use Rattle.sd_volume.specs.Device.{Counted, OthersStay, CallsAtMost};
 ghost use Rattle.sd_volume.specs.Volume.{VolumeView};
 ghost use Rattle.sd_drive.specs.Shelf.{KeepsPieces};
-ghost use Rattle.sd_drive.specs.Moves.{Mounts, RefusesLoad, mount_due, mount_due_at, is_append, is_at, is_other_pool, place_of, load_refusal, sync_calls};
+ghost use Rattle.sd_drive.specs.Moves.{Mounts, RefusesLoad, mount_due, mount_due_at, is_append, is_at, is_other_pool, index_of, load_refusal, sync_calls};
 
 use crate::drive::Drive;
 use sd_base::{PoolName, Refusal, VolName};
@@ -23,7 +23,7 @@ impl<D: Driver> Drive<D> {
             → IsErrOf result fault }
         ensures unchanged { mount_due self.old name.now ≢ None → self.new ≡ self.old }
         ensures mounts { mount_due self.old name.now ≡ None
-            → (at : ℕ) × (place_of self.old.volumes name.now ≡ Some at)
+            → (at : ℕ) × (index_of self.old.volumes name.now ≡ Some at)
             × Mounts at result self.old self.new }
         ensures on_shelf { IsHonest (D.meaning self.old.device) → mount_due self.old name.now ≡ None
             → IfErr result (λ fault. fault ≢ Refusal.VolumeNotOnShelf) }
@@ -48,7 +48,7 @@ impl<D: Driver> Drive<D> {
     fn mountable(&self, name: &VolName) -> Result<usize, Refusal>
         ensures due { IfErr result (λ fault. mount_due self.now name.now ≡ Some fault) }
         ensures none { OnOk result (mount_due self.now name.now ≡ None) }
-        ensures place { IfOk result (λ at. place_of self.now.volumes name.now ≡ Some at) }
+        ensures place { IfOk result (λ at. index_of self.now.volumes name.now ≡ Some at) }
         ensures there { IfOk result (λ at. (v : VolumeView)
             × (slice_get self.now.volumes at ≡ Some v) × (v.name ≡ name.now)) }
     {
@@ -94,7 +94,7 @@ impl<D: Driver> Drive<D> {
 
 /// The place of the volume of that name. Looks at the volumes one after another.
 pub(crate) fn find(volumes: &[Volume], name: &VolName) -> Option<usize>
-    ensures { result ≡ place_of volumes.now name.now }
+    ensures { result ≡ index_of volumes.now name.now }
 {
     volumes
         .iter()

@@ -6,7 +6,7 @@ ghost use Rattle.sd_driver.specs.Shelf.{SameShelf, StillLasts};
 ghost use Rattle.sd_journal.specs.Journal.{has_on, purged};
 ghost use Rattle.sd_volume.specs.Device.{CallsAtMost, Counted};
 ghost use Rattle.sd_volume.specs.Volume.{VolumeView};
-ghost use Rattle.sd_drive.specs.Moves.{PurgesAt, KeepsPurging, purge_due, purge_due_at, place_of};
+ghost use Rattle.sd_drive.specs.Moves.{PurgesAt, KeepsPurging, purge_due, purge_due_at, index_of};
 
 use crate::drive::Drive;
 use crate::mount::find;
@@ -36,7 +36,7 @@ impl<D: Driver> Drive<D> {
             → IsErrOf result fault }
         ensures unchanged { purge_due self.old name.now ≢ None → self.new ≡ self.old }
         ensures purges { purge_due self.old name.now ≡ None
-            → (at : ℕ) × (place_of self.old.volumes name.now ≡ Some at)
+            → (at : ℕ) × (index_of self.old.volumes name.now ≡ Some at)
             × PurgesAt name.now at result (D.meaning self.old.device)
             (D.meaning self.new.device) self.old self.new }
         ensures on_shelf { IsHonest (D.meaning self.old.device) → purge_due self.old name.now ≡ None
@@ -72,7 +72,7 @@ impl<D: Driver> Drive<D> {
         ensures due { IfErr result (λ fault. purge_due self.now name.now ≡ Some fault) }
         ensures none { OnOk result (purge_due self.now name.now ≡ None) }
         ensures loaded { OnOk result (self.now.loaded ≡ None) }
-        ensures place { IfOk result (λ at. place_of self.now.volumes name.now ≡ Some at) }
+        ensures place { IfOk result (λ at. index_of self.now.volumes name.now ≡ Some at) }
         ensures there { IfOk result (λ at. (v : VolumeView)
             × (slice_get self.now.volumes at ≡ Some v) × (v.name ≡ name.now)) }
         ensures faults { IfErr result (λ fault. fault ≢ Refusal.DeviceFault) }

@@ -9,15 +9,15 @@ use Rattle.sd_readback.specs.declared.fault.ReadFault.{ReadFault}
 use Rattle.sd_readback.specs.declared.read.ReadEnd.{ReadEnd}
 use Rattle.sd_records.specs.End.{end_text}
 use Rattle.sd_words.specs.Lines.{line}
-use Rattle.sd_files.specs.declared.lines.Line.{Line}
-use Rattle.sd_files.specs.declared.lines.Line.TheVariants as lines
+use Rattle.sd_files.specs.declared.lines.FileLine.{FileLine}
+use Rattle.sd_files.specs.declared.lines.FileLine.TheVariants as lines
 
 -- a record: its FileIndex, its Stream, and how many bytes it has
 abbrev pub record_text : ℕ → ℕ → ℕ → List ℕ
 record_text index stream size = codes "rec " ++ decimal index ++ codes " " ++ decimal stream ++ codes " " ++ decimal size
 
 -- a line without its newline
-abbrev pub line_text : Line → List ℕ
+abbrev pub line_text : FileLine → List ℕ
 line_text (lines.Record index stream size) = record_text index stream size
 line_text (lines.End end) = end_text end
 line_text lines.NoFile = codes "fault file"

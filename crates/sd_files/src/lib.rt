@@ -15,11 +15,11 @@ mod session;
 mod status;
 
 pub use input::SpansFault;
-pub use lines::Line;
+pub use lines::FileLine;
 pub use list_file::list_volume;
 pub use list_line::ListLine;
 pub use listing::{ListFault, list};
-pub use path::{Place, place_of};
+pub use path::{Place, split_path};
 pub use read_file::read_back;
 pub use reading::{Extracted, extract};
 pub use status::list_on;

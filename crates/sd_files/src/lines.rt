@@ -6,7 +6,7 @@ use std::fmt;
 
 /// A line of a reading. Displays it without the newline.
 #[derive(Drop)]
-pub enum Line {
+pub enum FileLine {
     /// A record whose bytes stand behind the line.
     Record {
         index: u32,
@@ -21,7 +21,7 @@ pub enum Line {
     Refused(Refusal),
 }
 
-impl fmt::Display for Line {
+impl fmt::Display for FileLine {
     ghost use Rattle.std.specs.Prelude.{Some};
     ghost use Rattle.sd_files.specs.Lines.{line_text};
 
@@ -29,14 +29,14 @@ impl fmt::Display for Line {
 
     fn fmt<W: fmt::Write>(&self, f: &mut fmt::Formatter<W>) -> fmt::Result {
         match self {
-            Line::Record {
+            FileLine::Record {
                 index,
                 stream,
                 size,
             } => write!(f, "rec {index} {stream} {size}"),
-            Line::End(end) => write!(f, "{}", EndLine(*end)),
-            Line::NoFile => write!(f, "fault file"),
-            Line::Refused(why) => write!(f, "{why}"),
+            FileLine::End(end) => write!(f, "{}", EndLine(*end)),
+            FileLine::NoFile => write!(f, "fault file"),
+            FileLine::Refused(why) => write!(f, "{why}"),
         }
     }
 }

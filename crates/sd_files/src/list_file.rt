@@ -6,11 +6,11 @@ ghost use Rattle.sd_printer.specs.Says.{Says, said_view};
 ghost use Rattle.sd_words.specs.Lines.{line};
 
 use crate::list_line::ListLine;
-use crate::path::place_of;
+use crate::path::split_path;
 use crate::status::{FAILED, list_on};
 use sd_base::{Refusal, VolName};
 use sd_printer::Printer;
-use sd_progress::{Host, Progress};
+use sd_progress::{Host, ShownProgress};
 use std::io::Write;
 
 /// Prints the listing of the volume in the file at `path`, whose name is the volume's: see `list_on`. A last word of the
@@ -18,13 +18,13 @@ use std::io::Write;
 pub fn list_volume<H: Host + AllocGlobal, W: Write>(
     host: &H,
     path: &str,
-    progress: Progress,
+    progress: ShownProgress,
     out: &mut Printer<W>,
 ) -> u8
     ensures { ListsFile (λ folder. H.device_of host.now folder progress) path.now
         (said_view W.contents out.old) (said_view W.contents out.new) result }
 {
-    let place = place_of(path);
+    let place = split_path(path);
     let Ok(name) = VolName::parse(place.name) else {
         return refused(out, Refusal::BadName);
     };

@@ -11,7 +11,7 @@ pub struct Place<'a> {
 
 /// The folder of a path is what stands before its last slash: `.` where there is no slash, and `/` where nothing stands
 /// before it. Its name is what stands behind.
-pub fn place_of(path: &str) -> Place<'_>
+pub fn split_path(path: &str) -> Place<'_>
     ensures { IsPlaceOf path.now result.folder.now result.name.now }
 {
     match path.rsplit_once('/') {

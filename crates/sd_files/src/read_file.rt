@@ -5,7 +5,7 @@ ghost use Rattle.sd_printer.specs.Says.{said_view};
 use crate::input::SpansFault;
 use crate::reading::{Extracted, extract, given_up};
 use sd_printer::Printer;
-use sd_progress::{Host, Progress};
+use sd_progress::{Host, ShownProgress};
 use sd_span::JobMediaFault;
 use std::io::Write;
 
@@ -15,7 +15,7 @@ pub fn read_back<H: Host + AllocGlobal, W: Write>(
     host: &H,
     spans: &str,
     folder: &str,
-    progress: Progress,
+    progress: ShownProgress,
     out: Printer<W>,
 ) -> Extracted<W>
     ensures { ReadsFiles (H.text_at host.now spans.now)

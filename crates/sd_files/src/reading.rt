@@ -6,7 +6,7 @@ ghost use Rattle.sd_printer.specs.Says.{Says, said_view};
 ghost use Rattle.sd_words.specs.Lines.{line};
 
 use crate::input::{SpansFault, read_input};
-use crate::lines::Line;
+use crate::lines::FileLine;
 use crate::session::read_out;
 use sd_driver::Driver;
 use sd_printer::Printer;
@@ -76,8 +76,8 @@ fn print_ending<W: Write>(read: &Result<ReadEnd, ReadFault>, out: &mut Printer<W
         (line (ending_text read.now)) }
 {
     match read {
-        Ok(end) => out.line(Line::End(*end)),
-        Err(fault) => out.line(Line::Refused(fault.refusal())),
+        Ok(end) => out.line(FileLine::End(*end)),
+        Err(fault) => out.line(FileLine::Refused(fault.refusal())),
     }
 }
 
@@ -87,8 +87,8 @@ fn print_fault<W: Write>(fault: SpansFault, out: &mut Printer<W>)
         (line (fault_text fault)) }
 {
     match fault {
-        SpansFault::File => out.line(Line::NoFile),
-        SpansFault::Text(fault) => out.line(Line::Refused(fault.refusal())),
+        SpansFault::File => out.line(FileLine::NoFile),
+        SpansFault::Text(fault) => out.line(FileLine::Refused(fault.refusal())),
     }
 }
 

@@ -1,5 +1,5 @@
 // A record, printed as it comes.
-use crate::lines::Line;
+use crate::lines::FileLine;
 use sd_base::Rec;
 use sd_printer::Printer;
 use sd_records::PrintRecord;
@@ -15,7 +15,7 @@ impl PrintRecord for WholeRecords {
 
     fn print<W: Write>(rec: &Rec, out: &mut Printer<W>) {
         let bytes = rec.bytes.as_slice();
-        out.line(Line::Record {
+        out.line(FileLine::Record {
             index: rec.index,
             stream: rec.stream,
             size: bytes.len(),

@@ -6,14 +6,13 @@ use Rattle.std.proofs.lemmas.List.Sorted.{Contains-permutation, IsPermutation-sy
 use Rattle.std.proofs.lemmas.Option.{get_or_from_slice_get, slice_get-get_or, slice_get_within}
 use Rattle.sd_base.specs.Key.{is_key}
 use Rattle.sd_journal.specs.Journal.{Entry, fails}
-use Rattle.sd_machine.specs.Machine.{failed_status}
 use Rattle.sd_part.specs.Ends.{ToldSession}
 use Rattle.sd_session.specs.Session.{DropsParts, IsRunning, SessionView, store_of}
 use Rattle.sd_session.specs.declared.status.Status.{Status}
 use Rattle.sd_session.specs.declared.status.Status.TheVariants.{Active, Ended, Closed, Cancelled, Failed, Purged}
 use Rattle.sd_hub.specs.Settles.{AreDistinct, times_of}
 use Rattle.sd_world.specs.World.{WorldSession, session_at}
-use Rattle.sd_hub.specs.Worlds.{SettlesEach, SettlesOne, machine_session}
+use Rattle.sd_hub.specs.Worlds.{SettlesEach, SettlesOne, failed_status, machine_session}
 
 -- What stays of a session.
 
@@ -133,9 +132,9 @@ in_world journal (x ∷ ss) (e ∷ es) zero s each there =
 in_world journal (x ∷ ss) (e ∷ es) (suc at) s each there = in_world journal ss es at s each.1 there
 
 -- one that is found by its ticket stands at some place
-pub place_of : (ticket : ℕ) (es : List WorldSession) (e : WorldSession) → session_at ticket es ≡ Some e → (at : ℕ) × (slice_get es at ≡ Some e)
-place_of ticket [] e found = absurd (cc found)
-place_of ticket (x ∷ es) e found = by (λ is. place_of ticket es e is) (x.session.key.id == ticket) found
+pub index_of : (ticket : ℕ) (es : List WorldSession) (e : WorldSession) → session_at ticket es ≡ Some e → (at : ℕ) × (slice_get es at ≡ Some e)
+index_of ticket [] e found = absurd (cc found)
+index_of ticket (x ∷ es) e found = by (λ is. index_of ticket es e is) (x.session.key.id == ticket) found
   where
     by : (session_at ticket es ≡ Some e → (at : ℕ) × (slice_get es at ≡ Some e)) → (own : Bool) → (if own then Some x else session_at ticket es) ≡ Some e
         → (at : ℕ) × (slice_get (x ∷ es) at ≡ Some e)

@@ -17,7 +17,7 @@ use Rattle.sd_world.proofs.Lookups.{found_by_number, one_or_two}
 use Rattle.sd_world.specs.Rules.{NumbersRise}
 use Rattle.sd_world.specs.World.{WorldSession, WorldView, session_at}
 use Rattle.sd_hub.specs.Worlds.{BecomesWorld, SettlesOne, next_number, lane_sessions}
-use Rattle.sd_hub.proofs.Entries.{IsEntry, distinct_moved, entry_at, in_world, moved, moved_back, place_of, stays_of}
+use Rattle.sd_hub.proofs.Entries.{IsEntry, distinct_moved, entry_at, in_world, moved, moved_back, index_of, stays_of}
 use Rattle.sd_hub.proofs.Lines.{KeepsLanes, Stands, keeps_lanes, stands}
 use Rattle.sd_hub.proofs.NumberLemmas.{AreOfRun, IsOfRun, numbers_rise}
 
@@ -103,7 +103,7 @@ module _ {D : Type 0} (meaning : D → Meaning) (settled : SettledIs D) (told : 
 
   -- each of a ticket is one that was told
   pub entry_of : (ticket : ℕ) (e : WorldSession) → session_at ticket w.sessions ≡ Some e → IsEntry settled.drive.journal told e
-  entry_of ticket e found = let p = place_of ticket w.sessions e found in entry_at settled.drive.journal told w.sessions p.0 e h.becomes.sessions p.1
+  entry_of ticket e found = let p = index_of ticket w.sessions e found in entry_at settled.drive.journal told w.sessions p.0 e h.becomes.sessions p.1
 
   -- each session of all lanes is found in it by its number
   pub lane_found : (k : ℕ) (s : ToldSession) → slice_get (lane_sessions settled.lanes) k ≡ Some s

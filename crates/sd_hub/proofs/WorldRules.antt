@@ -18,7 +18,7 @@ use Rattle.sd_session.specs.declared.status.Status.{Status}
 use Rattle.sd_session.specs.declared.status.Status.TheVariants.{Closed, Failed, Purged}
 use Rattle.sd_hub.specs.Settles.{SettledIs, SettledLaneIs}
 use Rattle.sd_spool.specs.Job.{StoreState}
-use Rattle.sd_world.specs.Rules.{AreOfOpened, IsBay, IsLane, IsSeated, IsWorld}
+use Rattle.sd_world.specs.Rules.{IsOfOpened, IsBay, IsLane, IsSeated, IsWorld}
 use Rattle.sd_world.specs.Steps.{IsSound}
 use Rattle.sd_world.specs.World.{BayView, LaneView, WorldSession, WorldView, items_before, items_with, session_at}
 use Rattle.sd_hub.specs.Worlds.{SettlesOne, bay_of, lane_view, last_ticket, queue_view, lane_sessions}
@@ -42,7 +42,7 @@ record IsOpened (time next : ℕ) (key : SessionKey) : Type 0 where
   pub id_most : key.id < next
 
 -- so is each item of its pieces
-item_opened : (time next : ℕ) (ps : List Piece) → AllByRecursion (λ (p : Piece). IsOpened time next p.key) ps → AreOfOpened time next (map item_of_piece ps)
+item_opened : (time next : ℕ) (ps : List Piece) → AllByRecursion (λ (p : Piece). IsOpened time next p.key) ps → AllByRecursion (IsOfOpened time next) (map item_of_piece ps)
 item_opened time next [] h = tt
 item_opened time next (p ∷ ps) h = (record { time_is = h.0.time_is; id_least = h.0.id_least; id_most = h.0.id_most }, item_opened time next ps h.1)
 
@@ -180,7 +180,7 @@ module _ {D : Type 0} (meaning : D → Meaning) (settled : SettledIs D) (told : 
   -- The bay.
 
   -- each piece that was given to the drive or is before it is of a session that was opened
-  opened_here : AreOfOpened w.limits.time w.next (items_before settled.drive (queue_view settled.queue))
+  opened_here : AllByRecursion (IsOfOpened w.limits.time w.next) (items_before settled.drive (queue_view settled.queue))
   opened_here =
       let qs = settled.queue.taken ++ settled.queue.held in
       let time : settled.drive.limits.time ≡ w.limits.time = sym (ap (λ l. l.time) h.becomes.limits_are) in
@@ -192,7 +192,7 @@ module _ {D : Type 0} (meaning : D → Meaning) (settled : SettledIs D) (told : 
       let below = number_below told m.0 s h.becomes.rise m.1 in
       let next = h.becomes.next_is in
       record { time_is = of.time_is ∙ time; id_least = of.id_least; id_most = omega (arith, below, next) })) in
-      subst (AreOfOpened w.limits.time w.next) (sym (items_are settled.drive (queue_view settled.queue) settled.queue.taken h.follows))
+      subst (AllByRecursion (IsOfOpened w.limits.time w.next)) (sym (items_are settled.drive (queue_view settled.queue) settled.queue.taken h.follows))
       (item_opened w.limits.time w.next (pieces_in qs)
       (all_pieces (IsOpened w.limits.time w.next) settled.drive.limits.time settled.drive.journal qs settled.lanes h.lanes of_lane))
 
@@ -209,7 +209,7 @@ module _ {D : Type 0} (meaning : D → Meaning) (settled : SettledIs D) (told : 
         media_is = λ d is. ap (λ (x : DriveIs D). x.media) (sym (drive d is));
         limits_are = λ d is. ap (λ (x : DriveIs D). x.limits) (sym (drive d is)) ∙ sym h.becomes.limits_are;
         claimed = λ d is place v there. h.becomes.claims place v (ap (λ (x : DriveIs D). slice_get x.volumes place) (drive d is) ∙ there);
-        of_opened = λ d is. subst (λ (x : DriveIs D). AreOfOpened w.limits.time w.next (items_before x (queue_view settled.queue))) (drive d is) opened_here;
+        of_opened = λ d is. subst (λ (x : DriveIs D). AllByRecursion (IsOfOpened w.limits.time w.next) (items_before x (queue_view settled.queue))) (drive d is) opened_here;
         lanes = λ place lane there. (let o = lane_of_line place lane there in subst (IsLane w.sessions 1 place) (sym o.2) (lane_is place o.0 o.1));
       }
 

@@ -8,10 +8,12 @@ use Rattle.sd_drive.specs.Receipt.{ReceiptIs}
 use Rattle.sd_journal.specs.Journal.{Entry, fails}
 use Rattle.sd_lane.specs.Queue.{LanesView}
 use Rattle.sd_line.specs.Side.{LineIs}
-use Rattle.sd_machine.specs.Machine.{Machine, MachineSession, failed_status}
+use Rattle.sd_machine.specs.Machine.{Machine, MachineSession}
 use Rattle.sd_part.specs.Ends.{EndIs, ToldSession}
 use Rattle.sd_ruled.specs.Seats.{RuledView}
 use Rattle.sd_session.specs.Session.{FailsSession}
+use Rattle.sd_session.specs.declared.status.Status.{Status}
+use Rattle.sd_session.specs.declared.status.Status.TheVariants.{Active, Ended, Failed}
 use Rattle.sd_hub.specs.Settles.{CheckedIs, SettledIs, SettledLaneIs, Settles}
 use Rattle.sd_volume.specs.Volume.{VolumeView}
 use Rattle.sd_world.specs.World.{WorldView, WorldSession, BayView, LaneView}
@@ -78,6 +80,12 @@ pub record BecomesWorld {D : Type 0} (settled : SettledIs D) (told : List ToldSe
   pub none_asked : w.desk.requests ≡ []
 
 -- its list machine
+
+-- the status after a fault: who goes on, with an end label or without, has failed
+abbrev pub failed_status : Status → Status
+failed_status Active = Failed
+failed_status Ended = Failed
+failed_status status = status
 
 -- the session in the machine: the records that it took, and its status, or failed where the drive lost a block of it while it went on
 abbrev pub machine_session : List Entry → ToldSession → MachineSession

@@ -8,7 +8,7 @@ use sd_part::{LaneEnd, Told};
 use sd_spool::SpoolStore;
 
 /// Where the first end stands that is of this drive and of this lane.
-pub(crate) fn place_of<N: Naming, S: SpoolStore>(
+pub(crate) fn index_of<N: Naming, S: SpoolStore>(
     no: DriveNo,
     lane: u32,
     ends: &[LaneEnd<N, S>],
@@ -36,7 +36,7 @@ fn is_end<N: Naming, S: SpoolStore>(no: DriveNo, lane: u32, end: &LaneEnd<N, S>)
 fn is_there<N: Naming, S: SpoolStore>(no: DriveNo, lane: u32, ends: &[LaneEnd<N, S>]) -> bool
     ensures { result ≡ is_some (end_at no lane ends.now) }
 {
-    place_of(no, lane, ends).is_some()
+    index_of(no, lane, ends).is_some()
 }
 
 /// The lowest lane whose end is not there.
@@ -65,7 +65,7 @@ pub(crate) fn sessions_at<N: Naming, S: SpoolStore>(
 ) -> &[Told<S>]
     ensures { result.now ≡ sessions_at no lane ends.now }
 {
-    match place_of(no, lane, ends) {
+    match index_of(no, lane, ends) {
         Some(at) => ends[at].sessions(),
         None => &[],
     }

@@ -7,14 +7,14 @@ use crate::numbers::only_drive;
 use sd_drive::Drive;
 use sd_driver::Driver;
 use sd_part::Told;
-use sd_parts::Entry;
+use sd_parts::SessionEntry;
 use sd_spool::SpoolStore;
 
 /// Makes of each session one of the world, in their order. Takes no memory.
 pub(crate) fn enter_all<D: Driver, S: SpoolStore + Drop>(
     drive: &Drive<D>,
     sessions: Vec<Told<S>>,
-    entries: &mut Vec<Entry<S>>,
+    entries: &mut Vec<SessionEntry<S>>,
 )
     requires none { entries.old.items ≡ [] }
     requires room { length sessions.items ≤ vec_capacity entries.old }
@@ -26,14 +26,14 @@ pub(crate) fn enter_all<D: Driver, S: SpoolStore + Drop>(
 }
 
 // A session at the one drive. It fails where it goes on while the drive lost a block of it.
-fn enter<D: Driver, S: SpoolStore + Drop>(drive: &Drive<D>, told: Told<S>) -> Entry<S>
+fn enter<D: Driver, S: SpoolStore + Drop>(drive: &Drive<D>, told: Told<S>) -> SessionEntry<S>
     ensures { SettlesOne drive.now.journal told result }
 {
     let mut session = told.session;
     if drive.progress(session.key()).failed {
         session.fail();
     }
-    Entry {
+    SessionEntry {
         session,
         drive: only_drive(),
     }

@@ -3,7 +3,7 @@ ghost use Rattle.std.specs.Prelude.{◌≡◌, ◌≢◌, ◌≤◌, ℕ, [], So
 ghost use Rattle.std.specs.Vec.{vec_capacity};
 ghost use Rattle.sd_hub.specs.Settles.{AllThere, AreTaken, end_at};
 
-use crate::ends::place_of;
+use crate::ends::index_of;
 use crate::settled::SettledLane;
 use sd_base::DriveNo;
 use sd_line::Naming;
@@ -75,7 +75,7 @@ fn take_end<N: Naming, S: SpoolStore>(
     ensures others { (other : ℕ) → other ≢ lane
         → end_at no other ends.new.items ≡ end_at no other ends.old.items }
 {
-    match place_of(no, lane, ends.as_slice()) {
+    match index_of(no, lane, ends.as_slice()) {
         Some(at) => ends.remove(at),
         None => unreachable!(),
     }

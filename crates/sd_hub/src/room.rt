@@ -12,7 +12,7 @@ use sd_desk::Desk;
 use sd_driver::Driver;
 use sd_line::Naming;
 use sd_part::Told;
-use sd_parts::{Bay, Entry, LaneSlot};
+use sd_parts::{Bay, LaneSlot, SessionEntry};
 use sd_ruled::RuledLanes;
 use sd_spool::SpoolStore;
 use std::alloc::{AllocError, Global};
@@ -22,7 +22,7 @@ use std::sync::Wait;
 #[derive(Drop)]
 pub(crate) struct Room<D: Driver, R: Wait + Copy + Drop, S: SpoolStore> {
     pub(crate) told: Vec<Told<S>>,
-    pub(crate) entries: Vec<Entry<S>>,
+    pub(crate) entries: Vec<SessionEntry<S>>,
     pub(crate) slots: Vec<LaneSlot<S>>,
     pub(crate) bays: Vec<Bay<D, RuledLanes<R>, S>>,
     pub(crate) desk: Desk,

@@ -50,23 +50,17 @@ without_key key keys = filter (λ k. not (is_key key k)) keys
 -- a block isn't synced yet, and may be by the next sync
 abbrev pub is_unsynced : Mark → Bool
 is_unsynced Unsynced = true
-is_unsynced Synced = false
-is_unsynced Lost = false
-is_unsynced Purged = false
+is_unsynced mark = false
 
 -- a block is synced
 abbrev pub is_synced : Mark → Bool
-is_synced Unsynced = false
 is_synced Synced = true
-is_synced Lost = false
-is_synced Purged = false
+is_synced mark = false
 
 -- a sync of its volume failed while the block wasn't synced
 abbrev pub is_lost : Mark → Bool
-is_lost Unsynced = false
-is_lost Synced = false
 is_lost Lost = true
-is_lost Purged = false
+is_lost mark = false
 
 -- the entry's block lies on the volume and isn't synced yet
 abbrev pub awaits_sync : List ℕ → Entry → Bool
@@ -88,10 +82,8 @@ settled mark volume entries = map (settled_one mark volume) entries
 
 -- the entry's volume was purged since: its block is gone
 abbrev pub is_purged : Mark → Bool
-is_purged Unsynced = false
-is_purged Synced = false
-is_purged Lost = false
 is_purged Purged = true
+is_purged mark = false
 
 -- the block of an entry on the volume is gone, and any other entry stays as it is
 abbrev pub purged_one : List ℕ → Entry → Entry

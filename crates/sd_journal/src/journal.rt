@@ -108,7 +108,7 @@ impl Journal {
         self.shares.note(&placement);
         let volume = self
             .names
-            .place_of(&placement.volume, last_volume(&self.noted));
+            .index_of(&placement.volume, last_volume(&self.noted));
         self.noted.push_reserved(Noted {
             key,
             start: placement.start,

@@ -93,7 +93,7 @@ impl Names {
 
     /// The place of this name, which is added behind the others where it isn't here yet, in the room that was made for
     /// it. Looks at the place `likely` first. Takes no memory.
-    pub(crate) fn place_of(&mut self, name: &VolName, likely: u32) -> u32
+    pub(crate) fn index_of(&mut self, name: &VolName, likely: u32) -> u32
         requires { 0 < self.old.room }
         ensures names { self.new.names ≡ with_name name.now self.old.names }
         ensures room { self.old.room ≤ self.new.room + 1 }

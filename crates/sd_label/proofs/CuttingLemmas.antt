@@ -3,13 +3,14 @@ use Rattle.std.proofs.Common.{◌≡◌, ◌≢◌, ℕ, refl, sym, ap, subst, �
 use Rattle.std.specs.Prelude.{pos, Some, None}
 use Rattle.std.proofs.lemmas.List.{append_assoc, append-nil, length-append, append_cancel_left, nil_from_length, map-append}
 use Rattle.std.proofs.lemmas.Grind.{flat_map-append}
+use Rattle.std.specs.List.{AllByRecursion}
 use Rattle.sd_base.specs.Record.{Record, IsRecord}
 use Rattle.sd_record.specs.Fragment.{Fragment, fragments_bytes, Fragments, FragmentsOfAll}
 use Rattle.sd_record.proofs.FragmentLemmas.{fragments_apart}
 use Rattle.sd_record.proofs.RecordLemmas.{first_same, rest_same, fragments_of_one, AreFragments, AreFragments-back, record_fragments, FragmentsOfAll-more}
 use Rattle.sd_label.specs.declared.label.SessionLabel.{SessionLabel}
 use Rattle.sd_label.specs.Label.{session_label_fragment, session_label_index}
-use Rattle.sd_label.specs.Cutting.{Standing, Between, Within, AtEnd, Unfinished, Behind, IsSession, AreRecords, AreBodies, joined, HoldsBy, Holds, HoldsFront, BeginsCutting, Cuts}
+use Rattle.sd_label.specs.Cutting.{Standing, Between, Within, AtEnd, Unfinished, Behind, IsSession, AreBodies, joined, HoldsBy, Holds, HoldsFront, BeginsCutting, Cuts}
 
 -- a label's index is negative, a record's is not
 pub label_is_no_record : (label : SessionLabel) (index : ℕ) → (session_label_fragment label).index ≡ pos index → ⊥
@@ -198,7 +199,7 @@ front_of_behind all AtEnd (f ∷ pre) post behind b e = record {
 }
 
 -- the front of a session's fragments behind the start label
-front_of_session : (all rs : List Record) (standing : Standing) (pre post parts behind : List Fragment) → AreRecords rs
+front_of_session : (all rs : List Record) (standing : Standing) (pre post parts behind : List Fragment) → AllByRecursion IsRecord rs
     → FragmentsOfAll rs parts → Behind all standing behind → pre ++ post ≡ parts ++ behind → Front all rs pre
 front_of_session all [] standing pre post parts behind are c b e =
     front_of_behind all standing pre post behind b (e ∙ ap (λ l. l ++ behind) c)
@@ -224,9 +225,9 @@ front_of_session all (r ∷ rs) standing pre post parts behind are c b e =
       | inr h ↦ front_within all (r ∷ rs) r pre h.0 are.0 h.1 (subst (Fragments r) h.2 c.3)
     ]
 
-AreRecords-front : (xs ys : List Record) → AreRecords (xs ++ ys) → AreRecords xs
-AreRecords-front [] ys are = tt
-AreRecords-front (x ∷ xs) ys are = (are.0, AreRecords-front xs ys are.1)
+records-front : (xs ys : List Record) → AllByRecursion IsRecord (xs ++ ys) → AllByRecursion IsRecord xs
+records-front [] ys are = tt
+records-front (x ∷ xs) ys are = (are.0, records-front xs ys are.1)
 
 pub AreBodies-front : (xs ys : List (List Fragment)) → AreBodies (xs ++ ys) → AreBodies xs
 AreBodies-front [] ys are = tt
@@ -282,7 +283,7 @@ front_held xs rs standing fragments ((f ∷ fs) ∷ front) back bodies split byt
             behind = held.behind;
             order = ap (λ g. g ∷ (fs ++ joined front)) (first_same _ _ _ _ all) ∙ ap (λ l. session_label_fragment s.start ∷ l) held.order;
             start_is = s.start_is;
-            records_are = AreRecords-front held.whole held.others (subst AreRecords held.records_split s.records_are);
+            records_are = records-front held.whole held.others (subst (AllByRecursion IsRecord) held.records_split s.records_are);
             parts_are = held.parts_are;
             behind_is = behind_of_front rs held.whole held.others held.standing held.behind held.records_split held.ended_is_all held.behind_is;
           };
@@ -317,9 +318,9 @@ pub AreBodies-append : (xs ys : List (List Fragment)) → AreBodies xs → AreBo
 AreBodies-append [] ys a b = b
 AreBodies-append (x ∷ xs) ys a b = (a.0, a.1, AreBodies-append xs ys a.2 b)
 
-pub AreRecords-more : (rs : List Record) (r : Record) → AreRecords rs → IsRecord r → AreRecords (rs ++ r ∷ [])
-AreRecords-more [] r are is = (is, tt)
-AreRecords-more (x ∷ xs) r are is = (are.0, AreRecords-more xs r are.1 is)
+pub records-more : (rs : List Record) (r : Record) → AllByRecursion IsRecord rs → IsRecord r → AllByRecursion IsRecord (rs ++ r ∷ [])
+records-more [] r are is = (is, tt)
+records-more (x ∷ xs) r are is = (are.0, records-more xs r are.1 is)
 
 nothing_without_bodies : (fragments : List (List Fragment)) → map fragments_bytes fragments ≡ [] → fragments ≡ []
 nothing_without_bodies [] e = refl
@@ -354,7 +355,7 @@ unfinished_begins bodies rs fragments p =
             behind = [];
             order = all;
             start_is = s.start_is;
-            records_are = AreRecords-more rs u.unfinished s.records_are u.record_is;
+            records_are = records-more rs u.unfinished s.records_are u.record_is;
             parts_are = FragmentsOfAll-more rs u.unfinished s.parts (s.behind ++ u.remaining) s.parts_are u.fragments_are;
             behind_is = refl;
           };

@@ -9,7 +9,7 @@ use Rattle.sd_base.specs.Limits.{most_number}
 use Rattle.sd_base.specs.Name.{IsName}
 use Rattle.sd_record.specs.Fragment.{Fragment, IsFragment, GoesOn}
 use Rattle.sd_record.proofs.FragmentLemmas.{length-fragment_bytes, fragment_apart}
-use Rattle.sd_label.specs.Label.{volume_label_index, start_label_index, end_label_index, volume_label_version, session_label_version, most_volume_label, most_session_label, AreTotals, IsVolumeLabel, IsSessionLabel, VolumeLabelsApart, SessionLabelsApart, LabelKindsApart, text_bytes, front_bytes, host_bytes, totals_bytes, volume_label_data, session_label_data, session_label_index, volume_label_fragment, session_label_fragment, volume_label_bytes, session_label_bytes}
+use Rattle.sd_label.specs.Label.{volume_label_index, start_label_index, end_label_index, volume_label_version, most_volume_label, most_session_label, AreTotals, IsVolumeLabel, IsSessionLabel, VolumeLabelsApart, SessionLabelsApart, LabelKindsApart, text_bytes, front_bytes, host_bytes, totals_bytes, volume_label_data, session_label_data, session_label_index, volume_label_fragment, session_label_fragment, volume_label_bytes, session_label_bytes}
 use Rattle.sd_label.specs.declared.label.Totals.{Totals}
 use Rattle.sd_label.specs.declared.label.VolumeLabel.{VolumeLabel}
 use Rattle.sd_label.specs.declared.label.SessionLabel.{SessionLabel}
@@ -22,7 +22,7 @@ unfolding volume_label_data
 volume_data_parts l xs e = e ∙ simp (append_assoc, append-nil)
 
 pub session_data_parts : (l : SessionLabel) (xs : List ℕ) → xs ≡ session_label_data l
-    → xs ≡ front_bytes session_label_version ++ (u32_bytes l.job ++ (i64_bytes l.moment ++ (text_bytes l.pool ++ (text_bytes l.media ++ totals_bytes l.totals))))
+    → xs ≡ front_bytes 1 ++ (u32_bytes l.job ++ (i64_bytes l.moment ++ (text_bytes l.pool ++ (text_bytes l.media ++ totals_bytes l.totals))))
 unfolding session_label_data
 session_data_parts l xs e = e ∙ simp append_assoc
 
@@ -68,12 +68,12 @@ volume_data_whole l xs front moment name pool media host version e_version e_fro
     (e_moment ∙ ap (λ r. i64_bytes l.moment ++ r) (e_name ∙ ap (λ r. text_bytes l.name ++ r) (e_pool ∙ ap (λ r. text_bytes l.pool ++ r)
     (e_media ∙ ap (λ r. text_bytes l.media ++ r) (e_host ∙ ap (λ r. host_bytes l.host ++ r) none))))) ∙ simp (append_assoc, append-nil)
 
-pub session_data_whole : (l : SessionLabel) (xs front job moment pool media : List ℕ) → xs ≡ front_bytes session_label_version ++ front
+pub session_data_whole : (l : SessionLabel) (xs front job moment pool media : List ℕ) → xs ≡ front_bytes 1 ++ front
     → front ≡ u32_bytes l.job ++ job → job ≡ i64_bytes l.moment ++ moment → moment ≡ text_bytes l.pool ++ pool
     → pool ≡ text_bytes l.media ++ media → media ≡ totals_bytes l.totals → xs ≡ session_label_data l
 unfolding session_label_data
 session_data_whole l xs front job moment pool media e_front e_job e_moment e_pool e_media e_totals =
-    e_front ∙ ap (λ r. front_bytes session_label_version ++ r) (e_job ∙ ap (λ r. u32_bytes l.job ++ r) (e_moment ∙ ap (λ r. i64_bytes l.moment ++ r)
+    e_front ∙ ap (λ r. front_bytes 1 ++ r) (e_job ∙ ap (λ r. u32_bytes l.job ++ r) (e_moment ∙ ap (λ r. i64_bytes l.moment ++ r)
     (e_pool ∙ ap (λ r. text_bytes l.pool ++ r) (e_media ∙ ap (λ r. text_bytes l.media ++ r) e_totals)))) ∙ simp append_assoc
 
 abbrev volume_label_of : List ℕ → List ℕ → List ℕ → ℤ → Option (List ℕ) → VolumeLabel
@@ -196,7 +196,7 @@ totals_apart (Some t) (Some u) t_fits u_fits index e =
 session_data_apart : (l m : SessionLabel) → IsSessionLabel l → IsSessionLabel m → session_label_index l.totals ≡ session_label_index m.totals
     → session_label_data l ≡ session_label_data m → l ≡ m
 session_data_apart l m l_fits m_fits index e =
-    let behind = append_cancel_left (front_bytes session_label_version) _ _ (sym (session_data_parts l (session_label_data l) refl) ∙ e ∙ session_data_parts m (session_label_data m) refl) in
+    let behind = append_cancel_left (front_bytes 1) _ _ (sym (session_data_parts l (session_label_data l) refl) ∙ e ∙ session_data_parts m (session_label_data m) refl) in
     let job = u32_apart l.job m.job _ _ (job_fits l.job l_fits.job_most) (job_fits m.job m_fits.job_most) behind in
     let moment = i64_apart l.moment m.moment _ _ l_fits.moment m_fits.moment job.1 in
     let pool = text_apart l.pool m.pool _ _ (IsName-no_zero l.pool l_fits.pool) (IsName-no_zero m.pool m_fits.pool) moment.1 in

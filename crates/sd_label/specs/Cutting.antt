@@ -1,6 +1,6 @@
 -- How the records of a session stand in block bodies, and which of them some bodies hold whole.
 use Rattle.std.specs.Prelude.{◌≡◌, ◌≢◌, ◌⊎◌, ℕ, ◌+◌, ◌<◌, ◌≤◌, Bool, true, false, Some, None, List, [], ◌∷◌, ◌++◌, length, map, sum_by}
-use Rattle.std.specs.List.{flat_map}
+use Rattle.std.specs.List.{flat_map, AllByRecursion}
 use Rattle.sd_base.specs.Record.{Record, IsRecord}
 use Rattle.sd_record.specs.Fragment.{Fragment, fragment_bytes, fragments_bytes, GoesOn, FitTogether, Fragments, FragmentsOfAll}
 use Rattle.sd_label.specs.declared.label.SessionLabel.{SessionLabel}
@@ -20,11 +20,6 @@ pub record IsEnd (label : SessionLabel) (records : List Record) : Type 0 where
   pub label_is : IsSessionLabel label
   pub totals_are : label.totals
       ≡ Some (record { records = length records; bytes = total_bytes records })
-
--- each of them is a record
-abbrev pub AreRecords : List Record → Type 0
-AreRecords [] = Unit {0}
-AreRecords (r ∷ rs) = IsRecord r × AreRecords rs
 
 -- where a session stands: between two records, within one, or behind its end label
 pub data Standing : Type 0 where
@@ -58,7 +53,7 @@ pub record IsSession (fs : List Fragment) (records : List Record) (standing : St
   pub behind : List Fragment
   pub order : fs ≡ session_label_fragment start ∷ (parts ++ behind)
   pub start_is : IsStart start
-  pub records_are : AreRecords records
+  pub records_are : AllByRecursion IsRecord records
   pub parts_are : FragmentsOfAll records parts
   pub behind_is : Behind records standing behind
 
@@ -109,9 +104,8 @@ pub record HoldsFront (bodies : List (List ℕ)) (records : List Record) : Type 
 
 -- whether the end label came
 abbrev pub is_ended : Standing → Bool
-is_ended Between = false
-is_ended Within = false
 is_ended AtEnd = true
+is_ended standing = false
 
 -- the records all of whose data are in the bodies, in order, and whether the end label is there
 abbrev pub WholeOf : List (List ℕ) → List Record → Bool → Type 0

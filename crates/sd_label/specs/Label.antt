@@ -25,22 +25,10 @@ start_label_index = neg_ℤ (pos 4)
 abbrev pub end_label_index : ℤ
 end_label_index = neg_ℤ (pos 5)
 
--- the Stream of a volume label
-abbrev pub volume_label_stream : ℤ
-volume_label_stream = pos 1
-
 -- the version that a volume label says: 1 where it has no host, 2 where it has one
 abbrev pub volume_label_version : Option (List ℕ) → ℕ
 volume_label_version None = 1
 volume_label_version (Some host) = 2
-
--- the version that a session label says
-abbrev pub session_label_version : ℕ
-session_label_version = 1
-
--- the status of a job that ended, `T`
-abbrev pub ended_status : ℕ
-ended_status = 84
 
 -- the most data bytes of a label: those of a volume label with its host, all four names of 127 characters
 abbrev pub most_label_data : ℕ
@@ -99,15 +87,15 @@ volume_label_data l =
     front_bytes (volume_label_version l.host) ++ i64_bytes l.moment
     ++ text_bytes l.name ++ text_bytes l.pool ++ text_bytes l.media ++ host_bytes l.host
 
--- a start label has no totals; an end label has them, and the status of a job that ended
+-- a start label has no totals; an end label has them, and the status of a job that ended, `T`
 abbrev pub totals_bytes : Option Totals → List ℕ
 totals_bytes None = []
-totals_bytes (Some t) = u64_bytes t.records ++ u64_bytes t.bytes ++ u32_bytes ended_status
+totals_bytes (Some t) = u64_bytes t.records ++ u64_bytes t.bytes ++ u32_bytes 84
 
--- the data of a session label
+-- the data of a session label, of version 1
 unfoldable pub session_label_data : SessionLabel → List ℕ
 session_label_data l =
-    front_bytes session_label_version ++ u32_bytes l.job ++ i64_bytes l.moment
+    front_bytes 1 ++ u32_bytes l.job ++ i64_bytes l.moment
     ++ text_bytes l.pool ++ text_bytes l.media ++ totals_bytes l.totals
 
 -- the index says whether a session starts or ends
@@ -115,12 +103,12 @@ abbrev pub session_label_index : Option Totals → ℤ
 session_label_index None = start_label_index
 session_label_index (Some t) = end_label_index
 
--- a volume label as a record, which is never split
+-- a volume label as a record, which is never split; its stream is 1
 abbrev pub volume_label_fragment : VolumeLabel → Fragment
 volume_label_fragment l =
     record {
       index = volume_label_index;
-      stream = volume_label_stream;
+      stream = pos 1;
       size = length (volume_label_data l);
       part = volume_label_data l;
     }

@@ -8,7 +8,7 @@ use Rattle.sd_base.specs.declared.refusal.Refusal.TheVariants.{DeviceFault, Othe
 use Rattle.sd_desk.specs.Desk.{DeskView}
 use Rattle.sd_driver.specs.Meaning.{Meaning}
 use Rattle.sd_driver.specs.Shelf.{StillLasts}
-use Rattle.sd_drive.specs.Moves.{FailsToSync, label_due, adopt_due, place_of}
+use Rattle.sd_drive.specs.Moves.{FailsToSync, label_due, adopt_due, index_of}
 use Rattle.sd_drive.specs.Shelf.{KeepsPieces}
 use Rattle.sd_drive.specs.View.{DriveIs}
 use Rattle.sd_lane.specs.Queue.{LanesView}
@@ -25,19 +25,19 @@ due_or (Some f) = inr (f, refl)
 pub data LabelDue {D : Type 0} (d : DriveIs D) (name media : List ℕ) : Type 0 where
   other : media ≢ d.media → label_due d name media ≡ Some OtherPoolOrMedia → LabelDue d name media
   loaded : media ≡ d.media → d.loaded ≢ None → label_due d name media ≡ Some InUse → LabelDue d name media
-  there : media ≡ d.media → d.loaded ≡ None → (at : ℕ) → place_of d.volumes name ≡ Some at → label_due d name media ≡ Some AlreadyLabelled
+  there : media ≡ d.media → d.loaded ≡ None → (at : ℕ) → index_of d.volumes name ≡ Some at → label_due d name media ≡ Some AlreadyLabelled
       → LabelDue d name media
-  none : media ≡ d.media → d.loaded ≡ None → place_of d.volumes name ≡ None → label_due d name media ≡ None → LabelDue d name media
+  none : media ≡ d.media → d.loaded ≡ None → index_of d.volumes name ≡ None → label_due d name media ≡ None → LabelDue d name media
 
 pub label_dues : {D : Type 0} (d : DriveIs D) (name media : List ℕ) → LabelDue d name media
 label_dues d name media = by_media (bytes_eq d.media media) refl
   where
-    by_name : media ≡ d.media → bytes_eq d.media media ≡ true → d.loaded ≡ None → (o : Option ℕ) → place_of d.volumes name ≡ o → LabelDue d name media
+    by_name : media ≡ d.media → bytes_eq d.media media ≡ true → d.loaded ≡ None → (o : Option ℕ) → index_of d.volumes name ≡ o → LabelDue d name media
     by_name same is out None found = none same out found (rw (is, out, found) refl)
     by_name same is out (Some at) found = there same out at found (rw (is, out, found) refl)
 
     by_loaded : media ≡ d.media → bytes_eq d.media media ≡ true → (o : Option ℕ) → d.loaded ≡ o → LabelDue d name media
-    by_loaded same is None out = by_name same is out (place_of d.volumes name) refl
+    by_loaded same is None out = by_name same is out (index_of d.volumes name) refl
     by_loaded same is (Some at) in_ = loaded same (λ out. cc (sym in_ ∙ out)) (rw (is, in_) refl)
 
     by_media : (b : Bool) → bytes_eq d.media media ≡ b → LabelDue d name media
@@ -46,18 +46,18 @@ label_dues d name media = by_media (bytes_eq d.media media) refl
 
 -- Which refusal of an adoption is due, and why.
 pub data AdoptDue {D : Type 0} (d : DriveIs D) (name : List ℕ) : Type 0 where
-  there : (at : ℕ) → place_of d.volumes name ≡ Some at → adopt_due d name ≡ Some AlreadyLabelled → AdoptDue d name
-  loaded : place_of d.volumes name ≡ None → d.loaded ≢ None → adopt_due d name ≡ Some InUse → AdoptDue d name
-  none : place_of d.volumes name ≡ None → d.loaded ≡ None → adopt_due d name ≡ None → AdoptDue d name
+  there : (at : ℕ) → index_of d.volumes name ≡ Some at → adopt_due d name ≡ Some AlreadyLabelled → AdoptDue d name
+  loaded : index_of d.volumes name ≡ None → d.loaded ≢ None → adopt_due d name ≡ Some InUse → AdoptDue d name
+  none : index_of d.volumes name ≡ None → d.loaded ≡ None → adopt_due d name ≡ None → AdoptDue d name
 
 pub adopt_dues : {D : Type 0} (d : DriveIs D) (name : List ℕ) → AdoptDue d name
-adopt_dues d name = by_name (place_of d.volumes name) refl
+adopt_dues d name = by_name (index_of d.volumes name) refl
   where
-    by_loaded : place_of d.volumes name ≡ None → (o : Option ℕ) → d.loaded ≡ o → AdoptDue d name
+    by_loaded : index_of d.volumes name ≡ None → (o : Option ℕ) → d.loaded ≡ o → AdoptDue d name
     by_loaded found None out = none found out (rw (found, out) refl)
     by_loaded found (Some at) in_ = loaded found (λ out. cc (sym in_ ∙ out)) (rw (found, in_) refl)
 
-    by_name : (o : Option ℕ) → place_of d.volumes name ≡ o → AdoptDue d name
+    by_name : (o : Option ℕ) → index_of d.volumes name ≡ o → AdoptDue d name
     by_name None found = by_loaded found d.loaded refl
     by_name (Some at) found = there at found (rw found refl)
 

@@ -15,7 +15,7 @@ use Rattle.std.proofs.lemmas.Slice.Eq.{bytes_eq-Decides}
 use Rattle.sd_desk.specs.Desk.{DeskView, claim_of, claimed_by, new_claim, HasNotAsked}
 use Rattle.sd_desk.specs.declared.claim.Claim.{Claim}
 use Rattle.sd_desk.specs.declared.request.Request.{Request}
-use Rattle.sd_drive.specs.Moves.{place_of}
+use Rattle.sd_drive.specs.Moves.{index_of}
 use Rattle.sd_drive.specs.View.{DriveIs, names}
 use Rattle.sd_drive.proofs.FindLemmas.{place_there, place_none}
 use Rattle.sd_drive.proofs.Places.{get_map}
@@ -55,10 +55,10 @@ one_found claim name (n ∷ ns) (suc at) there = from (one_found claim name ns a
     from later false is = cond-false _ _ _ (finds name n false is) ∙ later
 
 module _ {D : Type 0} (own : ℕ) (d : DriveIs D) (requests : List Request) (name : List ℕ) where
-  pub unclaimed : place_of d.volumes name ≡ None → claimed_by (desk_of own d requests) name ≡ None
+  pub unclaimed : index_of d.volumes name ≡ None → claimed_by (desk_of own d requests) name ≡ None
   unclaimed none = ap (option_map (λ (c : Claim). c.drive)) (none_found (new_claim own) name (names d.volumes) (place_none d.volumes name none))
 
-  pub is_claimed : (at : ℕ) → place_of d.volumes name ≡ Some at → claimed_by (desk_of own d requests) name ≢ None
+  pub is_claimed : (at : ℕ) → index_of d.volumes name ≡ Some at → claimed_by (desk_of own d requests) name ≢ None
   is_claimed at is none =
       let p = place_there d.volumes name at is in
       let there : slice_get (names d.volumes) at ≡ Some name = get_map (λ (v : VolumeView). v.name) d.volumes at p.0 p.1 ∙ ap Some p.2 in

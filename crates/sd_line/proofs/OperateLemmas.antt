@@ -5,7 +5,7 @@ use Rattle.sd_base.specs.declared.refusal.Refusal.{Refusal}
 use Rattle.sd_desk.specs.Desk.{claimed_by}
 use Rattle.sd_driver.specs.Meaning.{Meaning}
 use Rattle.sd_driver.specs.Shelf.{StillLasts, StillLastsBelow}
-use Rattle.sd_drive.specs.Moves.{place_of}
+use Rattle.sd_drive.specs.Moves.{index_of}
 use Rattle.sd_drive.specs.View.{DriveIs}
 use Rattle.sd_drive.proofs.FindLemmas.{place_none}
 use Rattle.sd_drive.proofs.Places.{some_is, get_map}
@@ -157,9 +157,9 @@ moves_last meaning own event reply s o is m = absurd m
 
 -- a volume of the drive is claimed at its desk
 has_place : {D : Type 0} (own : ℕ) (d : DriveIs D) (at : ℕ) (v : VolumeView) → slice_get d.volumes at ≡ Some v → claimed_by (desk_of own d []) v.name ≢ None
-has_place own d at v there = from (place_of d.volumes v.name) refl
+has_place own d at v there = from (index_of d.volumes v.name) refl
   where
-    from : (o : Option ℕ) → place_of d.volumes v.name ≡ o → claimed_by (desk_of own d []) v.name ≢ None
+    from : (o : Option ℕ) → index_of d.volumes v.name ≡ o → claimed_by (desk_of own d []) v.name ≢ None
     from None none = absurd (place_none d.volumes v.name none at (get_map (λ (x : VolumeView). x.name) d.volumes at v there))
     from (Some k) is = is_claimed own d [] v.name k is
 

@@ -5,7 +5,7 @@ use Rattle.std.proofs.lemmas.Bool.Decides.{eqb_tells}
 use Rattle.std.proofs.lemmas.Slice.Eq.{bytes_eq-Decides}
 use Rattle.sd_base.specs.Choice.{FirstOf}
 use Rattle.sd_desk.specs.Next.{TakesBlocksOf}
-use Rattle.sd_drive.specs.Moves.{TakesBlocks, mount_due, place_of, is_append, is_at, is_other_pool}
+use Rattle.sd_drive.specs.Moves.{TakesBlocks, mount_due, index_of, is_append, is_at, is_other_pool}
 use Rattle.sd_drive.specs.Shelf.{NamesDiffer}
 use Rattle.sd_drive.specs.View.{DriveIs}
 use Rattle.sd_drive.proofs.FindLemmas.{place_there, place_none, due_there}
@@ -21,13 +21,13 @@ use Rattle.sd_world.specs.Stations.{Station, Outcome}
 
 -- the volume of a name stands where it was found
 stands_at : (vs : List VolumeView) (name : List ℕ) (place : ℕ) (v : VolumeView) → NamesDiffer vs → slice_get vs place ≡ Some v → name ≡ v.name
-    → place_of vs name ≡ Some place
-stands_at vs name place v differ there is = from (place_of vs name) refl
+    → index_of vs name ≡ Some place
+stands_at vs name place v differ there is = from (index_of vs name) refl
   where
     here : slice_get (map (λ (x : VolumeView). x.name) vs) place ≡ Some name
     here = get_map (λ (x : VolumeView). x.name) vs place v there ∙ ap Some (sym is)
 
-    from : (o : Option ℕ) → place_of vs name ≡ o → place_of vs name ≡ Some place
+    from : (o : Option ℕ) → index_of vs name ≡ o → index_of vs name ≡ Some place
     from None none = absurd (place_none vs name none place here)
     from (Some k) found =
         let that = place_there vs name k found in

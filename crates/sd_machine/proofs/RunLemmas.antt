@@ -1,15 +1,17 @@
 -- What a run of the list machine leaves of a session that is closed or was purged: all of it, but that it may be purged.
+use Rattle.std.specs.List.{AllByRecursion}
 use Rattle.std.proofs.Common.{◌≡◌, ◌≢◌, ◌⊎◌, ℕ, ◌==◌, cond, true, false, Some, List, [], ◌∷◌, ◌++◌, refl, sym, ap, subst, ◌∙◌, Option, None, map, inl, inr}
 use Rattle.sd_base.specs.declared.number.SessionKey.{SessionKey}
+use Rattle.sd_base.specs.declared.refusal.Refusal.TheVariants.{SpoolFault, DeviceFault}
 use Rattle.sd_machine.specs.declared.event.Event.{Event}
 use Rattle.sd_machine.specs.declared.event.Event.TheVariants.{Open, Append, End, Close, Cancel, Spool, Despool, Take, Place, Sync, Label, Adopt, Mount, Unmount, Seek, Retire, Purge, Media}
 use Rattle.sd_machine.specs.declared.reply.Reply.{Reply}
-use Rattle.sd_machine.specs.declared.reply.Reply.TheVariants.{Refused, Opened, Taken, Ended, Closed, Cancelled, Spooled, SpoolFull, Nothing, NoSpool, Sent, LaneFull, NotDue, InHand, HandFull, Idle, Placed, NeedVolume, VolumeFull, VolumeError, Synced, Labelled, Adopted, Mounted, Unmounted, Requested, NoNeed, Retired, Purged, Media as Spans}
+use Rattle.sd_machine.specs.declared.reply.Reply.TheVariants.{Refused, Opened, Taken, Ended, Closed, Cancelled, InHand, HandFull, Idle, Placed, NeedVolume, VolumeFull, VolumeError, Synced, Labelled, Adopted, Mounted, Unmounted, Requested, NoNeed, Retired, Purged, Media as Spans}
 use Rattle.sd_session.specs.declared.status.Status.{Status}
-use Rattle.sd_session.specs.declared.status.Status.TheVariants.{Failed as IsFailed, Purged as IsPurged}
-use Rattle.sd_session.specs.Session.{IsRunning}
-use Rattle.sd_machine.specs.Machine.{Machine, MachineSession, Strike, session_of, with_session, changed, opened, failed_status, struck_with, status_after, struck, with_strikes}
-use Rattle.sd_machine.specs.Step.{Run, Turns, HasSession, Step}
+use Rattle.sd_session.specs.declared.status.Status.TheVariants.{Cancelled as IsCancelled, Failed as IsFailed, Purged as IsPurged}
+use Rattle.sd_session.specs.Session.{IsRunning, status_refusal}
+use Rattle.sd_machine.specs.Machine.{Machine, MachineSession, Strike, session_of, with_session, changed, opened, status_after, struck, with_strikes}
+use Rattle.sd_machine.specs.Step.{Run, Turns, MayStrike, StrikeWith, StatusRefused, HasSession, Step}
 use Rattle.sd_machine.specs.Kept.{IsClosedOrPurged, ClosedKeepTheirRecords, ClosedKeepTheirStatus}
 use Rattle.sd_machine.proofs.Lookups.{chosen, not_over}
 
@@ -62,27 +64,19 @@ still_purged : (a b : Status) → a ≡ IsPurged → Follows a b → b ≡ IsPur
 still_purged a b purged (inl p) = p ∙ purged
 still_purged a b purged (inr p) = p
 
--- a session that is closed or purged has no failure
-no_failure : (status : Status) → IsClosedOrPurged status → failed_status status ≡ status
-no_failure status (inl closed) = ap failed_status closed ∙ sym closed
-no_failure status (inr purged) = ap failed_status purged ∙ sym purged
+-- a strike that hits the session of this ticket purges it
+abbrev OnlyPurges : ℕ → Strike → Type 0
+OnlyPurges ticket x = x.ticket ≡ ticket → x.status ≡ IsPurged
 
--- the only strike that hits such a session purges it
-struck_over : (strike status : Status) → IsClosedOrPurged status → Follows status (struck_with strike status)
-struck_over IsFailed status over = inl (no_failure status over)
-struck_over IsPurged status over = inr refl
-struck_over strike status over = inl refl
-
-over_after : (strikes : List Strike) (ticket : ℕ) (status : Status)
-    → IsClosedOrPurged status → Follows status (status_after strikes ticket status)
-over_after [] ticket status over = inl refl
-over_after (x ∷ xs) ticket status over =
-    let one : Follows status (cond (x.ticket == ticket) (struck_with x.status status) status) =
-    elim (x.ticket == ticket) as (λ b. Follows status (cond b (struck_with x.status status) status)) [
-      | true ↦ struck_over x.status status over
-      | false ↦ inl refl
-    ] in
-    follows_on status _ _ one (over_after xs ticket _ (still_over status _ over one))
+-- so the session keeps its status, or is purged
+only_purged : (strikes : List Strike) (ticket : ℕ) (status : Status)
+    → AllByRecursion (OnlyPurges ticket) strikes → Follows status (status_after strikes ticket status)
+only_purged [] ticket status all = inl refl
+only_purged (x ∷ xs) ticket status all =
+    let next = cond (x.ticket == ticket) x.status status in
+    let one : Follows status next =
+    chosen (Follows status) x.ticket ticket x.status status (λ same. inr (all.0 same)) (λ other. inl refl) in
+    follows_on status next (status_after xs ticket next) one (only_purged xs ticket next all.1)
 
 -- Strikes.
 
@@ -118,18 +112,21 @@ KeepsOver old new = (ticket : ℕ) (s : MachineSession)
 as_it_was : (m : Machine) (ticket : ℕ) (s : MachineSession) → session_of ticket m.sessions ≡ Some s → Kept m ticket s
 as_it_was m ticket s at = record { session = s; there = at; key_is = refl; records_are = refl; status_is = inl refl }
 
+-- what is kept at first, and then as it was then, is kept
+keeps_both : (b c : Machine) (ticket : ℕ) (s : MachineSession) → (one : Kept b ticket s) → Kept c ticket one.session → Kept c ticket s
+keeps_both b c ticket s one two = record {
+  session = two.session;
+  there = two.there;
+  key_is = two.key_is ∙ one.key_is;
+  records_are = two.records_are ∙ one.records_are;
+  status_is = follows_on s.status one.session.status two.session.status one.status_is two.status_is;
+}
+
 -- what is kept by one step and by the next is kept by both
 keeps_on : (a b c : Machine) → KeepsOver a b → KeepsOver b c → KeepsOver a c
 keeps_on a b c first second ticket s at over =
     let one = first ticket s at over in
-    let two = second ticket one.session one.there (still_over s.status one.session.status over one.status_is) in
-    record {
-      session = two.session;
-      there = two.there;
-      key_is = two.key_is ∙ one.key_is;
-      records_are = two.records_are ∙ one.records_are;
-      status_is = follows_on s.status one.session.status two.session.status one.status_is two.status_is;
-    }
+    keeps_both b c ticket s one (second ticket one.session one.there (still_over s.status one.session.status over one.status_is))
 
 -- Steps.
 
@@ -162,14 +159,8 @@ turn_keeps old new (Append ticket r) (Taken n) turns =
 turn_keeps old new (End ticket moment) Ended turns = changes old new ticket turns.0 _ turns.1 (inl turns.2) refl turns.3
 turn_keeps old new (Close ticket) (Closed key spans) turns = changes old new ticket turns.0 _ turns.1 (inr turns.2) refl turns.3.1
 turn_keeps old new (Cancel ticket) Cancelled turns = changes old new ticket turns.0 _ turns.1 turns.2 refl turns.3
-turn_keeps old new (Spool ticket) Spooled turns = stays old new turns.3
-turn_keeps old new (Spool ticket) SpoolFull turns = stays old new turns.3
-turn_keeps old new (Spool ticket) Nothing turns = stays old new turns.3
-turn_keeps old new (Spool ticket) NoSpool turns = stays old new turns.3
-turn_keeps old new (Despool ticket) Sent turns = stays old new turns.3
-turn_keeps old new (Despool ticket) LaneFull turns = stays old new turns.3
-turn_keeps old new (Despool ticket) Nothing turns = stays old new turns.3
-turn_keeps old new (Despool ticket) NotDue turns = stays old new turns.3
+turn_keeps old new (Spool ticket) reply turns = stays old new turns.0.3
+turn_keeps old new (Despool ticket) reply turns = stays old new turns.0.3
 turn_keeps old new (Take drive) (InHand ticket seq) turns = stays old new turns
 turn_keeps old new (Take drive) HandFull turns = stays old new turns
 turn_keeps old new (Take drive) Idle turns = stays old new turns
@@ -191,22 +182,88 @@ turn_keeps old new (Purge drive name) Purged turns = stays old new turns
 turn_keeps old new (Media ticket) (Spans spans) turns = stays old new turns.1
 turn_keeps old new event reply turns = absurd turns
 
-strikes_keep : (strikes : List Strike) (m : Machine) → KeepsOver m (with_strikes strikes m)
-strikes_keep strikes m ticket s at over = record {
+-- who is closed or was purged, by this ticket
+record IsOver (m : Machine) (ticket : ℕ) : Type 0 where
+  s : MachineSession
+  there : session_of ticket m.sessions ≡ Some s
+  over : IsClosedOrPurged s.status
+
+-- a failure of a session that goes on doesn't hit who is closed or was purged
+spared : (m : Machine) (ticket : ℕ) (strikes : List Strike) → IsOver m ticket → StrikeWith IsFailed IsRunning m strikes
+    → AllByRecursion (OnlyPurges ticket) strikes
+spared m ticket [] own hits = tt
+spared m ticket (x ∷ xs) own hits = (
+  λ same.
+      let one : Some hits.0.1 ≡ Some own.s = sym hits.0.2 ∙ ap (λ n. session_of n m.sessions) same ∙ own.there in
+      let is : hits.0.1 ≡ own.s = cc one in
+      absurd (not_over own.s.status (subst (λ (z : MachineSession). IsRunning z.status) is hits.0.3) own.over),
+  spared m ticket xs own hits.1,
+)
+
+-- no status refuses an event with a fault of the spool
+no_fault : (status : Status) → SpoolFault ≡ status_refusal status → ⊥
+no_fault IsCancelled e = cc
+no_fault IsFailed e = cc
+no_fault status e = cc
+
+no_spool_fault : (m : Machine) (ticket : ℕ) → StatusRefused IsRunning m ticket SpoolFault → ⊥
+no_spool_fault m ticket (inl unknown) = cc unknown.1
+no_spool_fault m ticket (inr met) = no_fault met.0.status met.3
+
+-- the failure of one session that goes on
+spared_one : (m : Machine) (ticket hit : ℕ) (strikes : List Strike) (s : MachineSession) → IsOver m ticket
+    → HasSession m hit s → IsRunning s.status → strikes ≡ record { ticket = hit; status = IsFailed } ∷ []
+    → AllByRecursion (OnlyPurges ticket) strikes
+spared_one m ticket hit strikes s own there runs is =
+    subst (AllByRecursion (OnlyPurges ticket)) (sym is)
+    (spared m ticket (record { ticket = hit; status = IsFailed } ∷ []) own ((refl, s, there, runs), tt))
+
+-- purges purge
+purges : (m : Machine) (ticket : ℕ) (allowed : Status → Type 0) (strikes : List Strike) → StrikeWith IsPurged allowed m strikes
+    → AllByRecursion (OnlyPurges ticket) strikes
+purges m ticket allowed [] hits = tt
+purges m ticket allowed (x ∷ xs) hits = (λ same. hits.0.0, purges m ticket allowed xs hits.1)
+
+-- Whichever sessions a step may strike, those that are closed or were purged are struck by purges alone.
+strikes_spare : (m new : Machine) (ticket : ℕ) (event : Event) (reply : Reply) (strikes : List Strike) → IsOver m ticket
+    → Turns m event reply new → MayStrike m event reply strikes → AllByRecursion (OnlyPurges ticket) strikes
+strikes_spare m new ticket (Spool hit) (Refused SpoolFault) strikes own turns may =
+    elim turns.0 [
+      | inl refused ↦ absurd (no_spool_fault m hit refused)
+      | inr met ↦ spared_one m ticket hit strikes met.0 own met.1 met.2 may
+    ]
+strikes_spare m new ticket (Despool hit) (Refused SpoolFault) strikes own turns may =
+    elim turns.0 [
+      | inl refused ↦ absurd (no_spool_fault m hit refused)
+      | inr met ↦ spared_one m ticket hit strikes met.0 own met.1 met.2 may
+    ]
+strikes_spare m new ticket (Sync drive) (Refused DeviceFault) strikes own turns may = spared m ticket strikes own may
+strikes_spare m new ticket (Mount drive name) (Refused DeviceFault) strikes own turns may = spared m ticket strikes own may
+strikes_spare m new ticket (Unmount drive) (Refused DeviceFault) strikes own turns may = spared m ticket strikes own may
+strikes_spare m new ticket (Seek drive) (Refused DeviceFault) strikes own turns may = spared m ticket strikes own may
+strikes_spare m new ticket (Purge drive name) Purged strikes own turns may = purges m ticket _ strikes may
+strikes_spare m new ticket (Purge drive name) (Refused DeviceFault) strikes own turns may = purges m ticket _ strikes may
+strikes_spare m new ticket event reply strikes own turns may = subst (AllByRecursion (OnlyPurges ticket)) (sym may) tt
+
+strikes_keep : (strikes : List Strike) (m : Machine) (ticket : ℕ) (s : MachineSession)
+    → session_of ticket m.sessions ≡ Some s → AllByRecursion (OnlyPurges ticket) strikes → Kept (with_strikes strikes m) ticket s
+strikes_keep strikes m ticket s at all = record {
   session = struck strikes s;
   there = session_of-struck strikes ticket m.sessions s at;
   key_is = refl;
   records_are = refl;
-  status_is = over_after strikes s.key.id s.status over;
+  status_is = only_purged strikes s.key.id s.status
+      (subst (λ n. AllByRecursion (OnlyPurges n) strikes) (sym (session_id ticket m.sessions s at)) all);
 }
 
 -- a step keeps each session that is closed or purged, whichever sessions are struck
 step_keeps : (strikes : List Strike) (old new : Machine) (event : Event) (reply : Reply)
     → Step strikes old event reply new → KeepsOver old new
-step_keeps strikes old new event reply step =
-    keeps_on old step.between new (turn_keeps old step.between event reply step.turns)
-    (keeps_on step.between (with_strikes strikes step.between) new (strikes_keep strikes step.between)
-    (stays (with_strikes strikes step.between) new step.new_is))
+step_keeps strikes old new event reply step ticket s at over =
+    let turned = turn_keeps old step.between event reply step.turns ticket s at over in
+    let spare = strikes_spare old step.between ticket event reply strikes (record { s = s; there = at; over = over }) step.turns step.strike in
+    let hit = strikes_keep strikes step.between ticket turned.session turned.there spare in
+    subst (λ (m : Machine). Kept m ticket s) (sym step.new_is) (keeps_both step.between (with_strikes strikes step.between) ticket s turned hit)
 
 run_keeps : (m m' : Machine) (events : List Event) (replies : List Reply) → Run m events replies m' → KeepsOver m m'
 run_keeps m m' [] [] run = stays m m' run

@@ -3,7 +3,7 @@ use Rattle.std.specs.Prelude.{ℕ, ◌+◌, ◌==◌, if◌then◌else◌, Optio
 use Rattle.sd_base.specs.Record.{Record}
 use Rattle.sd_base.specs.declared.number.SessionKey.{SessionKey}
 use Rattle.sd_session.specs.declared.status.Status.{Status}
-use Rattle.sd_session.specs.declared.status.Status.TheVariants.{Active, Ended, Closed, Cancelled, Failed, Purged}
+use Rattle.sd_session.specs.declared.status.Status.TheVariants.{Active}
 
 -- a session: its key, the records that it took, in order, and its status
 pub record MachineSession : Type 0 where
@@ -38,11 +38,8 @@ changed m s = record m { sessions = with_session s m.sessions }
 
 -- the machine with a new session, which has the next number and no record
 abbrev pub opened : Machine → Machine
-opened m = record {
-  time = m.time;
-  sessions = m.sessions ++ record { key = record { time = m.time; id = m.next }; records = []; status = Active } ∷ [];
-  next = m.next + 1;
-}
+opened m =
+    record m { sessions = m.sessions ++ record { key = record { time = m.time; id = m.next }; records = []; status = Active } ∷ []; next = m.next + 1 }
 
 -- the FileIndex of the last record, 0 where there is none
 abbrev pub last_index : List Record → ℕ
@@ -50,39 +47,15 @@ last_index [] = 0
 last_index (r ∷ []) = r.index
 last_index (r ∷ s ∷ rs) = last_index (s ∷ rs)
 
--- the status after a fault: who goes on, with an end label or without, has failed
-abbrev pub failed_status : Status → Status
-failed_status Active = Failed
-failed_status Ended = Failed
-failed_status Closed = Closed
-failed_status Cancelled = Cancelled
-failed_status Failed = Failed
-failed_status Purged = Purged
-
--- a session that an event strikes beside its own: its ticket, and the status with which it is struck
+-- a session that an event strikes beside its own: its ticket, and the status that it gets
 pub record Strike : Type 0 where
   pub ticket : ℕ
   pub status : Status
 
--- the session of this ticket fails
-abbrev pub failure : ℕ → Strike
-failure ticket = record { ticket = ticket; status = Failed }
-
--- the session of this ticket is purged
-abbrev pub purging : ℕ → Strike
-purging ticket = record { ticket = ticket; status = Purged }
-
--- the status of a session that is struck with the first, and had the second; no event strikes with another than Failed or
--- Purged
-abbrev pub struck_with : Status → Status → Status
-struck_with Failed status = failed_status status
-struck_with Purged status = Purged
-struck_with other status = status
-
 -- the status of the session of a ticket after these strikes
 abbrev pub status_after : List Strike → ℕ → Status → Status
 status_after [] ticket status = status
-status_after (x ∷ xs) ticket status = status_after xs ticket (if x.ticket == ticket then struck_with x.status status else status)
+status_after (x ∷ xs) ticket status = status_after xs ticket (if x.ticket == ticket then x.status else status)
 
 -- the session after these strikes
 abbrev pub struck : List Strike → MachineSession → MachineSession

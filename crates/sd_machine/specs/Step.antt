@@ -1,5 +1,6 @@
 -- What a step of the list machine is, and a run of steps.
 use Rattle.std.specs.Prelude.{◌≡◌, ◌⊎◌, ℕ, ◌+◌, ◌≤◌, ◌<◌, Some, None, List, [], ◌∷◌, ◌++◌, length}
+use Rattle.std.specs.List.{AllByRecursion}
 use Rattle.sd_base.specs.Limits.{most_number}
 use Rattle.sd_base.specs.Record.{Record}
 use Rattle.sd_base.specs.declared.refusal.Refusal.{Refusal}
@@ -12,7 +13,7 @@ use Rattle.sd_machine.specs.declared.reply.Reply.TheVariants.{Refused, Opened, T
 use Rattle.sd_session.specs.declared.status.Status.{Status}
 use Rattle.sd_session.specs.declared.status.Status.TheVariants.{Active as IsActive, Ended as IsEnded, Closed as IsClosed, Cancelled as IsCancelled, Failed as IsFailed, Purged as IsPurged}
 use Rattle.sd_session.specs.Session.{IsRunning, MayTake, status_refusal}
-use Rattle.sd_machine.specs.Machine.{Machine, MachineSession, Strike, session_of, changed, opened, last_index, failure, with_strikes}
+use Rattle.sd_machine.specs.Machine.{Machine, MachineSession, Strike, session_of, changed, opened, last_index, with_strikes}
 
 -- the ticket's session is this one
 abbrev pub HasSession : Machine → ℕ → MachineSession → Type 0
@@ -37,9 +38,9 @@ StatusRefused allowed m ticket why =
     ⊎ Meets (λ status. allowed status → ⊥) m ticket (λ s. why ≡ status_refusal s.status)
 
 -- it is one of these
-abbrev pub IsAmong : List Refusal → Refusal → Type 0
-IsAmong [] why = ⊥
-IsAmong (one ∷ others) why = (why ≡ one) ⊎ IsAmong others why
+abbrev pub IsAmong : {X : Type 0} → List X → X → Type 0
+IsAmong [] x = ⊥
+IsAmong (y ∷ ys) x = (x ≡ y) ⊎ IsAmong ys x
 
 -- the status refuses the event, or else it is refused for one of these
 abbrev pub RefusedFor : List Refusal → (Status → Type 0) → Machine → ℕ → Refusal → Type 0
@@ -60,10 +61,7 @@ drive_refusals (Retire drive) = InUse ∷ []
 drive_refusals (Purge drive name) = VolumeNotOnShelf ∷ VolumeNotFull ∷ InUse ∷ DeviceFault ∷ Memory ∷ []
 drive_refusals event = []
 
--- What an event may be refused for, as far as the machine can see it. A record: the status; or else a wrong index or a count
--- that would run out; or else a closed body that waits, or want of memory. A close: the status; or a block that failed; or else
--- something outstanding, or want of memory. The spans: an unknown ticket, a drive that is offline for good, want of memory. An
--- event at a drive: that it isn't there, or is offline for good; or else what that event may be refused for.
+-- what an event may be refused for, as far as the machine can see it
 abbrev pub MayRefuse : Machine → Event → Refusal → Type 0
 MayRefuse m (Open job pool media moment) why =
     ((most_number < m.next) × (why ≡ NoSessionNumberLeft))
@@ -77,9 +75,7 @@ MayRefuse m (Close ticket) why = RefusedFor (SessionFailed ∷ NotYet ∷ Memory
 MayRefuse m (Cancel ticket) why = StatusRefused IsRunning m ticket why
 MayRefuse m (Spool ticket) why = RefusedFor (SpoolFault ∷ Memory ∷ []) IsRunning m ticket why
 MayRefuse m (Despool ticket) why = RefusedFor (SpoolFault ∷ Memory ∷ []) IsRunning m ticket why
-MayRefuse m (Media ticket) why =
-    ((session_of ticket m.sessions ≡ None) × (why ≡ SessionNotOpen))
-    ⊎ ((s : MachineSession) × HasSession m ticket s × IsAmong (DriveOffline ∷ Memory ∷ []) why)
+MayRefuse m (Media ticket) why = RefusedFor (DriveOffline ∷ Memory ∷ []) (λ status. Unit {0}) m ticket why
 MayRefuse m event why = ((why ≡ NoSuchDrive) ⊎ (why ≡ DriveOffline)) ⊎ IsAmong (drive_refusals event) why
 
 -- From `old` the machine may give this reply to the event and go on to `new`, no session being struck.
@@ -94,14 +90,8 @@ Turns old (End ticket moment) Ended new = Meets (Is IsActive) old ticket (λ s. 
 Turns old (Close ticket) (Closed key spans) new =
     Meets (Is IsEnded) old ticket (λ s. (key ≡ s.key) × (new ≡ changed old (record s { status = IsClosed })))
 Turns old (Cancel ticket) Cancelled new = Meets IsRunning old ticket (λ s. new ≡ changed old (record s { status = IsCancelled }))
-Turns old (Spool ticket) Spooled new = Meets IsRunning old ticket (λ s. new ≡ old)
-Turns old (Spool ticket) SpoolFull new = Meets IsRunning old ticket (λ s. new ≡ old)
-Turns old (Spool ticket) Nothing new = Meets IsRunning old ticket (λ s. new ≡ old)
-Turns old (Spool ticket) NoSpool new = Meets IsRunning old ticket (λ s. new ≡ old)
-Turns old (Despool ticket) Sent new = Meets IsRunning old ticket (λ s. new ≡ old)
-Turns old (Despool ticket) LaneFull new = Meets IsRunning old ticket (λ s. new ≡ old)
-Turns old (Despool ticket) Nothing new = Meets IsRunning old ticket (λ s. new ≡ old)
-Turns old (Despool ticket) NotDue new = Meets IsRunning old ticket (λ s. new ≡ old)
+Turns old (Spool ticket) reply new = Meets IsRunning old ticket (λ s. new ≡ old) × IsAmong (Spooled ∷ SpoolFull ∷ Nothing ∷ NoSpool ∷ []) reply
+Turns old (Despool ticket) reply new = Meets IsRunning old ticket (λ s. new ≡ old) × IsAmong (Sent ∷ LaneFull ∷ Nothing ∷ NotDue ∷ []) reply
 Turns old (Take drive) (InHand ticket seq) new = new ≡ old
 Turns old (Take drive) HandFull new = new ≡ old
 Turns old (Take drive) Idle new = new ≡ old
@@ -125,17 +115,14 @@ Turns old event reply new = ⊥
 
 -- each of the strikes gives this status to a session, whose own allows that
 abbrev pub StrikeWith : Status → (Status → Type 0) → Machine → List Strike → Type 0
-StrikeWith status allowed m [] = Unit {0}
-StrikeWith status allowed m (x ∷ xs) =
-    ((x ≡ record { ticket = x.ticket; status = status }) × (s : MachineSession) × HasSession m x.ticket s × allowed s.status)
-    × StrikeWith status allowed m xs
+StrikeWith status allowed m strikes =
+    AllByRecursion (λ x. (x.status ≡ status) × (s : MachineSession) × HasSession m x.ticket s × allowed s.status) strikes
 
--- Which sessions a step may strike, and with what: the one whose own spool failed fails; where a device failed to sync,
--- any may that go on; where a volume was purged, or its device failed at that, any may be purged that go on no more; else
--- none.
+-- Which sessions a step may strike, and with what: the one whose own spool failed fails; if a device failed to sync, any may
+-- that go on; if a volume was purged, or its device failed at that, any may be purged that go on no more; else none.
 abbrev pub MayStrike : Machine → Event → Reply → List Strike → Type 0
-MayStrike m (Spool ticket) (Refused SpoolFault) strikes = strikes ≡ failure ticket ∷ []
-MayStrike m (Despool ticket) (Refused SpoolFault) strikes = strikes ≡ failure ticket ∷ []
+MayStrike m (Spool ticket) (Refused SpoolFault) strikes = strikes ≡ record { ticket = ticket; status = IsFailed } ∷ []
+MayStrike m (Despool ticket) (Refused SpoolFault) strikes = strikes ≡ record { ticket = ticket; status = IsFailed } ∷ []
 MayStrike m (Sync drive) (Refused DeviceFault) strikes = StrikeWith IsFailed IsRunning m strikes
 MayStrike m (Mount drive name) (Refused DeviceFault) strikes = StrikeWith IsFailed IsRunning m strikes
 MayStrike m (Unmount drive) (Refused DeviceFault) strikes = StrikeWith IsFailed IsRunning m strikes
@@ -154,7 +141,6 @@ pub record Step (strikes : List Strike) (old : Machine) (event : Event) (reply :
 -- a run: a step for each event, with its reply
 abbrev pub Run : Machine → List Event → List Reply → Machine → Type 0
 Run old [] [] new = new ≡ old
-Run old [] (reply ∷ replies) new = ⊥
-Run old (event ∷ events) [] new = ⊥
 Run old (event ∷ events) (reply ∷ replies) new =
     (strikes : List Strike) × (between : Machine) × Step strikes old event reply between × Run between events replies new
+Run old events replies new = ⊥

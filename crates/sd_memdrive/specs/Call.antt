@@ -5,14 +5,14 @@ use Rattle.sd_memdrive.specs.declared.call.Call.{Call}
 use Rattle.sd_memdrive.specs.declared.call.Call.TheVariants.{Create, Load, Len, Read, Append, Sync, Cut}
 
 -- the place of the count of a kind
-abbrev pub place_of : Call → ℕ
-place_of Create = 0
-place_of Load = 1
-place_of Len = 2
-place_of Read = 3
-place_of Append = 4
-place_of Sync = 5
-place_of Cut = 6
+abbrev pub index_of : Call → ℕ
+index_of Create = 0
+index_of Load = 1
+index_of Len = 2
+index_of Read = 3
+index_of Append = 4
+index_of Sync = 5
+index_of Cut = 6
 
 -- only an append appends bytes
 abbrev pub appends : Call → Bool
@@ -26,4 +26,4 @@ appends Cut = false
 
 -- what a plan has to know of them
 abbrev pub drive_calls : Kinds Call
-drive_calls = record { place = place_of; appends = appends }
+drive_calls = record { place = index_of; appends = appends }

@@ -93,7 +93,7 @@ impl MemDrive {
         ensures within { result.1 < vec_len self.now.store.volumes }
     {
         let name = self.loaded.as_ref().unwrap().copy();
-        let place = self.store.place_of(&name).unwrap();
+        let place = self.store.index_of(&name).unwrap();
         (name, place)
     }
 }
@@ -132,7 +132,7 @@ impl Driver for MemDrive {
         ensures capacity { capacity_of self.new ≡ capacity_of self.old }
     {
         let due = self.plan.begin(Call::Create, DriverFault::Device)?;
-        let None = self.store.place_of(name) else {
+        let None = self.store.index_of(name) else {
             return Err(DriverFault::Exists);
         };
         let Ok(()) = self.store.create(name) else {
@@ -168,7 +168,7 @@ impl Driver for MemDrive {
         ensures capacity { capacity_of self.new ≡ capacity_of self.old }
     {
         let due = self.plan.begin(Call::Load, DriverFault::Device)?;
-        let Some(_) = self.store.place_of(name) else {
+        let Some(_) = self.store.index_of(name) else {
             return Err(DriverFault::NotThere);
         };
         self.plan.finish(due, DriverFault::Device)?;
@@ -213,7 +213,7 @@ impl Driver for MemDrive {
         ensures capacity { capacity_of self.new ≡ capacity_of self.old }
     {
         let due = self.plan.begin(Call::Len, DriverFault::Device)?;
-        let Some(place) = self.store.place_of(name) else {
+        let Some(place) = self.store.index_of(name) else {
             return Err(DriverFault::NotThere);
         };
         self.plan.finish(due, DriverFault::Device)?;
@@ -245,7 +245,7 @@ impl Driver for MemDrive {
         ensures capacity { capacity_of self.new ≡ capacity_of self.old }
     {
         let due = self.plan.begin(Call::Read, DriverFault::Device)?;
-        let Some(place) = self.store.place_of(name) else {
+        let Some(place) = self.store.index_of(name) else {
             return Err(DriverFault::NotThere);
         };
         let count = self.store.volumes[place].read(at as usize, into);

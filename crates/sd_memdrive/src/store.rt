@@ -51,7 +51,7 @@ impl Store {
     }
 
     /// Where the volume of a name stands.
-    pub fn place_of(&self, name: &VolName) -> Option<usize>
+    pub fn index_of(&self, name: &VolName) -> Option<usize>
         ensures place { MatchOption result (volume_of self.now.volumes.items name.now ≡ None)
             (λ place. StandsFirstAt name.now self.now.volumes.items place) }
         ensures within { IfSome result (λ place. place < vec_len self.now.volumes) }

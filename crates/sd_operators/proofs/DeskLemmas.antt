@@ -6,17 +6,17 @@ use Rattle.std.proofs.lemmas.Slice.Eq.{bytes_eq-Decides}
 use Rattle.sd_desk.specs.Desk.{DeskView, claim_of, claimed_by, OtherClaimsStay}
 use Rattle.sd_desk.specs.declared.claim.Claim.{Claim}
 use Rattle.sd_drive.specs.View.{DriveIs}
-use Rattle.sd_drive.specs.Moves.{label_due, adopt_due, place_of}
+use Rattle.sd_drive.specs.Moves.{label_due, adopt_due, index_of}
 use Rattle.sd_drive.proofs.FindLemmas.{place_there}
 use Rattle.sd_world.specs.Operators.{SameDesk}
 use Rattle.sd_operators.specs.AtStations.{AreClaimed}
 
 -- a drive has no volume of a name that isn't claimed
 pub no_volume : {D : Type 0} (own : ℕ) (d : DriveIs D) (desk : DeskView) (name : List ℕ) → AreClaimed own d desk → claimed_by desk name ≡ None
-    → place_of d.volumes name ≡ None
-no_volume own d desk name claims unclaimed = from (place_of d.volumes name) refl
+    → index_of d.volumes name ≡ None
+no_volume own d desk name claims unclaimed = from (index_of d.volumes name) refl
   where
-    from : (o : Option ℕ) → place_of d.volumes name ≡ o → place_of d.volumes name ≡ None
+    from : (o : Option ℕ) → index_of d.volumes name ≡ o → index_of d.volumes name ≡ None
     from None is = is
     from (Some k) is =
         let stands = place_there d.volumes name k is in
@@ -24,14 +24,14 @@ no_volume own d desk name claims unclaimed = from (place_of d.volumes name) refl
         absurd (cc (named, unclaimed))
 
 -- no refusal of a label is due
-pub label_free : {D : Type 0} (d : DriveIs D) (name media : List ℕ) → media ≡ d.media → d.loaded ≡ None → place_of d.volumes name ≡ None
+pub label_free : {D : Type 0} (d : DriveIs D) (name media : List ℕ) → media ≡ d.media → d.loaded ≡ None → index_of d.volumes name ≡ None
     → label_due d name media ≡ None
 label_free d name media same loaded none =
     let is : bytes_eq d.media media ≡ true = (bytes_eq-Decides d.media media).1 (sym same) in
     rw (is, loaded, none)
 
 -- no refusal of an adoption is due
-pub adopt_free : {D : Type 0} (d : DriveIs D) (name : List ℕ) → d.loaded ≡ None → place_of d.volumes name ≡ None → adopt_due d name ≡ None
+pub adopt_free : {D : Type 0} (d : DriveIs D) (name : List ℕ) → d.loaded ≡ None → index_of d.volumes name ≡ None → adopt_due d name ≡ None
 adopt_free d name loaded none = rw (none, loaded)
 
 -- a name that isn't claimed has no claim

@@ -1,5 +1,6 @@
 -- An event of a drive, in the world around it.
 use Rattle.std.proofs.Common.{◌≡◌, ◌≢◌, ℕ, ℤ, ◌≤◌, ◌&&◌, Option, Some, List, [], ◌∷◌, ◌++◌, map, slice_set, refl, sym, ap, ◌∙◌, subst, arith, inl, inr}
+use Rattle.std.specs.List.{AllByRecursion}
 use Rattle.sd_base.specs.Limits.{most_volume}
 use Rattle.sd_base.specs.declared.refusal.Refusal.{Refusal}
 use Rattle.sd_base.specs.declared.refusal.Refusal.TheVariants.{DeviceFault}
@@ -17,7 +18,7 @@ use Rattle.sd_machine.specs.declared.reply.Reply.TheVariants.{Refused}
 use Rattle.sd_world.specs.World.{WorldView, WorldSession, BayView, IsOnline}
 use Rattle.sd_world.specs.Drives.{DriveMissing, IsOfDrive, FailExactly, FailBy, MovesDrive}
 use Rattle.sd_world.specs.Moves.{Moves}
-use Rattle.sd_world.specs.Rules.{IsWorld, IsOfOpened, AreOfOpened}
+use Rattle.sd_world.specs.Rules.{IsWorld, IsOfOpened}
 use Rattle.sd_world.specs.Stations.{Station, Outcome}
 use Rattle.sd_world.proofs.StationShapes.{station_shape, who_loses}
 use Rattle.sd_operators.specs.AtStations.{MovesHere, IsStation}
@@ -26,7 +27,7 @@ use Rattle.sd_operators.proofs.LosingLemmas.{loses, sessions_stay}
 
 -- What a world keeps where a drive is.
 
-among : (time next : ℕ) (xs : List Item) (i : Item) (ys : List Item) → AreOfOpened time next (xs ++ i ∷ ys) → IsOfOpened time next i
+among : (time next : ℕ) (xs : List Item) (i : Item) (ys : List Item) → AllByRecursion (IsOfOpened time next) (xs ++ i ∷ ys) → IsOfOpened time next i
 among time next [] i ys are = are.0
 among time next (x ∷ xs) i ys are = among time next xs i ys are.1
 
@@ -39,7 +40,7 @@ is_station w drive at bay d world on =
       claimed = λ place v there. b.claimed d on.online place v there ∙ ap Some (sym on.number);
       first = λ lane piece rest held.
           let opened = among w.limits.time w.next (items d.journal d.hand) (item_of_piece piece) (map (λ (q : Queued). item_of_piece q.piece) rest)
-          (subst (λ (qs : List Queued). AreOfOpened w.limits.time w.next (items d.journal d.hand ++ map (λ (q : Queued). item_of_piece q.piece) qs)) held
+          (subst (λ (qs : List Queued). AllByRecursion (IsOfOpened w.limits.time w.next) (items d.journal d.hand ++ map (λ (q : Queued). item_of_piece q.piece) qs)) held
           (b.of_opened d on.online)) in
           let below = opened.id_most in
           let most = world.next_most in

@@ -1,17 +1,18 @@
 -- A volume of a drive is emptied, and the sessions that had a block on it are purged.
-use Rattle.std.proofs.Common.{◌≡◌, ◌≢◌, ◌⊎◌, ℕ, ◌<◌, ◌≤◌, ◌==◌, ◌&&◌, Bool, true, false, true≢false, refl, sym, ap, subst, ◌∙◌, ap₂, arith, inl, inr, Option, Some, None, All, List, [], ◌∷◌, ◌++◌, length, take, drop, map, get_or, slice_get, slice_set, Err}
+use Rattle.std.proofs.Common.{◌≡◌, ◌≢◌, ◌⊎◌, ℕ, ◌<◌, ◌≤◌, ◌==◌, ◌&&◌, Bool, true, false, true≢false, refl, sym, ap, subst, ◌∙◌, ap₂, arith, inl, inr, Option, Some, None, All, List, [], ◌∷◌, ◌++◌, length, take, drop, map, get_or, slice_get, slice_set, Err, cond}
 use Rattle.std.specs.Prelude.{IsErrOf, if◌then◌else◌}
 use Rattle.std.specs.List.{list_any}
 use Rattle.std.specs.Str.{bytes_eq}
 use Rattle.std.proofs.lemmas.Bool.{eqb-true}
 use Rattle.std.proofs.lemmas.List.{length-take, length-map, get_or_at, drop_more, take_all, drop_all, append-nil}
 use Rattle.std.proofs.lemmas.Option.{slice_get-get_or}
+use Rattle.std.specs.Option.{option_or}
 use Rattle.sd_base.specs.declared.refusal.Refusal.{Refusal}
-use Rattle.sd_base.specs.declared.refusal.Refusal.TheVariants.{DeviceFault, VolumeNotOnShelf, Memory}
+use Rattle.sd_base.specs.declared.refusal.Refusal.TheVariants.{InUse, DeviceFault, VolumeNotOnShelf, Memory}
 use Rattle.sd_desk.specs.Desk.{DeskView}
 use Rattle.sd_driver.specs.Meaning.{Meaning, IsHonest}
 use Rattle.sd_driver.specs.Shelf.{SameShelf, StillLasts, StillLastsBelow}
-use Rattle.sd_drive.specs.Moves.{PurgesAt, KeepsPurging, AddsNone, place_of, purge_due}
+use Rattle.sd_drive.specs.Moves.{PurgesAt, KeepsPurging, AddsNone, index_of}
 use Rattle.sd_drive.specs.Shelf.{KeepsPieces, KeepsOtherPieces}
 use Rattle.sd_drive.specs.View.{DriveIs}
 use Rattle.sd_journal.specs.Journal.{Entry, purged, has_on}
@@ -24,7 +25,7 @@ use Rattle.sd_machine.specs.declared.reply.Reply.TheVariants.{Refused}
 use Rattle.sd_session.specs.declared.status.Status.TheVariants as session
 use Rattle.sd_volume.specs.Device.{Counted}
 use Rattle.sd_volume.specs.declared.volume.VolumeStatus.{VolumeStatus}
-use Rattle.sd_world.specs.Drives.{PurgesNamed, PurgesNone, PurgesVolume, is_on, is_kept, due_or_kept, purge_due_in, purged_sessions}
+use Rattle.sd_world.specs.Drives.{PurgesNamed, PurgesNone, PurgesVolume, is_on, purge_due_in, purged_sessions}
 use Rattle.sd_world.specs.Moves.{Moves}
 use Rattle.sd_world.specs.Operators.{NotesPurge}
 use Rattle.sd_world.specs.Rules.{IsWorld}
@@ -39,7 +40,7 @@ use Rattle.sd_operators.proofs.CallLemmas.{recounted}
 
 module _ {D T : Type 0} (meaning : D → Meaning) (name : List ℕ) (at : ℕ) (why : Refusal) (d after : DriveIs D)
     (on_shelf : IsHonest (meaning d.device) → why ≢ VolumeNotOnShelf)
-    (placed : place_of d.volumes name ≡ Some at)
+    (placed : index_of d.volumes name ≡ Some at)
     (p : PurgesAt {D = D} {T = T} name at (Err why) (meaning d.device) (meaning after.device) d after)
     (counted : Counted (IsErrOf {T = T} {E = Refusal} (Err why) DeviceFault) ⊥ (meaning d.device) (meaning after.device))
     (keeps : KeepsPurging {T = T} (Err why) name (meaning d.device) (meaning after.device) d.journal d.hand)
@@ -130,13 +131,13 @@ none_goes_on {D} w drive d name world due = λ i other below is running. (
 
 -- the refusal that is due, as it was read
 pub due_there : {D : Type 0} (w : WorldView D) (drive at : ℕ) (bay : BayView D) (d : DriveIs D) (name : List ℕ) (sessions : List WorldSession) (due : Option Refusal)
-    → IsOnline w drive at bay d → sessions ≡ w.sessions → due_or_kept (purge_due d name) (is_kept drive name d.journal sessions) ≡ due
+    → IsOnline w drive at bay d → sessions ≡ w.sessions → purge_due_in sessions drive d name ≡ due
     → purge_due_in w.sessions drive d name ≡ due
 due_there w drive at bay d name sessions due on had is =
-    ap (λ (es : List WorldSession). due_or_kept (purge_due d name) (is_kept drive name d.journal es)) (sym had) ∙ is
+    ap (λ (es : List WorldSession). purge_due_in es drive d name) (sym had) ∙ is
 
 -- the drive's own is due before any
-pub own_due : (o : Option Refusal) (kept : Bool) → due_or_kept o kept ≡ None → o ≡ None
+pub own_due : (o : Option Refusal) (kept : Bool) → option_or o (cond kept (Some InUse) None) ≡ None → o ≡ None
 own_due None kept is = refl
 own_due (Some why) kept is = absurd (cc is)
 

@@ -9,14 +9,14 @@ ghost use Rattle.sd_operators.specs.Losing.{is_holder, holds_lane, has_lost};
 use sd_base::Ticket;
 use sd_drive::Drive;
 use sd_driver::Driver;
-use sd_parts::{Entry, LaneSlot, find};
+use sd_parts::{LaneSlot, SessionEntry, find};
 use sd_session::Session;
 use sd_spool::SpoolStore;
 
 /// Of the sessions that used these lanes last, those fail that go on and lost a block at the drive. Looks at no other
 /// session.
 pub(crate) fn fail_lost<D: Driver, S: SpoolStore + Drop>(
-    sessions: &mut Vec<Entry<S>>,
+    sessions: &mut Vec<SessionEntry<S>>,
     lanes: &[LaneSlot<S>],
     drive: &Drive<D>,
 )
@@ -31,7 +31,7 @@ pub(crate) fn fail_lost<D: Driver, S: SpoolStore + Drop>(
 
 // The same of one lane.
 fn fail_holder<D: Driver, S: SpoolStore + Drop>(
-    sessions: &mut Vec<Entry<S>>,
+    sessions: &mut Vec<SessionEntry<S>>,
     holder: Option<Ticket>,
     drive: &Drive<D>,
 )

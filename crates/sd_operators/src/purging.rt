@@ -2,7 +2,7 @@
 ghost use Rattle.std.specs.Prelude.{◌≡◌, ℕ, None, Some, All, OnOk, IfErr};
 ghost use Rattle.sd_drive.specs.Moves.{purge_due};
 ghost use Rattle.sd_machine.specs.declared.event.Event.TheVariants.{Purge};
-ghost use Rattle.sd_world.specs.Drives.{due_or_kept, is_kept, is_on, keeps_volume, purged_if_on, purged_sessions};
+ghost use Rattle.sd_world.specs.Drives.{is_kept, purge_due_in, is_on, keeps_volume, purged_if_on, purged_sessions};
 ghost use Rattle.sd_world.specs.Moves.{Moves};
 ghost use Rattle.sd_world.specs.Rules.{IsWorld};
 ghost use Rattle.sd_parts.specs.View.{world_of};
@@ -13,7 +13,7 @@ use sd_drive::Drive;
 use sd_driver::Driver;
 use sd_lane::Lanes;
 use sd_machine::Reply;
-use sd_parts::{Entry, Parts, is_done};
+use sd_parts::{Parts, SessionEntry, is_done};
 use sd_spool::SpoolStore;
 
 /// Takes all blocks from a full volume of the drive, for good, so that it takes blocks again. Refused as the drive says; and
@@ -69,15 +69,13 @@ fn is_emptied(reply: &Reply) -> bool
 
 // Whether the volume may be purged, before the device is asked.
 fn may_purge<D: Driver, S: SpoolStore + Drop>(
-    sessions: &[Entry<S>],
+    sessions: &[SessionEntry<S>],
     drive: DriveNo,
     at: &Drive<D>,
     name: &VolName,
 ) -> Result<(), Refusal>
-    ensures due { IfErr result (λ why. due_or_kept (purge_due at.now name.now)
-        (is_kept drive name.now at.now.journal sessions.now) ≡ Some why) }
-    ensures none { OnOk result (due_or_kept (purge_due at.now name.now)
-        (is_kept drive name.now at.now.journal sessions.now) ≡ None) }
+    ensures due { IfErr result (λ why. purge_due_in sessions.now drive at.now name.now ≡ Some why) }
+    ensures none { OnOk result (purge_due_in sessions.now drive at.now name.now ≡ None) }
 {
     at.may_purge(name)?;
     if is_kept(sessions, drive, at, name) {
@@ -88,7 +86,7 @@ fn may_purge<D: Driver, S: SpoolStore + Drop>(
 
 // Whether a session of the drive that keeps its lane from being free has a block on the volume.
 fn is_kept<D: Driver, S: SpoolStore + Drop>(
-    sessions: &[Entry<S>],
+    sessions: &[SessionEntry<S>],
     drive: DriveNo,
     at: &Drive<D>,
     name: &VolName,
@@ -105,7 +103,7 @@ fn is_kept<D: Driver, S: SpoolStore + Drop>(
 
 // Whether this one does.
 fn keeps_volume<D: Driver, S: SpoolStore + Drop>(
-    entry: &Entry<S>,
+    entry: &SessionEntry<S>,
     drive: DriveNo,
     at: &Drive<D>,
     name: &VolName,
@@ -117,7 +115,7 @@ fn keeps_volume<D: Driver, S: SpoolStore + Drop>(
 
 // Whether the session is of the drive, and had a block on the volume.
 fn is_on<D: Driver, S: SpoolStore + Drop>(
-    entry: &Entry<S>,
+    entry: &SessionEntry<S>,
     drive: DriveNo,
     at: &Drive<D>,
     name: &VolName,
@@ -129,7 +127,7 @@ fn is_on<D: Driver, S: SpoolStore + Drop>(
 
 // The sessions of the drive that had a block on the volume are purged; none of them goes on.
 fn purge_sessions<D: Driver, S: SpoolStore + Drop>(
-    sessions: &mut [Entry<S>],
+    sessions: &mut [SessionEntry<S>],
     drive: DriveNo,
     at: &Drive<D>,
     name: &VolName,
@@ -144,7 +142,7 @@ fn purge_sessions<D: Driver, S: SpoolStore + Drop>(
 
 // The same of one session.
 fn purge_if_on<D: Driver, S: SpoolStore + Drop>(
-    entry: &mut Entry<S>,
+    entry: &mut SessionEntry<S>,
     drive: DriveNo,
     at: &Drive<D>,
     name: &VolName,

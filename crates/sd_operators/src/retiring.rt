@@ -13,7 +13,7 @@ use sd_drive::Drive;
 use sd_driver::Driver;
 use sd_lane::Lanes;
 use sd_machine::Reply;
-use sd_parts::{Entry, LaneSlot, Parts, free_lanes};
+use sd_parts::{LaneSlot, Parts, SessionEntry, free_lanes};
 use sd_spool::SpoolStore;
 
 /// Takes the drive offline for good. In use, while a lane of it isn't free, a volume is loaded, or a piece is in its
@@ -41,7 +41,7 @@ pub fn retire<D: Driver + Drop, Q: Lanes, S: SpoolStore + Drop>(
 
 // Whether a lane of the drive isn't free, a volume is loaded, or a piece is in its hand or in the queue.
 fn is_used<D: Driver, Q: Lanes, S: SpoolStore + Drop>(
-    sessions: &[Entry<S>],
+    sessions: &[SessionEntry<S>],
     drive: &Drive<D>,
     lanes: &[LaneSlot<S>],
     queue: &Q,
@@ -64,7 +64,7 @@ fn is_used<D: Driver, Q: Lanes, S: SpoolStore + Drop>(
 
 // Whether a lane of the drive isn't free.
 fn has_busy_lane<D: Driver, S: SpoolStore + Drop>(
-    sessions: &[Entry<S>],
+    sessions: &[SessionEntry<S>],
     drive: &Drive<D>,
     lanes: &[LaneSlot<S>],
 ) -> bool

@@ -2,14 +2,15 @@
 use Rattle.std.proofs.Common.{◌≡◌, ◌≢◌, ℕ, ◌+◌, ◌<◌, ◌≤◌, refl, sym, ap, subst, ◌∙◌, arith, inl, List, [], ◌∷◌, ◌++◌, take, drop, length, map}
 use Rattle.std.specs.Prelude.{ℤ, pos, neg_ℤ}
 use Rattle.std.proofs.lemmas.List.{append_assoc, append-nil, length-append, length-take-le, take-append-drop, drop_all, map-append}
+use Rattle.std.specs.List.{AllByRecursion}
 use Rattle.sd_base.specs.Record.{Record, IsRecord}
 use Rattle.sd_record.specs.Fragment.{Fragment, fragment_bytes, fragments_bytes, IsFragment, GoesOn, BeginsData, Continue, Fragments, FragmentsOfAll}
 use Rattle.sd_record.proofs.FragmentLemmas.{length-fragment_bytes}
 use Rattle.sd_record.proofs.RecordLemmas.{first_same, rest_same, record_fragments, AreFragments-back, FragmentsOfAll-more}
 use Rattle.sd_label.specs.declared.label.SessionLabel.{SessionLabel}
 use Rattle.sd_label.specs.Label.{session_label_fragment}
-use Rattle.sd_label.specs.Cutting.{Standing, Between, IsStart, IsSession, AreRecords, joined, LastGoesOn, AreBodies, AreTight}
-use Rattle.sd_label.proofs.CuttingLemmas.{AreRecords-more}
+use Rattle.sd_label.specs.Cutting.{Standing, Between, IsStart, IsSession, joined, LastGoesOn, AreBodies, AreTight}
+use Rattle.sd_label.proofs.CuttingLemmas.{records-more}
 use Rattle.sd_pack.specs.Body.{PackedBody, body_of, with_fragment, empty_body}
 use Rattle.sd_pack.specs.Packing.{Packs, bytes_of}
 use Rattle.sd_pack.specs.RecordParts.{first_fragment, later_fragment, FitsAlone, FitAlone, bodies_alone, LaterBodies}
@@ -89,7 +90,7 @@ pub record PacksPart (room : ℕ) (bodies : List PackedBody) (records : List Rec
   pub tightly : StandTightly room (lists ++ last ∷ [])
   pub order : joined (lists ++ last ∷ []) ≡ session_label_fragment start ∷ (parts ++ begun)
   pub start_is : IsStart start
-  pub records_are : AreRecords records
+  pub records_are : AllByRecursion IsRecord records
   pub parts_are : FragmentsOfAll records parts
   pub record_is : IsRecord r
   pub completes : (more : List Fragment) → Continue (pos r.index) (pos r.stream) left more → Fragments r (begun ++ more)
@@ -105,7 +106,7 @@ part_done room bodies records r p =
       behind = [];
       order = p.order ∙ ap (λ l. session_label_fragment p.start ∷ l) (sym (append-nil (p.parts ++ p.begun)));
       start_is = p.start_is;
-      records_are = AreRecords-more records r p.records_are p.record_is;
+      records_are = records-more records r p.records_are p.record_is;
       parts_are = FragmentsOfAll-more records r p.parts p.begun p.parts_are (subst (Fragments r) (append-nil p.begun) (p.completes [] refl));
       behind_is = refl;
     })

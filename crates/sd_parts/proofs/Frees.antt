@@ -1,18 +1,19 @@
 -- Which lanes are free, seen from the sessions that used them last.
-use Rattle.std.proofs.Common.{◌≡◌, ℕ, ◌+◌, ◌<◌, ◌==◌, Bool, sym, ap, ◌∙◌, Option, Some, List, [], ◌∷◌, ◌++◌, length, take, get_or}
+use Rattle.std.proofs.Common.{◌≡◌, ℕ, ◌+◌, ◌<◌, ◌==◌, Bool, sym, ap, ◌∙◌, Option, Some, List, [], ◌∷◌, ◌++◌, length, take, get_or, true}
 use Rattle.std.proofs.lemmas.List.{take_more, map-append}
+use Rattle.std.specs.Option.{option_map_or}
 use Rattle.sd_base.specs.declared.number.SessionKey.{SessionKey}
 use Rattle.sd_journal.specs.Journal.{Entry, placed_of, progress_of}
 use Rattle.sd_span.specs.declared.progress.Progress.{Progress}
 use Rattle.sd_session.specs.Session.{SessionView}
 use Rattle.sd_session.specs.declared.status.Status.{Status}
-use Rattle.sd_world.specs.World.{WorldSession, LaneView, session_at, leaves_lane, is_done, is_done_of, lane_is_free, free_lanes}
+use Rattle.sd_world.specs.World.{WorldSession, LaneView, session_at, leaves_lane, is_done, lane_is_free, free_lanes}
 
 -- a lane is free as the session that used it last tells
 pub lane_tells : (es : List WorldSession) (journal : List Entry) (holder : Option ℕ) (ticket : ℕ) (e : WorldSession) (free : Bool)
     → holder ≡ Some ticket → session_at ticket es ≡ Some e → free ≡ is_done journal e.session → free ≡ lane_is_free es journal holder
 lane_tells es journal holder ticket e free held found done =
-    done ∙ sym (ap (lane_is_free es journal) held ∙ ap (is_done_of journal) found)
+    done ∙ sym (ap (lane_is_free es journal) held ∙ ap (λ o. option_map_or (λ (e : WorldSession). is_done journal e.session) o true) found)
 
 -- what the status alone tells
 pub status_tells : (journal : List Entry) (s : SessionView) (status : Status) (free : Bool) → s.status ≡ status

@@ -11,12 +11,12 @@ use std::marker::Model;
 
 /// A session, and the drive to which it sends. In a contract it is a `WorldSession`.
 #[derive(Drop)]
-pub struct Entry<S: SpoolStore> {
+pub struct SessionEntry<S: SpoolStore> {
     pub session: Session<S>,
     pub drive: DriveNo,
 }
 
-impl<S: SpoolStore> Model for Entry<S> {
+impl<S: SpoolStore> Model for SessionEntry<S> {
     ghost use Rattle.sd_world.specs.World.{WorldSession};
 
     ghost Value = { WorldSession };
@@ -24,7 +24,7 @@ impl<S: SpoolStore> Model for Entry<S> {
     ghost view = { λ e. record { session = e.session; drive = e.drive } };
 }
 
-impl<S: SpoolStore + Drop> Entry<S> {
+impl<S: SpoolStore + Drop> SessionEntry<S> {
     /// The number of the session, which is its ticket.
     pub fn number(&self) -> u32
         ensures { result ≡ self.now.session.key.id }
@@ -35,7 +35,7 @@ impl<S: SpoolStore + Drop> Entry<S> {
 }
 
 /// Where the session of the ticket is, by halving: whatever the number of sessions, few of them are looked at.
-pub fn find<S: SpoolStore + Drop>(sessions: &[Entry<S>], ticket: Ticket) -> Option<usize>
+pub fn find<S: SpoolStore + Drop>(sessions: &[SessionEntry<S>], ticket: Ticket) -> Option<usize>
     requires rise { (time : ℕ) × (next : ℕ) × NumbersRise time 1 next sessions.now }
     ensures found { IfSome result (IsFoundAt ticket sessions.now) }
     ensures unknown { IfNone result (session_at ticket sessions.now ≡ None) }

@@ -5,7 +5,7 @@ ghost use Rattle.sd_world.specs.Rules.{NumbersRise};
 ghost use Rattle.sd_world.specs.World.{free_lanes, lane_is_free, is_done};
 
 use crate::bay::LaneSlot;
-use crate::entry::{Entry, find};
+use crate::entry::{SessionEntry, find};
 use arrayvec::ArrayVec;
 use sd_base::{MOST_LANES, Ticket};
 use sd_drive::Drive;
@@ -18,7 +18,7 @@ const LANES: usize = MOST_LANES as usize;
 
 /// Of each lane of a drive whether it is free. Takes no memory.
 pub fn free_lanes<D: Driver, S: SpoolStore + Drop>(
-    sessions: &[Entry<S>],
+    sessions: &[SessionEntry<S>],
     drive: &Drive<D>,
     lanes: &[LaneSlot<S>],
 ) -> ArrayVec<bool, LANES>
@@ -35,7 +35,7 @@ pub fn free_lanes<D: Driver, S: SpoolStore + Drop>(
 
 // Whether a lane is free that this session used last, if one did: the session no longer keeps it.
 fn is_free<D: Driver, S: SpoolStore + Drop>(
-    sessions: &[Entry<S>],
+    sessions: &[SessionEntry<S>],
     drive: &Drive<D>,
     holder: Option<Ticket>,
 ) -> bool

@@ -7,6 +7,6 @@ mod lanes;
 mod parts;
 
 pub use bay::{Bay, LaneSlot};
-pub use entry::{Entry, find};
+pub use entry::{SessionEntry, find};
 pub use lanes::{free_lanes, is_done};
 pub use parts::Parts;

@@ -1,6 +1,6 @@
 // The parts of a world.
 use crate::bay::Bay;
-use crate::entry::Entry;
+use crate::entry::SessionEntry;
 use sd_desk::Desk;
 use sd_drive::Limits;
 use sd_driver::Driver;
@@ -19,7 +19,7 @@ pub struct Parts<D: Driver, Q: Lanes, S: SpoolStore> {
     /// The number of the next session.
     pub next: u32,
     /// The sessions, in the order in which they were opened, so by rising numbers.
-    pub sessions: Vec<Entry<S>>,
+    pub sessions: Vec<SessionEntry<S>>,
     /// The bays of the drives 1, 2 and on.
     pub bays: Vec<Bay<D, Q, S>>,
     pub desk: Desk,

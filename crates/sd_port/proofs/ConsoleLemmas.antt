@@ -19,7 +19,7 @@ use Rattle.sd_world.specs.World.{WorldView}
 use Rattle.sd_script.specs.declared.console.ConsoleCmd.{ConsoleCmd}
 use Rattle.sd_script.specs.declared.console.ConsoleCmd.TheVariants.{Label, Adopt, Mount, Unmount, Retire, Purge, Cancel, JobMedia, Status, Requests}
 use Rattle.sd_script.specs.Grammar.{AreNames, HasForm, HasShape}
-use Rattle.sd_script.specs.declared.line.Line.TheVariants.{Console}
+use Rattle.sd_script.specs.declared.line.ScriptLine.TheVariants.{Console}
 use Rattle.sd_answers.specs.Told.{Answer}
 use Rattle.sd_answers.proofs.AnswerLemmas.{AreLines, one_line, shown_lines, told_lines}
 use Rattle.sd_port.specs.Console.{CommandDoes, GivesNone, GivesOne, LineDoes, Operates, told_adopted, told_done}

@@ -15,7 +15,7 @@ use Rattle.sd_core.specs.View.{view_of}
 use Rattle.sd_script.specs.Grammar.{AreNames, HasForm, HasShape}
 use Rattle.sd_script.specs.declared.console.ConsoleCmd.{ConsoleCmd}
 use Rattle.sd_script.specs.declared.console.ConsoleCmd.TheVariants.{Label, Adopt, Mount, Unmount, Retire, Purge, Cancel, JobMedia, Status, Requests}
-use Rattle.sd_script.specs.declared.line.Line.TheVariants.{Console}
+use Rattle.sd_script.specs.declared.line.ScriptLine.TheVariants.{Console}
 use Rattle.sd_console.specs.Replies.{reply_line}
 use Rattle.sd_console.specs.Requests.{requests_lines}
 use Rattle.sd_console.specs.Status.{status_lines}

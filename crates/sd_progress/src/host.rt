@@ -1,9 +1,9 @@
 // Where a program has its texts and its volumes: in files, and in folders.
 ghost use Rattle.std.specs.Prelude.{◌≡◌, ◌≤◌, ℕ, List, length, Option, IfOk};
 ghost use Rattle.sd_driver.specs.Meaning.{Meaning};
-ghost use Rattle.sd_progress.specs.declared.watched.Progress.{Progress as SpecProgress};
+ghost use Rattle.sd_progress.specs.declared.watched.ShownProgress.{ShownProgress as SpecProgress};
 
-use crate::watched::{Progress, WatchedDevice};
+use crate::watched::{ShownProgress, WatchedDevice};
 use sd_base::VolName;
 use sd_driver::Driver;
 use sd_filedrive::FileDrive;
@@ -27,7 +27,7 @@ pub trait Host {
         ensures { IfOk result (λ text. Self.Text.remaining text ≡ text_at self.now path.now) };
 
     /// The device whose volumes are the files of this folder, of which no call was made yet.
-    fn open_folder(&self, path: &str, progress: Progress) -> Result<Self::Shelf, AllocError>
+    fn open_folder(&self, path: &str, progress: ShownProgress) -> Result<Self::Shelf, AllocError>
         ensures { IfOk result (λ shelf.
             Self.Shelf.meaning shelf ≡ device_of self.now path.now progress) };
 
@@ -55,7 +55,7 @@ impl Host for HostRuntime {
     fn open_folder(
         &self,
         path: &str,
-        progress: Progress,
+        progress: ShownProgress,
     ) -> Result<WatchedDevice<FileDrive<HostRuntime>, HostRuntime>, AllocError>
         ensures device { IfOk result (λ shelf.
             ⟦<WatchedDevice<FileDrive<HostRuntime>, HostRuntime> as Driver>⟧.meaning shelf

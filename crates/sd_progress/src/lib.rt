@@ -5,4 +5,4 @@ mod host;
 mod watched;
 
 pub use host::Host;
-pub use watched::{Progress, WatchedDevice};
+pub use watched::{ShownProgress, WatchedDevice};

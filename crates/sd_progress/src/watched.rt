@@ -1,6 +1,6 @@
 // A device whose reading is told of. But for that it is the device inside.
 ghost use Rattle.std.specs.Prelude.{◌≡◌};
-ghost use Rattle.sd_progress.specs.Progress.{is_due, of_total, rate_of, seconds_left};
+ghost use Rattle.sd_progress.specs.ShownProgress.{is_due, of_total, rate_of, seconds_left};
 
 use sd_base::VolName;
 use sd_driver::{Driver, DriverFault};
@@ -11,7 +11,7 @@ const STEP: u64 = 256_000_000;
 
 /// Whether a reading is told of.
 #[derive(Clone, Copy, Debug, PartialEq, Eq)]
-pub enum Progress {
+pub enum ShownProgress {
     Silent,
     /// A line to standard error every 256,000,000 bytes.
     Told,
@@ -19,14 +19,14 @@ pub enum Progress {
     Of(u64),
 }
 
-impl Progress {
+impl ShownProgress {
     /// The same of a reading of so many bytes.
-    pub fn of(self, total: u64) -> Progress
+    pub fn of(self, total: u64) -> ShownProgress
         ensures { result ≡ of_total self total }
     {
         match self {
-            Progress::Silent => Progress::Silent,
-            Progress::Told | Progress::Of(_) => Progress::Of(total),
+            ShownProgress::Silent => ShownProgress::Silent,
+            ShownProgress::Told | ShownProgress::Of(_) => ShownProgress::Of(total),
         }
     }
 }
@@ -36,14 +36,14 @@ impl Progress {
 pub struct WatchedDevice<D, R: Eprint + Clock + Drop> {
     device: D,
     system: R,
-    progress: Progress,
+    progress: ShownProgress,
     read: u64,
     /// When it was made, where the clock told that.
     begun: Option<Instant>,
 }
 
 impl<D, R: Eprint + Clock + Drop> WatchedDevice<D, R> {
-    pub fn new(device: D, system: R, progress: Progress) -> Self
+    pub fn new(device: D, system: R, progress: ShownProgress) -> Self
         ensures device { result.device ≡ device }
         ensures progress { result.progress ≡ progress }
     {
@@ -72,9 +72,9 @@ impl<D, R: Eprint + Clock + Drop> WatchedDevice<D, R> {
     fn tell(&self) {
         let read = self.read;
         let _ = match self.progress {
-            Progress::Silent => Ok(()),
-            Progress::Told => self.system.eprintln(format_args!("{read} bytes read")),
-            Progress::Of(total) => {
+            ShownProgress::Silent => Ok(()),
+            ShownProgress::Told => self.system.eprintln(format_args!("{read} bytes read")),
+            ShownProgress::Of(total) => {
                 let rate = rate_of(read, self.millis());
                 let left = seconds_left(total.saturating_sub(read), rate);
                 self.system.eprintln(format_args!(

@@ -1,6 +1,6 @@
 -- What spans read to.
 use Rattle.std.specs.Prelude.{◌≡◌, ◌≢◌, ℕ, ◌+◌, ◌<◌, Bool, if◌then◌else◌, Option, Some, None, List, [], ◌∷◌, ◌++◌, length, take, All}
-use Rattle.std.specs.List.{flat_map}
+use Rattle.std.specs.List.{flat_map, AllZip}
 use Rattle.sd_base.specs.Key.{is_key}
 use Rattle.sd_base.specs.Record.{Record}
 use Rattle.sd_base.specs.declared.number.SessionKey.{SessionKey}
@@ -46,10 +46,7 @@ pub record SpanHolds (volumes : Volumes) (s : Span) (blocks : List Block) : Type
 
 -- each span holds its own
 abbrev pub AllHold : Volumes → List Span → List (List Block) → Type 0
-AllHold volumes [] [] = Unit {0}
-AllHold volumes [] (bs ∷ bss) = ⊥
-AllHold volumes (s ∷ ss) [] = ⊥
-AllHold volumes (s ∷ ss) (bs ∷ bss) = SpanHolds volumes s bs × AllHold volumes ss bss
+AllHold volumes spans blocks = AllZip (SpanHolds volumes) spans blocks
 
 -- The spans read to these records of the session: their numbers are 1, 2 and on; from the start to the end
 -- of each stand whole blocks; those of the session, in the order of the spans, begin a cutting with its

@@ -32,7 +32,7 @@ use Rattle.sd_scan.specs.declared.volumes.Outcome.{Outcome}
 use Rattle.sd_scan.specs.Volume.{Region, ScansVolume, TellsBehind, TellsRun, damage_line}
 use Rattle.sd_scan.specs.Kind.{IsKind}
 use Rattle.sd_scan.specs.declared.kind.Kind.{Kind}
-use Rattle.sd_scan.specs.declared.line.Line.TheVariants.{Behind, Done}
+use Rattle.sd_scan.specs.declared.line.ScanLine.TheVariants.{Behind, Done}
 
 -- The first whole block behind a place.
 

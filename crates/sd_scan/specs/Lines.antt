@@ -10,8 +10,8 @@ use Rattle.sd_words.specs.Lines.{line}
 use Rattle.sd_scan.specs.declared.kind.Kind.{Kind}
 use Rattle.sd_scan.specs.declared.kind.Kind.TheVariants as kinds
 use Rattle.sd_scan.specs.declared.line.Found.{Found}
-use Rattle.sd_scan.specs.declared.line.Line.{Line}
-use Rattle.sd_scan.specs.declared.line.Line.TheVariants as lines
+use Rattle.sd_scan.specs.declared.line.ScanLine.{ScanLine}
+use Rattle.sd_scan.specs.declared.line.ScanLine.TheVariants as lines
 use Rattle.sd_scan.specs.declared.print.Told.{Told}
 use Rattle.sd_scan.specs.declared.print.Told.TheVariants.{All, Unsound}
 
@@ -40,7 +40,7 @@ found_text f =
     ++ codes " records " ++ decimal f.records ++ codes " bytes " ++ decimal f.bytes
 
 -- a line without its newline
-abbrev pub line_text : Line → List ℕ
+abbrev pub line_text : ScanLine → List ℕ
 line_text (lines.Foreign name) = codes "foreign " ++ name
 line_text (lines.Volume name size) = codes "volume " ++ name ++ codes " " ++ decimal size
 line_text (lines.Damage volume at kind) = codes "damage " ++ volume ++ codes " " ++ decimal at ++ codes " " ++ kind_text kind

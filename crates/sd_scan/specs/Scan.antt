@@ -7,7 +7,7 @@ use Rattle.sd_scan.specs.declared.report.Report.{Report}
 use Rattle.sd_words.specs.Lines.{line}
 use Rattle.sd_scan.specs.Lines.{all_ended, line_text, reports_lines}
 use Rattle.sd_scan.specs.Volume.{ScansVolume}
-use Rattle.sd_scan.specs.declared.line.Line.TheVariants.{Done}
+use Rattle.sd_scan.specs.declared.line.ScanLine.TheVariants.{Done}
 use Rattle.sd_scan.specs.declared.print.Told.{Told}
 use Rattle.sd_scan.specs.declared.volumes.Outcome.{Outcome}
 use Rattle.sd_scan.specs.declared.volumes.Outcome.TheVariants.{Sound, Unsound}

@@ -12,7 +12,7 @@ use Rattle.sd_scan.specs.Kind.{IsKind}
 use Rattle.sd_scan.specs.Lines.{line_text, reports_lines}
 use Rattle.sd_scan.specs.Run.{IsFirstWhole, NoneBetween, RunTo, found_from}
 use Rattle.sd_scan.specs.declared.kind.Kind.{Kind}
-use Rattle.sd_scan.specs.declared.line.Line.TheVariants.{Volume, Damage, Behind}
+use Rattle.sd_scan.specs.declared.line.ScanLine.TheVariants.{Volume, Damage, Behind}
 use Rattle.sd_scan.specs.declared.print.Told.{Told}
 
 -- the bytes are a volume of this name, whose image has just these blocks, and ends there

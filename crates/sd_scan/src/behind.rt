@@ -11,7 +11,7 @@ ghost use Rattle.sd_scan.specs.Volume.{Region, TellsBehind, TellsRun};
 
 use crate::fault::ScanFault;
 use crate::kind::kind_at;
-use crate::line::Line;
+use crate::line::ScanLine;
 use crate::print::{Told, print_sessions};
 use crate::run::take_run;
 use crate::search::{Whole, next_whole};
@@ -48,7 +48,7 @@ pub(crate) fn tell_behind<D: Driver, W: Write>(
     let mut from = end;
     while from < size {
         let kind = kind_at(driver, reader, from, size)?;
-        out.line(Line::Damage {
+        out.line(ScanLine::Damage {
             volume: name.copy(),
             at: from,
             kind,
@@ -89,7 +89,7 @@ fn tell_run<D: Driver, W: Write>(
     ensures shows { IsHonest (D.meaning driver.old) → Shows reader.old (D.meaning driver.old).shelf
         → OnOk result (Shows reader.new (D.meaning driver.new).shelf) }
 {
-    out.line(Line::Behind {
+    out.line(ScanLine::Behind {
         volume: name.copy(),
         at: whole.at,
     });

@@ -1,13 +1,13 @@
 // The volumes in a folder, scanned.
 use crate::fault::ScanFault;
-use crate::line::Line;
+use crate::line::ScanLine;
 use crate::order::{Labelled, place};
 use crate::print::Told;
 use crate::volumes::{Outcome, scan};
 use sd_base::{Refusal, VolName};
 use sd_driver::Driver;
 use sd_printer::Printer;
-use sd_progress::{Host, Progress};
+use sd_progress::{Host, ShownProgress};
 use sd_volume::{VolumeReader, read_label};
 use std::alloc::{AllocError, Global};
 use std::io::Write;
@@ -24,7 +24,7 @@ pub fn scan_named<H: Host + AllocGlobal, W: Write>(
     host: &H,
     folder: &str,
     names: &[&str],
-    progress: Progress,
+    progress: ShownProgress,
     out: &mut Printer<W>,
 ) -> u8 {
     match named(host.alloc(), names) {
@@ -41,15 +41,15 @@ pub fn scan_folder<H: Host + AllocGlobal, W: Write>(
     host: &H,
     folder: &str,
     told: Told,
-    progress: Progress,
+    progress: ShownProgress,
     out: &mut Printer<W>,
 ) -> u8 {
     let Ok(files) = host.files_in(folder) else {
-        out.line(Line::NoFolder);
+        out.line(ScanLine::NoFolder);
         out.flush();
         return FAILED;
     };
-    let Ok(mut device) = host.open_folder(folder, Progress::Silent) else {
+    let Ok(mut device) = host.open_folder(folder, ShownProgress::Silent) else {
         return refused(Refusal::Memory, out);
     };
     match volumes_of(host.alloc(), &mut device, &files, out) {
@@ -70,7 +70,7 @@ fn scan_files<H: Host + AllocGlobal, W: Write>(
     folder: &str,
     names: &[VolName],
     told: Told,
-    progress: Progress,
+    progress: ShownProgress,
     out: &mut Printer<W>,
 ) -> u8 {
     let Ok(mut device) = host.open_folder(folder, progress) else {
@@ -78,7 +78,7 @@ fn scan_files<H: Host + AllocGlobal, W: Write>(
     };
     let scanned = scan(host.alloc(), &mut device, names, told, out);
     if let Err(fault) = scanned {
-        out.line(Line::Refused(fault.refusal()));
+        out.line(ScanLine::Refused(fault.refusal()));
     }
     out.flush();
     status_of(scanned, told, out.failed())
@@ -95,7 +95,7 @@ fn status_of(scanned: Result<Outcome, ScanFault>, told: Told, failed: bool) -> u
 
 // Prints why nothing is scanned.
 fn refused<W: Write>(why: Refusal, out: &mut Printer<W>) -> u8 {
-    out.line(Line::Refused(why));
+    out.line(ScanLine::Refused(why));
     out.flush();
     FAILED
 }
@@ -130,7 +130,7 @@ fn volumes_of<D: Driver, W: Write>(
     for name in files {
         match labelled(device, &mut reader, name)? {
             Some(one) => place(&mut volumes, one)?,
-            None => out.line(Line::Foreign(name.copy())),
+            None => out.line(ScanLine::Foreign(name.copy())),
         }
     }
     Ok(volumes)

@@ -26,7 +26,7 @@ pub use fault::ScanFault;
 pub use folder::{scan_folder, scan_named};
 pub use indexes::{Indexes, indexes_in};
 pub use kind::Kind;
-pub use line::Line;
+pub use line::ScanLine;
 pub use print::Told;
 pub use report::{Report, Start};
 pub use sessions::Sessions;

@@ -9,7 +9,7 @@ use std::fmt;
 
 /// A line of a scan. Displays it without the newline.
 #[derive(Drop)]
-pub enum Line {
+pub enum ScanLine {
     /// A file that is no volume: no label of its name begins it.
     Foreign(VolName),
     /// A volume of that many bytes is read now.
@@ -66,7 +66,7 @@ impl Found {
     }
 }
 
-impl fmt::Display for Line {
+impl fmt::Display for ScanLine {
     ghost use Rattle.std.specs.Prelude.{Some};
     ghost use Rattle.sd_scan.specs.Lines.{line_text};
 
@@ -74,16 +74,16 @@ impl fmt::Display for Line {
 
     fn fmt<W: fmt::Write>(&self, f: &mut fmt::Formatter<W>) -> fmt::Result {
         match self {
-            Line::Foreign(name) => write!(f, "foreign {}", name.as_str()),
-            Line::Volume { name, size } => write!(f, "volume {} {size}", name.as_str()),
-            Line::Damage { volume, at, kind } => {
+            ScanLine::Foreign(name) => write!(f, "foreign {}", name.as_str()),
+            ScanLine::Volume { name, size } => write!(f, "volume {} {size}", name.as_str()),
+            ScanLine::Damage { volume, at, kind } => {
                 write!(f, "damage {} {at} {kind}", volume.as_str())
             }
-            Line::Behind { volume, at } => write!(f, "behind {} {at}", volume.as_str()),
-            Line::Session(found) => write!(f, "{found}"),
-            Line::Done { volumes, sessions } => write!(f, "ok scan {volumes} {sessions}"),
-            Line::NoFolder => write!(f, "fault folder"),
-            Line::Refused(why) => write!(f, "{why}"),
+            ScanLine::Behind { volume, at } => write!(f, "behind {} {at}", volume.as_str()),
+            ScanLine::Session(found) => write!(f, "{found}"),
+            ScanLine::Done { volumes, sessions } => write!(f, "ok scan {volumes} {sessions}"),
+            ScanLine::NoFolder => write!(f, "fault folder"),
+            ScanLine::Refused(why) => write!(f, "{why}"),
         }
     }
 }

@@ -6,7 +6,7 @@ ghost use Rattle.sd_scan.specs.declared.report.Report.{Report as SpecReport};
 ghost use Rattle.sd_printer.specs.Says.{Says, said_view};
 ghost use Rattle.sd_scan.specs.Lines.{all_ended, cut_lines, found_of, report_lines, reports_lines, whole_lines};
 
-use crate::line::{Found, Line};
+use crate::line::{Found, ScanLine};
 use crate::report::Report;
 use crate::sessions::Sessions;
 use sd_printer::Printer;
@@ -84,7 +84,7 @@ fn print_whole<W: Write>(
 {
     let mut text = String::new(alloc);
     put_jobmedia(&mut text, report.key, report.spans.as_slice())?;
-    out.line(Line::Session(Found::of(report)));
+    out.line(ScanLine::Session(Found::of(report)));
     out.bytes(text.as_bytes());
     Ok(())
 }
@@ -97,5 +97,5 @@ fn print_cut<W: Write>(report: &Report, out: &mut Printer<W>)
     if report.ended {
         return;
     }
-    out.line(Line::Session(Found::of(report)));
+    out.line(ScanLine::Session(Found::of(report)));
 }

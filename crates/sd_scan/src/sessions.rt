@@ -44,7 +44,7 @@ impl Sessions {
             → Keeps (found ++ block.now ∷ []) self.new) }
     {
         let placement = placement_of(block);
-        match self.place_of(block.key) {
+        match self.index_of(block.key) {
             Some(at) => self.found[at].take(&placement, block.body),
             None => self.begin(&placement, block.body),
         }
@@ -52,7 +52,7 @@ impl Sessions {
 
     // The place of a session, looked for from the last one on: most blocks are of one that began
     // late.
-    fn place_of(&self, key: SessionKey) -> Option<usize>
+    fn index_of(&self, key: SessionKey) -> Option<usize>
         ensures some { IfSome result (λ at. (one : SpecSession)
             × (slice_get (sessions_in self.now) at ≡ Some one) × (one.key ≡ key)) }
         ensures none { IfNone result ((at : ℕ) (one : SpecSession)

@@ -12,7 +12,7 @@ ghost use Rattle.sd_scan.specs.Volume.{FindsOn, ScansVolume};
 
 use crate::behind::tell_behind;
 use crate::fault::ScanFault;
-use crate::line::Line;
+use crate::line::ScanLine;
 use crate::print::{Told, both, print_sessions};
 use crate::run::take_run;
 use crate::sessions::Sessions;
@@ -55,7 +55,7 @@ pub fn scan<D: Driver, W: Write>(
     let mut sessions = Sessions::new(alloc);
     let undamaged = scan_volumes(alloc, driver, names, told, &mut sessions, out)?;
     let ended = print_sessions(alloc, &sessions, told, out)?;
-    out.line(Line::Done {
+    out.line(ScanLine::Done {
         volumes: names.len(),
         sessions: sessions.len(),
     });
@@ -118,7 +118,7 @@ fn scan_volume<D: Driver, W: Write>(
 {
     let size = driver.len(name)?;
     let mut reader = VolumeReader::new(alloc, name)?;
-    out.line(Line::Volume {
+    out.line(ScanLine::Volume {
         name: name.copy(),
         size,
     });

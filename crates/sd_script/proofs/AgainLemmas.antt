@@ -14,8 +14,8 @@ use Rattle.sd_script.specs.declared.command.Command.{Command}
 use Rattle.sd_script.specs.declared.command.Command.TheVariants.{Block, Volume, SpoolLimit, Queue, Time, Host, Drive, Capacity, Fail, At, Label, Adopt, Mount, Unmount, Seek, Retire, Purge, Open, Rec, Fill, End, Cancel, Spool, Despool, Take, Place, Sync, Close, JobMedia, Read, Again, Drain, Status, Requests, Restart}
 use Rattle.sd_script.specs.declared.console.ConsoleCmd.TheVariants as console
 use Rattle.sd_script.specs.declared.line.Setting.TheVariants as setting
-use Rattle.sd_script.specs.declared.line.Line.{Line}
-use Rattle.sd_script.specs.declared.line.Line.TheVariants as line
+use Rattle.sd_script.specs.declared.line.ScriptLine.{ScriptLine}
+use Rattle.sd_script.specs.declared.line.ScriptLine.TheVariants as line
 use Rattle.sd_base.specs.declared.number.SessionKey.{SessionKey}
 use Rattle.sd_memdrive.specs.declared.call.Call.{Call}
 use Rattle.sd_plan.specs.declared.fail.Fail as plan
@@ -38,14 +38,14 @@ decimal-plain n small =
     All-from_get_or (λ c. c ≢ 32) (decimal n) 0 (λ i within blank. let digit = digit_at (decimal n) i (digits_decimal own n small) within in omega arith)
 
 -- the command that bytes begin with, what its lines have in common, the fields behind it, and that these are read as that line
-pub record Parts (bytes : List ℕ) (l : Line) : Type 0 where
+pub record Parts (bytes : List ℕ) (l : ScriptLine) : Type 0 where
   pub command : Command
   pub kinds_are : kinds command ≡ line_kinds l
   pub rest : Fields
   pub fields_are : fields_of bytes ≡ command_text command ∷ rest
   pub shape_is : shape command rest ≡ Some l
 
-plain_parts : (bytes : List ℕ) (k : Command) (rest : Fields) (l : Line) → kinds k ≡ line_kinds l → AllByRecursion HasNoBlank rest → bytes ≡ joined (command_text k ∷ rest)
+plain_parts : (bytes : List ℕ) (k : Command) (rest : Fields) (l : ScriptLine) → kinds k ≡ line_kinds l → AllByRecursion HasNoBlank rest → bytes ≡ joined (command_text k ∷ rest)
     → shape k rest ≡ Some l → Parts bytes l
 plain_parts bytes k rest l same_kinds plain e read = record {
   command = k;
@@ -56,16 +56,16 @@ plain_parts bytes k rest l same_kinds plain e read = record {
 }
 
 -- a line of one number
-one_parts : (bytes : List ℕ) (k : Command) (least most n : ℕ) (made : ℕ → Line) → kinds k ≡ line_kinds (made n) → most < 2 ^ 64 → (least ≤ n) × (n ≤ most)
+one_parts : (bytes : List ℕ) (k : Command) (least most n : ℕ) (made : ℕ → ScriptLine) → kinds k ≡ line_kinds (made n) → most < 2 ^ 64 → (least ≤ n) × (n ≤ most)
     → shape k (decimal n ∷ []) ≡ one_number least most made (decimal n ∷ []) → bytes ≡ joined (command_text k ∷ decimal n ∷ []) → Parts bytes (made n)
 one_parts bytes k least most n made kind small within same e =
     plain_parts bytes k (decimal n ∷ []) (made n) kind (decimal-plain n (omega arith), tt) e (same ∙ one_number_again least most n made small within.0 within.1)
 
-drive_parts : (bytes : List ℕ) (k : Command) (n : ℕ) (made : ℕ → Line) → kinds k ≡ line_kinds (made n) → IsDrive n
+drive_parts : (bytes : List ℕ) (k : Command) (n : ℕ) (made : ℕ → ScriptLine) → kinds k ≡ line_kinds (made n) → IsDrive n
     → shape k (decimal n ∷ []) ≡ one_number 1 most_drives made (decimal n ∷ []) → bytes ≡ joined (command_text k ∷ decimal n ∷ []) → Parts bytes (made n)
 drive_parts bytes k n made kind within same e = one_parts bytes k 1 most_drives n made kind (lit< tt) within same e
 
-session_parts : (bytes : List ℕ) (k : Command) (n : ℕ) (made : ℕ → Line) → kinds k ≡ line_kinds (made n) → IsNumber n
+session_parts : (bytes : List ℕ) (k : Command) (n : ℕ) (made : ℕ → ScriptLine) → kinds k ≡ line_kinds (made n) → IsNumber n
     → shape k (decimal n ∷ []) ≡ one_number 1 most_number made (decimal n ∷ []) → bytes ≡ joined (command_text k ∷ decimal n ∷ []) → Parts bytes (made n)
 session_parts bytes k n made kind within same e = one_parts bytes k 1 most_number n made kind (lit< tt) within same e
 
@@ -195,7 +195,7 @@ short_parts bytes t i s within e =
 moment_most : (n : ℕ) → FitsSigned w64 (pos n) → n ≤ most_moment
 moment_most n fits = omega (arith, fits.sfits)
 
-pub parts_of : (bytes : List ℕ) (l : Line) → bytes ≢ [] → IsSpelled bytes l → IsWithin l → AreWords l → Parts bytes l
+pub parts_of : (bytes : List ℕ) (l : ScriptLine) → bytes ≢ [] → IsSpelled bytes l → IsWithin l → AreWords l → Parts bytes l
 parts_of bytes line.Empty some_there spelled within words = elim spelled [ inl e ↦ absurd (some_there e) | inr short ↦ absurd short ]
 parts_of bytes (line.Set (setting.Block n)) some_there spelled within words =
     elim spelled [ inl e ↦ one_parts bytes Block least_block_limit most_block n (λ m. line.Set (setting.Block m)) refl (lit< tt) within refl e | inr short ↦ absurd short ]

@@ -8,8 +8,8 @@ use Rattle.sd_script.specs.declared.command.Command.{Command}
 use Rattle.sd_script.specs.declared.command.Command.TheVariants.{Block, Volume, SpoolLimit, Queue, Time, Host, Drive, Capacity, Fail, At, Label, Adopt, Mount, Unmount, Seek, Retire, Purge, Open, Rec, Fill, End, Cancel, Spool, Despool, Take, Place, Sync, Close, JobMedia, Read, Again, Drain, Status, Requests, Restart}
 use Rattle.sd_script.specs.declared.line.Part.{Part}
 use Rattle.sd_script.specs.declared.line.Part.TheVariants.{Head, Body}
-use Rattle.sd_script.specs.declared.line.Line.{Line}
-use Rattle.sd_script.specs.declared.line.Line.TheVariants as line
+use Rattle.sd_script.specs.declared.line.ScriptLine.{ScriptLine}
+use Rattle.sd_script.specs.declared.line.ScriptLine.TheVariants as line
 use Rattle.sd_script.specs.Command.{command_text, is_console, is_head, is_setting, is_spool, stands}
 use Rattle.sd_script.specs.Grammar.{StandsIn}
 use Rattle.sd_words.specs.Fields.{HasNoBlank}
@@ -174,17 +174,17 @@ command-some Requests = lit< tt
 command-some Restart = lit< tt
 
 -- a console has the line too
-abbrev pub is_console_line : Line → Bool
+abbrev pub is_console_line : ScriptLine → Bool
 is_console_line (line.Console command) = true
 is_console_line l = false
 
 -- the line is a setting
-abbrev pub is_setting_line : Line → Bool
+abbrev pub is_setting_line : ScriptLine → Bool
 is_setting_line (line.Set s) = true
 is_setting_line l = false
 
 -- the line is the step of a session that has the word of a setting
-abbrev pub is_spool_line : Line → Bool
+abbrev pub is_spool_line : ScriptLine → Bool
 is_spool_line (line.Spool ticket) = true
 is_spool_line l = false
 
@@ -192,30 +192,30 @@ is_spool_line l = false
 abbrev pub kinds : Command → Bool × Bool × Bool
 kinds k = (is_console k, is_setting k, is_spool k)
 
-abbrev pub line_kinds : Line → Bool × Bool × Bool
+abbrev pub line_kinds : ScriptLine → Bool × Bool × Bool
 line_kinds l = (is_console_line l, is_setting_line l, is_spool_line l)
 
-abbrev line_stands : Part → Line → Bool
+abbrev line_stands : Part → ScriptLine → Bool
 line_stands part l = if is_setting_line l then is_head part else not (is_spool_line l && is_head part)
 
-same_stands : (part : Part) (k : Command) (l : Line) → kinds k ≡ line_kinds l → stands part k ≡ line_stands part l
+same_stands : (part : Part) (k : Command) (l : ScriptLine) → kinds k ≡ line_kinds l → stands part k ≡ line_stands part l
 same_stands part k l is = ap (λ (t : Bool × Bool × Bool). if t.1 then is_head part else not (t.2 && is_head part)) is
 
-stands-true : (part : Part) (l : Line) → StandsIn part l → line_stands part l ≡ true
+stands-true : (part : Part) (l : ScriptLine) → StandsIn part l → line_stands part l ≡ true
 stands-true Head (line.Spool ticket) there = absurd there
 stands-true Head l there = refl
 stands-true Body (line.Set s) there = absurd there
 stands-true Body l there = refl
 
-true-stands : (part : Part) (l : Line) → line_stands part l ≡ true → StandsIn part l
+true-stands : (part : Part) (l : ScriptLine) → line_stands part l ≡ true → StandsIn part l
 true-stands Head (line.Spool ticket) e = absurd (cc e)
 true-stands Head l e = tt
 true-stands Body (line.Set s) e = absurd (cc e)
 true-stands Body l e = tt
 
 -- a command stands where its line does
-pub command_stands : (part : Part) (k : Command) (l : Line) → kinds k ≡ line_kinds l → StandsIn part l → stands part k ≡ true
+pub command_stands : (part : Part) (k : Command) (l : ScriptLine) → kinds k ≡ line_kinds l → StandsIn part l → stands part k ≡ true
 command_stands part k l is there = same_stands part k l is ∙ stands-true part l there
 
-pub line_stands_there : (part : Part) (k : Command) (l : Line) → kinds k ≡ line_kinds l → stands part k ≡ true → StandsIn part l
+pub line_stands_there : (part : Part) (k : Command) (l : ScriptLine) → kinds k ≡ line_kinds l → stands part k ≡ true → StandsIn part l
 line_stands_there part k l is there = true-stands part l (sym (same_stands part k l is) ∙ there)

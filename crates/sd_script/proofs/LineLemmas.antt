@@ -10,8 +10,8 @@ use Rattle.sd_script.specs.declared.command.Command.{Command}
 use Rattle.sd_script.specs.declared.console.ConsoleCmd.{ConsoleCmd}
 use Rattle.sd_script.specs.declared.console.ConsoleCmd.TheVariants as console
 use Rattle.sd_script.specs.declared.line.Setting.TheVariants as setting
-use Rattle.sd_script.specs.declared.line.Line.{Line}
-use Rattle.sd_script.specs.declared.line.Line.TheVariants as line
+use Rattle.sd_script.specs.declared.line.ScriptLine.{ScriptLine}
+use Rattle.sd_script.specs.declared.line.ScriptLine.TheVariants as line
 use Rattle.sd_script.specs.declared.line.LineFault.{LineFault}
 use Rattle.sd_script.specs.declared.line.LineFault.TheVariants.{BadCommand, BadName}
 use Rattle.sd_script.specs.declared.line.Part.{Part}
@@ -36,14 +36,14 @@ are_words : (texts : List (List ℕ)) → AllByRecursion IsName texts → AllByR
 are_words [] all = tt
 are_words (t ∷ ts) all = (IsWord-name t all.0, are_words ts all.1)
 
-pub HasShape-form : (bytes : List ℕ) (l : Line) → HasForm bytes l → HasShape bytes l
+pub HasShape-form : (bytes : List ℕ) (l : ScriptLine) → HasForm bytes l → HasShape bytes l
 HasShape-form bytes l form = record { ascii = form.ascii; spelled = form.spelled; within = form.within; words = are_words (names l) form.names }
 
-HasForm-shape : (bytes : List ℕ) (l : Line) → HasShape bytes l → AreNames l → HasForm bytes l
+HasForm-shape : (bytes : List ℕ) (l : ScriptLine) → HasShape bytes l → AreNames l → HasForm bytes l
 HasForm-shape bytes l has are_names = record { ascii = has.ascii; spelled = has.spelled; within = has.within; names = are_names }
 
 -- only the empty line is spelled by no bytes
-empty_only : (l : Line) → IsSpelled [] l → line.Empty ≡ l
+empty_only : (l : ScriptLine) → IsSpelled [] l → line.Empty ≡ l
 empty_only line.Empty spelled = refl
 empty_only (line.Set (setting.Block n)) spelled = elim spelled [ inl e ↦ absurd (cc e) | inr short ↦ absurd short ]
 empty_only (line.Set (setting.Volume n)) spelled = elim spelled [ inl e ↦ absurd (cc e) | inr short ↦ absurd short ]
@@ -71,7 +71,7 @@ empty_only (line.Restart t (Some tail)) spelled = elim spelled [ inl e ↦ absur
 empty_only l spelled = elim spelled [ inl e ↦ absurd (cc e) | inr short ↦ absurd short ]
 
 -- the fields say what is read
-read_as : (part : Part) (bytes : List ℕ) (k : Command) (rest : Fields) (l : Line) → bytes ≢ [] → fields_of bytes ≡ command_text k ∷ rest → stands part k ≡ true
+read_as : (part : Part) (bytes : List ℕ) (k : Command) (rest : Fields) (l : ScriptLine) → bytes ≢ [] → fields_of bytes ≡ command_text k ∷ rest → stands part k ≡ true
     → HasShape bytes l → StandsIn part l → shape k rest ≡ Some l
 read_as part bytes k rest l some_there fields k_there has there =
     let parts = parts_of bytes l some_there has.spelled has.within has.words in
@@ -95,10 +95,10 @@ have_one_form part bytes l m l_form l_there m_form m_there =
     shapes_are_one part bytes l m (HasShape-form bytes l l_form) l_there (HasShape-form bytes m m_form) m_there
 
 -- the line that was read; or one but for its names; or none
-abbrev pub Tells : Part → List ℕ → Result Line LineFault → Type 0
+abbrev pub Tells : Part → List ℕ → Result ScriptLine LineFault → Type 0
 Tells part bytes (Ok l) = HasShape bytes l × StandsIn part l × AreNames l
-Tells part bytes (Err BadName) = (l : Line) × HasShape bytes l × StandsIn part l × (AreNames l → ⊥)
-Tells part bytes (Err BadCommand) = (l : Line) → HasShape bytes l → StandsIn part l → ⊥
+Tells part bytes (Err BadName) = (l : ScriptLine) × HasShape bytes l × StandsIn part l × (AreNames l → ⊥)
+Tells part bytes (Err BadCommand) = (l : ScriptLine) → HasShape bytes l → StandsIn part l → ⊥
 
 -- the empty line
 empty_stands : (part : Part) → StandsIn part line.Empty
@@ -117,16 +117,16 @@ tells_no_command part bytes some_there none l has there =
     none parts.command parts.rest parts.fields_are (command_stands part parts.command l parts.kinds_are there)
 
 -- what a command and the fields behind it give
-tells_shape : (part : Part) (bytes : List ℕ) (r : Result Line LineFault) (l : Line) → Gives r (Some l) → HasShape bytes l → StandsIn part l → Tells part bytes r
+tells_shape : (part : Part) (bytes : List ℕ) (r : Result ScriptLine LineFault) (l : ScriptLine) → Gives r (Some l) → HasShape bytes l → StandsIn part l → Tells part bytes r
 tells_shape part bytes (Ok found) l gives has there =
-    subst (λ (x : Line). HasShape bytes x × StandsIn part x × AreNames x) (sym gives.0) (has, there, gives.1)
+    subst (λ (x : ScriptLine). HasShape bytes x × StandsIn part x × AreNames x) (sym gives.0) (has, there, gives.1)
 tells_shape part bytes (Err BadName) l gives has there = (l, has, there, gives.1)
 tells_shape part bytes (Err BadCommand) l gives has there = absurd (cc gives.0)
 
-tells_none : (part : Part) (bytes : List ℕ) (r : Result Line LineFault) → Gives r None → ((l : Line) → HasShape bytes l → StandsIn part l → ⊥) → Tells part bytes r
+tells_none : (part : Part) (bytes : List ℕ) (r : Result ScriptLine LineFault) → Gives r None → ((l : ScriptLine) → HasShape bytes l → StandsIn part l → ⊥) → Tells part bytes r
 tells_none part bytes r gives none = rw gives none
 
-tells_given : (part : Part) (bytes : List ℕ) (k : Command) (rest : Fields) (r : Result Line LineFault) (read : Option Line) → shape k rest ≡ read → bytes ≢ []
+tells_given : (part : Part) (bytes : List ℕ) (k : Command) (rest : Fields) (r : Result ScriptLine LineFault) (read : Option ScriptLine) → shape k rest ≡ read → bytes ≢ []
     → All (λ byte. byte < 128) bytes → fields_of bytes ≡ command_text k ∷ rest → stands part k ≡ true → Gives r read → Tells part bytes r
 tells_given part bytes k rest r None e some_there ascii fields k_there gives =
     tells_none part bytes r gives (λ l has there. absurd (cc (sym e ∙ read_as part bytes k rest l some_there fields k_there has there)))
@@ -147,7 +147,7 @@ pub no_command_told : (part : Part) (bytes text : List ℕ) (words : Fields) →
 no_command_told part bytes text words test same fields none =
     tells_no_command part bytes (some_from bytes test) (λ k rest e. none k rest (fields ∙ ap fields_of same ∙ e))
 
-pub line_told : (part : Part) (bytes text : List ℕ) (words : Fields) (k : Command) (rest : Fields) (r : Result Line LineFault) → false ≡ eqb (length bytes) 0
+pub line_told : (part : Part) (bytes text : List ℕ) (words : Fields) (k : Command) (rest : Fields) (r : Result ScriptLine LineFault) → false ≡ eqb (length bytes) 0
     → (text ≡ bytes) × All (λ byte. byte < 128) bytes → words ≡ fields_of text → (words ≡ command_text k ∷ rest) × (stands part k ≡ true) → Gives r (shape k rest)
     → Tells part bytes r
 line_told part bytes text words k rest r test ascii fields found gives =
@@ -155,13 +155,13 @@ line_told part bytes text words k rest r test ascii fields found gives =
 
 -- what was told, clause by clause
 abbrev answer : Type 0
-answer = Result Line LineFault
+answer = Result ScriptLine LineFault
 
 pub record Told (part : Part) (bytes : List ℕ) (r : answer) : Type 0 where
   pub ok : IfOk r (λ l. HasForm bytes l × StandsIn part l)
-  pub found : (l : Line) → HasForm bytes l → StandsIn part l → r ≡ Ok l
-  pub bad_name : (r ≡ Err BadName) ↔ ((l : Line) × HasShape bytes l × StandsIn part l × (AreNames l → ⊥))
-  pub bad_command : (r ≡ Err BadCommand) ↔ ((l : Line) → HasShape bytes l → StandsIn part l → ⊥)
+  pub found : (l : ScriptLine) → HasForm bytes l → StandsIn part l → r ≡ Ok l
+  pub bad_name : (r ≡ Err BadName) ↔ ((l : ScriptLine) × HasShape bytes l × StandsIn part l × (AreNames l → ⊥))
+  pub bad_command : (r ≡ Err BadCommand) ↔ ((l : ScriptLine) → HasShape bytes l → StandsIn part l → ⊥)
 
 pub told_of : (part : Part) (bytes : List ℕ) (r : answer) → Tells part bytes r → Told part bytes r
 told_of part bytes (Ok m) told = record {
@@ -203,7 +203,7 @@ some_fields bytes k rest fields none =
     absurd (omega (arith, long, ap length word))
 
 -- the first word tells whether a console has the line too
-kind_of : (bytes : List ℕ) (k : Command) (rest : Fields) (l : Line) → fields_of bytes ≡ command_text k ∷ rest → stands Body k ≡ true
+kind_of : (bytes : List ℕ) (k : Command) (rest : Fields) (l : ScriptLine) → fields_of bytes ≡ command_text k ∷ rest → stands Body k ≡ true
     → HasShape bytes l → StandsIn Body l → is_console k ≡ is_console_line l
 kind_of bytes k rest l fields k_there has there =
     let parts = parts_of bytes l (some_fields bytes k rest fields) has.spelled has.within has.words in
@@ -212,12 +212,12 @@ kind_of bytes k rest l fields k_there has there =
     let one = command_one Body k parts.command k_there (command_stands Body parts.command l parts.kinds_are there) word in
     ap is_console one ∙ ap (λ (t : Bool × Bool × Bool). t.0) parts.kinds_are
 
-IsConsole-kind : (l : Line) → is_console_line l ≡ true → IsConsole l
+IsConsole-kind : (l : ScriptLine) → is_console_line l ≡ true → IsConsole l
 IsConsole-kind (line.Console command) e = (command, refl)
 IsConsole-kind l e = absurd (cc e)
 
 pub kind_yes : (bytes text : List ℕ) (words : Fields) (k : Command) (rest : Fields) → text ≡ bytes → words ≡ fields_of text
-    → (words ≡ command_text k ∷ rest) × (stands Body k ≡ true) → is_console k ≡ true → (l : Line) → HasShape bytes l → StandsIn Body l → IsConsole l
+    → (words ≡ command_text k ∷ rest) × (stands Body k ≡ true) → is_console k ≡ true → (l : ScriptLine) → HasShape bytes l → StandsIn Body l → IsConsole l
 kind_yes bytes text words k rest same fields found own l has there =
     IsConsole-kind l (sym (kind_of bytes k rest l (sym (ap fields_of same) ∙ sym fields ∙ found.0) found.1 has there) ∙ own)
 
@@ -232,19 +232,19 @@ TellsConsole bytes (Ok command) = HasForm bytes (line.Console command)
 TellsConsole bytes (Err BadName) = (command : ConsoleCmd) × HasShape bytes (line.Console command) × (AreNames (line.Console command) → ⊥)
 TellsConsole bytes (Err BadCommand) = (command : ConsoleCmd) → HasShape bytes (line.Console command) → ⊥
 
-pub console_told : (bytes : List ℕ) (l : Line) (r : Result ConsoleCmd LineFault) → ((m : Line) → HasShape bytes m → StandsIn Body m → IsConsole m)
+pub console_told : (bytes : List ℕ) (l : ScriptLine) (r : Result ConsoleCmd LineFault) → ((m : ScriptLine) → HasShape bytes m → StandsIn Body m → IsConsole m)
     → HasForm bytes l × StandsIn Body l → ((command : ConsoleCmd) → l ≡ line.Console command → r ≡ Ok command) → TellsConsole bytes r
 console_told bytes l r all form gives =
     let is = all l (HasShape-form bytes l form.0) form.1 in
-    subst (λ (x : Result ConsoleCmd LineFault). TellsConsole bytes x) (sym (gives is.0 is.1)) (subst (λ (m : Line). HasForm bytes m) is.1 form.0)
+    subst (λ (x : Result ConsoleCmd LineFault). TellsConsole bytes x) (sym (gives is.0 is.1)) (subst (λ (m : ScriptLine). HasForm bytes m) is.1 form.0)
 
-pub fault_told : (bytes : List ℕ) (r : answer) (fault : LineFault) → ((m : Line) → HasShape bytes m → StandsIn Body m → IsConsole m)
-    → ((r ≡ Err BadName) ↔ ((l : Line) × HasShape bytes l × StandsIn Body l × (AreNames l → ⊥)))
-    → ((r ≡ Err BadCommand) ↔ ((l : Line) → HasShape bytes l → StandsIn Body l → ⊥)) → r ≡ Err fault → TellsConsole bytes (Err fault)
+pub fault_told : (bytes : List ℕ) (r : answer) (fault : LineFault) → ((m : ScriptLine) → HasShape bytes m → StandsIn Body m → IsConsole m)
+    → ((r ≡ Err BadName) ↔ ((l : ScriptLine) × HasShape bytes l × StandsIn Body l × (AreNames l → ⊥)))
+    → ((r ≡ Err BadCommand) ↔ ((l : ScriptLine) → HasShape bytes l → StandsIn Body l → ⊥)) → r ≡ Err fault → TellsConsole bytes (Err fault)
 fault_told bytes r BadName all bad_name bad_command is =
     let found = bad_name.0 is in
     let own = all found.0 found.1 found.2 in
-    (own.0, subst (λ (m : Line). HasShape bytes m) own.1 found.1, λ names. found.3 (subst AreNames (sym own.1) names))
+    (own.0, subst (λ (m : ScriptLine). HasShape bytes m) own.1 found.1, λ names. found.3 (subst AreNames (sym own.1) names))
 fault_told bytes r BadCommand all bad_name bad_command is = λ command has. bad_command.0 is (line.Console command) has tt
 
 same_command : (a b : ConsoleCmd) → line.Console a ≡ line.Console b → a ≡ b

@@ -13,22 +13,22 @@ use Rattle.sd_plan.specs.declared.fail.When.TheVariants as «when»
 use Rattle.sd_words.specs.Fields.{Fields, HasNoBlank}
 use Rattle.sd_words.specs.Reading.{◌>>=◌, only_number, word_at}
 use Rattle.sd_words.proofs.ReadingLemmas.{bind_some, some_is, TakesNumber, only_number_takes, only_number_again, word_at_takes, word_at_again}
-use Rattle.sd_script.specs.declared.line.Line.{Line}
+use Rattle.sd_script.specs.declared.line.ScriptLine.{ScriptLine}
 use Rattle.sd_script.specs.Grammar.{call_text, when_text}
 use Rattle.sd_script.specs.Reading.{one_number, call_in, when_in, call_at, when_at}
 
 -- a line of one number
-pub record TakesOne (least most : ℕ) (made : ℕ → Line) (fs : Fields) (line : Line) : Type 0 where
+pub record TakesOne (least most : ℕ) (made : ℕ → ScriptLine) (fs : Fields) (line : ScriptLine) : Type 0 where
   pub n : ℕ
   pub takes : TakesNumber least most fs n []
   pub made_is : made n ≡ line
 
-pub one_number_takes : (least most : ℕ) (made : ℕ → Line) (fs : Fields) (line : Line) → one_number least most made fs ≡ Some line → TakesOne least most made fs line
+pub one_number_takes : (least most : ℕ) (made : ℕ → ScriptLine) (fs : Fields) (line : ScriptLine) → one_number least most made fs ≡ Some line → TakesOne least most made fs line
 one_number_takes least most made fs line e =
     let b = bind_some (only_number least most fs) (λ n. Some (made n)) line e in
     record { n = b.0; takes = only_number_takes least most fs b.0 b.1; made_is = some_is (made b.0) line b.2 }
 
-pub one_number_again : (least most n : ℕ) (made : ℕ → Line) → most < 2 ^ 64 → least ≤ n → n ≤ most → one_number least most made (decimal n ∷ []) ≡ Some (made n)
+pub one_number_again : (least most n : ℕ) (made : ℕ → ScriptLine) → most < 2 ^ 64 → least ≤ n → n ≤ most → one_number least most made (decimal n ∷ []) ≡ Some (made n)
 one_number_again least most n made small low high =
     ap (λ (o : Option ℕ). o >>= λ m. Some (made m)) (only_number_again least most n small low high)
 

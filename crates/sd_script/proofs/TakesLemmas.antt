@@ -12,8 +12,8 @@ use Rattle.sd_script.specs.declared.command.Command.{Command}
 use Rattle.sd_script.specs.declared.command.Command.TheVariants.{Block, Volume, SpoolLimit, Queue, Time, Host, Drive, Capacity, Fail, At, Label, Adopt, Mount, Unmount, Seek, Retire, Purge, Open, Rec, Fill, End, Cancel, Spool, Despool, Take, Place, Sync, Close, JobMedia, Read, Again, Drain, Status, Requests, Restart}
 use Rattle.sd_script.specs.declared.console.ConsoleCmd.TheVariants as console
 use Rattle.sd_script.specs.declared.line.Setting.TheVariants as setting
-use Rattle.sd_script.specs.declared.line.Line.{Line}
-use Rattle.sd_script.specs.declared.line.Line.TheVariants as line
+use Rattle.sd_script.specs.declared.line.ScriptLine.{ScriptLine}
+use Rattle.sd_script.specs.declared.line.ScriptLine.TheVariants as line
 use Rattle.sd_script.specs.Command.{command_text}
 use Rattle.sd_words.specs.Fields.{HasNoBlank, joined, Fields, fields_of}
 use Rattle.sd_memdrive.specs.declared.call.Call.{Call}
@@ -27,7 +27,7 @@ use Rattle.sd_script.proofs.ReadingLemmas.{one_number_takes, call_at_takes, when
 use Rattle.sd_script.proofs.CommandLemmas.{kinds, line_kinds}
 
 -- what a line of that command is that these bytes spell, whatever its names are
-pub record Spells (k : Command) (bytes : List ℕ) (l : Line) : Type 0 where
+pub record Spells (k : Command) (bytes : List ℕ) (l : ScriptLine) : Type 0 where
   pub spelled : IsSpelled bytes l
   pub within : IsWithin l
   pub words : AreWords l
@@ -47,7 +47,7 @@ has_fields bytes command fs e = record {
 one_text : (bytes command : List ℕ) (fs : Fields) (least most n : ℕ) → HasFields bytes command fs → TakesNumber least most fs n [] → bytes ≡ joined (command ∷ decimal n ∷ [])
 one_text bytes command fs least most n has takes = has.text ∙ ap (λ (gs : Fields). joined (command ∷ gs)) takes.fields_are
 
-label_takes : (bytes : List ℕ) (fs : Fields) (l : Line) → HasFields bytes (command_text Label) fs → label_shape fs ≡ Some l → Spells Label bytes l
+label_takes : (bytes : List ℕ) (fs : Fields) (l : ScriptLine) → HasFields bytes (command_text Label) fs → label_shape fs ≡ Some l → Spells Label bytes l
 unfolding label_shape
 label_takes bytes fs l has e =
     let a = bind_some (number_at 1 most_drives fs) (λ drive. word_at drive.1 >>= λ volume. word_at volume.1 >>= λ pool. word_at pool.1 >>= λ media. all_read (line.Console (console.Label drive.0 volume.0 pool.0 media.0)) media.1) l e in
@@ -62,14 +62,14 @@ label_takes bytes fs l has e =
     let fields : fs ≡ decimal a.0.0 ∷ b.0.0 ∷ p.0.0 ∷ m.0.0 ∷ [] =
     drive.fields_are ∙ ap (λ (gs : Fields). decimal a.0.0 ∷ gs) (volume.0 ∙ ap (λ (gs : Fields). b.0.0 ∷ gs) (pool.0 ∙ ap (λ (gs : Fields). p.0.0 ∷ gs) (media.0 ∙ ap (λ (gs : Fields). m.0.0 ∷ gs) all.0))) in
     let plain = subst (λ (gs : Fields). AllByRecursion HasNoBlank gs) fields has.plain in
-    subst (λ (x : Line). Spells Label bytes x) all.1 (record {
+    subst (λ (x : ScriptLine). Spells Label bytes x) all.1 (record {
       spelled = inl (has.text ∙ ap (λ (gs : Fields). joined (command_text Label ∷ gs)) fields);
       within = (drive.least_is, drive.most_is);
       words = ((volume.1, plain.1.0), ((pool.1, plain.1.1.0), ((media.1, plain.1.1.1.0), tt)));
       kinds_are = refl;
     })
 
-adopt_takes : (bytes : List ℕ) (fs : Fields) (l : Line) → HasFields bytes (command_text Adopt) fs → adopt_shape fs ≡ Some l → Spells Adopt bytes l
+adopt_takes : (bytes : List ℕ) (fs : Fields) (l : ScriptLine) → HasFields bytes (command_text Adopt) fs → adopt_shape fs ≡ Some l → Spells Adopt bytes l
 unfolding adopt_shape
 adopt_takes bytes fs l has e =
     let a = bind_some (number_at 1 most_drives fs) (λ drive. word_at drive.1 >>= λ volume. all_read (line.Console (console.Adopt drive.0 volume.0)) volume.1) l e in
@@ -79,14 +79,14 @@ adopt_takes bytes fs l has e =
     let volume = word_at_takes a.0.1 b.0 b.1 in
     let fields : fs ≡ decimal a.0.0 ∷ b.0.0 ∷ [] = drive.fields_are ∙ ap (λ (gs : Fields). decimal a.0.0 ∷ gs) (volume.0 ∙ ap (λ (gs : Fields). b.0.0 ∷ gs) all.0) in
     let plain = subst (λ (gs : Fields). AllByRecursion HasNoBlank gs) fields has.plain in
-    subst (λ (x : Line). Spells Adopt bytes x) all.1 (record {
+    subst (λ (x : ScriptLine). Spells Adopt bytes x) all.1 (record {
       spelled = inl (has.text ∙ ap (λ (gs : Fields). joined (command_text Adopt ∷ gs)) fields);
       within = (drive.least_is, drive.most_is);
       words = ((volume.1, plain.1.0), tt);
       kinds_are = refl;
     })
 
-mount_takes : (bytes : List ℕ) (fs : Fields) (l : Line) → HasFields bytes (command_text Mount) fs → mount_shape fs ≡ Some l → Spells Mount bytes l
+mount_takes : (bytes : List ℕ) (fs : Fields) (l : ScriptLine) → HasFields bytes (command_text Mount) fs → mount_shape fs ≡ Some l → Spells Mount bytes l
 unfolding mount_shape
 mount_takes bytes fs l has e =
     let a = bind_some (number_at 1 most_drives fs) (λ drive. word_at drive.1 >>= λ volume. all_read (line.Console (console.Mount drive.0 volume.0)) volume.1) l e in
@@ -96,14 +96,14 @@ mount_takes bytes fs l has e =
     let volume = word_at_takes a.0.1 b.0 b.1 in
     let fields : fs ≡ decimal a.0.0 ∷ b.0.0 ∷ [] = drive.fields_are ∙ ap (λ (gs : Fields). decimal a.0.0 ∷ gs) (volume.0 ∙ ap (λ (gs : Fields). b.0.0 ∷ gs) all.0) in
     let plain = subst (λ (gs : Fields). AllByRecursion HasNoBlank gs) fields has.plain in
-    subst (λ (x : Line). Spells Mount bytes x) all.1 (record {
+    subst (λ (x : ScriptLine). Spells Mount bytes x) all.1 (record {
       spelled = inl (has.text ∙ ap (λ (gs : Fields). joined (command_text Mount ∷ gs)) fields);
       within = (drive.least_is, drive.most_is);
       words = ((volume.1, plain.1.0), tt);
       kinds_are = refl;
     })
 
-purge_takes : (bytes : List ℕ) (fs : Fields) (l : Line) → HasFields bytes (command_text Purge) fs → purge_shape fs ≡ Some l → Spells Purge bytes l
+purge_takes : (bytes : List ℕ) (fs : Fields) (l : ScriptLine) → HasFields bytes (command_text Purge) fs → purge_shape fs ≡ Some l → Spells Purge bytes l
 unfolding purge_shape
 purge_takes bytes fs l has e =
     let a = bind_some (number_at 1 most_drives fs) (λ drive. word_at drive.1 >>= λ volume. all_read (line.Console (console.Purge drive.0 volume.0)) volume.1) l e in
@@ -113,14 +113,14 @@ purge_takes bytes fs l has e =
     let volume = word_at_takes a.0.1 b.0 b.1 in
     let fields : fs ≡ decimal a.0.0 ∷ b.0.0 ∷ [] = drive.fields_are ∙ ap (λ (gs : Fields). decimal a.0.0 ∷ gs) (volume.0 ∙ ap (λ (gs : Fields). b.0.0 ∷ gs) all.0) in
     let plain = subst (λ (gs : Fields). AllByRecursion HasNoBlank gs) fields has.plain in
-    subst (λ (x : Line). Spells Purge bytes x) all.1 (record {
+    subst (λ (x : ScriptLine). Spells Purge bytes x) all.1 (record {
       spelled = inl (has.text ∙ ap (λ (gs : Fields). joined (command_text Purge ∷ gs)) fields);
       within = (drive.least_is, drive.most_is);
       words = ((volume.1, plain.1.0), tt);
       kinds_are = refl;
     })
 
-open_takes : (bytes : List ℕ) (fs : Fields) (l : Line) → HasFields bytes (command_text Open) fs → open_shape fs ≡ Some l → Spells Open bytes l
+open_takes : (bytes : List ℕ) (fs : Fields) (l : ScriptLine) → HasFields bytes (command_text Open) fs → open_shape fs ≡ Some l → Spells Open bytes l
 unfolding open_shape
 open_takes bytes fs l has e =
     let a = bind_some (number_at 1 most_number fs) (λ job. word_at job.1 >>= λ pool. word_at pool.1 >>= λ media. all_read (line.Open job.0 pool.0 media.0) media.1) l e in
@@ -133,7 +133,7 @@ open_takes bytes fs l has e =
     let fields : fs ≡ decimal a.0.0 ∷ p.0.0 ∷ m.0.0 ∷ [] =
     job.fields_are ∙ ap (λ (gs : Fields). decimal a.0.0 ∷ gs) (pool.0 ∙ ap (λ (gs : Fields). p.0.0 ∷ gs) (media.0 ∙ ap (λ (gs : Fields). m.0.0 ∷ gs) all.0)) in
     let plain = subst (λ (gs : Fields). AllByRecursion HasNoBlank gs) fields has.plain in
-    subst (λ (x : Line). Spells Open bytes x) all.1 (record {
+    subst (λ (x : ScriptLine). Spells Open bytes x) all.1 (record {
       spelled = inl (has.text ∙ ap (λ (gs : Fields). joined (command_text Open ∷ gs)) fields);
       within = (job.least_is, job.most_is);
       words = ((pool.1, plain.1.0), ((media.1, plain.1.1.0), tt));
@@ -146,7 +146,7 @@ rec_spelled : (bytes : List ℕ) (t i s : ℕ) (rest : Fields) → bytes ≡ joi
 rec_spelled bytes t i s [] e = inr e
 rec_spelled bytes t i s (f ∷ rest) e = inl e
 
-rec_takes : (bytes : List ℕ) (fs : Fields) (l : Line) → HasFields bytes (command_text Rec) fs → rec_shape fs ≡ Some l → Spells Rec bytes l
+rec_takes : (bytes : List ℕ) (fs : Fields) (l : ScriptLine) → HasFields bytes (command_text Rec) fs → rec_shape fs ≡ Some l → Spells Rec bytes l
 unfolding rec_shape
 rec_takes bytes fs l has e =
     let a = bind_some (number_at 1 most_number fs) (λ ticket. number_at 1 most_number ticket.1 >>= λ index. number_at 1 most_number index.1 >>= λ stream.
@@ -161,14 +161,14 @@ rec_takes bytes fs l has e =
     let stream = number_at_takes 1 most_number b.0.1 d.0 d.1 in
     let fields : fs ≡ decimal a.0.0 ∷ decimal b.0.0 ∷ decimal d.0.0 ∷ d.0.1 =
     ticket.fields_are ∙ ap (λ (gs : Fields). decimal a.0.0 ∷ gs) (index.fields_are ∙ ap (λ (gs : Fields). decimal b.0.0 ∷ gs) stream.fields_are) in
-    subst (λ (x : Line). Spells Rec bytes x) all.1 (record {
+    subst (λ (x : ScriptLine). Spells Rec bytes x) all.1 (record {
       spelled = rec_spelled bytes a.0.0 b.0.0 d.0.0 d.0.1 (has.text ∙ ap (λ (gs : Fields). joined (command_text Rec ∷ gs)) fields);
       within = ((ticket.least_is, ticket.most_is), (index.least_is, index.most_is), (stream.least_is, stream.most_is), leb-true _ _ all.0);
       words = tt;
       kinds_are = refl;
     })
 
-fill_takes : (bytes : List ℕ) (fs : Fields) (l : Line) → HasFields bytes (command_text Fill) fs → fill_shape fs ≡ Some l → Spells Fill bytes l
+fill_takes : (bytes : List ℕ) (fs : Fields) (l : ScriptLine) → HasFields bytes (command_text Fill) fs → fill_shape fs ≡ Some l → Spells Fill bytes l
 unfolding fill_shape
 fill_takes bytes fs l has e =
     let a = bind_some (number_at 1 most_number fs) (λ ticket. number_at 1 most_number ticket.1 >>= λ index. number_at 1 most_number index.1 >>= λ stream.
@@ -184,7 +184,7 @@ fill_takes bytes fs l has e =
     let fields : fs ≡ decimal a.0.0 ∷ decimal b.0.0 ∷ decimal d.0.0 ∷ decimal n.0 ∷ [] =
     ticket.fields_are ∙ ap (λ (gs : Fields). decimal a.0.0 ∷ gs) (index.fields_are ∙ ap (λ (gs : Fields). decimal b.0.0 ∷ gs)
     (stream.fields_are ∙ ap (λ (gs : Fields). decimal d.0.0 ∷ gs) count.fields_are)) in
-    subst (λ (x : Line). Spells Fill bytes x) (some_is (line.Fill a.0.0 b.0.0 d.0.0 n.0) l n.2) (record {
+    subst (λ (x : ScriptLine). Spells Fill bytes x) (some_is (line.Fill a.0.0 b.0.0 d.0.0 n.0) l n.2) (record {
       spelled = inl (has.text ∙ ap (λ (gs : Fields). joined (command_text Fill ∷ gs)) fields);
       within = ((ticket.least_is, ticket.most_is), (index.least_is, index.most_is), (stream.least_is, stream.most_is), count.most_is);
       words = tt;
@@ -192,21 +192,21 @@ fill_takes bytes fs l has e =
     })
 
 -- a line of one number, where what is made of it is spelled so and has no names
-one_takes : (bytes : List ℕ) (k : Command) (fs : Fields) (least most : ℕ) (made : ℕ → Line) (l : Line)
+one_takes : (bytes : List ℕ) (k : Command) (fs : Fields) (least most : ℕ) (made : ℕ → ScriptLine) (l : ScriptLine)
     → ((n : ℕ) → least ≤ n → n ≤ most → bytes ≡ joined (command_text k ∷ decimal n ∷ []) → Spells k bytes (made n))
     → HasFields bytes (command_text k) fs → one_number least most made fs ≡ Some l → Spells k bytes l
 one_takes bytes k fs least most made l spells has e =
     let one = one_number_takes least most made fs l e in
-    subst (λ (x : Line). Spells k bytes x) one.made_is
+    subst (λ (x : ScriptLine). Spells k bytes x) one.made_is
     (spells one.n one.takes.least_is one.takes.most_is (one_text bytes (command_text k) fs least most one.n has one.takes))
 
-abbrev spelled_so : (k : Command) (bytes : List ℕ) (l : Line) → IsSpelled bytes l → IsWithin l → AreWords l → kinds k ≡ line_kinds l → Spells k bytes l
+abbrev spelled_so : (k : Command) (bytes : List ℕ) (l : ScriptLine) → IsSpelled bytes l → IsWithin l → AreWords l → kinds k ≡ line_kinds l → Spells k bytes l
 spelled_so k bytes l spelled within words same = record { spelled = spelled; within = within; words = words; kinds_are = same }
 
 moment_fits : (n : ℕ) → n ≤ most_moment → FitsSigned w64 (pos n)
 moment_fits n most = record { sfits = omega arith }
 
-host_takes : (bytes : List ℕ) (fs : Fields) (l : Line) → HasFields bytes (command_text Host) fs → host_shape fs ≡ Some l → Spells Host bytes l
+host_takes : (bytes : List ℕ) (fs : Fields) (l : ScriptLine) → HasFields bytes (command_text Host) fs → host_shape fs ≡ Some l → Spells Host bytes l
 unfolding host_shape
 host_takes bytes fs l has e =
     let a = bind_some (word_at fs) (λ host. all_read (line.Set (setting.Host host.0)) host.1) l e in
@@ -214,14 +214,14 @@ host_takes bytes fs l has e =
     let host = word_at_takes fs a.0 a.1 in
     let fields : fs ≡ a.0.0 ∷ [] = host.0 ∙ ap (λ (gs : Fields). a.0.0 ∷ gs) all.0 in
     let plain = subst (λ (gs : Fields). AllByRecursion HasNoBlank gs) fields has.plain in
-    subst (λ (x : Line). Spells Host bytes x) all.1 (record {
+    subst (λ (x : ScriptLine). Spells Host bytes x) all.1 (record {
       spelled = inl (has.text ∙ ap (λ (gs : Fields). joined (command_text Host ∷ gs)) fields);
       within = tt;
       words = ((host.1, plain.0), tt);
       kinds_are = refl;
     })
 
-drive_takes : (bytes : List ℕ) (fs : Fields) (l : Line) → HasFields bytes (command_text Drive) fs → drive_shape fs ≡ Some l → Spells Drive bytes l
+drive_takes : (bytes : List ℕ) (fs : Fields) (l : ScriptLine) → HasFields bytes (command_text Drive) fs → drive_shape fs ≡ Some l → Spells Drive bytes l
 unfolding drive_shape
 drive_takes bytes fs l has e =
     let a = bind_some (word_at fs) (λ media. only_number 1 most_lanes media.1 >>= λ lanes. Some (line.Set (setting.Drive media.0 lanes))) l e in
@@ -230,14 +230,14 @@ drive_takes bytes fs l has e =
     let lanes = only_number_takes 1 most_lanes a.0.1 n.0 n.1 in
     let fields : fs ≡ a.0.0 ∷ decimal n.0 ∷ [] = media.0 ∙ ap (λ (gs : Fields). a.0.0 ∷ gs) lanes.fields_are in
     let plain = subst (λ (gs : Fields). AllByRecursion HasNoBlank gs) fields has.plain in
-    subst (λ (x : Line). Spells Drive bytes x) (some_is (line.Set (setting.Drive a.0.0 n.0)) l n.2) (record {
+    subst (λ (x : ScriptLine). Spells Drive bytes x) (some_is (line.Set (setting.Drive a.0.0 n.0)) l n.2) (record {
       spelled = inl (has.text ∙ ap (λ (gs : Fields). joined (command_text Drive ∷ gs)) fields);
       within = (lanes.least_is, lanes.most_is);
       words = ((media.1, plain.0), tt);
       kinds_are = refl;
     })
 
-capacity_takes : (bytes : List ℕ) (fs : Fields) (l : Line) → HasFields bytes (command_text Capacity) fs → capacity_shape fs ≡ Some l → Spells Capacity bytes l
+capacity_takes : (bytes : List ℕ) (fs : Fields) (l : ScriptLine) → HasFields bytes (command_text Capacity) fs → capacity_shape fs ≡ Some l → Spells Capacity bytes l
 unfolding capacity_shape
 capacity_takes bytes fs l has e =
     let a = bind_some (number_at 1 most_drives fs) (λ drive. only_number 0 most_capacity drive.1 >>= λ size. Some (line.Set (setting.Capacity drive.0 size))) l e in
@@ -245,7 +245,7 @@ capacity_takes bytes fs l has e =
     let drive = number_at_takes 1 most_drives fs a.0 a.1 in
     let size = only_number_takes 0 most_capacity a.0.1 n.0 n.1 in
     let fields : fs ≡ decimal a.0.0 ∷ decimal n.0 ∷ [] = drive.fields_are ∙ ap (λ (gs : Fields). decimal a.0.0 ∷ gs) size.fields_are in
-    subst (λ (x : Line). Spells Capacity bytes x) (some_is (line.Set (setting.Capacity a.0.0 n.0)) l n.2) (record {
+    subst (λ (x : ScriptLine). Spells Capacity bytes x) (some_is (line.Set (setting.Capacity a.0.0 n.0)) l n.2) (record {
       spelled = inl (has.text ∙ ap (λ (gs : Fields). joined (command_text Capacity ∷ gs)) fields);
       within = ((drive.least_is, drive.most_is), size.most_is);
       words = tt;
@@ -253,10 +253,10 @@ capacity_takes bytes fs l has e =
     })
 
 -- the line of a call that fails, and of how it fails
-abbrev failing : ℕ → Call → ℕ → When → Line
+abbrev failing : ℕ → Call → ℕ → When → ScriptLine
 failing drive kind nth way = line.Set (setting.Fail drive (record { call = kind; nth = nth; when = way }))
 
-fail_takes : (bytes : List ℕ) (fs : Fields) (l : Line) → HasFields bytes (command_text Fail) fs → fail_shape fs ≡ Some l → Spells Fail bytes l
+fail_takes : (bytes : List ℕ) (fs : Fields) (l : ScriptLine) → HasFields bytes (command_text Fail) fs → fail_shape fs ≡ Some l → Spells Fail bytes l
 unfolding fail_shape
 fail_takes bytes fs l has e =
     let a = bind_some (number_at 1 most_drives fs) (λ drive. call_at drive.1 >>= λ kind. number_at 1 most_wide kind.1 >>= λ nth. when_at nth.1 >>= λ way. all_read (failing drive.0 kind.0 nth.0 way.0) way.1) l e in
@@ -271,14 +271,14 @@ fail_takes bytes fs l has e =
     let fields : fs ≡ decimal a.0.0 ∷ call_text b.0.0 ∷ decimal d.0.0 ∷ when_text w.0.0 ∷ [] =
     drive.fields_are ∙ ap (λ (gs : Fields). decimal a.0.0 ∷ gs) (kind ∙ ap (λ (gs : Fields). call_text b.0.0 ∷ gs)
     (nth.fields_are ∙ ap (λ (gs : Fields). decimal d.0.0 ∷ gs) (way ∙ ap (λ (gs : Fields). when_text w.0.0 ∷ gs) all.0))) in
-    subst (λ (x : Line). Spells Fail bytes x) all.1 (record {
+    subst (λ (x : ScriptLine). Spells Fail bytes x) all.1 (record {
       spelled = inl (has.text ∙ ap (λ (gs : Fields). joined (command_text Fail ∷ gs)) fields);
       within = ((drive.least_is, drive.most_is), nth.least_is, omega (arith, nth.most_is));
       words = tt;
       kinds_are = refl;
     })
 
-again_takes : (bytes : List ℕ) (fs : Fields) (l : Line) → HasFields bytes (command_text Again) fs → again_shape fs ≡ Some l → Spells Again bytes l
+again_takes : (bytes : List ℕ) (fs : Fields) (l : ScriptLine) → HasFields bytes (command_text Again) fs → again_shape fs ≡ Some l → Spells Again bytes l
 unfolding again_shape
 again_takes bytes fs l has e =
     let a = bind_some (number_at 1 most_number fs) (λ time. only_number 1 most_number time.1 >>= λ id. Some (line.Again (record { time = time.0; id = id }))) l e in
@@ -286,7 +286,7 @@ again_takes bytes fs l has e =
     let time = number_at_takes 1 most_number fs a.0 a.1 in
     let id = only_number_takes 1 most_number a.0.1 n.0 n.1 in
     let fields : fs ≡ decimal a.0.0 ∷ decimal n.0 ∷ [] = time.fields_are ∙ ap (λ (gs : Fields). decimal a.0.0 ∷ gs) id.fields_are in
-    subst (λ (x : Line). Spells Again bytes x) (some_is (line.Again (record { time = a.0.0; id = n.0 })) l n.2) (record {
+    subst (λ (x : ScriptLine). Spells Again bytes x) (some_is (line.Again (record { time = a.0.0; id = n.0 })) l n.2) (record {
       spelled = inl (has.text ∙ ap (λ (gs : Fields). joined (command_text Again ∷ gs)) fields);
       within = ((time.least_is, time.most_is), (id.least_is, id.most_is));
       words = tt;
@@ -294,7 +294,7 @@ again_takes bytes fs l has e =
     })
 
 -- a restart behind which no field is left, or what a stop leaves
-behind_takes : (bytes : List ℕ) (t : ℕ) (fs : Fields) (l : Line) → HasFields bytes (command_text Restart) (decimal t ∷ fs) → IsNumber t
+behind_takes : (bytes : List ℕ) (t : ℕ) (fs : Fields) (l : ScriptLine) → HasFields bytes (command_text Restart) (decimal t ∷ fs) → IsNumber t
     → behind_shape t fs ≡ Some l → Spells Restart bytes l
 unfolding behind_shape
 behind_takes bytes t fs l has t_is e =
@@ -307,20 +307,20 @@ behind_takes bytes t fs l has t_is e =
     let fields : fs ≡ decimal a.0.0 ∷ b.0.0 ∷ decimal n.0 ∷ [] =
     drive.fields_are ∙ ap (λ (gs : Fields). decimal a.0.0 ∷ gs) (volume.0 ∙ ap (λ (gs : Fields). b.0.0 ∷ gs) count.fields_are) in
     let plain = subst (λ (gs : Fields). AllByRecursion HasNoBlank (decimal t ∷ gs)) fields has.plain in
-    subst (λ (x : Line). Spells Restart bytes x) (some_is (line.Restart t (Some (record { drive = a.0.0; volume = b.0.0; count = n.0 }))) l n.2) (record {
+    subst (λ (x : ScriptLine). Spells Restart bytes x) (some_is (line.Restart t (Some (record { drive = a.0.0; volume = b.0.0; count = n.0 }))) l n.2) (record {
       spelled = inl (has.text ∙ ap (λ (gs : Fields). joined (command_text Restart ∷ decimal t ∷ gs)) fields);
       within = (t_is, (drive.least_is, drive.most_is), omega (arith, count.most_is));
       words = ((volume.1, plain.1.1.0), tt);
       kinds_are = refl;
     })
 
-restart_takes_behind : (bytes : List ℕ) (t : ℕ) (fs : Fields) (l : Line) → HasFields bytes (command_text Restart) (decimal t ∷ fs) → IsNumber t
+restart_takes_behind : (bytes : List ℕ) (t : ℕ) (fs : Fields) (l : ScriptLine) → HasFields bytes (command_text Restart) (decimal t ∷ fs) → IsNumber t
     → restart_behind t fs ≡ Some l → Spells Restart bytes l
 restart_takes_behind bytes t [] l has t_is e =
-    subst (λ (x : Line). Spells Restart bytes x) (some_is (line.Restart t None) l e) (spelled_so Restart bytes (line.Restart t None) (inl has.text) t_is tt refl)
+    subst (λ (x : ScriptLine). Spells Restart bytes x) (some_is (line.Restart t None) l e) (spelled_so Restart bytes (line.Restart t None) (inl has.text) t_is tt refl)
 restart_takes_behind bytes t (f ∷ fs) l has t_is e = behind_takes bytes t (f ∷ fs) l has t_is e
 
-restart_takes : (bytes : List ℕ) (fs : Fields) (l : Line) → HasFields bytes (command_text Restart) fs → restart_shape fs ≡ Some l → Spells Restart bytes l
+restart_takes : (bytes : List ℕ) (fs : Fields) (l : ScriptLine) → HasFields bytes (command_text Restart) fs → restart_shape fs ≡ Some l → Spells Restart bytes l
 unfolding restart_shape
 restart_takes bytes fs l has e =
     let a = bind_some (number_at 1 most_number fs) (λ time. restart_behind time.0 time.1) l e in
@@ -328,7 +328,7 @@ restart_takes bytes fs l has e =
     restart_takes_behind bytes a.0.0 a.0.1 l (subst (λ (gs : Fields). HasFields bytes (command_text Restart) gs) time.fields_are has) (time.least_is, time.most_is) a.2
 
 -- what is read of a command and the fields behind it
-fields_take : (k : Command) (bytes : List ℕ) (fs : Fields) (l : Line) → HasFields bytes (command_text k) fs → shape k fs ≡ Some l → Spells k bytes l
+fields_take : (k : Command) (bytes : List ℕ) (fs : Fields) (l : ScriptLine) → HasFields bytes (command_text k) fs → shape k fs ≡ Some l → Spells k bytes l
 fields_take Block bytes fs l has e =
     one_takes bytes Block fs least_block_limit most_block (λ n. line.Set (setting.Block n)) l (λ n low high text. spelled_so Block bytes (line.Set (setting.Block n)) (inl text) (low, high) tt refl) has e
 fields_take Volume bytes fs l has e =
@@ -382,13 +382,13 @@ fields_take JobMedia bytes fs l has e =
     one_takes bytes JobMedia fs 1 most_number (λ n. line.Console (console.JobMedia n)) l (λ n low high text. spelled_so JobMedia bytes (line.Console (console.JobMedia n)) (inl text) (low, high) tt refl) has e
 fields_take Drain bytes fs l has e =
     let all = all_read_takes line.Drain l fs e in
-    subst (λ (x : Line). Spells Drain bytes x) all.1 (spelled_so Drain bytes line.Drain (inl (has.text ∙ ap (λ (gs : Fields). joined (command_text Drain ∷ gs)) all.0)) tt tt refl)
+    subst (λ (x : ScriptLine). Spells Drain bytes x) all.1 (spelled_so Drain bytes line.Drain (inl (has.text ∙ ap (λ (gs : Fields). joined (command_text Drain ∷ gs)) all.0)) tt tt refl)
 fields_take Status bytes fs l has e =
     let all = all_read_takes (line.Console console.Status) l fs e in
-    subst (λ (x : Line). Spells Status bytes x) all.1 (spelled_so Status bytes (line.Console console.Status) (inl (has.text ∙ ap (λ (gs : Fields). joined (command_text Status ∷ gs)) all.0)) tt tt refl)
+    subst (λ (x : ScriptLine). Spells Status bytes x) all.1 (spelled_so Status bytes (line.Console console.Status) (inl (has.text ∙ ap (λ (gs : Fields). joined (command_text Status ∷ gs)) all.0)) tt tt refl)
 fields_take Requests bytes fs l has e =
     let all = all_read_takes (line.Console console.Requests) l fs e in
-    subst (λ (x : Line). Spells Requests bytes x) all.1 (spelled_so Requests bytes (line.Console console.Requests) (inl (has.text ∙ ap (λ (gs : Fields). joined (command_text Requests ∷ gs)) all.0)) tt tt refl)
+    subst (λ (x : ScriptLine). Spells Requests bytes x) all.1 (spelled_so Requests bytes (line.Console console.Requests) (inl (has.text ∙ ap (λ (gs : Fields). joined (command_text Requests ∷ gs)) all.0)) tt tt refl)
 
-pub takes : (k : Command) (bytes : List ℕ) (fs : Fields) (l : Line) → fields_of bytes ≡ command_text k ∷ fs → shape k fs ≡ Some l → Spells k bytes l
+pub takes : (k : Command) (bytes : List ℕ) (fs : Fields) (l : ScriptLine) → fields_of bytes ≡ command_text k ∷ fs → shape k fs ≡ Some l → Spells k bytes l
 takes k bytes fs l fields e = fields_take k bytes fs l (has_fields bytes (command_text k) fs fields) e

@@ -16,8 +16,8 @@ use Rattle.sd_script.specs.declared.line.Part.{Part}
 use Rattle.sd_script.specs.declared.line.Part.TheVariants.{Head, Body}
 use Rattle.sd_script.specs.declared.line.Setting.{Setting}
 use Rattle.sd_script.specs.declared.line.Setting.TheVariants as setting
-use Rattle.sd_script.specs.declared.line.Line.{Line}
-use Rattle.sd_script.specs.declared.line.Line.TheVariants.{Empty, Set, At, Console, Seek, Open, Rec, Fill, End, Spool, Despool, Take, Place, Sync, Close, Read, Again, Drain, Restart}
+use Rattle.sd_script.specs.declared.line.ScriptLine.{ScriptLine}
+use Rattle.sd_script.specs.declared.line.ScriptLine.TheVariants.{Empty, Set, At, Console, Seek, Open, Rec, Fill, End, Spool, Despool, Take, Place, Sync, Close, Read, Again, Drain, Restart}
 use Rattle.sd_script.specs.declared.console.ConsoleCmd.{ConsoleCmd}
 use Rattle.sd_script.specs.declared.console.ConsoleCmd.TheVariants.{Label, Adopt, Mount, Unmount, Retire, Purge, Cancel, JobMedia, Status, Requests}
 use Rattle.sd_script.specs.declared.line.LineFault.{LineFault}
@@ -68,7 +68,7 @@ setting_fields (setting.Fail drive fail) =
     codes "fail" ∷ decimal drive ∷ call_text fail.call ∷ decimal fail.nth ∷ when_text fail.when ∷ []
 
 -- the fields of a line; the last one of `rec` is its text, which may hold blanks
-abbrev pub fields : Line → List (List ℕ)
+abbrev pub fields : ScriptLine → List (List ℕ)
 fields Empty = []
 fields (Set s) = setting_fields s
 fields (At moment) = codes "at" ∷ signed_decimal moment ∷ []
@@ -94,17 +94,17 @@ fields (Restart time (Some tail)) =
     codes "restart" ∷ decimal time ∷ decimal tail.drive ∷ tail.volume ∷ decimal tail.count ∷ []
 
 -- how a line is written, without the newline behind it
-abbrev pub spelling : Line → List ℕ
+abbrev pub spelling : ScriptLine → List ℕ
 spelling line = joined (fields line)
 
 -- a record without data may leave out the blank before them too
-abbrev pub IsShorter : List ℕ → Line → Type 0
+abbrev pub IsShorter : List ℕ → ScriptLine → Type 0
 IsShorter bytes (Rec ticket index stream []) =
     bytes ≡ joined (codes "rec" ∷ decimal ticket ∷ decimal index ∷ decimal stream ∷ [])
 IsShorter bytes line = ⊥
 
 -- the bytes are the line as it is written, or that shorter form of it
-abbrev pub IsSpelled : List ℕ → Line → Type 0
+abbrev pub IsSpelled : List ℕ → ScriptLine → Type 0
 IsSpelled bytes line = (bytes ≡ spelling line) ⊎ IsShorter bytes line
 
 -- the most bytes that a volume of a drive in memory may have room for
@@ -145,7 +145,7 @@ IsSettingWithin (setting.Capacity drive bytes) = IsDrive drive × (bytes ≤ mos
 IsSettingWithin (setting.Fail drive fail) = IsDrive drive × (1 ≤ fail.nth) × (fail.nth < 2 ^ 64)
 
 -- the numbers are within their limits, and so is the length of a text
-abbrev pub IsWithin : Line → Type 0
+abbrev pub IsWithin : ScriptLine → Type 0
 IsWithin Empty = Unit {0}
 IsWithin (Set s) = IsSettingWithin s
 IsWithin (At moment) = (pos 0 ≤ℤ moment) × FitsSigned w64 moment
@@ -179,7 +179,7 @@ console_names (Purge drive volume) = volume ∷ []
 console_names command = []
 
 -- the fields of a line that stand in the place of a name
-abbrev pub names : Line → List (List ℕ)
+abbrev pub names : ScriptLine → List (List ℕ)
 names (Console command) = console_names command
 names (Set (setting.Host host)) = host ∷ []
 names (Set (setting.Drive media lanes)) = media ∷ []
@@ -192,47 +192,47 @@ abbrev pub IsWord : List ℕ → Type 0
 IsWord text = (0 < length text) × HasNoBlank text
 
 -- what stands in the place of a line's names are words
-abbrev pub AreWords : Line → Type 0
+abbrev pub AreWords : ScriptLine → Type 0
 AreWords line = AllByRecursion IsWord (names line)
 
 -- what stands in the place of a line's names are names
-abbrev pub AreNames : Line → Type 0
+abbrev pub AreNames : ScriptLine → Type 0
 AreNames line = AllByRecursion IsName (names line)
 
 -- the bytes are ASCII and spell this line, whose names may be any words
-pub record HasShape (bytes : List ℕ) (line : Line) : Type 0 where
+pub record HasShape (bytes : List ℕ) (line : ScriptLine) : Type 0 where
   pub ascii : All (λ byte. byte < 128) bytes
   pub spelled : IsSpelled bytes line
   pub within : IsWithin line
   pub words : AreWords line
 
 -- the bytes are ASCII and spell this line
-pub record HasForm (bytes : List ℕ) (line : Line) : Type 0 where
+pub record HasForm (bytes : List ℕ) (line : ScriptLine) : Type 0 where
   pub ascii : All (λ byte. byte < 128) bytes
   pub spelled : IsSpelled bytes line
   pub within : IsWithin line
   pub names : AreNames line
 
 -- the line stands there: settings at the head alone, where `spool` is one and no step of a session
-abbrev pub StandsIn : Part → Line → Type 0
+abbrev pub StandsIn : Part → ScriptLine → Type 0
 StandsIn Head (Spool ticket) = ⊥
 StandsIn Head line = Unit {0}
 StandsIn Body (Set s) = ⊥
 StandsIn Body line = Unit {0}
 
 -- a console has the line too
-abbrev pub IsConsole : Line → Type 0
+abbrev pub IsConsole : ScriptLine → Type 0
 IsConsole line = (command : ConsoleCmd) × (line ≡ Console command)
 
 -- bytes that have a shape have one in each part of a script
 abbrev pub HaveOneShape : Type 0
-HaveOneShape = (part : Part) (bytes : List ℕ) (line other : Line)
+HaveOneShape = (part : Part) (bytes : List ℕ) (line other : ScriptLine)
     → HasShape bytes line → StandsIn part line
     → HasShape bytes other → StandsIn part other → line ≡ other
 
 -- bytes that have a form have one in each part of a script
 abbrev pub HaveOneForm : Type 0
-HaveOneForm = (part : Part) (bytes : List ℕ) (line other : Line)
+HaveOneForm = (part : Part) (bytes : List ℕ) (line other : ScriptLine)
     → HasForm bytes line → StandsIn part line
     → HasForm bytes other → StandsIn part other → line ≡ other
 

@@ -7,8 +7,8 @@ use Rattle.sd_memdrive.specs.declared.call.Call.TheVariants as call
 use Rattle.sd_plan.specs.declared.fail.When.{When}
 use Rattle.sd_plan.specs.declared.fail.When.TheVariants as «when»
 use Rattle.sd_script.specs.declared.line.Setting.TheVariants as setting
-use Rattle.sd_script.specs.declared.line.Line.{Line}
-use Rattle.sd_script.specs.declared.line.Line.TheVariants as line
+use Rattle.sd_script.specs.declared.line.ScriptLine.{ScriptLine}
+use Rattle.sd_script.specs.declared.line.ScriptLine.TheVariants as line
 use Rattle.sd_script.specs.declared.console.ConsoleCmd.TheVariants as console
 use Rattle.sd_script.specs.declared.line.LineFault.{LineFault}
 use Rattle.sd_script.specs.declared.line.LineFault.TheVariants.{BadCommand, BadName}
@@ -27,14 +27,14 @@ abbrev pub most_wide : ℕ
 most_wide = 18446744073709551615
 
 -- the line whose shape was read, where its names are names
-abbrev pub Gives : Result Line LineFault → Option Line → Type 0
+abbrev pub Gives : Result ScriptLine LineFault → Option ScriptLine → Type 0
 Gives result None = result ≡ Err BadCommand
 Gives result (Some line) =
     MatchResult result (λ found. (found ≡ line) × AreNames line)
     (λ e. (e ≡ BadName) × (AreNames line → ⊥))
 
 -- the line of `label` that these fields spell, whatever its names are
-unfoldable pub label_shape : Fields → Option Line
+unfoldable pub label_shape : Fields → Option ScriptLine
 label_shape fs = do
   drive ← number_at 1 most_drives fs
   volume ← word_at drive.1
@@ -43,28 +43,28 @@ label_shape fs = do
   all_read (line.Console (console.Label drive.0 volume.0 pool.0 media.0)) media.1
 
 -- the same of `adopt`
-unfoldable pub adopt_shape : Fields → Option Line
+unfoldable pub adopt_shape : Fields → Option ScriptLine
 adopt_shape fs = do
   drive ← number_at 1 most_drives fs
   volume ← word_at drive.1
   all_read (line.Console (console.Adopt drive.0 volume.0)) volume.1
 
 -- the same of `mount`
-unfoldable pub mount_shape : Fields → Option Line
+unfoldable pub mount_shape : Fields → Option ScriptLine
 mount_shape fs = do
   drive ← number_at 1 most_drives fs
   volume ← word_at drive.1
   all_read (line.Console (console.Mount drive.0 volume.0)) volume.1
 
 -- the same of `purge`
-unfoldable pub purge_shape : Fields → Option Line
+unfoldable pub purge_shape : Fields → Option ScriptLine
 purge_shape fs = do
   drive ← number_at 1 most_drives fs
   volume ← word_at drive.1
   all_read (line.Console (console.Purge drive.0 volume.0)) volume.1
 
 -- the same of `open`
-unfoldable pub open_shape : Fields → Option Line
+unfoldable pub open_shape : Fields → Option ScriptLine
 open_shape fs = do
   job ← number_at 1 most_number fs
   pool ← word_at job.1
@@ -72,7 +72,7 @@ open_shape fs = do
   all_read (line.Open job.0 pool.0 media.0) media.1
 
 -- the same of `rec`, whose text is all that is left behind its numbers
-unfoldable pub rec_shape : Fields → Option Line
+unfoldable pub rec_shape : Fields → Option ScriptLine
 rec_shape fs = do
   ticket ← number_at 1 most_number fs
   index ← number_at 1 most_number ticket.1
@@ -82,7 +82,7 @@ rec_shape fs = do
       else None
 
 -- the same of `fill`
-unfoldable pub fill_shape : Fields → Option Line
+unfoldable pub fill_shape : Fields → Option ScriptLine
 fill_shape fs = do
   ticket ← number_at 1 most_number fs
   index ← number_at 1 most_number ticket.1
@@ -91,20 +91,20 @@ fill_shape fs = do
   Some (line.Fill ticket.0 index.0 stream.0 count)
 
 -- the same of `host`
-unfoldable pub host_shape : Fields → Option Line
+unfoldable pub host_shape : Fields → Option ScriptLine
 host_shape fs = do
   host ← word_at fs
   all_read (line.Set (setting.Host host.0)) host.1
 
 -- the same of `drive`
-unfoldable pub drive_shape : Fields → Option Line
+unfoldable pub drive_shape : Fields → Option ScriptLine
 drive_shape fs = do
   media ← word_at fs
   lanes ← only_number 1 most_lanes media.1
   Some (line.Set (setting.Drive media.0 lanes))
 
 -- the same of `capacity`
-unfoldable pub capacity_shape : Fields → Option Line
+unfoldable pub capacity_shape : Fields → Option ScriptLine
 capacity_shape fs = do
   drive ← number_at 1 most_drives fs
   bytes ← only_number 0 most_capacity drive.1
@@ -145,7 +145,7 @@ when_at fs = do
   Some (way, word.1)
 
 -- the same of `fail`
-unfoldable pub fail_shape : Fields → Option Line
+unfoldable pub fail_shape : Fields → Option ScriptLine
 fail_shape fs = do
   drive ← number_at 1 most_drives fs
   kind ← call_at drive.1
@@ -154,14 +154,14 @@ fail_shape fs = do
   all_read (line.Set (setting.Fail drive.0 (record { call = kind.0; nth = nth.0; when = way.0 }))) way.1
 
 -- the same of `again`
-unfoldable pub again_shape : Fields → Option Line
+unfoldable pub again_shape : Fields → Option ScriptLine
 again_shape fs = do
   time ← number_at 1 most_number fs
   id ← only_number 1 most_number time.1
   Some (line.Again (record { time = time.0; id = id }))
 
 -- the same of `restart` of that time, with what a stop leaves
-unfoldable pub behind_shape : ℕ → Fields → Option Line
+unfoldable pub behind_shape : ℕ → Fields → Option ScriptLine
 behind_shape time fs = do
   drive ← number_at 1 most_drives fs
   volume ← word_at drive.1
@@ -169,22 +169,22 @@ behind_shape time fs = do
   Some (line.Restart time (Some (record { drive = drive.0; volume = volume.0; count = count })))
 
 -- the same of `restart` of that time, whether a field is left or not
-abbrev pub restart_behind : ℕ → Fields → Option Line
+abbrev pub restart_behind : ℕ → Fields → Option ScriptLine
 restart_behind time [] = Some (line.Restart time None)
 restart_behind time fs = behind_shape time fs
 
 -- the same of `restart`
-unfoldable pub restart_shape : Fields → Option Line
+unfoldable pub restart_shape : Fields → Option ScriptLine
 restart_shape fs = do
   time ← number_at 1 most_number fs
   restart_behind time.0 time.1
 
 -- a line of one number
-abbrev pub one_number : ℕ → ℕ → (ℕ → Line) → Fields → Option Line
+abbrev pub one_number : ℕ → ℕ → (ℕ → ScriptLine) → Fields → Option ScriptLine
 one_number least most made fs = only_number least most fs >>= λ n. Some (made n)
 
 -- the line of a command and the fields behind it
-abbrev pub shape : Command → Fields → Option Line
+abbrev pub shape : Command → Fields → Option ScriptLine
 shape Block fs = one_number least_block_limit most_block (λ n. line.Set (setting.Block n)) fs
 shape Volume fs = one_number 0 most_volume (λ n. line.Set (setting.Volume n)) fs
 shape SpoolLimit fs = one_number 0 most_volume (λ n. line.Set (setting.Spool n)) fs

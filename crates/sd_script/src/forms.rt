@@ -5,22 +5,22 @@ ghost use Rattle.sd_script.specs.Reading.{Gives, behind_shape, shape};
 ghost use Rattle.sd_script.specs.declared.command.Command.TheVariants as commands;
 
 use crate::console::ConsoleCmd;
-use crate::line::{Line, LineFault, MOST_MOMENT, Tail, Text};
+use crate::line::{LineFault, MOST_MOMENT, ScriptLine, Tail, Text};
 use sd_base::{MOST_DATA, MOST_NUMBER, Name, SessionKey};
 use sd_words::Words;
 
 /// The greatest FileIndex, Stream and VolSessionId, as a number of the width that fields are read in.
 const MOST: u64 = MOST_NUMBER as u64;
 
-pub fn at(words: Words<'_>) -> Result<Line<'_>, LineFault>
+pub fn at(words: Words<'_>) -> Result<ScriptLine<'_>, LineFault>
     ensures { Gives result (shape commands.At words.entry) }
 {
     let moment = words.only_number(0, MOST_MOMENT)?;
-    Ok(Line::At(moment as i64))
+    Ok(ScriptLine::At(moment as i64))
 }
 
 #[tactic(auto, unfolding(crate::specs::Reading::label_shape))]
-pub fn label(mut words: Words<'_>) -> Result<Line<'_>, LineFault>
+pub fn label(mut words: Words<'_>) -> Result<ScriptLine<'_>, LineFault>
     ensures { Gives result (shape commands.Label words.entry) }
 {
     let drive = words.numbered()?;
@@ -28,7 +28,7 @@ pub fn label(mut words: Words<'_>) -> Result<Line<'_>, LineFault>
     let pool = words.word()?;
     let media = words.word()?;
     words.end()?;
-    Ok(Line::Console(ConsoleCmd::Label {
+    Ok(ScriptLine::Console(ConsoleCmd::Label {
         drive,
         volume: Name::parse(volume)?,
         pool: Name::parse(pool)?,
@@ -37,53 +37,53 @@ pub fn label(mut words: Words<'_>) -> Result<Line<'_>, LineFault>
 }
 
 #[tactic(auto, unfolding(crate::specs::Reading::adopt_shape))]
-pub fn adopt(mut words: Words<'_>) -> Result<Line<'_>, LineFault>
+pub fn adopt(mut words: Words<'_>) -> Result<ScriptLine<'_>, LineFault>
     ensures { Gives result (shape commands.Adopt words.entry) }
 {
     let drive = words.numbered()?;
     let volume = words.word()?;
     words.end()?;
-    Ok(Line::Console(ConsoleCmd::Adopt {
+    Ok(ScriptLine::Console(ConsoleCmd::Adopt {
         drive,
         volume: Name::parse(volume)?,
     }))
 }
 
 #[tactic(auto, unfolding(crate::specs::Reading::mount_shape))]
-pub fn mount(mut words: Words<'_>) -> Result<Line<'_>, LineFault>
+pub fn mount(mut words: Words<'_>) -> Result<ScriptLine<'_>, LineFault>
     ensures { Gives result (shape commands.Mount words.entry) }
 {
     let drive = words.numbered()?;
     let volume = words.word()?;
     words.end()?;
-    Ok(Line::Console(ConsoleCmd::Mount {
+    Ok(ScriptLine::Console(ConsoleCmd::Mount {
         drive,
         volume: Name::parse(volume)?,
     }))
 }
 
 #[tactic(auto, unfolding(crate::specs::Reading::purge_shape))]
-pub fn purge(mut words: Words<'_>) -> Result<Line<'_>, LineFault>
+pub fn purge(mut words: Words<'_>) -> Result<ScriptLine<'_>, LineFault>
     ensures { Gives result (shape commands.Purge words.entry) }
 {
     let drive = words.numbered()?;
     let volume = words.word()?;
     words.end()?;
-    Ok(Line::Console(ConsoleCmd::Purge {
+    Ok(ScriptLine::Console(ConsoleCmd::Purge {
         drive,
         volume: Name::parse(volume)?,
     }))
 }
 
 #[tactic(auto, unfolding(crate::specs::Reading::open_shape))]
-pub fn open(mut words: Words<'_>) -> Result<Line<'_>, LineFault>
+pub fn open(mut words: Words<'_>) -> Result<ScriptLine<'_>, LineFault>
     ensures { Gives result (shape commands.Open words.entry) }
 {
     let job = words.numbered()?;
     let pool = words.word()?;
     let media = words.word()?;
     words.end()?;
-    Ok(Line::Open {
+    Ok(ScriptLine::Open {
         job,
         pool: Name::parse(pool)?,
         media: Name::parse(media)?,
@@ -91,7 +91,7 @@ pub fn open(mut words: Words<'_>) -> Result<Line<'_>, LineFault>
 }
 
 #[tactic(auto, unfolding(crate::specs::Reading::rec_shape))]
-pub fn rec(mut words: Words<'_>) -> Result<Line<'_>, LineFault>
+pub fn rec(mut words: Words<'_>) -> Result<ScriptLine<'_>, LineFault>
     ensures { Gives result (shape commands.Rec words.entry) }
 {
     let ticket = words.numbered()?;
@@ -101,7 +101,7 @@ pub fn rec(mut words: Words<'_>) -> Result<Line<'_>, LineFault>
     if text.len() > MOST_DATA {
         return Err(LineFault::BadCommand);
     }
-    Ok(Line::Rec {
+    Ok(ScriptLine::Rec {
         ticket,
         index: index as u32,
         stream: stream as u32,
@@ -110,14 +110,14 @@ pub fn rec(mut words: Words<'_>) -> Result<Line<'_>, LineFault>
 }
 
 #[tactic(auto, unfolding(crate::specs::Reading::fill_shape))]
-pub fn fill(mut words: Words<'_>) -> Result<Line<'_>, LineFault>
+pub fn fill(mut words: Words<'_>) -> Result<ScriptLine<'_>, LineFault>
     ensures { Gives result (shape commands.Fill words.entry) }
 {
     let ticket = words.numbered()?;
     let index = words.number(1, MOST)?;
     let stream = words.number(1, MOST)?;
     let count = words.only_number(0, MOST_DATA as u64)?;
-    Ok(Line::Fill {
+    Ok(ScriptLine::Fill {
         ticket,
         index: index as u32,
         stream: stream as u32,
@@ -126,37 +126,37 @@ pub fn fill(mut words: Words<'_>) -> Result<Line<'_>, LineFault>
 }
 
 #[tactic(auto, unfolding(crate::specs::Reading::again_shape))]
-pub fn again(mut words: Words<'_>) -> Result<Line<'_>, LineFault>
+pub fn again(mut words: Words<'_>) -> Result<ScriptLine<'_>, LineFault>
     ensures { Gives result (shape commands.Again words.entry) }
 {
     let time = words.number(1, MOST)?;
     let id = words.only_number(1, MOST)?;
-    Ok(Line::Again(SessionKey {
+    Ok(ScriptLine::Again(SessionKey {
         time: time as u32,
         id: id as u32,
     }))
 }
 
 #[tactic(auto, unfolding(crate::specs::Reading::restart_shape))]
-pub fn restart(mut words: Words<'_>) -> Result<Line<'_>, LineFault>
+pub fn restart(mut words: Words<'_>) -> Result<ScriptLine<'_>, LineFault>
     ensures { Gives result (shape commands.Restart words.entry) }
 {
     let time = words.number(1, MOST)? as u32;
     if words.end().is_ok() {
-        return Ok(Line::Restart { time, tail: None });
+        return Ok(ScriptLine::Restart { time, tail: None });
     }
     restart_behind(time, words)
 }
 
 /// The line `restart` of that time, with what a stop leaves.
 #[tactic(auto, unfolding(crate::specs::Reading::behind_shape))]
-fn restart_behind(time: u32, mut words: Words<'_>) -> Result<Line<'_>, LineFault>
+fn restart_behind(time: u32, mut words: Words<'_>) -> Result<ScriptLine<'_>, LineFault>
     ensures { Gives result (behind_shape time words.entry) }
 {
     let drive = words.numbered()?;
     let volume = words.word()?;
     let count = words.only_number(0, u64::MAX)?;
-    Ok(Line::Restart {
+    Ok(ScriptLine::Restart {
         time,
         tail: Some(Tail {
             drive,
@@ -166,23 +166,23 @@ fn restart_behind(time: u32, mut words: Words<'_>) -> Result<Line<'_>, LineFault
     })
 }
 
-pub fn drain(words: Words<'_>) -> Result<Line<'_>, LineFault>
+pub fn drain(words: Words<'_>) -> Result<ScriptLine<'_>, LineFault>
     ensures { Gives result (shape commands.Drain words.entry) }
 {
     words.end()?;
-    Ok(Line::Drain)
+    Ok(ScriptLine::Drain)
 }
 
-pub fn status(words: Words<'_>) -> Result<Line<'_>, LineFault>
+pub fn status(words: Words<'_>) -> Result<ScriptLine<'_>, LineFault>
     ensures { Gives result (shape commands.Status words.entry) }
 {
     words.end()?;
-    Ok(Line::Console(ConsoleCmd::Status))
+    Ok(ScriptLine::Console(ConsoleCmd::Status))
 }
 
-pub fn requests(words: Words<'_>) -> Result<Line<'_>, LineFault>
+pub fn requests(words: Words<'_>) -> Result<ScriptLine<'_>, LineFault>
     ensures { Gives result (shape commands.Requests words.entry) }
 {
     words.end()?;
-    Ok(Line::Console(ConsoleCmd::Requests))
+    Ok(ScriptLine::Console(ConsoleCmd::Requests))
 }

@@ -12,6 +12,6 @@ mod settings;
 
 pub use console::ConsoleCmd;
 pub use laws::{lines_have_one_form, lines_have_one_shape};
-pub use line::{Line, LineFault, Part, Setting, Tail, Text};
+pub use line::{LineFault, Part, ScriptLine, Setting, Tail, Text};
 pub use read::{read_console, read_line};
 pub use sd_memdrive::{Call, Fail, When};

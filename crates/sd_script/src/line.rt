@@ -16,7 +16,7 @@ pub const MOST_MOMENT: u64 = 0x7fff_ffff_ffff_ffff;
 
 /// A line of the script of `sdtool run`.
 #[derive(Drop)]
-pub enum Line<'a> {
+pub enum ScriptLine<'a> {
     Empty,
     Set(Setting),
     /// Sets the moment, in microseconds.

@@ -4,8 +4,8 @@ ghost use Rattle.sd_script.specs.Grammar.{HasForm, HasShape, AreNames, IsConsole
 ghost use Rattle.sd_script.specs.Command.{command_text, stands};
 ghost use Rattle.sd_script.specs.Reading.{Gives, shape};
 ghost use Rattle.sd_script.specs.declared.console.ConsoleCmd.{ConsoleCmd as SpecConsole};
-ghost use Rattle.sd_script.specs.declared.line.Line.{Line as SpecLine};
-ghost use Rattle.sd_script.specs.declared.line.Line.TheVariants.{Console};
+ghost use Rattle.sd_script.specs.declared.line.ScriptLine.{ScriptLine as SpecLine};
+ghost use Rattle.sd_script.specs.declared.line.ScriptLine.TheVariants.{Console};
 ghost use Rattle.sd_script.specs.declared.line.Part.TheVariants.{Body};
 ghost use Rattle.sd_script.specs.declared.command.Command.{Command as SpecCommand};
 
@@ -14,13 +14,13 @@ use crate::console::ConsoleCmd;
 use crate::forms::{
     adopt, again, at, drain, fill, label, mount, open, purge, rec, requests, restart, status,
 };
-use crate::line::{Line, LineFault, Part};
+use crate::line::{LineFault, Part, ScriptLine};
 use crate::settings::{block, capacity, drive, fail, host, queue, spool_limit, time, volume};
 use sd_words::Words;
 use std::str;
 
 /// The line that `bytes` spell in that part of a script, without the newline behind it.
-pub fn read_line(part: Part, bytes: &[u8]) -> Result<Line<'_>, LineFault>
+pub fn read_line(part: Part, bytes: &[u8]) -> Result<ScriptLine<'_>, LineFault>
     // What is read has the form of that line, and stands there,
     ensures ok { IfOk result (λ line. HasForm bytes.now line × StandsIn part line) }
     // and what has the form of a line that stands there is read as that.
@@ -34,7 +34,7 @@ pub fn read_line(part: Part, bytes: &[u8]) -> Result<Line<'_>, LineFault>
         ↔ ((line : SpecLine) → HasShape bytes.now line → StandsIn part line → ⊥) }
 {
     if bytes.is_empty() {
-        return Ok(Line::Empty);
+        return Ok(ScriptLine::Empty);
     }
     let Some(line) = ascii_text(bytes) else {
         return Err(LineFault::BadCommand);
@@ -71,11 +71,11 @@ pub fn read_console(bytes: &[u8]) -> Result<ConsoleCmd, LineFault>
 }
 
 /// The command of a line that a console has too.
-fn console_of(line: Line<'_>) -> Result<ConsoleCmd, LineFault>
+fn console_of(line: ScriptLine<'_>) -> Result<ConsoleCmd, LineFault>
     ensures { (command : SpecConsole) → line.entry ≡ Console command → result ≡ Ok command }
 {
     match line {
-        Line::Console(command) => Ok(command),
+        ScriptLine::Console(command) => Ok(command),
         _ => Err(LineFault::BadCommand),
     }
 }
@@ -125,7 +125,7 @@ fn first_command(part: Part, words: &mut Words<'_>) -> Option<Command>
 }
 
 /// The line of a command and the fields behind it.
-fn line_of(command: Command, words: Words<'_>) -> Result<Line<'_>, LineFault>
+fn line_of(command: Command, words: Words<'_>) -> Result<ScriptLine<'_>, LineFault>
     ensures { Gives result (shape command words.entry) }
 {
     match command {
@@ -142,23 +142,23 @@ fn line_of(command: Command, words: Words<'_>) -> Result<Line<'_>, LineFault>
         Command::Label => label(words),
         Command::Adopt => adopt(words),
         Command::Mount => mount(words),
-        Command::Unmount => Ok(Line::Console(ConsoleCmd::Unmount(words.only()?))),
-        Command::Seek => Ok(Line::Seek(words.only()?)),
-        Command::Retire => Ok(Line::Console(ConsoleCmd::Retire(words.only()?))),
+        Command::Unmount => Ok(ScriptLine::Console(ConsoleCmd::Unmount(words.only()?))),
+        Command::Seek => Ok(ScriptLine::Seek(words.only()?)),
+        Command::Retire => Ok(ScriptLine::Console(ConsoleCmd::Retire(words.only()?))),
         Command::Purge => purge(words),
         Command::Open => open(words),
         Command::Rec => rec(words),
         Command::Fill => fill(words),
-        Command::End => Ok(Line::End(words.only()?)),
-        Command::Cancel => Ok(Line::Console(ConsoleCmd::Cancel(words.only()?))),
-        Command::Spool => Ok(Line::Spool(words.only()?)),
-        Command::Despool => Ok(Line::Despool(words.only()?)),
-        Command::Take => Ok(Line::Take(words.only()?)),
-        Command::Place => Ok(Line::Place(words.only()?)),
-        Command::Sync => Ok(Line::Sync(words.only()?)),
-        Command::Close => Ok(Line::Close(words.only()?)),
-        Command::JobMedia => Ok(Line::Console(ConsoleCmd::JobMedia(words.only()?))),
-        Command::Read => Ok(Line::Read(words.only()?)),
+        Command::End => Ok(ScriptLine::End(words.only()?)),
+        Command::Cancel => Ok(ScriptLine::Console(ConsoleCmd::Cancel(words.only()?))),
+        Command::Spool => Ok(ScriptLine::Spool(words.only()?)),
+        Command::Despool => Ok(ScriptLine::Despool(words.only()?)),
+        Command::Take => Ok(ScriptLine::Take(words.only()?)),
+        Command::Place => Ok(ScriptLine::Place(words.only()?)),
+        Command::Sync => Ok(ScriptLine::Sync(words.only()?)),
+        Command::Close => Ok(ScriptLine::Close(words.only()?)),
+        Command::JobMedia => Ok(ScriptLine::Console(ConsoleCmd::JobMedia(words.only()?))),
+        Command::Read => Ok(ScriptLine::Read(words.only()?)),
         Command::Again => again(words),
         Command::Drain => drain(words),
         Command::Status => status(words),

@@ -4,7 +4,7 @@ ghost use Rattle.sd_words.specs.Reading.{ReadsFirst};
 ghost use Rattle.sd_script.specs.Reading.{Gives, call_at, shape, when_at};
 ghost use Rattle.sd_script.specs.declared.command.Command.TheVariants as commands;
 
-use crate::line::{Line, LineFault, Setting};
+use crate::line::{LineFault, ScriptLine, Setting};
 use sd_base::{
     LEAST_BLOCK_LIMIT, MOST_BLOCK, MOST_LANES, MOST_NUMBER, MOST_QUEUE, MOST_VOLUME, Name,
 };
@@ -14,73 +14,73 @@ use sd_words::{BadField, Words};
 /// The most bytes that a volume of a drive in memory may have room for.
 const MOST_CAPACITY: u64 = 67_108_864;
 
-pub fn block(words: Words<'_>) -> Result<Line<'_>, LineFault>
+pub fn block(words: Words<'_>) -> Result<ScriptLine<'_>, LineFault>
     ensures { Gives result (shape commands.Block words.entry) }
 {
     let size = words.only_number(LEAST_BLOCK_LIMIT as u64, MOST_BLOCK as u64)?;
-    Ok(Line::Set(Setting::Block(size as usize)))
+    Ok(ScriptLine::Set(Setting::Block(size as usize)))
 }
 
-pub fn volume(words: Words<'_>) -> Result<Line<'_>, LineFault>
+pub fn volume(words: Words<'_>) -> Result<ScriptLine<'_>, LineFault>
     ensures { Gives result (shape commands.Volume words.entry) }
 {
     let bytes = words.only_number(0, MOST_VOLUME)?;
-    Ok(Line::Set(Setting::Volume(bytes)))
+    Ok(ScriptLine::Set(Setting::Volume(bytes)))
 }
 
-pub fn spool_limit(words: Words<'_>) -> Result<Line<'_>, LineFault>
+pub fn spool_limit(words: Words<'_>) -> Result<ScriptLine<'_>, LineFault>
     ensures { Gives result (shape commands.SpoolLimit words.entry) }
 {
     let bytes = words.only_number(0, MOST_VOLUME)?;
-    Ok(Line::Set(Setting::Spool(bytes)))
+    Ok(ScriptLine::Set(Setting::Spool(bytes)))
 }
 
-pub fn queue(words: Words<'_>) -> Result<Line<'_>, LineFault>
+pub fn queue(words: Words<'_>) -> Result<ScriptLine<'_>, LineFault>
     ensures { Gives result (shape commands.Queue words.entry) }
 {
     let blocks = words.only_number(1, MOST_QUEUE as u64)?;
-    Ok(Line::Set(Setting::Queue(blocks as usize)))
+    Ok(ScriptLine::Set(Setting::Queue(blocks as usize)))
 }
 
-pub fn time(words: Words<'_>) -> Result<Line<'_>, LineFault>
+pub fn time(words: Words<'_>) -> Result<ScriptLine<'_>, LineFault>
     ensures { Gives result (shape commands.Time words.entry) }
 {
     let time = words.only_number(1, u64::from(MOST_NUMBER))?;
-    Ok(Line::Set(Setting::Time(time as u32)))
+    Ok(ScriptLine::Set(Setting::Time(time as u32)))
 }
 
 #[tactic(auto, unfolding(crate::specs::Reading::host_shape))]
-pub fn host(mut words: Words<'_>) -> Result<Line<'_>, LineFault>
+pub fn host(mut words: Words<'_>) -> Result<ScriptLine<'_>, LineFault>
     ensures { Gives result (shape commands.Host words.entry) }
 {
     let host = words.word()?;
     words.end()?;
-    Ok(Line::Set(Setting::Host(Name::parse(host)?)))
+    Ok(ScriptLine::Set(Setting::Host(Name::parse(host)?)))
 }
 
 #[tactic(auto, unfolding(crate::specs::Reading::drive_shape))]
-pub fn drive(mut words: Words<'_>) -> Result<Line<'_>, LineFault>
+pub fn drive(mut words: Words<'_>) -> Result<ScriptLine<'_>, LineFault>
     ensures { Gives result (shape commands.Drive words.entry) }
 {
     let media = words.word()?;
     let lanes = words.only_number(1, u64::from(MOST_LANES))?;
-    Ok(Line::Set(Setting::Drive {
+    Ok(ScriptLine::Set(Setting::Drive {
         media: Name::parse(media)?,
         lanes: lanes as u32,
     }))
 }
 
 #[tactic(auto, unfolding(crate::specs::Reading::capacity_shape))]
-pub fn capacity(mut words: Words<'_>) -> Result<Line<'_>, LineFault>
+pub fn capacity(mut words: Words<'_>) -> Result<ScriptLine<'_>, LineFault>
     ensures { Gives result (shape commands.Capacity words.entry) }
 {
     let drive = words.numbered()?;
     let bytes = words.only_number(0, MOST_CAPACITY)?;
-    Ok(Line::Set(Setting::Capacity { drive, bytes }))
+    Ok(ScriptLine::Set(Setting::Capacity { drive, bytes }))
 }
 
 #[tactic(auto, unfolding(crate::specs::Reading::fail_shape))]
-pub fn fail(mut words: Words<'_>) -> Result<Line<'_>, LineFault>
+pub fn fail(mut words: Words<'_>) -> Result<ScriptLine<'_>, LineFault>
     ensures { Gives result (shape commands.Fail words.entry) }
 {
     let drive = words.numbered()?;
@@ -88,7 +88,7 @@ pub fn fail(mut words: Words<'_>) -> Result<Line<'_>, LineFault>
     let nth = words.number(1, u64::MAX)?;
     let when = next_when(&mut words)?;
     words.end()?;
-    Ok(Line::Set(Setting::Fail {
+    Ok(ScriptLine::Set(Setting::Fail {
         drive,
         fail: Fail { call, nth, when },
     }))

@@ -76,12 +76,9 @@ store_of s = home_of s.store s.spool
 
 -- where an event finds a session that its status keeps from it
 abbrev pub status_refusal : Status → Refusal
-status_refusal Active = SessionNotOpen
-status_refusal Ended = SessionNotOpen
-status_refusal Closed = SessionNotOpen
 status_refusal Cancelled = SessionCancelled
 status_refusal Failed = SessionFailed
-status_refusal Purged = SessionNotOpen
+status_refusal status = SessionNotOpen
 
 -- the session goes on, with its end label or without
 abbrev pub IsRunning : Status → Type 0
@@ -110,11 +107,7 @@ end_label s moment = record { job = s.job; pool = s.pool; media = s.media; momen
 -- how the bodies of a session stand that goes on: between two records, or behind its end label
 abbrev pub standing_of : Status → Standing
 standing_of Active = Between
-standing_of Ended = AtEnd
-standing_of Closed = AtEnd
-standing_of Cancelled = AtEnd
-standing_of Failed = AtEnd
-standing_of Purged = AtEnd
+standing_of status = AtEnd
 
 -- how many bodies are in the spool
 abbrev pub spooled_count : Option JobView → ℕ

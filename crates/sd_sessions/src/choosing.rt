@@ -13,7 +13,7 @@ use sd_base::{DriveNo, LaneNo, MOST_DRIVES, MediaName, PoolName, Refusal};
 use sd_drive::Drive;
 use sd_driver::Driver;
 use sd_lane::Lanes;
-use sd_parts::{Bay, Entry, LaneSlot, Parts, free_lanes};
+use sd_parts::{Bay, LaneSlot, Parts, SessionEntry, free_lanes};
 use sd_reserve::{DriveView, lowest_free_lane, reserve};
 use sd_spool::SpoolStore;
 use std::array;
@@ -43,7 +43,7 @@ pub fn choose_drive<D: Driver, Q: Lanes, S: SpoolStore + Drop>(
 // What decides of each drive whether it takes a session, and behind them others that take none, up to the most that
 // there may be.
 fn drives_of<D: Driver, Q: Lanes, S: SpoolStore + Drop>(
-    sessions: &[Entry<S>],
+    sessions: &[SessionEntry<S>],
     bays: &[Bay<D, Q, S>],
     media: &MediaName,
 ) -> [DriveView; DRIVES]
@@ -62,7 +62,7 @@ fn drives_of<D: Driver, Q: Lanes, S: SpoolStore + Drop>(
 
 // What decides whether the drive in this bay takes a session.
 fn drive_in<D: Driver, Q: Lanes, S: SpoolStore + Drop>(
-    sessions: &[Entry<S>],
+    sessions: &[SessionEntry<S>],
     bay: &Bay<D, Q, S>,
 ) -> DriveView
     requires rise { (time : ℕ) × (next : ℕ) × NumbersRise time 1 next sessions.now }
@@ -123,7 +123,7 @@ fn last_pool<D: Driver>(drive: &Drive<D>) -> Option<PoolName>
 
 // How many lanes of the drive aren't free.
 fn count_busy<D: Driver, S: SpoolStore + Drop>(
-    sessions: &[Entry<S>],
+    sessions: &[SessionEntry<S>],
     drive: &Drive<D>,
     lanes: &[LaneSlot<S>],
 ) -> u32
@@ -143,7 +143,7 @@ fn count_busy<D: Driver, S: SpoolStore + Drop>(
 
 // The lowest lane of the drive that is free.
 pub fn choose_lane<D: Driver, S: SpoolStore + Drop>(
-    sessions: &[Entry<S>],
+    sessions: &[SessionEntry<S>],
     drive: &Drive<D>,
     lanes: &[LaneSlot<S>],
 ) -> LaneNo

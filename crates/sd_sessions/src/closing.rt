@@ -4,7 +4,7 @@ ghost use Rattle.sd_world.specs.Moves.{Moves};
 ghost use Rattle.sd_world.specs.Rules.{IsWorld};
 ghost use Rattle.sd_parts.specs.View.{world_of};
 
-use crate::place::place_of;
+use crate::place::index_of;
 use sd_base::{Refusal, Ticket};
 use sd_driver::Driver;
 use sd_lane::Lanes;
@@ -30,7 +30,7 @@ pub fn close<D: Driver, Q: Lanes, S: SpoolStore + Drop>(
     if let Err(why) = entry.session.running() {
         return Reply::Refused(why);
     }
-    let place = place_of(entry.drive);
+    let place = index_of(entry.drive);
     let bay = &parts.bays[place];
     let drive = bay.drive.as_ref().unwrap();
     let key = entry.session.key();
@@ -60,7 +60,7 @@ pub fn media<D: Driver, Q: Lanes, S: SpoolStore + Drop>(
         return Reply::Refused(Refusal::SessionNotOpen);
     };
     let entry = &parts.sessions[at];
-    let place = place_of(entry.drive);
+    let place = index_of(entry.drive);
     let bay = &parts.bays[place];
     let Some(drive) = &bay.drive else {
         return Reply::Refused(Refusal::DriveOffline);

@@ -9,14 +9,14 @@ ghost use Rattle.sd_parts.specs.View.{world_of};
 ghost use Rattle.sd_sessions.specs.Opening.{CanTakeStore, OpensAt, OpensNotAt};
 
 use crate::choosing::{choose_drive, choose_lane};
-use crate::place::place_of;
+use crate::place::index_of;
 use crate::starting::start;
 use sd_base::{DriveNo, JobId, MediaName, PoolName, Refusal, SessionKey, Ticket};
 use sd_drive::{Drive, Limits};
 use sd_driver::Driver;
 use sd_lane::Lanes;
 use sd_machine::Reply;
-use sd_parts::{Entry, LaneSlot, Parts};
+use sd_parts::{LaneSlot, Parts, SessionEntry};
 use sd_session::Opening;
 use sd_spool::SpoolStore;
 use std::alloc::{AllocError, Global};
@@ -43,7 +43,7 @@ pub fn open<D: Driver, Q: Lanes, S: SpoolStore + Drop>(
         Ok(drive) => drive,
         Err(why) => return Reply::Refused(why),
     };
-    let place = place_of(drive);
+    let place = index_of(drive);
     let bay = &mut parts.bays[place];
     let Some(at) = &mut bay.drive else {
         unreachable!();
@@ -83,7 +83,7 @@ pub fn open<D: Driver, Q: Lanes, S: SpoolStore + Drop>(
 fn open_at<D: Driver, S: SpoolStore + Drop>(
     alloc: Global,
     limits: &Limits,
-    sessions: &mut Vec<Entry<S>>,
+    sessions: &mut Vec<SessionEntry<S>>,
     at: &mut Drive<D>,
     lane: &mut LaneSlot<S>,
     ticket: Ticket,
@@ -104,13 +104,13 @@ fn open_at<D: Driver, S: SpoolStore + Drop>(
     let pool = opening.pool.copy();
     let session = start(alloc, limits, sessions, lane, ticket, opening)?;
     at.set_pool(&pool);
-    sessions.push_reserved(Entry { session, drive });
+    sessions.push_reserved(SessionEntry { session, drive });
     Ok(())
 }
 
 // Room for one session more, and for its first placement.
 fn make_room<D: Driver, S: SpoolStore + Drop>(
-    sessions: &mut Vec<Entry<S>>,
+    sessions: &mut Vec<SessionEntry<S>>,
     drive: &mut Drive<D>,
     key: SessionKey,
 ) -> Result<(), AllocError>

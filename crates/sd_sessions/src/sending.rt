@@ -7,7 +7,7 @@ ghost use Rattle.sd_world.specs.Sessions.{SendsStep};
 ghost use Rattle.sd_parts.specs.View.{world_of};
 ghost use Rattle.sd_session.specs.Sending.{DespoolRefused};
 
-use crate::place::place_of;
+use crate::place::index_of;
 use sd_base::{Refusal, Ticket};
 use sd_driver::Driver;
 use sd_lane::Lanes;
@@ -29,7 +29,7 @@ pub fn despool<D: Driver, Q: Lanes, S: SpoolStore + Drop>(
         return Reply::Refused(Refusal::SessionNotOpen);
     };
     let entry = &mut parts.sessions[at];
-    let place = place_of(entry.drive);
+    let place = index_of(entry.drive);
     let bay = &mut parts.bays[place];
     match send(&mut entry.session, &mut bay.queue) {
         Ok(Despooled::Sent) => Reply::Sent,

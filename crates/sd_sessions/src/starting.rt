@@ -8,7 +8,7 @@ ghost use Rattle.sd_sessions.specs.Opening.{CanTakeStore, StartsInLane, StartsNo
 
 use sd_base::{Refusal, Ticket};
 use sd_drive::Limits;
-use sd_parts::{Entry, LaneSlot, find};
+use sd_parts::{LaneSlot, SessionEntry, find};
 use sd_session::{Opening, Session};
 use sd_spool::SpoolStore;
 use std::alloc::Global;
@@ -17,7 +17,7 @@ use std::alloc::Global;
 pub fn start<S: SpoolStore + Drop>(
     alloc: Global,
     limits: &Limits,
-    sessions: &mut Vec<Entry<S>>,
+    sessions: &mut Vec<SessionEntry<S>>,
     lane: &mut LaneSlot<S>,
     ticket: Ticket,
     opening: Opening,
@@ -47,7 +47,10 @@ pub fn start<S: SpoolStore + Drop>(
 }
 
 // The store of a lane that is free: it lies in the lane, or the session that used the lane last gives it back.
-fn take_store<S: SpoolStore + Drop>(sessions: &mut Vec<Entry<S>>, lane: &mut LaneSlot<S>) -> S
+fn take_store<S: SpoolStore + Drop>(
+    sessions: &mut Vec<SessionEntry<S>>,
+    lane: &mut LaneSlot<S>,
+) -> S
     requires rise { (time : ℕ) × (next : ℕ) × NumbersRise time 1 next sessions.old.items }
     requires stored { CanTakeStore lane.old sessions.old.items }
     ensures takes { TakesStore lane.old sessions.old.items

@@ -5,10 +5,10 @@ use Rattle.sd_spool.specs.declared.call.SpoolCall.{SpoolCall}
 use Rattle.sd_spool.specs.declared.call.SpoolCall.TheVariants.{Append, Read, Clear}
 
 -- the place of the count of a kind
-abbrev pub place_of : SpoolCall → ℕ
-place_of Append = 0
-place_of Read = 1
-place_of Clear = 2
+abbrev pub index_of : SpoolCall → ℕ
+index_of Append = 0
+index_of Read = 1
+index_of Clear = 2
 
 -- only an append appends bytes
 abbrev pub appends : SpoolCall → Bool
@@ -18,4 +18,4 @@ appends Clear = false
 
 -- what a plan has to know of them
 abbrev pub spool_calls : Kinds SpoolCall
-spool_calls = record { place = place_of; appends = appends }
+spool_calls = record { place = index_of; appends = appends }

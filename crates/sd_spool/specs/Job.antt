@@ -5,7 +5,7 @@ use Rattle.sd_base.specs.Limits.{least_body, most_body}
 use Rattle.sd_pack.specs.Body.{PackedBody}
 use Rattle.sd_base.specs.Count.{Rose}
 use Rattle.sd_spool.specs.Meaning.{Meaning, IsHonest, CountsFailures, MayClear}
-use Rattle.sd_spool.specs.declared.entry.Entry.{Entry}
+use Rattle.sd_spool.specs.declared.entry.SpoolEntry.{SpoolEntry}
 use Rattle.sd_spool.specs.declared.entry.Extent.{Extent}
 use Rattle.sd_spool.specs.declared.store.SpoolStoreFault.{SpoolStoreFault}
 use Rattle.sd_spool.specs.declared.store.SpoolStoreFault.TheVariants.{Memory}
@@ -65,11 +65,11 @@ abbrev pub HoldsUsed : JobView → Meaning → Type 0
 HoldsUsed view store = IsHonest store → view.torn ≡ false → view.shapes ≢ [] → length store.bytes ≡ view.used
 
 -- what a spool knows of the body of an entry
-abbrev pub entry_shape : Entry → BodyShape
+abbrev pub entry_shape : SpoolEntry → BodyShape
 entry_shape entry = record { length = entry.length; first = entry.first; last = entry.last }
 
 -- that body, with the bytes that stand at its place
-abbrev pub entry_body : List ℕ → Entry → PackedBody
+abbrev pub entry_body : List ℕ → SpoolEntry → PackedBody
 entry_body bytes entry = record {
   bytes = take entry.length (drop entry.at bytes);
   first = entry.first;
@@ -77,7 +77,7 @@ entry_body bytes entry = record {
 }
 
 -- the view of a spool by its parts
-abbrev pub view_of : Meaning → List Entry → Extent → ℕ → JobView
+abbrev pub view_of : Meaning → List SpoolEntry → Extent → ℕ → JobView
 view_of store entries extent limit = record {
   store = state_of store;
   shapes = map entry_shape entries;
@@ -88,7 +88,7 @@ view_of store entries extent limit = record {
 }
 
 -- an entry is of a body that a block can hold, and its bytes end at or before this place
-pub record IsEntry (end : ℕ) (entry : Entry) : Type 0 where
+pub record IsEntry (end : ℕ) (entry : SpoolEntry) : Type 0 where
   pub least : least_body ≤ entry.length
   pub most : entry.length ≤ most_body
   pub within : entry.at + entry.length ≤ end
@@ -98,7 +98,7 @@ abbrev pub EndsAt : Meaning → Extent → Type 0
 EndsAt store extent = IsHonest store → extent.torn ≡ false → length store.bytes ≡ extent.end
 
 -- what the parts of a spool keep
-pub record IsKept (store : Meaning) (entries : List Entry) (extent : Extent) (limit : ℕ) : Type 0 where
+pub record IsKept (store : Meaning) (entries : List SpoolEntry) (extent : Extent) (limit : ℕ) : Type 0 where
   pub each : AllByRecursion (IsEntry extent.end) entries
   pub within : extent.end ≤ limit
   pub ends : EndsAt store extent

@@ -7,7 +7,7 @@ use crate::store::{SpoolStore, SpoolStoreFault};
 
 /// A body in the store: the place of its first byte, how many it has, and its first and last FileIndex.
 #[derive(Clone, Copy, Drop)]
-pub struct Entry {
+pub struct SpoolEntry {
     pub at: u64,
     pub length: usize,
     pub first: u32,

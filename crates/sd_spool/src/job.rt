@@ -4,7 +4,7 @@ ghost use Rattle.sd_base.specs.Limits.{most_body};
 ghost use Rattle.sd_spool.specs.Meaning.{IsHonest};
 ghost use Rattle.sd_spool.specs.Job.{state_of, empty_on, HoldsUsed, HasCause, FailsToClear, Puts, FailsToPut, Takes, FailsToTake};
 
-use crate::entry::{Entry, Extent};
+use crate::entry::{Extent, SpoolEntry};
 use crate::store::{SpoolStore, SpoolStoreFault};
 use sd_base::BLOCK_HEADER;
 use sd_block::FramedBody;
@@ -38,7 +38,7 @@ pub struct NotCleared<S> {
 pub struct JobSpool<S: SpoolStore> {
     alloc: Global,
     store: S,
-    entries: VecDeque<Entry>,
+    entries: VecDeque<SpoolEntry>,
     extent: Extent,
     limit: u64,
 }
@@ -123,7 +123,7 @@ impl<S: SpoolStore> JobSpool<S> {
             Err(SpoolStoreFault::Device) => return Err(PutFault::Device),
             Err(SpoolStoreFault::Memory) => return Err(PutFault::Memory),
         };
-        let entry = Entry {
+        let entry = SpoolEntry {
             at,
             length: bytes.len(),
             first: body.first,
@@ -148,7 +148,7 @@ impl<S: SpoolStore> JobSpool<S> {
         let Some(entry) = self.entries.front() else {
             return Ok(None);
         };
-        let Entry {
+        let SpoolEntry {
             at,
             length,
             first,

@@ -1,10 +1,10 @@
 -- Where in its deeds a world gave a reply.
-use Rattle.std.proofs.Common.{refl, subst, inl, inr, List, [], ◌∷◌, ◌++◌}
+use Rattle.std.proofs.Common.{refl, sym, subst, inl, inr, List, [], ◌∷◌, ◌++◌}
 use Rattle.sd_driver.specs.Meaning.{Meaning}
 use Rattle.sd_machine.specs.declared.event.Event.{Event}
 use Rattle.sd_machine.specs.declared.reply.Reply.{Reply}
 use Rattle.sd_world.specs.World.{WorldView}
-use Rattle.sd_world.specs.Deeds.{Deed, Answered, ReadBack, LeadsTo}
+use Rattle.sd_world.specs.Deeds.{Deed, IsDone, LeadsTo}
 use Rattle.sd_world.specs.Steps.{IsStep}
 use Rattle.sd_theorem.specs.Told.{WasGiven}
 
@@ -21,21 +21,18 @@ pub record GivenAt {D : Type 0} (meaning : D → Meaning) (old new : WorldView D
 pub given_at : {D : Type 0} (meaning : D → Meaning) (old new : WorldView D) (event : Event) (reply : Reply) (deeds : List Deed)
     → LeadsTo meaning old deeds new → WasGiven event reply deeds → GivenAt meaning old new event reply
 given_at meaning old new event reply [] leads given = absurd given
-given_at meaning old new event reply (Answered e r ∷ deeds) leads (inl is) = record {
+given_at meaning old new event reply (deed ∷ deeds) leads (inl is) = record {
   before = [];
   asked = old;
   leads = refl;
   now = leads.0;
-  step = subst (λ x. IsStep meaning old x reply leads.0) is.0 (subst (λ x. IsStep meaning old e x leads.0) is.1 leads.1);
+  step = subst (λ done. IsDone meaning done old leads.0) (sym is) leads.1;
   after = deeds;
   goes_on = leads.2;
 }
-given_at meaning old new event reply (Answered e r ∷ deeds) leads (inr later) =
+given_at meaning old new event reply (deed ∷ deeds) leads (inr later) =
     let g = given_at meaning leads.0 new event reply deeds leads.2 later in
-    record { before = Answered e r ∷ g.before; asked = g.asked; leads = (leads.0, leads.1, g.leads); now = g.now; step = g.step; after = g.after; goes_on = g.goes_on }
-given_at meaning old new event reply (ReadBack key spans got got' result ∷ deeds) leads later =
-    let g = given_at meaning leads.0 new event reply deeds leads.2 later in
-    record { before = ReadBack key spans got got' result ∷ g.before; asked = g.asked; leads = (leads.0, leads.1, g.leads); now = g.now; step = g.step; after = g.after; goes_on = g.goes_on }
+    record { before = deed ∷ g.before; asked = g.asked; leads = (leads.0, leads.1, g.leads); now = g.now; step = g.step; after = g.after; goes_on = g.goes_on }
 
 -- the world between some deeds and others
 pub split_at : {D : Type 0} (meaning : D → Meaning) (old new : WorldView D) (first later : List Deed) → LeadsTo meaning old (first ++ later) new

@@ -3,6 +3,7 @@ use Rattle.std.proofs.Common.{◌≡◌, ◌≢◌, ℕ, suc, ◌+◌, ◌<◌, 
 use Rattle.std.specs.Prelude.{◌⊎◌, ◌==◌, ◌&&◌, ◌||◌, not, IfOk, IfErr, OnErr}
 use Rattle.std.proofs.lemmas.List.Sums.{AllPass-from_list_all, list_all-from_AllPass}
 use Rattle.std.proofs.lemmas.Bool.{eq-eqb, eqb-true}
+use Rattle.std.specs.Option.{option_map_or}
 use Rattle.sd_base.specs.Key.{is_key}
 use Rattle.sd_base.specs.Record.{Record}
 use Rattle.sd_base.specs.declared.number.SessionKey.{SessionKey}
@@ -30,7 +31,7 @@ use Rattle.sd_world.specs.Matches.{Matches}
 use Rattle.sd_world.proofs.Pairs.{is_numbered}
 use Rattle.sd_world.proofs.Sessions.{found_session}
 use Rattle.sd_world.specs.Deeds.{CountsFit}
-use Rattle.sd_world.specs.Reading.{is_at_drive, are_at_drive, is_purged_session, any_purged_at, is_gone, due_with, due_in, due_at, read_due, ReadsDrive, ReadsWorld}
+use Rattle.sd_world.specs.Reading.{is_at_drive, are_at_drive, is_purged_session, any_purged_at, is_gone, due_with, due_at, read_due, ReadsDrive, ReadsWorld}
 use Rattle.sd_world.specs.Stands.{IsRetired}
 use Rattle.sd_world.specs.Stays.{AreClaimed}
 use Rattle.sd_world.proofs.ClaimLemmas.{one_drive}
@@ -59,7 +60,7 @@ due_claimed w key drive at bay s ss claimed number there =
     let place : drive ≡ suc at = omega (arith, number) in
     let gone = is_gone w key (s ∷ ss) in
     ap (due_at w key (s ∷ ss)) (claimed zero s (omega arith) ∙ ap Some place)
-    ∙ ap (due_in gone w.desk (suc at) (s ∷ ss)) there
+    ∙ ap (λ found. option_map_or (λ (b : BayView _). due_with gone w.desk (suc at) (s ∷ ss) b.drive) found (Some VolumeNotOnShelf)) there
     ∙ ap (λ n. due_with gone w.desk n (s ∷ ss) bay.drive) (sym place)
 
 -- none is due of a drive that is online, where nothing that is read is gone

@@ -18,7 +18,7 @@ use Rattle.sd_label.proofs.CuttingLemmas.{holds_one}
 use Rattle.sd_scan.specs.Lines.{found_of, found_text, line_text, report_lines, reports_lines}
 use Rattle.sd_scan.specs.Scan.{Scans}
 use Rattle.sd_scan.specs.declared.line.Found.{Found as FoundSession}
-use Rattle.sd_scan.specs.declared.line.Line.TheVariants.{Done}
+use Rattle.sd_scan.specs.declared.line.ScanLine.TheVariants.{Done}
 use Rattle.sd_scan.specs.declared.print.Told.TheVariants as told
 use Rattle.sd_scan.specs.declared.volumes.Outcome.{Outcome}
 use Rattle.sd_driver.specs.Shelf.{Shelf}

@@ -1,5 +1,5 @@
 -- What a drive's placements say of the bodies of a session.
-use Rattle.std.proofs.Common.{◌≡◌, ◌≢◌, if◌then◌else◌, ℕ, Bool, true, false, List, [], ◌∷◌, ◌++◌, map, refl, sym, ap, subst, ◌∙◌}
+use Rattle.std.proofs.Common.{◌≡◌, ◌≢◌, ◌⊎◌, inl, inr, if◌then◌else◌, ℕ, true, false, List, [], ◌∷◌, ◌++◌, map, refl, sym, ap, subst, ◌∙◌}
 use Rattle.std.proofs.lemmas.List.Elements.{All-from_recursion}
 use Rattle.std.specs.List.{AllByRecursion}
 use Rattle.sd_base.specs.Key.{is_key}
@@ -17,7 +17,7 @@ use Rattle.sd_session.specs.declared.status.Status.{Status}
 use Rattle.sd_session.specs.declared.status.Status.TheVariants.{Active, Cancelled, Closed, Ended, Failed, Purged}
 use Rattle.sd_span.specs.Spans.{placements_of}
 use Rattle.sd_span.specs.declared.placement.Placement.{Placement}
-use Rattle.sd_world.specs.Matches.{HasBodies, PacksCutting, bodies_with, sent_body, sent_to}
+use Rattle.sd_world.specs.Matches.{HasBodies, bodies_with, sent_body, sent_to}
 use Rattle.sd_world.proofs.Sent.{coming, placed_bodies, sent_are}
 use Rattle.sd_world.proofs.Sessions.{found_session}
 use Rattle.sd_theorem.specs.Closed.{PlacementsSay}
@@ -37,9 +37,10 @@ packed_each (fs ∷ rest) are = ((fs, are.1, refl), packed_each rest are.2)
 packed : (room : ℕ) (bodies : List PackedBody) (records : List Record) (standing : Standing) → Packs room bodies records standing → AllByRecursion IsPacked bodies
 packed room bodies records standing p = subst (AllByRecursion IsPacked) (sym p.bodies_are) (packed_each p.fragments p.holds_by.bodies_are)
 
-packed_cutting : (room : ℕ) (bodies : List PackedBody) (records : List Record) (ended : Bool) → PacksCutting room bodies records ended → AllByRecursion IsPacked bodies
-packed_cutting room bodies records false p = packed room bodies records Between p
-packed_cutting room bodies records true p = packed room bodies records AtEnd p
+packed_cutting : (room : ℕ) (bodies : List PackedBody) (records : List Record)
+    → Packs room bodies records Between ⊎ Packs room bodies records AtEnd → AllByRecursion IsPacked bodies
+packed_cutting room bodies records (inl p) = packed room bodies records Between p
+packed_cutting room bodies records (inr p) = packed room bodies records AtEnd p
 
 -- and each of the first of them
 packed_front : (xs ys : List PackedBody) → AllByRecursion IsPacked (xs ++ ys) → AllByRecursion IsPacked xs
@@ -53,7 +54,7 @@ packed_sent room sent parts Active records has unfailed unpurged = packed_front 
 packed_sent room sent parts Ended records has unfailed unpurged = packed_front sent parts (packed room (sent ++ parts) records AtEnd has)
 packed_sent room sent parts Closed records has unfailed unpurged = packed_front sent parts (packed room (sent ++ parts) records AtEnd has)
 packed_sent room sent parts Cancelled records has unfailed unpurged =
-    packed_front sent has.dropped (packed_cutting room (sent ++ has.dropped) records has.ended has.packs)
+    packed_front sent has.dropped (packed_cutting room (sent ++ has.dropped) records has.packs)
 packed_sent room sent parts Failed records has unfailed unpurged = absurd (unfailed refl)
 packed_sent room sent parts Purged records has unfailed unpurged = absurd (unpurged refl)
 

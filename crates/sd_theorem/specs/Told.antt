@@ -1,18 +1,17 @@
 -- What a world was asked and told, by its deeds alone.
-use Rattle.std.specs.Prelude.{◌≡◌, ◌⊎◌, ℕ, All, List, [], ◌∷◌, ◌++◌}
+use Rattle.std.specs.Prelude.{◌≡◌, ◌⊎◌, ℕ, All, List, ◌++◌}
 use Rattle.sd_base.specs.declared.number.SessionKey.{SessionKey}
+use Rattle.sd_machine.specs.Step.{IsAmong}
 use Rattle.sd_machine.specs.declared.event.Event.{Event}
 use Rattle.sd_machine.specs.declared.event.Event.TheVariants.{Close, Media, Adopt}
 use Rattle.sd_machine.specs.declared.reply.Reply.{Reply}
 use Rattle.sd_machine.specs.declared.reply.Reply.TheVariants.{Closed, Media as Spans, Adopted}
 use Rattle.sd_span.specs.declared.span.Span.{Span}
-use Rattle.sd_world.specs.Deeds.{Deed, Answered, ReadBack}
+use Rattle.sd_world.specs.Deeds.{Deed, Answered}
 
 -- the event was given this reply in one of the deeds
 abbrev pub WasGiven : Event → Reply → List Deed → Type 0
-WasGiven event reply [] = ⊥
-WasGiven event reply (Answered e r ∷ deeds) = ((e ≡ event) × (r ≡ reply)) ⊎ WasGiven event reply deeds
-WasGiven event reply (ReadBack key spans got got' result ∷ deeds) = WasGiven event reply deeds
+WasGiven event reply deeds = IsAmong deeds (Answered event reply)
 
 -- the session of this key was closed, with these spans
 abbrev pub WasClosedWith : SessionKey → List Span → List Deed → Type 0

@@ -11,8 +11,8 @@ use Rattle.sd_printer.specs.Says.{SaidView, Says}
 use Rattle.sd_printer.proofs.SaysLemmas.{says_none, says_then_nothing}
 use Rattle.sd_script.specs.declared.console.ConsoleCmd.{ConsoleCmd}
 use Rattle.sd_script.specs.declared.console.ConsoleCmd.TheVariants as console
-use Rattle.sd_script.specs.declared.line.Line.{Line}
-use Rattle.sd_script.specs.declared.line.Line.TheVariants as line
+use Rattle.sd_script.specs.declared.line.ScriptLine.{ScriptLine}
+use Rattle.sd_script.specs.declared.line.ScriptLine.TheVariants as line
 use Rattle.sd_span.specs.declared.span.Span.{Span}
 use Rattle.sd_words.specs.Lines.{line as as_line}
 use Rattle.sd_tool.specs.Doing.{Acts, ConsoleDoes, Gives, GivesSome, LineDoes, ReadsReply, ReadsUnless, console_event, plain_words}
@@ -41,7 +41,7 @@ console_does meaning console.Requests e old new is h = absurd (cc is)
 console_does meaning command e old new is h = subst (λ o. GivesSome meaning o old new) (sym is) h
 
 -- what a line does that reads nothing back
-pub acts_other : {D : Type 0} (meaning : D → Meaning) (l : Line) (old new : ScriptView D) → ((ticket : ℕ) → l ≡ line.Read ticket → ⊥) → ((key : SessionKey) → l ≡ line.Again key → ⊥) → Acts meaning l old new → LineDoes meaning l old new
+pub acts_other : {D : Type 0} (meaning : D → Meaning) (l : ScriptLine) (old new : ScriptView D) → ((ticket : ℕ) → l ≡ line.Read ticket → ⊥) → ((key : SessionKey) → l ≡ line.Again key → ⊥) → Acts meaning l old new → LineDoes meaning l old new
 acts_other meaning (line.Read ticket) old new no_read no_again acts = absurd (no_read ticket refl)
 acts_other meaning (line.Again key) old new no_read no_again acts = absurd (no_again key refl)
 acts_other meaning l old new no_read no_again acts = acts
@@ -57,7 +57,7 @@ reads_other meaning key (Media spans) old new other prints = absurd (other spans
 reads_other meaning key r old new other prints = prints
 
 -- the moment is set
-pub acts_at : {D : Type 0} (meaning : D → Meaning) (l : Line) (moment : ℤ) (old new : ScriptView D) → l ≡ line.At moment → new.stage ≡ old.stage → new.moment ≡ moment → new.closed ≡ old.closed → new.said ≡ old.said
+pub acts_at : {D : Type 0} (meaning : D → Meaning) (l : ScriptLine) (moment : ℤ) (old new : ScriptView D) → l ≡ line.At moment → new.stage ≡ old.stage → new.moment ≡ moment → new.closed ≡ old.closed → new.said ≡ old.said
     → Acts meaning l old new
 acts_at meaning (line.At other) moment old new is stage moment_is closed said =
     (stage, moment_is ∙ sym (cc is), closed, subst (λ (v : SaidView). Says old.said v []) (sym said) (says_none old.said))

@@ -5,8 +5,8 @@ use Rattle.sd_base.specs.declared.refusal.Refusal.{Refusal}
 use Rattle.sd_driver.specs.Meaning.{Meaning}
 use Rattle.sd_printer.specs.Says.{Says}
 use Rattle.sd_script.specs.Grammar.{AreNames, HasForm, HasShape, IsWithin, StandsIn}
-use Rattle.sd_script.specs.declared.line.Line.{Line}
-use Rattle.sd_script.specs.declared.line.Line.TheVariants as line
+use Rattle.sd_script.specs.declared.line.ScriptLine.{ScriptLine}
+use Rattle.sd_script.specs.declared.line.ScriptLine.TheVariants as line
 use Rattle.sd_script.specs.declared.line.LineFault.{LineFault}
 use Rattle.sd_script.specs.declared.line.LineFault.TheVariants as fault
 use Rattle.sd_script.specs.declared.line.Part.{Part}
@@ -47,14 +47,14 @@ restart_comes contents meaning part bytes time tail old (On s) form stands (inr 
 restart_comes contents meaning part bytes time tail old (Over ran) form stands (inr (says, status)) = inl ((time, tail, form), says, status)
 
 -- a line
-pub line_comes : {D Q W : Type 0} (contents : W → Option (List ℕ)) (meaning : D → Meaning) (part : Part) (bytes : List ℕ) (l : Line) (old : ScriptView D) (came : Came D Q W)
+pub line_comes : {D Q W : Type 0} (contents : W → Option (List ℕ)) (meaning : D → Meaning) (part : Part) (bytes : List ℕ) (l : ScriptLine) (old : ScriptView D) (came : Came D Q W)
     → HasForm bytes l → StandsIn part l → LineComes contents meaning l old came → Comes contents meaning part next.Line bytes old came
 line_comes contents meaning part bytes (line.Restart time tail) old came form stands comes = restart_comes contents meaning part bytes time tail old came form stands comes
 line_comes contents meaning part bytes l old came form stands (between, does, shown) =
     done_comes contents meaning part next.Line bytes old between came (inl (l, form, stands, does)) shown
 
 -- a line is done that makes no new world
-pub other_comes : {D Q W : Type 0} (contents : W → Option (List ℕ)) (meaning : D → Meaning) (l : Line) (old between : ScriptView D) (came : Came D Q W)
+pub other_comes : {D Q W : Type 0} (contents : W → Option (List ℕ)) (meaning : D → Meaning) (l : ScriptLine) (old between : ScriptView D) (came : Came D Q W)
     → ((time : ℕ) (tail : Option Tail) → l ≡ line.Restart time tail → ⊥) → LineDoes meaning l old between → Shown contents between came → LineComes contents meaning l old came
 other_comes contents meaning (line.Restart time tail) old between came other does shown = absurd (other time tail refl)
 other_comes contents meaning l old between came other does shown = (between, does, shown)
@@ -66,7 +66,7 @@ restart_within time (Some tail) within = within.0
 
 -- no line, for this
 pub no_line : (part : Part) (bytes : List ℕ) (why : LineFault)
-    → (why ≡ fault.BadName → (l : Line) × HasShape bytes l × StandsIn part l × (AreNames l → ⊥)) → (why ≡ fault.BadCommand → (l : Line) → HasShape bytes l → StandsIn part l → ⊥) → IsNoLine part bytes why
+    → (why ≡ fault.BadName → (l : ScriptLine) × HasShape bytes l × StandsIn part l × (AreNames l → ⊥)) → (why ≡ fault.BadCommand → (l : ScriptLine) → HasShape bytes l → StandsIn part l → ⊥) → IsNoLine part bytes why
 no_line part bytes fault.BadName name command = name refl
 no_line part bytes fault.BadCommand name command = command refl
 

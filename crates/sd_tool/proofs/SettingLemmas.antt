@@ -7,7 +7,7 @@ use Rattle.sd_machine.proofs.Lookups.{chosen}
 use Rattle.sd_memdrive.specs.declared.call.Call.{Call}
 use Rattle.sd_plan.specs.declared.fail.Fail.{Fail}
 use Rattle.sd_script.specs.Grammar.{HasForm}
-use Rattle.sd_script.specs.declared.line.Line.TheVariants.{Set}
+use Rattle.sd_script.specs.declared.line.ScriptLine.TheVariants.{Set}
 use Rattle.sd_script.specs.declared.line.Setting.{Setting}
 use Rattle.sd_memdrive.specs.declared.drive.MemDrive.{MemDrive}
 use Rattle.sd_drive.proofs.Places.{get_more}

@@ -26,7 +26,7 @@ use Rattle.sd_world.specs.Reading.{ReadsWorld}
 use Rattle.sd_core.specs.View.{device_of, devices_of}
 use Rattle.sd_tool.specs.Restart.{HandsOn, IsThere, RestartsAs, RestartsBy, StartsAnew, unfit}
 use Rattle.sd_tool.specs.Settings.{ValuesView, capacity_for, drive_count}
-use Rattle.sd_tool.specs.Stage.{StageView, retired_after}
+use Rattle.sd_tool.specs.ScriptStage.{StageView, retired_after}
 use Rattle.sd_tool.specs.declared.restart.Restart.{Restart}
 
 -- Steps and readings.

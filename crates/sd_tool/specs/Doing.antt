@@ -17,15 +17,15 @@ use Rattle.sd_readback.specs.declared.read.ReadEnd.{ReadEnd}
 use Rattle.sd_rounds.specs.Rounds.{Drains, PlaysMoving}
 use Rattle.sd_script.specs.declared.console.ConsoleCmd.{ConsoleCmd}
 use Rattle.sd_script.specs.declared.console.ConsoleCmd.TheVariants as console
-use Rattle.sd_script.specs.declared.line.Line.{Line}
-use Rattle.sd_script.specs.declared.line.Line.TheVariants as line
+use Rattle.sd_script.specs.declared.line.ScriptLine.{ScriptLine}
+use Rattle.sd_script.specs.declared.line.ScriptLine.TheVariants as line
 use Rattle.sd_span.specs.declared.span.Span.{Span}
 use Rattle.sd_tool.specs.ReplyLines.{closed_words, media_words, mounted_words, read_text, records_lines, refused_line, requests_text, status_text}
 use Rattle.sd_words.specs.Lines.{line as as_line}
 use Rattle.sd_tool.specs.Printed.{last_printed}
 use Rattle.sd_tool.specs.Refused.{unheld_refusal, unread_refusal}
 use Rattle.sd_tool.specs.Script.{KeepsRest, Prints, ScriptView}
-use Rattle.sd_tool.specs.Stage.{KeepsStage, StageMoves, StageView}
+use Rattle.sd_tool.specs.ScriptStage.{KeepsStage, StageMoves, StageView}
 use Rattle.sd_tool.specs.Told.{drained_text}
 use Rattle.sd_tool.specs.declared.printed.Closed.{Closed}
 
@@ -42,7 +42,7 @@ console_event (console.Cancel ticket) moment = Some (event.Cancel ticket)
 console_event command moment = None
 
 -- the event of a line that no console has and whose reply is printed as it is
-abbrev pub step_event : Line → ℤ → Option Event
+abbrev pub step_event : ScriptLine → ℤ → Option Event
 step_event (line.Open job pool media) moment = Some (event.Open job pool media moment)
 step_event (line.End ticket) moment = Some (event.End ticket moment)
 step_event (line.Spool ticket) moment = Some (event.Spool ticket)
@@ -166,7 +166,7 @@ ConsoleDoes meaning console.Requests old new = PrintsText old new (requests_text
 ConsoleDoes meaning command old new = GivesSome meaning (console_event command old.moment) old new
 
 -- what a line does that reads nothing back and makes no new world; one that does is none of these
-abbrev pub Acts : {D : Type 0} → (D → Meaning) → Line → ScriptView D → ScriptView D → Type 0
+abbrev pub Acts : {D : Type 0} → (D → Meaning) → ScriptLine → ScriptView D → ScriptView D → Type 0
 Acts meaning (line.Set setting) old new = Prints old new (refused_line refusal.BadCommand)
 Acts meaning (line.At moment) old new =
     (new.stage ≡ old.stage) × (new.moment ≡ moment) × (new.closed ≡ old.closed) × Says old.said new.said []
@@ -180,7 +180,7 @@ Acts meaning line.Drain old new = DrainsAll meaning old new
 Acts meaning other old new = GivesSome meaning (step_event other old.moment) old new
 
 -- What a line does that isn't `restart`.
-abbrev pub LineDoes : {D : Type 0} → (D → Meaning) → Line → ScriptView D → ScriptView D → Type 0
+abbrev pub LineDoes : {D : Type 0} → (D → Meaning) → ScriptLine → ScriptView D → ScriptView D → Type 0
 LineDoes meaning (line.Read ticket) old new =
     ReadsUnless meaning ticket (unread_refusal (status_at ticket old.stage.world.sessions)) old new
 LineDoes meaning (line.Again key) old new = ReadsPrinted meaning key old new

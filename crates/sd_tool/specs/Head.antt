@@ -1,7 +1,7 @@
 -- The head of a script: its settings, and the first line that is none.
 use Rattle.std.specs.Prelude.{◌≡◌, ◌⊎◌, ℕ, List, [], ◌∷◌, ◌++◌}
 use Rattle.sd_script.specs.Grammar.{HasForm}
-use Rattle.sd_script.specs.declared.line.Line.TheVariants.{Set}
+use Rattle.sd_script.specs.declared.line.ScriptLine.TheVariants.{Set}
 use Rattle.sd_script.specs.declared.line.Setting.{Setting}
 use Rattle.sd_tool.specs.declared.lines.Next.{Next}
 use Rattle.sd_tool.specs.declared.lines.Next.TheVariants as next

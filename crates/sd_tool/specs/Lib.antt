@@ -10,6 +10,6 @@ pub mod Restart
 pub mod Run
 pub mod Script
 pub mod Settings
-pub mod Stage
+pub mod ScriptStage
 pub mod Tail
 pub mod Told

@@ -7,7 +7,7 @@ use Rattle.sd_driver.specs.Meaning.{Meaning}
 use Rattle.sd_script.specs.declared.line.Tail.{Tail}
 use Rattle.sd_tool.specs.Making.{StartsAs}
 use Rattle.sd_tool.specs.Settings.{ValuesView, capacity_for, drive_count}
-use Rattle.sd_tool.specs.Stage.{StageView}
+use Rattle.sd_tool.specs.ScriptStage.{StageView}
 use Rattle.sd_tool.specs.Tail.{PutsTail}
 use Rattle.sd_tool.specs.declared.restart.Restart.{Restart}
 

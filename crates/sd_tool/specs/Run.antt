@@ -5,8 +5,8 @@ use Rattle.sd_base.specs.declared.refusal.Refusal.TheVariants as refusal
 use Rattle.sd_driver.specs.Meaning.{Meaning}
 use Rattle.sd_printer.specs.Says.{SaidView, Says, said_view}
 use Rattle.sd_script.specs.Grammar.{AreNames, HasForm, HasShape, StandsIn, line_refusal}
-use Rattle.sd_script.specs.declared.line.Line.{Line}
-use Rattle.sd_script.specs.declared.line.Line.TheVariants as line
+use Rattle.sd_script.specs.declared.line.ScriptLine.{ScriptLine}
+use Rattle.sd_script.specs.declared.line.ScriptLine.TheVariants as line
 use Rattle.sd_script.specs.declared.line.LineFault.{LineFault}
 use Rattle.sd_script.specs.declared.line.LineFault.TheVariants as fault
 use Rattle.sd_script.specs.declared.line.Part.{Part}
@@ -37,19 +37,19 @@ Restarts meaning restart old new =
     × KeepsRest old new × Says old.said new.said (as_line (restarted_text refused))
 
 -- what any line does
-abbrev pub Obeys : {D : Type 0} → (D → Meaning) → Line → ScriptView D → ScriptView D → Type 0
+abbrev pub Obeys : {D : Type 0} → (D → Meaning) → ScriptLine → ScriptView D → ScriptView D → Type 0
 Obeys meaning (line.Restart time tail) old new = Restarts meaning (record { time = time; tail = tail }) old new
 Obeys meaning other old new = LineDoes meaning other old new
 
 -- why these bytes are no line of that part
 abbrev pub IsNoLine : Part → List ℕ → LineFault → Type 0
-IsNoLine part bytes fault.BadName = (l : Line) × HasShape bytes l × StandsIn part l × (AreNames l → ⊥)
-IsNoLine part bytes fault.BadCommand = (l : Line) → HasShape bytes l → StandsIn part l → ⊥
+IsNoLine part bytes fault.BadName = (l : ScriptLine) × HasShape bytes l × StandsIn part l × (AreNames l → ⊥)
+IsNoLine part bytes fault.BadCommand = (l : ScriptLine) → HasShape bytes l → StandsIn part l → ⊥
 
 -- the line that these bytes are is obeyed; where they are none, they are refused
 abbrev pub ObeysBytes : {D : Type 0} → (D → Meaning) → Part → List ℕ → ScriptView D → ScriptView D → Type 0
 ObeysBytes meaning part bytes old new =
-    ((l : Line) × HasForm bytes l × StandsIn part l × Obeys meaning l old new)
+    ((l : ScriptLine) × HasForm bytes l × StandsIn part l × Obeys meaning l old new)
     ⊎ ((why : LineFault) × IsNoLine part bytes why × Prints old new (refused_line (line_refusal why)))
 
 -- what is done for what came
@@ -112,7 +112,7 @@ RestartComes {D} contents meaning restart old came =
     ⊎ EndsForMemory contents old.said came
 
 -- a line is done and shown
-abbrev pub LineComes : {D Q W : Type 0} → (W → Option (List ℕ)) → (D → Meaning) → Line → ScriptView D → Came D Q W → Type 0
+abbrev pub LineComes : {D Q W : Type 0} → (W → Option (List ℕ)) → (D → Meaning) → ScriptLine → ScriptView D → Came D Q W → Type 0
 LineComes contents meaning (line.Restart time tail) old came = RestartComes contents meaning (record { time = time; tail = tail }) old came
 LineComes {D} contents meaning other old came = (between : ScriptView D) × LineDoes meaning other old between × Shown contents between came
 

@@ -5,7 +5,7 @@ use Rattle.sd_base.specs.Limits.{most_drives, most_lanes}
 use Rattle.sd_memdrive.specs.declared.call.Call.{Call}
 use Rattle.sd_plan.specs.declared.fail.Fail.{Fail}
 use Rattle.sd_script.specs.Grammar.{HasForm, IsSettingWithin}
-use Rattle.sd_script.specs.declared.line.Line.TheVariants.{Set}
+use Rattle.sd_script.specs.declared.line.ScriptLine.TheVariants.{Set}
 use Rattle.sd_script.specs.declared.line.Setting.{Setting}
 use Rattle.sd_script.specs.declared.line.Setting.TheVariants as setting
 use Rattle.sd_tool.specs.declared.fits.Misfit.{Misfit}

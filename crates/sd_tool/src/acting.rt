@@ -18,7 +18,7 @@ use sd_base::{Bytes, DriveNo, Items, Rec, Refusal, Ticket, VolName};
 use sd_driver::Driver;
 use sd_lane::Lanes;
 use sd_machine::{Event, Reply};
-use sd_script::{ConsoleCmd, Line};
+use sd_script::{ConsoleCmd, ScriptLine};
 use sd_session::Status;
 use std::alloc::{AllocError, Global};
 use std::io::Write;
@@ -36,14 +36,14 @@ impl<D: Driver + Drop, Q: Lanes + Drop, W: Write + Drop> Script<D, Q, W> {
     }
 
     /// Does what a line does that reads nothing back and makes no new world. For one that does, nothing is done here.
-    pub(crate) fn act(&mut self, line: Line<'_>)
+    pub(crate) fn act(&mut self, line: ScriptLine<'_>)
         ensures { Acts (λ d. D.meaning d) line.entry (script_view W.contents self.old)
             (script_view W.contents self.new) }
     {
         match line {
-            Line::Set(_) => self.refuse(Refusal::BadCommand),
-            Line::At(moment) => self.moment = moment,
-            Line::Rec {
+            ScriptLine::Set(_) => self.refuse(Refusal::BadCommand),
+            ScriptLine::At(moment) => self.moment = moment,
+            ScriptLine::Rec {
                 ticket,
                 index,
                 stream,
@@ -52,15 +52,15 @@ impl<D: Driver + Drop, Q: Lanes + Drop, W: Write + Drop> Script<D, Q, W> {
                 let bytes = Bytes::from_slice(self.alloc, text.as_slice());
                 self.append(ticket, index, stream, bytes);
             }
-            Line::Fill {
+            ScriptLine::Fill {
                 ticket,
                 index,
                 stream,
                 count,
             } => self.append(ticket, index, stream, filled(self.alloc, count)),
-            Line::Console(command) => self.operate(command),
-            Line::Close(ticket) => self.close(ticket),
-            Line::Drain => self.drain(),
+            ScriptLine::Console(command) => self.operate(command),
+            ScriptLine::Close(ticket) => self.close(ticket),
+            ScriptLine::Drain => self.drain(),
             other => self.step_as(other),
         }
     }
@@ -84,7 +84,7 @@ impl<D: Driver + Drop, Q: Lanes + Drop, W: Write + Drop> Script<D, Q, W> {
     }
 
     /// The lines that are one step, and print its reply as it is.
-    fn step_as(&mut self, line: Line<'_>)
+    fn step_as(&mut self, line: ScriptLine<'_>)
         ensures { GivesSome (λ d. D.meaning d) (step_event line.entry self.old.moment)
             (script_view W.contents self.old) (script_view W.contents self.new) }
     {

@@ -14,7 +14,7 @@ use sd_base::Refusal;
 use sd_driver::Driver;
 use sd_lane::Lanes;
 use sd_printer::Printer;
-use sd_script::{Line, Part, read_line};
+use sd_script::{Part, ScriptLine, read_line};
 use std::io::Write;
 
 impl<D: Driver + Drop, Q: Lanes + Drop, W: Write + Drop> Script<D, Q, W> {
@@ -42,13 +42,13 @@ impl<D: Driver + Drop, Q: Lanes + Drop, W: Write + Drop> Script<D, Q, W> {
         }
     }
 
-    fn come_to(self, line: Line<'_>) -> Came<D, Q, W>
+    fn come_to(self, line: ScriptLine<'_>) -> Came<D, Q, W>
         requires { IsWithin line }
         ensures { LineComes W.contents (λ d. D.meaning d) line.entry
             (script_view W.contents self) result }
     {
         match line {
-            Line::Restart { time, tail } => self.restarted(Restart { time, tail }),
+            ScriptLine::Restart { time, tail } => self.restarted(Restart { time, tail }),
             other => self.obey(other).shown(),
         }
     }
@@ -129,19 +129,19 @@ impl<D: Driver + Drop, Q: Lanes + Drop, W: Write + Drop> Script<D, Q, W> {
     }
 
     /// Does what a line does that makes no new world.
-    fn obey(self, line: Line<'_>) -> Self
+    fn obey(self, line: ScriptLine<'_>) -> Self
         ensures { LineDoes (λ d. D.meaning d) line.entry (script_view W.contents self)
             (script_view W.contents result) }
     {
         match line {
-            Line::Read(ticket) => self.read(ticket),
-            Line::Again(key) => self.again(key),
+            ScriptLine::Read(ticket) => self.read(ticket),
+            ScriptLine::Again(key) => self.again(key),
             other => self.acted(other),
         }
     }
 
     // The script behind a line that reads nothing back.
-    fn acted(mut self, line: Line<'_>) -> Self
+    fn acted(mut self, line: ScriptLine<'_>) -> Self
         ensures { Acts (λ d. D.meaning d) line.entry (script_view W.contents self)
             (script_view W.contents result) }
     {

@@ -3,7 +3,7 @@ ghost use Rattle.std.specs.Prelude.{◌≡◌};
 ghost use Rattle.sd_tool.specs.Doing.{console_event, step_event};
 
 use sd_machine::Event;
-use sd_script::{ConsoleCmd, Line};
+use sd_script::{ConsoleCmd, ScriptLine};
 
 /// The event of a console's line whose reply is printed as it is.
 pub fn console_event(command: ConsoleCmd, moment: i64) -> Option<Event>
@@ -41,23 +41,23 @@ pub fn console_event(command: ConsoleCmd, moment: i64) -> Option<Event>
 }
 
 /// The event of a line that no console has and whose reply is printed as it is.
-pub fn step_event(line: Line<'_>, moment: i64) -> Option<Event>
+pub fn step_event(line: ScriptLine<'_>, moment: i64) -> Option<Event>
     ensures { result ≡ step_event line.entry moment }
 {
     match line {
-        Line::Open { job, pool, media } => Some(Event::Open {
+        ScriptLine::Open { job, pool, media } => Some(Event::Open {
             job,
             pool,
             media,
             moment,
         }),
-        Line::End(ticket) => Some(Event::End { ticket, moment }),
-        Line::Spool(ticket) => Some(Event::Spool { ticket }),
-        Line::Despool(ticket) => Some(Event::Despool { ticket }),
-        Line::Seek(drive) => Some(Event::Seek { drive }),
-        Line::Take(drive) => Some(Event::Take { drive }),
-        Line::Place(drive) => Some(Event::Place { drive }),
-        Line::Sync(drive) => Some(Event::Sync { drive }),
+        ScriptLine::End(ticket) => Some(Event::End { ticket, moment }),
+        ScriptLine::Spool(ticket) => Some(Event::Spool { ticket }),
+        ScriptLine::Despool(ticket) => Some(Event::Despool { ticket }),
+        ScriptLine::Seek(drive) => Some(Event::Seek { drive }),
+        ScriptLine::Take(drive) => Some(Event::Take { drive }),
+        ScriptLine::Place(drive) => Some(Event::Place { drive }),
+        ScriptLine::Sync(drive) => Some(Event::Sync { drive }),
         _ => None,
     }
 }

@@ -11,7 +11,7 @@ use crate::printed::Closed;
 use crate::record::RecordPrinter;
 use crate::replies::{print_read, print_reply};
 use crate::run::Script;
-use crate::stage::Stage;
+use crate::stage::ScriptStage;
 use sd_base::{Refusal, SessionKey, Ticket};
 use sd_driver::Driver;
 use sd_lane::Lanes;
@@ -98,7 +98,7 @@ impl<D: Driver + Drop, Q: Lanes + Drop, W: Write + Drop> Script<D, Q, W> {
 
 // Reads a session back by what was printed of it, where something was.
 fn read_printed<D: Driver + Drop, Q: Lanes + Drop, W: Write>(
-    stage: &mut Stage<D, Q>,
+    stage: &mut ScriptStage<D, Q>,
     key: SessionKey,
     printed: Option<&Closed>,
     mut out: Printer<W>,
@@ -118,7 +118,7 @@ fn read_printed<D: Driver + Drop, Q: Lanes + Drop, W: Write>(
 
 // Reads a session back, and prints its records as they come, and how that ended.
 fn read_back<D: Driver + Drop, Q: Lanes + Drop, W: Write>(
-    stage: &mut Stage<D, Q>,
+    stage: &mut ScriptStage<D, Q>,
     key: SessionKey,
     spans: &[Span],
     out: Printer<W>,
@@ -140,7 +140,7 @@ struct ReadTo<W> {
 
 // Reads a session back, and prints its records as they come.
 fn read_out<K: Before, D: Driver + Drop, Q: Lanes + Drop, W: Write>(
-    stage: &mut Stage<D, Q>,
+    stage: &mut ScriptStage<D, Q>,
     key: SessionKey,
     spans: &[Span],
     out: Printer<W>,

@@ -5,7 +5,7 @@ ghost use Rattle.sd_tool.specs.Restart.{HandsOn, IsThere, RestartsAs, unfit};
 ghost use Rattle.sd_tool.specs.Settings.{capacity_for, drive_count};
 
 use crate::making::Room;
-use crate::stage::Stage;
+use crate::stage::ScriptStage;
 use crate::tail::put_tail;
 use crate::values::Values;
 use sd_base::Refusal;
@@ -24,11 +24,11 @@ pub struct Restart {
 /// What a `restart` line came to: the world that stands now, and why the line was refused, if it was.
 #[derive(Drop)]
 pub struct Restarted<D: Driver, Q: Lanes> {
-    pub stage: Stage<D, Q>,
+    pub stage: ScriptStage<D, Q>,
     pub refused: Option<Refusal>,
 }
 
-impl<D: Driver + Drop, Q: Lanes + Drop> Stage<D, Q> {
+impl<D: Driver + Drop, Q: Lanes + Drop> ScriptStage<D, Q> {
     /// A new world of that time over the same drives, with the bytes of the tail appended before. Where the drive of the
     /// tail isn't there, or a drive was retired, or for want of memory, the old world stands; where the appending alone is
     /// refused the new one does. An `Err` comes where memory is wanted once the old world is gone.
@@ -45,7 +45,7 @@ impl<D: Driver + Drop, Q: Lanes + Drop> Stage<D, Q> {
         let Ok(room) = Room::new(alloc, &self.values, &self.queue) else {
             return Ok(self.refused(Refusal::Memory));
         };
-        let Stage {
+        let ScriptStage {
             world,
             queue,
             values,
@@ -55,7 +55,7 @@ impl<D: Driver + Drop, Q: Lanes + Drop> Stage<D, Q> {
         let mut drivers = match world.into_drivers() {
             Ok(drivers) => drivers,
             Err(world) => {
-                let same = Stage {
+                let same = ScriptStage {
                     world,
                     queue,
                     values,
@@ -67,7 +67,7 @@ impl<D: Driver + Drop, Q: Lanes + Drop> Stage<D, Q> {
         };
         let refused = append_tail(alloc, &values, &mut drivers, tail);
         let world = room.into_world(alloc, &values, time, drivers)?;
-        let stage = Stage {
+        let stage = ScriptStage {
             world,
             queue,
             values,

@@ -9,7 +9,7 @@ ghost use Rattle.sd_words.specs.Lines.{line};
 use crate::lines::{Lines, Next};
 use crate::printed::Printed;
 use crate::settings::Settings;
-use crate::stage::Stage;
+use crate::stage::ScriptStage;
 use crate::told::Told;
 use sd_base::Refusal;
 use sd_driver::Driver;
@@ -38,7 +38,7 @@ pub struct Ran<W> {
 #[derive(Drop)]
 pub struct Script<D: Driver, Q: Lanes, W: Write> {
     pub(crate) alloc: Global,
-    pub(crate) stage: Stage<D, Q>,
+    pub(crate) stage: ScriptStage<D, Q>,
     /// The moment of what happens now, in microseconds.
     pub(crate) moment: i64,
     pub(crate) printed: Printed,
@@ -101,7 +101,7 @@ pub fn run_script<D: Driver + Drop, Q: Lanes + Drop, R: BufRead, W: Write + Drop
     if let Some(misfit) = values.misfit() {
         return given_up(out, Told::Unfit(misfit));
     }
-    let Ok(stage) = Stage::new(alloc, values, drivers, queue) else {
+    let Ok(stage) = ScriptStage::new(alloc, values, drivers, queue) else {
         return given_up(out, Refusal::Memory);
     };
     let script = Script {

@@ -1,14 +1,14 @@
 // The settings of a script, and the first line that is none.
 ghost use Rattle.std.specs.Prelude.{◌≡◌, IfSome, IfNone};
 ghost use Rattle.sd_script.specs.Grammar.{HasForm};
-ghost use Rattle.sd_script.specs.declared.line.Line.TheVariants.{Set};
+ghost use Rattle.sd_script.specs.declared.line.ScriptLine.TheVariants.{Set};
 ghost use Rattle.sd_script.specs.declared.line.Setting.{Setting as SpecSetting};
 ghost use Rattle.sd_tool.specs.Head.{BeginsWith, IsHead};
 ghost use Rattle.sd_tool.specs.Settings.{IsOther};
 
 use crate::lines::{Lines, Next};
 use crate::values::Values;
-use sd_script::{Line, Part, Setting, read_line};
+use sd_script::{Part, ScriptLine, Setting, read_line};
 use std::alloc::Global;
 use std::io::BufRead;
 
@@ -69,12 +69,12 @@ fn setting_of(lines: &Lines, read: Next) -> Option<Setting>
 }
 
 /// The setting of a line, where it is one.
-fn setting_in(line: Line<'_>) -> Option<Setting>
+fn setting_in(line: ScriptLine<'_>) -> Option<Setting>
     ensures found { IfSome result (λ setting. line.entry ≡ Set setting) }
     ensures none { IfNone result ((setting : SpecSetting) → line.entry ≡ Set setting → ⊥) }
 {
     match line {
-        Line::Set(setting) => Some(setting),
+        ScriptLine::Set(setting) => Some(setting),
         _ => None,
     }
 }

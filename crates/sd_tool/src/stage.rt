@@ -5,7 +5,7 @@ ghost use Rattle.sd_world.specs.Deeds.{IsRead};
 ghost use Rattle.sd_core.specs.View.{status_at, view_of};
 ghost use Rattle.sd_tool.specs.Restart.{BeginsAs};
 ghost use Rattle.sd_tool.specs.Settings.{drive_count, misfit_of};
-ghost use Rattle.sd_tool.specs.Stage.{KeepsStage, StageMoves};
+ghost use Rattle.sd_tool.specs.ScriptStage.{KeepsStage, StageMoves};
 
 use crate::making::{Room, ScriptWorld};
 use crate::values::Values;
@@ -25,7 +25,7 @@ use std::marker::Model;
 /// A world, the settings that it was made of, the time of its run, and whether a drive of it was retired. In a contract
 /// it is a `StageView`.
 #[derive(Drop)]
-pub struct Stage<D: Driver, Q: Lanes> {
+pub struct ScriptStage<D: Driver, Q: Lanes> {
     pub(crate) world: ScriptWorld<D, Q>,
     /// An empty queue, which those of the worlds are like.
     pub(crate) queue: Q,
@@ -34,9 +34,9 @@ pub struct Stage<D: Driver, Q: Lanes> {
     pub(crate) retired: bool,
 }
 
-impl<D: Driver, Q: Lanes> Model for Stage<D, Q> {
+impl<D: Driver, Q: Lanes> Model for ScriptStage<D, Q> {
     ghost use Rattle.std.specs.Prelude.{◌≡◌};
-    ghost use Rattle.sd_tool.specs.Stage.{IsStage, StageView};
+    ghost use Rattle.sd_tool.specs.ScriptStage.{IsStage, StageView};
 
     ghost Value = { StageView D };
 
@@ -47,14 +47,14 @@ impl<D: Driver, Q: Lanes> Model for Stage<D, Q> {
         × (s.world.limits.time ≡ s.time) };
 }
 
-impl<D: Driver + Drop, Q: Lanes + Drop> Stage<D, Q> {
+impl<D: Driver + Drop, Q: Lanes + Drop> ScriptStage<D, Q> {
     /// The world that a script begins with, its queues like the one given.
     pub fn new(
         alloc: Global,
         values: Values,
         drivers: Vec<D>,
         queue: Q,
-    ) -> Result<Stage<D, Q>, AllocError>
+    ) -> Result<ScriptStage<D, Q>, AllocError>
         requires fits { misfit_of values ≡ None }
         requires drivers { length drivers.items ≡ drive_count values }
         ensures { IfOk result (BeginsAs (λ d. D.meaning d) values drivers.items) }
@@ -62,7 +62,7 @@ impl<D: Driver + Drop, Q: Lanes + Drop> Stage<D, Q> {
         let room = Room::new(alloc, &values, &queue)?;
         let time = values.time;
         let world = room.into_world(alloc, &values, time, drivers)?;
-        Ok(Stage {
+        Ok(ScriptStage {
             world,
             queue,
             values,

@@ -2,12 +2,13 @@
 use Rattle.std.proofs.Common.{◌≡◌, ◌≢◌, ◌⊎◌, inl, inr, ℕ, ◌-◌, ◌≤◌, refl, sym, ap, subst, ◌∙◌, arith, List, [], ◌∷◌, ◌++◌, drop, length, replicate}
 use Rattle.std.specs.Prelude.{ℤ, pos, neg_ℤ}
 use Rattle.std.proofs.lemmas.List.{append_assoc, append-nil, append_cancel_left, length-drop, length-replicate}
+use Rattle.std.specs.List.{AllByRecursion}
 use Rattle.sd_base.specs.Record.{Record, IsRecord}
 use Rattle.sd_record.specs.Fragment.{Fragment, BeginsData, Continue, Fragments, FragmentsOfAll}
 use Rattle.sd_record.proofs.RecordLemmas.{first_same, rest_same, fragments_of_one}
 use Rattle.sd_label.specs.declared.label.SessionLabel.{SessionLabel}
 use Rattle.sd_label.specs.Label.{session_label_fragment}
-use Rattle.sd_label.specs.Cutting.{Standing, Between, Within, AtEnd, Unfinished, Behind, IsEnd, AreRecords, IsSession}
+use Rattle.sd_label.specs.Cutting.{Standing, Between, Within, AtEnd, Unfinished, Behind, IsEnd, IsSession}
 use Rattle.sd_label.proofs.CuttingLemmas.{behind_no_record, label_is_no_record, fronts, front_nil}
 use Rattle.sd_unpack.specs.declared.stage.Due.{Due}
 use Rattle.sd_unpack.specs.Stage.{due_record, Opens, IsPartway}
@@ -64,12 +65,12 @@ begins_first r [] f fs xs is c e = absurd c
 begins_first r (g ∷ rest) f fs xs is c e =
     subst BeginsRecord (sym (first_same f g fs (rest ++ xs) e)) (record { begun = r; record_is = is; data_begin = c.0 })
 
-AreRecords-back : (xs ys : List Record) → AreRecords (xs ++ ys) → AreRecords ys
-AreRecords-back [] ys are = are
-AreRecords-back (x ∷ xs) ys are = AreRecords-back xs ys are.1
+records-back : (xs ys : List Record) → AllByRecursion IsRecord (xs ++ ys) → AllByRecursion IsRecord ys
+records-back [] ys are = are
+records-back (x ∷ xs) ys are = records-back xs ys are.1
 
 next_of : (all records more : List Record) (standing : Standing) (parts behind : List Fragment) (f : Fragment) (fs : List Fragment) → all ≡ records ++ more
-    → AreRecords more → FragmentsOfAll more parts → Behind all standing behind → f ∷ fs ≡ parts ++ behind → BeginsRecord f ⊎ EndsSession records f
+    → AllByRecursion IsRecord more → FragmentsOfAll more parts → Behind all standing behind → f ∷ fs ≡ parts ++ behind → BeginsRecord f ⊎ EndsSession records f
 next_of all records (r ∷ more) standing parts behind f fs split are c b e =
     inl (begins_first r c.0 f fs (c.1 ++ behind) are.0 c.3 (e ∙ ap (λ l. l ++ behind) c.2 ∙ append_assoc c.0 c.1 behind))
 next_of all records [] Between parts behind f fs split are c b e =
@@ -95,7 +96,7 @@ next_whole fs records records' standing f more s t =
     let bare : s.parts ++ f ∷ more ≡ t.parts ++ t.behind = ap (λ b. s.parts ++ (b ++ f ∷ more)) (sym s.behind_is) ∙ flat in
     let l = later records' records records' standing s.parts t.parts (f ∷ more) t.behind s.parts_are t.parts_are t.behind_is bare in
     next_of records' records l.more standing l.parts t.behind f more l.records_split
-    (AreRecords-back records l.more (subst AreRecords l.records_split t.records_are)) l.parts_are t.behind_is l.order
+    (records-back records l.more (subst (AllByRecursion IsRecord) l.records_split t.records_are)) l.parts_are t.behind_is l.order
 
 -- Behind a record's first fragments.
 
@@ -210,7 +211,7 @@ label_begins_none : (label : SessionLabel) → BeginsRecord (session_label_fragm
 label_begins_none label b = label_is_no_record label b.begun.index b.data_begin.index_is
 
 none_after : (all more : List Record) (standing : Standing) (parts behind : List Fragment) (label : SessionLabel) (f : Fragment) (fs : List Fragment)
-    → AreRecords more → FragmentsOfAll more parts → Behind all standing behind → session_label_fragment label ∷ (f ∷ fs) ≡ parts ++ behind → ⊥
+    → AllByRecursion IsRecord more → FragmentsOfAll more parts → Behind all standing behind → session_label_fragment label ∷ (f ∷ fs) ≡ parts ++ behind → ⊥
 none_after all (r ∷ more) standing parts behind label f fs are c b e =
     label_begins_none label (begins_first r c.0 (session_label_fragment label) (f ∷ fs) (c.1 ++ behind) are.0 c.3 (e ∙ ap (λ l. l ++ behind) c.2 ∙ append_assoc c.0 c.1 behind))
 none_after all [] Between parts behind label f fs are c b e = cc (e ∙ ap (λ l. l ++ behind) c ∙ b)
@@ -226,5 +227,5 @@ pub next_closed : (fs : List Fragment) (records records' : List Record) (standin
 next_closed fs records records' standing f more s t =
     let flat = labels_off s.start t.start fs s.parts s.behind t.parts t.behind (f ∷ more) s.order t.order in
     let l = later records' records records' standing s.parts t.parts (s.behind ++ f ∷ more) t.behind s.parts_are t.parts_are t.behind_is flat in
-    none_after records' l.more standing l.parts t.behind s.behind_is.0 f more (AreRecords-back records l.more (subst AreRecords l.records_split t.records_are))
+    none_after records' l.more standing l.parts t.behind s.behind_is.0 f more (records-back records l.more (subst (AllByRecursion IsRecord) l.records_split t.records_are))
     l.parts_are t.behind_is (ap (λ b. b ++ f ∷ more) (sym s.behind_is.2) ∙ l.order)

@@ -8,7 +8,7 @@ use Rattle.sd_record.proofs.RecordLemmas.{FragmentsOfAll-more}
 use Rattle.sd_label.specs.declared.label.SessionLabel.{SessionLabel}
 use Rattle.sd_label.specs.Label.{session_label_fragment}
 use Rattle.sd_label.specs.Cutting.{Between, IsSession}
-use Rattle.sd_label.proofs.CuttingLemmas.{AreRecords-more}
+use Rattle.sd_label.proofs.CuttingLemmas.{records-more}
 use Rattle.sd_unpack.specs.declared.stage.Due.{Due}
 use Rattle.sd_unpack.specs.Stage.{CouldBeRecord, due_record, Opens, IsPartway}
 use Rattle.sd_unpack.specs.Damage.{Continues}
@@ -37,7 +37,7 @@ session_record fs records r f s is c = record {
   order = order_more s.start fs s.parts s.behind f s.order
       ∙ ap (λ l. session_label_fragment s.start ∷ l) (behind_none s.parts s.behind (f ∷ []) s.behind_is ∙ sym (append-nil (s.parts ++ f ∷ [])));
   start_is = s.start_is;
-  records_are = AreRecords-more records r s.records_are is;
+  records_are = records-more records r s.records_are is;
   parts_are = FragmentsOfAll-more records r s.parts (f ∷ []) s.parts_are c;
   behind_is = refl;
 }
@@ -148,7 +148,7 @@ partway_whole fs records due so_far f s goes long =
       order = order_more s.start fs s.parts s.behind f s.order
           ∙ ap (λ l. session_label_fragment s.start ∷ l) (append_assoc s.parts s.behind (f ∷ []) ∙ sym (append-nil (s.parts ++ (s.behind ++ f ∷ []))));
       start_is = s.start_is;
-      records_are = AreRecords-more records (due_record due (so_far ++ f.part)) s.records_are (due_record_is due so_far f.part opens.due_is long);
+      records_are = records-more records (due_record due (so_far ++ f.part)) s.records_are (due_record_is due so_far f.part opens.due_is long);
       parts_are = FragmentsOfAll-more records (due_record due (so_far ++ f.part)) s.parts (s.behind ++ f ∷ []) s.parts_are (opens.whatever_comes f.part (f ∷ []) long (last_continues due f goes long));
       behind_is = refl;
     }

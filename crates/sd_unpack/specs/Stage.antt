@@ -1,12 +1,13 @@
 -- How far the fragments of a session have come.
 use Rattle.std.specs.Prelude.{◌≡◌, ◌≢◌, ◌⊎◌, ℕ, pos, ◌+◌, ◌^◌, ◌≤◌, Option, Some, None, List, [], ◌∷◌, ◌++◌, length}
-use Rattle.sd_base.specs.Record.{Record}
+use Rattle.std.specs.List.{AllByRecursion}
+use Rattle.sd_base.specs.Record.{Record, IsRecord}
 use Rattle.sd_base.specs.Limits.{most_number, most_data}
 use Rattle.sd_record.specs.Fragment.{Fragment, Continue, Fragments, FragmentsOfAll}
 use Rattle.sd_label.specs.declared.label.SessionLabel.{SessionLabel}
 use Rattle.sd_label.specs.declared.label.Totals.{Totals}
 use Rattle.sd_label.specs.Label.{session_label_fragment}
-use Rattle.sd_label.specs.Cutting.{Standing, Between, Within, AtEnd, IsStart, AreRecords, IsSession, total_bytes}
+use Rattle.sd_label.specs.Cutting.{Standing, Between, Within, AtEnd, IsStart, IsSession, total_bytes}
 use Rattle.sd_unpack.specs.declared.stage.Due.{Due}
 use Rattle.sd_unpack.specs.declared.stage.Stage.{Stage}
 use Rattle.sd_unpack.specs.declared.stage.Stage.TheVariants.{Fresh, Whole, Partway, Closed}
@@ -42,7 +43,7 @@ pub record IsPartway (fs : List Fragment) (records : List Record) (due : Due) (s
   pub behind : List Fragment
   pub order : fs ≡ session_label_fragment start ∷ (parts ++ behind)
   pub start_is : IsStart start
-  pub records_are : AreRecords records
+  pub records_are : AllByRecursion IsRecord records
   pub parts_are : FragmentsOfAll records parts
   pub behind_is : Opens behind due so_far
 

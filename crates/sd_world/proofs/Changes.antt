@@ -1,5 +1,5 @@
 -- What a session that an event changed matches: the machine's session that the event changed.
-use Rattle.std.proofs.Common.{◌≡◌, ℕ, ◌+◌, refl, sym, ap, subst, subst₂, ◌∙◌, inl, inr, ℤ, true, false, Option, Some, None, List, [], ◌∷◌, ◌++◌, length}
+use Rattle.std.proofs.Common.{◌≡◌, ℕ, ◌+◌, refl, sym, ap, subst, subst₂, ◌∙◌, inl, inr, ℤ, Option, Some, None, List, [], ◌∷◌, ◌++◌, length}
 use Rattle.std.proofs.lemmas.List.{length_push}
 use Rattle.std.proofs.lemmas.List.Sums.{sum_by_push}
 use Rattle.sd_base.specs.Record.{Record}
@@ -152,8 +152,8 @@ ends_session meaning w e v s moment ends h =
 -- what was sent of a session that goes on begins a cutting of its records
 running_begins : (room : ℕ) (sent parts : List PackedBody) (status : Status) (records : List Record) → IsRunning status
     → HasBodies room sent (sent ++ parts) status records → BeginsPacked room sent records
-running_begins room sent parts status records (inl is) h = record { dropped = parts; ended = false; packs = subst (λ status. HasBodies room sent (sent ++ parts) status records) is h }
-running_begins room sent parts status records (inr is) h = record { dropped = parts; ended = true; packs = subst (λ status. HasBodies room sent (sent ++ parts) status records) is h }
+running_begins room sent parts status records (inl is) h = record { dropped = parts; packs = inl (subst (λ status. HasBodies room sent (sent ++ parts) status records) is h) }
+running_begins room sent parts status records (inr is) h = record { dropped = parts; packs = inr (subst (λ status. HasBodies room sent (sent ++ parts) status records) is h) }
 
 pub cancels_session : {D : Type 0} (meaning : D → Meaning) (w : WorldView D) (e : WorldSession) (v : SessionView) (s : MachineSession)
     → CancelsSession e.session v → SessionMatches meaning w e s → OwnChange e v s (record s { status = IsCancelled })

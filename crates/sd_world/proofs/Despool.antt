@@ -69,21 +69,21 @@ despool_full meaning old new m ticket rules h moves =
     (next_room finds.body (stations_of e.session) finds.between finds.takes)) finds.running
     (subst StoreIsTrue (ap store_of finds.is ∙ next_store e.session.store finds.body (stations_of e.session) finds.between finds.takes))
     (λ honest. finds.bodies (spool_is_honest e.session honest))
-    (λ s there runs. (s, there, runs, refl)) refl
+    (λ s there runs. ((s, there, runs, refl), inr (inl refl))) refl
 
 despool_nothing : {D : Type 0} (meaning : D → Meaning) (old new : WorldView D) (m : Machine) (ticket : ℕ) → IsWorld old → Matches meaning old m
     → DespoolsSession despooled.Nothing old ticket new → StepsTo meaning m old (Despool ticket) Nothing new
 despool_nothing meaning old new m ticket rules h moves =
     session_stays meaning old new m ticket moves.e moves.session (Despool ticket) Nothing rules h moves.has
     (moves.new_is ∙ queue_stays old moves.e moves.session moves.at moves.bay moves.queue moves.online.there (moves.step.else_same (λ x. absurd (cc x))))
-    moves.step.step.is moves.step.step.running (λ s there runs. (s, there, runs, refl)) refl
+    moves.step.step.is moves.step.step.running (λ s there runs. ((s, there, runs, refl), inr (inr (inl refl)))) refl
 
 despool_not_due : {D : Type 0} (meaning : D → Meaning) (old new : WorldView D) (m : Machine) (ticket : ℕ) → IsWorld old → Matches meaning old m
     → DespoolsSession despooled.NotDue old ticket new → StepsTo meaning m old (Despool ticket) NotDue new
 despool_not_due meaning old new m ticket rules h moves =
     session_stays meaning old new m ticket moves.e moves.session (Despool ticket) NotDue rules h moves.has
     (moves.new_is ∙ queue_stays old moves.e moves.session moves.at moves.bay moves.queue moves.online.there (moves.step.else_same (λ x. absurd (cc x))))
-    moves.step.step.is moves.step.step.running (λ s there runs. (s, there, runs, refl)) refl
+    moves.step.step.is moves.step.step.running (λ s there runs. ((s, there, runs, refl), inr (inr (inr (inl refl))))) refl
 
 -- A body is sent.
 
@@ -186,7 +186,7 @@ despool_sent {D} meaning old new m ticket rules h moves =
     steps meaning old new m m (Despool ticket) Sent
     (ap (λ w. newly_struck old.sessions w.sessions) moves.new_is
     ∙ unstruck_with e (entry_with e v) ticket old.sessions moves.has id (running_unstruck v.status (subst IsRunning (sym moved.status_is) sends.running)))
-    (s, f.there, subst IsRunning (sym f.matches.status_is) sends.running, refl) refl
+    ((s, f.there, subst IsRunning (sym f.matches.status_is) sends.running, refl), inl refl) refl
     (subst (λ w. Matches meaning w m) (sym moves.new_is)
     (subst (λ n. Matches meaning w' n) same
     (one_changed meaning old w' m ticket (entry_with e v) s refl refl refl rules.numbers id own others h)))

@@ -1,9 +1,10 @@
 -- What happens at a drive is a turn of the list machine, which stays as it is.
 use Rattle.std.proofs.Common.{◌≡◌, ◌⊎◌, ℕ, cond, refl, sym, subst, inl, inr, [], pos, Bool, true, false, Option, Some, None, List, slice_get}
+use Rattle.std.specs.Option.{option_map_or}
 use Rattle.sd_base.specs.declared.refusal.Refusal.{Refusal}
 use Rattle.sd_base.specs.declared.refusal.Refusal.TheVariants.{NoSuchDrive, DriveOffline, OtherPoolOrMedia, InUse, VolumeNotOnShelf, NotAppendable}
 use Rattle.sd_driver.specs.Meaning.{Meaning}
-use Rattle.sd_drive.specs.Moves.{mount_due_at, mount_due_of, mount_due_from, place_of, is_append, is_at, is_other_pool}
+use Rattle.sd_drive.specs.Moves.{mount_due_at, index_of, is_append, is_at, is_other_pool}
 use Rattle.sd_drive.specs.View.{DriveIs}
 use Rattle.sd_machine.specs.Machine.{Machine}
 use Rattle.sd_machine.specs.Step.{Turns, MayRefuse, IsAmong, drive_refusals}
@@ -91,11 +92,12 @@ due_at loaded pool at v why h =
     ] in
     all (is_append v.status) (is_at loaded at) (is_other_pool pool v.pool) h
 
-due_of : {D : Type 0} (d : DriveIs D) (at : ℕ) (v : Option VolumeView) (why : Refusal) → mount_due_of d at v ≡ Some why → RefusesMount why
+due_of : {D : Type 0} (d : DriveIs D) (at : ℕ) (v : Option VolumeView) (why : Refusal) → option_map_or (mount_due_at d.loaded d.pool at) v (Some VolumeNotOnShelf) ≡ Some why → RefusesMount why
 due_of d at None why h = inl (cc h)
 due_of d at (Some v) why h = due_at d.loaded d.pool at v why h
 
-due_from : {D : Type 0} (d : DriveIs D) (at : Option ℕ) (why : Refusal) → mount_due_from d at ≡ Some why → RefusesMount why
+due_from : {D : Type 0} (d : DriveIs D) (at : Option ℕ) (why : Refusal)
+    → option_map_or (λ at. option_map_or (mount_due_at d.loaded d.pool at) (slice_get d.volumes at) (Some VolumeNotOnShelf)) at (Some VolumeNotOnShelf) ≡ Some why → RefusesMount why
 due_from d None why h = inl (cc h)
 due_from d (Some at) why h = due_of d at (slice_get d.volumes at) why h
 
@@ -116,7 +118,7 @@ module _ {D : Type 0} {meaning : D → Meaning} {s : Station D} {o : Outcome D} 
   adopt_refused name why (inr (inr (inr m))) = subst MayAdopt (sym m.why_is) (adopt_may m.cause)
 
   mount_refused : (name : List ℕ) (why : Refusal) → MountRefused meaning name why s o → MayMount why
-  mount_refused name why (inl m) = elim (due_from s.drive (place_of s.drive.volumes name) why m.0) [
+  mount_refused name why (inl m) = elim (due_from s.drive (index_of s.drive.volumes name) why m.0) [
     | inl is ↦ inr (inl is)
     | inr (inl is) ↦ inr (inr (inl is))
     | inr (inr (inl is)) ↦ inr (inr (inr (inl is)))

@@ -4,6 +4,7 @@ use Rattle.std.specs.Prelude.{◌||◌}
 use Rattle.std.proofs.lemmas.Bool.{eq-eqb, ne_eqb, and_from, and_right, and_left}
 use Rattle.std.proofs.lemmas.List.{map-append}
 use Rattle.std.proofs.lemmas.List.Elements.{filter-append}
+use Rattle.std.specs.List.{AllByRecursion}
 use Rattle.sd_base.specs.Key.{is_key}
 use Rattle.sd_base.specs.declared.number.SessionKey.{SessionKey}
 use Rattle.sd_drive.specs.View.{DriveIs, items, item_of_piece}
@@ -14,7 +15,7 @@ use Rattle.sd_lane.specs.declared.piece.Queued.{Queued}
 use Rattle.sd_span.specs.Spans.{placements_of}
 use Rattle.sd_span.specs.declared.placement.Placement.{Placement}
 use Rattle.sd_world.specs.World.{items_before, items_with}
-use Rattle.sd_world.specs.Rules.{IsOfOpened, AreOfOpened}
+use Rattle.sd_world.specs.Rules.{IsOfOpened}
 
 -- Keys.
 
@@ -102,28 +103,28 @@ items_before-send d queue queue' q held =
 
 -- Opened sessions.
 
-pub of_opened-more : (time next next' : ℕ) (is : List Item) → next ≤ next' → AreOfOpened time next is → AreOfOpened time next' is
+pub of_opened-more : (time next next' : ℕ) (is : List Item) → next ≤ next' → AllByRecursion (IsOfOpened time next) is → AllByRecursion (IsOfOpened time next') is
 of_opened-more time next next' [] up h = tt
 of_opened-more time next next' (i ∷ is) up h =
     (record { time_is = h.0.time_is; id_least = h.0.id_least; id_most = omega (arith, h.0.id_most, up) }, of_opened-more time next next' is up h.1)
 
-pub of_opened-push : (time next : ℕ) (is : List Item) (i : Item) → AreOfOpened time next is → IsOfOpened time next i → AreOfOpened time next (is ++ i ∷ [])
+pub of_opened-push : (time next : ℕ) (is : List Item) (i : Item) → AllByRecursion (IsOfOpened time next) is → IsOfOpened time next i → AllByRecursion (IsOfOpened time next) (is ++ i ∷ [])
 of_opened-push time next [] i h own = (own, tt)
 of_opened-push time next (x ∷ is) i h own = (h.0, of_opened-push time next is i h.1 own)
 
-pub of_opened-front : (time next : ℕ) (is js : List Item) → AreOfOpened time next (is ++ js) → AreOfOpened time next is
+pub of_opened-front : (time next : ℕ) (is js : List Item) → AllByRecursion (IsOfOpened time next) (is ++ js) → AllByRecursion (IsOfOpened time next) is
 of_opened-front time next [] js h = tt
 of_opened-front time next (x ∷ is) js h = (h.0, of_opened-front time next is js h.1)
 
 -- no item is of a session that isn't opened yet
-pub items_with-next : (key : SessionKey) (time next : ℕ) (is : List Item) → key.id ≡ next → AreOfOpened time next is → items_with key is ≡ []
+pub items_with-next : (key : SessionKey) (time next : ℕ) (is : List Item) → key.id ≡ next → AllByRecursion (IsOfOpened time next) is → items_with key is ≡ []
 items_with-next key time next [] id h = refl
 items_with-next key time next (i ∷ is) id h =
     ap (λ c. cond c (i ∷ items_with key is) (items_with key is)) (is_key_other key i.key (λ e. let below = h.0.id_most in omega (arith, below, e, id)))
     ∙ items_with-next key time next is id h.1
 
 -- nor does it fail
-pub fails-next : (key : SessionKey) (time next : ℕ) (es : List Entry) → key.id ≡ next → AreOfOpened time next (items_of (placements es)) → fails key es ≡ false
+pub fails-next : (key : SessionKey) (time next : ℕ) (es : List Entry) → key.id ≡ next → AllByRecursion (IsOfOpened time next) (items_of (placements es)) → fails key es ≡ false
 fails-next key time next [] id h = refl
 fails-next key time next (e ∷ es) id h =
     ap₂ (λ a b. a || b)
@@ -131,7 +132,7 @@ fails-next key time next (e ∷ es) id h =
     (fails-next key time next es id h.1)
 
 -- nor is a block of it gone
-pub gone-next : (key : SessionKey) (time next : ℕ) (es : List Entry) → key.id ≡ next → AreOfOpened time next (items_of (placements es)) → has_purged key es ≡ false
+pub gone-next : (key : SessionKey) (time next : ℕ) (es : List Entry) → key.id ≡ next → AllByRecursion (IsOfOpened time next) (items_of (placements es)) → has_purged key es ≡ false
 gone-next key time next [] id h = refl
 gone-next key time next (e ∷ es) id h =
     ap₂ (λ a b. a || b)

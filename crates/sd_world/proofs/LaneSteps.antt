@@ -2,12 +2,13 @@
 use Rattle.std.proofs.Common.{◌≡◌, ◌≢◌, ℕ, zero, suc, ◌≤◌, ◌==◌, refl, sym, ap, subst, ◌∙◌, arith, inl, inr, true, false, true≢false, Bool, cond, not, Option, Some, List, [], ◌∷◌, count_by, slice_get}
 use Rattle.std.proofs.lemmas.Bool.{eqb-true}
 use Rattle.std.proofs.lemmas.List.Sums.{sum_by-cons}
+use Rattle.std.specs.Option.{option_map_or}
 use Rattle.sd_drive.specs.View.{DriveIs}
 use Rattle.sd_journal.specs.Journal.{Entry, placed_of}
 use Rattle.sd_session.specs.Session.{IsRunning}
 use Rattle.sd_session.specs.declared.status.Status.{Status}
 use Rattle.sd_session.specs.declared.status.Status.TheVariants.{Active, Ended, Closed, Cancelled, Failed, Purged}
-use Rattle.sd_world.specs.World.{WorldSession, BayView, LaneView, session_at, is_done, is_done_of, leaves_lane, lane_is_free, free_lanes, busy_lanes}
+use Rattle.sd_world.specs.World.{WorldSession, BayView, LaneView, session_at, is_done, leaves_lane, lane_is_free, free_lanes, busy_lanes}
 use Rattle.sd_world.proofs.Lookups.{session_id}
 use Rattle.sd_world.proofs.Pairs.{PairAt, WithOne, pair_after}
 use Rattle.sd_world.proofs.Seats.{Sits, AreLanes, lane_stays}
@@ -22,8 +23,8 @@ pub not_free : (sessions : List WorldSession) (journal : List Entry) (ticket : �
     → IsRunning e.session.status → holder ≡ Some e.session.key.id → lane_is_free sessions journal holder ≡ false
 not_free sessions journal ticket e holder at runs holds =
     ap (lane_is_free sessions journal) holds
-    ∙ ap (λ n. is_done_of journal (session_at n sessions)) (session_id ticket sessions e at)
-    ∙ ap (is_done_of journal) at
+    ∙ ap (λ n. option_map_or (λ (x : WorldSession). is_done journal x.session) (session_at n sessions) true) (session_id ticket sessions e at)
+    ∙ ap (λ o. option_map_or (λ (x : WorldSession). is_done journal x.session) o true) at
     ∙ running_keeps e.session.status (e.session.sent == placed_of e.session.key journal) runs
 
 some_busy : (sessions : List WorldSession) (journal : List Entry) (lanes : List LaneView) (place : ℕ) (lane : LaneView) → slice_get lanes place ≡ Some lane

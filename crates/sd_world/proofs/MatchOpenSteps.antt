@@ -1,6 +1,7 @@
 -- A move of the world on an open is a step of the list machine.
 use Rattle.std.proofs.Common.{◌≡◌, ℕ, zero, suc, ◌+◌, ◌<◌, ◌≤◌, cond, refl, sym, ap, ap₂, subst, subst₂, ◌∙◌, arith, inl, inr, ℤ, pos, Option, Some, None, List, [], ◌∷◌, ◌++◌, map, append-nil, slice_set}
 use Rattle.std.specs.Prelude.{IsTrue}
+use Rattle.std.specs.List.{AllByRecursion}
 use Rattle.sd_base.specs.Limits.{most_number}
 use Rattle.sd_base.specs.declared.number.SessionKey.{SessionKey}
 use Rattle.sd_base.specs.declared.refusal.Refusal.{Refusal}
@@ -24,7 +25,7 @@ use Rattle.sd_spool.specs.Job.{StoreState, state_of}
 use Rattle.sd_spool.specs.Meaning.{Meaning as StoreMeaning}
 use Rattle.sd_volume.specs.Image.{Block}
 use Rattle.sd_world.specs.Moves.{Moves}
-use Rattle.sd_world.specs.Rules.{IsWorld, AreOfOpened}
+use Rattle.sd_world.specs.Rules.{IsWorld, IsOfOpened}
 use Rattle.sd_world.specs.Sessions.{OpensSession, OpensNot, OpenRefused, NoneReserved, next_key}
 use Rattle.sd_world.specs.World.{WorldView, WorldSession, BayView, LaneView, IsOnline, session_at, items_before}
 use Rattle.sd_world.proofs.Items.{is_key_other, of_opened-front}
@@ -40,7 +41,7 @@ use Rattle.sd_world.proofs.TakenStores.{taken_match, taken_unstruck, taken_next,
 
 -- Nothing was sent of a session that isn't opened yet.
 
-unsent_given : (key : SessionKey) (time next : ℕ) (is : List Item) (bs : List (Option Block)) → key.id ≡ next → AreOfOpened time next is → bodies_with key (sent_bodies is bs) ≡ []
+unsent_given : (key : SessionKey) (time next : ℕ) (is : List Item) (bs : List (Option Block)) → key.id ≡ next → AllByRecursion (IsOfOpened time next) is → bodies_with key (sent_bodies is bs) ≡ []
 unsent_given key time next [] bs id h = refl
 unsent_given key time next (i ∷ is) [] id h = refl
 unsent_given key time next (i ∷ is) (None ∷ bs) id h = unsent_given key time next is bs id h.1
@@ -49,18 +50,18 @@ unsent_given key time next (i ∷ is) (Some b ∷ bs) id h =
     ap (λ c. cond c (record { bytes = b.body; first = i.first; last = i.last } ∷ rest) rest) (is_key_other key i.key (λ e. let below = h.0.id_most in omega (arith, below, e, id)))
     ∙ unsent_given key time next is bs id h.1
 
-unsent_queued : (key : SessionKey) (time next : ℕ) (qs : List Queued) → key.id ≡ next → AreOfOpened time next (map (λ (q : Queued). item_of_piece q.piece) qs) → bodies_with key (bodies_queued qs) ≡ []
+unsent_queued : (key : SessionKey) (time next : ℕ) (qs : List Queued) → key.id ≡ next → AllByRecursion (IsOfOpened time next) (map (λ (q : Queued). item_of_piece q.piece) qs) → bodies_with key (bodies_queued qs) ≡ []
 unsent_queued key time next [] id h = refl
 unsent_queued key time next (q ∷ qs) id h =
     let rest = bodies_with key (bodies_queued qs) in
     ap (λ c. cond c (q.piece.body ∷ rest) rest) (is_key_other key q.piece.key (λ e. let below = h.0.id_most in omega (arith, below, e, id)))
     ∙ unsent_queued key time next qs id h.1
 
-of_opened-back : (time next : ℕ) (is js : List Item) → AreOfOpened time next (is ++ js) → AreOfOpened time next js
+of_opened-back : (time next : ℕ) (is js : List Item) → AllByRecursion (IsOfOpened time next) (is ++ js) → AllByRecursion (IsOfOpened time next) js
 of_opened-back time next [] js h = h
 of_opened-back time next (i ∷ is) js h = of_opened-back time next is js h.1
 
-unsent : {D : Type 0} (shelf : Shelf) (d : DriveIs D) (queue : LanesView) (key : SessionKey) (time next : ℕ) → key.id ≡ next → AreOfOpened time next (items_before d queue)
+unsent : {D : Type 0} (shelf : Shelf) (d : DriveIs D) (queue : LanesView) (key : SessionKey) (time next : ℕ) → key.id ≡ next → AllByRecursion (IsOfOpened time next) (items_before d queue)
     → bodies_with key (sent_to shelf d queue) ≡ []
 unsent shelf d queue key time next id h =
     let given = items d.journal d.hand in

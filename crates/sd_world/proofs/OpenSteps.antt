@@ -2,6 +2,7 @@
 use Rattle.std.proofs.Common.{◌≡◌, ℕ, zero, suc, ◌+◌, refl, sym, ap, subst, ◌∙◌, arith, inl, inr, true, false, Bool, true≢false, Some, None, IsSome, List, [], ◌∷◌, ◌++◌, length, slice_get, slice_set, option_map}
 use Rattle.std.proofs.lemmas.List.{length-set}
 use Rattle.std.proofs.lemmas.Option.{IfSome_then, MatchOption-at_some, slice_get-map}
+use Rattle.std.specs.List.{AllByRecursion}
 use Rattle.sd_base.specs.declared.number.SessionKey.{SessionKey}
 use Rattle.sd_drive.specs.View.{DriveIs, items}
 use Rattle.sd_journal.specs.Journal.{items_of, placements, fails, has_purged, with_key}
@@ -10,7 +11,7 @@ use Rattle.sd_session.specs.declared.status.Status.TheVariants.{Active}
 use Rattle.sd_spool.specs.Job.{StoreState}
 use Rattle.sd_spool.specs.Meaning.{Meaning as StoreMeaning}
 use Rattle.sd_world.specs.World.{WorldView, WorldSession, BayView, LaneView, session_at, with_session, items_before, items_with, lane_is_free}
-use Rattle.sd_world.specs.Rules.{NumbersRise, IsSeated, IsLane, IsWorld, AreOfOpened}
+use Rattle.sd_world.specs.Rules.{NumbersRise, IsSeated, IsLane, IsWorld, IsOfOpened}
 use Rattle.sd_world.specs.Sessions.{TakesStore, Reserves, OpensSession, OpensNot, next_key}
 use Rattle.sd_world.specs.Honest.{StoreIsTrue}
 use Rattle.sd_world.proofs.Lookups.{one_or_two, session_id, session_at-front, session_at-behind, session_at-push, get_set-same, get_set-other, get_set-tells}
@@ -209,7 +210,7 @@ opens {D} w w' job pool media moment ticket drive h o =
     let opened = old.of_opened o.d on in
     let none_sent : items_with o.session.key (items_before o.d o.bay.queue) ≡ [] =
     items_with-next o.session.key w.limits.time w.next (items_before o.d o.bay.queue) fresh.id_is opened in
-    let opened_placed : AreOfOpened w.limits.time w.next (items_of (placements o.d.journal)) =
+    let opened_placed : AllByRecursion (IsOfOpened w.limits.time w.next) (items_of (placements o.d.journal)) =
     of_opened-front w.limits.time w.next (items_of (placements o.d.journal)) (in_hand o.d.hand)
     (of_opened-front w.limits.time w.next (items o.d.journal o.d.hand) (in_queue o.bay.queue) opened) in
     let none_lost : fails o.session.key o.d.journal ≡ false = fails-next o.session.key w.limits.time w.next o.d.journal fresh.id_is opened_placed in

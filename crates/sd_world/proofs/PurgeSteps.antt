@@ -9,16 +9,16 @@ use Rattle.sd_base.specs.declared.refusal.Refusal.TheVariants.{InUse, VolumeNotO
 use Rattle.sd_desk.specs.Desk.{DeskView}
 use Rattle.sd_driver.specs.Meaning.{Meaning}
 use Rattle.sd_driver.specs.Shelf.{StillLastsBelow}
-use Rattle.sd_drive.specs.Moves.{EmptiesVolume, is_full, place_of, purge_due, purge_due_of}
+use Rattle.sd_drive.specs.Moves.{EmptiesVolume, is_full, index_of, purge_due, purge_due_at}
 use Rattle.sd_drive.specs.Shelf.{KeepsOtherPieces}
 use Rattle.sd_drive.specs.View.{DriveIs}
 use Rattle.sd_journal.specs.Journal.{Entry, has_on, placed_of}
 use Rattle.sd_session.specs.declared.status.Status.TheVariants.{Purged}
 use Rattle.sd_volume.specs.Volume.{VolumeView}
 use Rattle.sd_volume.specs.declared.volume.VolumeStatus.{VolumeStatus}
-use Rattle.std.specs.Option.{option_and_then}
+use Rattle.std.specs.Option.{option_and_then, option_map_or, option_or}
 use Rattle.sd_world.specs.World.{WorldView, WorldSession, BayView, LaneView, IsOnline, session_at, is_done}
-use Rattle.sd_world.specs.Drives.{PurgesVolume, keeps_volume, is_kept, due_or_kept, purge_due_in, is_on, purged_if_on, purged_sessions}
+use Rattle.sd_world.specs.Drives.{PurgesVolume, keeps_volume, is_kept, purge_due_in, is_on, purged_if_on, purged_sessions}
 use Rattle.sd_world.specs.Operators.{NotesPurge}
 use Rattle.sd_world.specs.Rules.{NumbersRise, IsWorld}
 use Rattle.sd_world.proofs.DriveMoves.{noted_claims}
@@ -91,7 +91,7 @@ drive_purges m = subst (λ n. DrivePurges n m.d m.after) m.name_is (empties m.pl
 abbrev pub RefusesPurge : Refusal → Type 0
 RefusesPurge why = (why ≡ VolumeNotOnShelf) ⊎ (why ≡ VolumeNotFull) ⊎ (why ≡ InUse)
 
-due_of : (loaded : Option ℕ) (o : Option VolumeView) (why : Refusal) → purge_due_of loaded o ≡ Some why → RefusesPurge why
+due_of : (loaded : Option ℕ) (o : Option VolumeView) (why : Refusal) → option_map_or (purge_due_at loaded) o (Some VolumeNotOnShelf) ≡ Some why → RefusesPurge why
 due_of loaded None why is = inl (cc is)
 due_of loaded (Some v) why is = from (is_full v.status) (is_some loaded) is
   where
@@ -100,7 +100,7 @@ due_of loaded (Some v) why is = from (is_full v.status) (is_some loaded) is
     from true false is = absurd (cc is)
     from false used is = inr (inl (cc is))
 
-due_kept : (o : Option Refusal) (kept : Bool) (why : Refusal) → due_or_kept o kept ≡ Some why → (o ≡ Some why) ⊎ (why ≡ InUse)
+due_kept : (o : Option Refusal) (kept : Bool) (why : Refusal) → option_or o (cond kept (Some InUse) None) ≡ Some why → (o ≡ Some why) ⊎ (why ≡ InUse)
 due_kept None true why is = inr (cc is)
 due_kept None false why is = absurd (cc is)
 due_kept (Some other) kept why is = inl is
@@ -108,13 +108,13 @@ due_kept (Some other) kept why is = inl is
 pub refuses_purge : {D : Type 0} (sessions : List WorldSession) (drive : ℕ) (d : DriveIs D) (name : List ℕ) (why : Refusal)
     → purge_due_in sessions drive d name ≡ Some why → RefusesPurge why
 refuses_purge sessions drive d name why is = elim (due_kept (purge_due d name) (is_kept drive name d.journal sessions) why is) [
-  | inl own ↦ due_of d.loaded (option_and_then (slice_get d.volumes) (place_of d.volumes name)) why own
+  | inl own ↦ due_of d.loaded (option_and_then (slice_get d.volumes) (index_of d.volumes name)) why own
   | inr used ↦ inr (inr used)
 ]
 
 -- Who keeps a lane.
 
-none_due : (o : Option Refusal) (kept : Bool) → due_or_kept o kept ≡ None → kept ≡ false
+none_due : (o : Option Refusal) (kept : Bool) → option_or o (cond kept (Some InUse) None) ≡ None → kept ≡ false
 none_due None true is = absurd (cc is)
 none_due None false is = refl
 none_due (Some why) kept is = absurd (cc is)

@@ -13,12 +13,13 @@ use Rattle.sd_session.specs.declared.answer.Despooled.TheVariants as despooled
 use Rattle.sd_session.specs.declared.status.Status.TheVariants.{Closed}
 use Rattle.sd_machine.proofs.Lookups.{not_closed}
 use Rattle.sd_world.specs.World.{WorldView, WorldSession, BayView, LaneView, IsOnline, session_at, with_session, with_bay, items_before, items_with}
-use Rattle.sd_world.specs.Rules.{IsOfOpened, AreOfOpened, IsSeated, IsWorld}
+use Rattle.sd_world.specs.Rules.{IsOfOpened, IsSeated, IsWorld}
 use Rattle.sd_world.specs.Sessions.{SendsStep, ClosesAt}
 use Rattle.sd_world.specs.Drives.{RetiresDrive}
 use Rattle.sd_world.specs.Honest.{StoreIsTrue}
 use Rattle.sd_spool.specs.Job.{StoreState}
 use Rattle.std.specs.Prelude.{IsTrue}
+use Rattle.std.specs.List.{AllByRecursion}
 use Rattle.sd_world.proofs.Framed.{TakesIn}
 use Rattle.sd_world.proofs.Lookups.{one_or_two, session_id, set_same}
 use Rattle.sd_world.proofs.Items.{is_key_same, is_key_other, items_with-own, items_with-other, items_before-take, items_before-send, of_opened-push, placed_most}
@@ -45,7 +46,7 @@ takes_piece {D} w w' drive ticket seq h t =
       media_is = inside.media_is;
       limits_are = inside.limits_are;
       claimed = inside.claimed;
-      of_opened = subst (AreOfOpened w.limits.time w.next) (sym same) inside.of_opened;
+      of_opened = subst (AllByRecursion (IsOfOpened w.limits.time w.next)) (sym same) inside.of_opened;
     } in
     subst IsWorld (sym t.new_is)
     (world_with w v t.at bay' h stays h.next_most h.numbers refl
@@ -194,7 +195,7 @@ sends_world {D} w ticket at e bay d t queue' piece lane h found online sends lan
       media_is = inside.media_is;
       limits_are = inside.limits_are;
       claimed = inside.claimed;
-      of_opened = subst (AreOfOpened w.limits.time w.next) (sym (more x)) (of_opened-push w.limits.time w.next (items_before x bay.queue) (item_of_piece piece) inside.of_opened opened);
+      of_opened = subst (AllByRecursion (IsOfOpened w.limits.time w.next)) (sym (more x)) (of_opened-push w.limits.time w.next (items_before x bay.queue) (item_of_piece piece) inside.of_opened opened);
     })
     (lanes_lodge (WithOne ticket e f) w.sessions es' (at + 1) bay.lanes pairs lodge (h.bays at bay online.there).lanes))
     (λ other b apart there. lanes_lodge (WithOne ticket e f) w.sessions es' (other + 1) b.lanes pairs lodge (h.bays other b there).lanes)

@@ -216,7 +216,7 @@ reads_own meaning w m e at bay d ps more rules pairs there cancelled h split som
     let blocks = blocks_of key (map (block_at shelf) ps) in
     let begins : BeginsPacked room sent f.s.records =
     subst (λ (status : Status). HasBodies room sent (bodies_in shelf d bay.queue e.session) status f.s.records) is (f.pair.bodies_are at bay d h.online h.honest) in
-    let held = cutting_holds room (sent ++ begins.dropped) f.s.records begins.ended begins.packs in
+    let held = cutting_holds room (sent ++ begins.dropped) f.s.records begins.packs in
     let front = begins_placed key shelf d bay.queue begins.dropped ps more split none in
     let holds = subst (λ l. Holds l f.s.records held.0) front.bytes_are held.1 in
     let begun = holds_front blocks (bytes_of front.more) f.s.records held.0 (λ none. some ((placed_alike key shelf ps).0 none)) holds in

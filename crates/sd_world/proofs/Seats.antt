@@ -1,6 +1,7 @@
 -- What a world keeps of a session, its lane and its drive's bay, when one of them changes.
 use Rattle.std.proofs.Common.{◌≡◌, ◌≢◌, ◌⊎◌, ℕ, ◌+◌, ◌≤◌, refl, sym, ap, subst, ◌∙◌, arith, inl, inr, true, false, Some, IsSome, List, ◌++◌, length, slice_get, slice_set}
 use Rattle.std.proofs.lemmas.Option.{IfSome_then}
+use Rattle.std.specs.List.{AllByRecursion}
 use Rattle.sd_base.specs.Key.{is_key}
 use Rattle.sd_base.specs.Limits.{most_lanes}
 use Rattle.sd_base.specs.declared.number.SessionKey.{SessionKey}
@@ -16,7 +17,7 @@ use Rattle.sd_span.specs.Spans.{placements_of}
 use Rattle.sd_span.specs.declared.placement.Placement.{Placement}
 use Rattle.sd_volume.specs.Volume.{VolumeView}
 use Rattle.sd_world.specs.World.{WorldView, WorldSession, BayView, LaneView, session_at, items_before, items_with}
-use Rattle.sd_world.specs.Rules.{IsSeated, IsLane, IsBay, AreOfOpened}
+use Rattle.sd_world.specs.Rules.{IsSeated, IsLane, IsBay, IsOfOpened}
 use Rattle.sd_world.proofs.Lookups.{one_or_two, get_set-same, get_set-other}
 use Rattle.sd_world.proofs.Views.{SessionStays, StoreStays}
 use Rattle.sd_world.proofs.Items.{none_in_hand, items_before-items, of_opened-more}
@@ -228,7 +229,7 @@ pub record IsInBay {D : Type 0} (w : WorldView D) (at : ℕ) (media : List ℕ) 
   pub media_is : d.media ≡ media
   pub limits_are : d.limits ≡ w.limits
   pub claimed : (place : ℕ) (v : VolumeView) → slice_get d.volumes place ≡ Some v → claimed_by w.desk v.name ≡ Some (at + 1)
-  pub of_opened : AreOfOpened w.limits.time w.next (items_before d queue)
+  pub of_opened : AllByRecursion (IsOfOpened w.limits.time w.next) (items_before d queue)
 
 -- the shape of a bay stays
 pub record ShapeStays {D : Type 0} (bay bay' : BayView D) : Type 0 where
@@ -262,7 +263,7 @@ inside_same w w' at bay d stays h on = record {
   media_is = h.media_is d on;
   limits_are = h.limits_are d on ∙ sym stays.limits_are;
   claimed = λ place v there. stays.claims v.name (at + 1) (h.claimed d on place v there);
-  of_opened = subst (λ (l : Limits). AreOfOpened l.time w'.next (items_before d bay.queue)) (sym stays.limits_are)
+  of_opened = subst (λ (l : Limits). AllByRecursion (IsOfOpened l.time w'.next) (items_before d bay.queue)) (sym stays.limits_are)
       (of_opened-more w.limits.time w.next w'.next (items_before d bay.queue) stays.next_up (h.of_opened d on));
 }
 
@@ -283,7 +284,7 @@ bay_drive w w' at bay d after stays h on drive claimed lanes =
       media_is = drive.media_is ∙ inside.media_is;
       limits_are = drive.limits_are ∙ inside.limits_are;
       claimed = claimed;
-      of_opened = subst (AreOfOpened w'.limits.time w'.next) (sym (items_before-items d after bay.queue drive.items_are)) inside.of_opened;
+      of_opened = subst (AllByRecursion (IsOfOpened w'.limits.time w'.next)) (sym (items_before-items d after bay.queue drive.items_are)) inside.of_opened;
     } in
     bay_with w w' at bay (record bay { drive = Some after }) stays h (record { media_is = refl; lanes_are = refl; queue_lanes = refl; capacity_is = refl })
     (λ x is. let same : after ≡ x = cc is in subst (IsInBay w' at bay.media bay.queue) same own) lanes

@@ -1,6 +1,6 @@
 -- All bodies that were sent of a session: those that were placed, by the bytes on the shelf, unless they are gone; then those on
 -- the way.
-use Rattle.std.proofs.Common.{◌≡◌, ℕ, Bool, true, false, Option, Some, None, List, [], ◌∷◌, ◌++◌, map, option_to_list, append_assoc, refl, ap, ◌∙◌}
+use Rattle.std.proofs.Common.{◌≡◌, ◌⊎◌, ℕ, inl, inr, Option, Some, None, List, [], ◌∷◌, ◌++◌, map, option_to_list, append_assoc, refl, ap, ◌∙◌}
 use Rattle.std.proofs.lemmas.List.{map-append}
 use Rattle.sd_base.specs.Record.{Record}
 use Rattle.sd_base.specs.declared.number.SessionKey.{SessionKey}
@@ -16,7 +16,7 @@ use Rattle.sd_pack.specs.Packing.{Packs, bytes_of}
 use Rattle.sd_pack.proofs.BodyLemmas.{same_body}
 use Rattle.sd_span.specs.declared.placement.Placement.{Placement}
 use Rattle.sd_volume.specs.Image.{Block}
-use Rattle.sd_world.specs.Matches.{SentBody, sent_body, sent_bodies, given_to, body_of_piece, queued_bodies, sent_to, bodies_with, PacksCutting}
+use Rattle.sd_world.specs.Matches.{SentBody, sent_body, sent_bodies, given_to, body_of_piece, queued_bodies, sent_to, bodies_with}
 use Rattle.sd_world.proofs.Bodies.{bodies_with-append, sent_front}
 pub use Rattle.sd_world.proofs.Bodies.{placed_bodies}
 
@@ -60,7 +60,8 @@ pub packed_holds : (room : ℕ) (bodies : List PackedBody) (records : List Recor
 packed_holds room bodies records standing p = record { fragments = p.fragments; holds_by = p.holds_by }
 
 -- with its end label or without
-pub cutting_holds : (room : ℕ) (bodies : List PackedBody) (records : List Record) (ended : Bool) → PacksCutting room bodies records ended
+pub cutting_holds : (room : ℕ) (bodies : List PackedBody) (records : List Record)
+    → Packs room bodies records Between ⊎ Packs room bodies records AtEnd
     → (standing : Standing) × Holds (bytes_of bodies) records standing
-cutting_holds room bodies records false p = (Between, packed_holds room bodies records Between p)
-cutting_holds room bodies records true p = (AtEnd, packed_holds room bodies records AtEnd p)
+cutting_holds room bodies records (inl p) = (Between, packed_holds room bodies records Between p)
+cutting_holds room bodies records (inr p) = (AtEnd, packed_holds room bodies records AtEnd p)

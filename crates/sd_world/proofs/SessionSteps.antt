@@ -7,7 +7,7 @@ use Rattle.sd_base.specs.declared.refusal.Refusal.{Refusal}
 use Rattle.sd_base.specs.declared.refusal.Refusal.TheVariants.{SessionNotOpen, SessionCancelled, SessionFailed, SpoolFault, Memory}
 use Rattle.sd_driver.specs.Meaning.{Meaning}
 use Rattle.sd_machine.proofs.Lookups.{chosen, not_closed}
-use Rattle.sd_machine.specs.Machine.{Machine, MachineSession, Strike, failure, session_of, changed}
+use Rattle.sd_machine.specs.Machine.{Machine, MachineSession, Strike, session_of, changed}
 use Rattle.sd_machine.specs.Step.{Turns, MayStrike, MayRefuse, RefusedFor, StatusRefused, HasSession}
 use Rattle.sd_machine.specs.declared.event.Event.{Event}
 use Rattle.sd_machine.specs.declared.event.Event.TheVariants.{Append, End, Cancel, Spool, Media}
@@ -26,7 +26,7 @@ use Rattle.sd_world.specs.Sessions.{TicketRefused, ChangesSession, RefusedWith, 
 use Rattle.sd_world.specs.World.{WorldView, WorldSession, HasTicket, session_at, with_session}
 use Rattle.sd_world.specs.Honest.{StoreIsTrue}
 use Rattle.sd_world.specs.Matches.{SessionMatches, Matches}
-use Rattle.sd_world.specs.MachineSteps.{StepsTo, newly_struck}
+use Rattle.sd_world.specs.MachineSteps.{StepsTo, failure, newly_struck}
 use Rattle.sd_world.proofs.Changes.{entry_with, session_world, session_step, machine_may_take, world_may_take, takes_record, ends_session, cancels_session, MovesBodies, parts_moved, spool_is_honest, running_unstruck}
 use Rattle.sd_world.proofs.Striking.{IsUnstruck, IsFailure, Struck, StruckOrStay, drops_struck, stays, struck_step, fails_strike, strikes_with, all_stay}
 use Rattle.sd_world.proofs.Frames.{Framed, HonestBack, frame_unmoved}
@@ -166,10 +166,10 @@ media_refused : {D : Type 0} (meaning : D → Meaning) (old : WorldView D) (tick
     → TicketRefused old ticket why (MediaCauses old why) → Matches meaning old m → MayRefuse m (Media ticket) why
 media_refused meaning old ticket why m refused h =
     ticket_refused meaning (MayRefuse m (Media ticket) why) old m ticket why (MediaCauses old why) h
-    (λ none is. inl (none, is))
+    (λ none is. inl (inl (none, is)))
     (λ e s there match causes. elim causes [
-      | inl c ↦ inr (s, there, inl c.5)
-      | inr c ↦ inr (s, there, inr (inl c.4))
+      | inl c ↦ inr (s, there, tt, inl c.5)
+      | inr c ↦ inr (s, there, tt, inr (inl c.4))
     ])
     refused
 
@@ -353,10 +353,10 @@ spool_causes why e v (inr (inr c)) = inr (inr (c.0.running, c.1, c.2))
 
 pub spool_steps : {D : Type 0} (meaning : D → Meaning) (old new : WorldView D) (ticket : ℕ) (reply : Reply) (m : Machine) → IsWorld old
     → Moves meaning old (Spool ticket) reply new → Matches meaning old m → StepsTo meaning m old (Spool ticket) reply new
-spool_steps meaning old new ticket Spooled m rules moves h = spool_moves meaning old new m ticket spooling.Spooled (Spool ticket) Spooled rules h moves (λ s there runs. (s, there, runs, refl)) refl
-spool_steps meaning old new ticket SpoolFull m rules moves h = spool_moves meaning old new m ticket spooling.SpoolFull (Spool ticket) SpoolFull rules h moves (λ s there runs. (s, there, runs, refl)) refl
-spool_steps meaning old new ticket Nothing m rules moves h = spool_moves meaning old new m ticket spooling.Nothing (Spool ticket) Nothing rules h moves (λ s there runs. (s, there, runs, refl)) refl
-spool_steps meaning old new ticket NoSpool m rules moves h = spool_moves meaning old new m ticket spooling.NoSpool (Spool ticket) NoSpool rules h moves (λ s there runs. (s, there, runs, refl)) refl
+spool_steps meaning old new ticket Spooled m rules moves h = spool_moves meaning old new m ticket spooling.Spooled (Spool ticket) Spooled rules h moves (λ s there runs. ((s, there, runs, refl), inl refl)) refl
+spool_steps meaning old new ticket SpoolFull m rules moves h = spool_moves meaning old new m ticket spooling.SpoolFull (Spool ticket) SpoolFull rules h moves (λ s there runs. ((s, there, runs, refl), inr (inl refl))) refl
+spool_steps meaning old new ticket Nothing m rules moves h = spool_moves meaning old new m ticket spooling.Nothing (Spool ticket) Nothing rules h moves (λ s there runs. ((s, there, runs, refl), inr (inr (inl refl)))) refl
+spool_steps meaning old new ticket NoSpool m rules moves h = spool_moves meaning old new m ticket spooling.NoSpool (Spool ticket) NoSpool rules h moves (λ s there runs. ((s, there, runs, refl), inr (inr (inr (inl refl))))) refl
 spool_steps meaning old new ticket (Refused why) m rules moves h =
     refused_with meaning old new m ticket why (Spool ticket) (λ s t. SpoolRefused s why t) rules h moves (spool_causes why)
     (λ r may. may) (λ strikes is. is) refl refl refl refl

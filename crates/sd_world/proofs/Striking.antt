@@ -6,7 +6,7 @@ use Rattle.sd_base.specs.Record.{Record}
 use Rattle.sd_base.specs.declared.number.SessionKey.{SessionKey}
 use Rattle.sd_driver.specs.Meaning.{Meaning}
 use Rattle.sd_machine.proofs.Lookups.{chosen}
-use Rattle.sd_machine.specs.Machine.{Machine, MachineSession, Strike, failure, purging, failed_status, status_after, struck, with_strikes}
+use Rattle.sd_machine.specs.Machine.{Machine, MachineSession, Strike, status_after, struck, with_strikes}
 use Rattle.sd_machine.specs.Step.{Step, Turns, MayStrike, StrikeWith}
 use Rattle.sd_machine.specs.declared.event.Event.{Event}
 use Rattle.sd_machine.specs.declared.reply.Reply.{Reply}
@@ -23,7 +23,7 @@ use Rattle.sd_world.proofs.Pairs.{is_numbered}
 use Rattle.sd_world.proofs.PurgeSteps.{purged_session}
 use Rattle.sd_world.proofs.Views.{runs}
 use Rattle.sd_world.specs.Matches.{HasBodies, SessionMatches, SessionsMatch, Matches}
-use Rattle.sd_world.specs.MachineSteps.{is_failed, strikes_of, newly_struck, StepsTo}
+use Rattle.sd_world.specs.MachineSteps.{is_failed, failure, purging, strikes_of, newly_struck, StepsTo}
 use Rattle.sd_world.proofs.Frames.{Framed, same_session}
 use Rattle.sd_world.proofs.Sessions.{found_session}
 
@@ -111,11 +111,11 @@ AreOf P e (x ∷ xs) = ((x.ticket ≡ e.session.key.id) × P x e) × AreOf P e x
 
 -- the failure of a session that goes on
 abbrev pub IsFailure : Strike → WorldSession → Type 0
-IsFailure x e = (x ≡ failure x.ticket) × IsRunning e.session.status
+IsFailure x e = (x.status ≡ Failed) × IsRunning e.session.status
 
 -- the purge of one that goes on no more
 abbrev pub IsPurge : Strike → WorldSession → Type 0
-IsPurge x e = (x ≡ purging x.ticket) × (IsRunning e.session.status → ⊥)
+IsPurge x e = (x.status ≡ Purged) × (IsRunning e.session.status → ⊥)
 
 -- The session has failed, or is purged, by such strikes: of the same counts.
 pub record Struck (P : Strike → WorldSession → Type 0) (e e' : WorldSession) : Type 0 where
@@ -134,10 +134,6 @@ fails_strike ticket old new running failed =
     ap (λ b. cond b (failure ticket ∷ []) (cond (not (was_purged old) && was_purged new) (purging ticket ∷ []) []))
     (ap₂ (λ a b. a && b) (runs old running) (ap is_failed failed))
 
-failed_of : (status : Status) → IsRunning status → failed_status status ≡ Failed
-failed_of status (inl is) = ap failed_status is
-failed_of status (inr is) = ap failed_status is
-
 -- who goes on and drops its parts, whatever its store, is struck so
 pub drops_struck : (e : WorldSession) (v : SessionView) (store : Option StoreState) (spool : Option JobView)
     → DropsParts (record e.session { store = store; spool = spool }) Failed v → Struck IsFailure e (record e { session = v })
@@ -148,7 +144,7 @@ drops_struck e v store spool drops =
     let one = fails_strike id status v.status drops.running failed in
     record {
       strikes = subst (AreOf IsFailure e) (sym one) ((refl, (refl, drops.running)), tt);
-      becomes = ap (λ xs. status_after xs id status) one ∙ ap (λ b. cond b (failed_status status) status) (eq-eqb id id refl) ∙ failed_of status drops.running ∙ sym failed;
+      becomes = ap (λ xs. status_after xs id status) one ∙ ap (λ b. cond b Failed status) (eq-eqb id id refl) ∙ sym failed;
       over = inl failed;
       key_is = ap (λ (x : SessionView). x.key) drops.is;
       count_is = ap (λ (x : SessionView). x.count) drops.is;
@@ -229,7 +225,7 @@ after_other : (t id : ℕ) (old new status : Status) → id ≢ t → status_aft
 after_other t id old new status other = from (is_running old && is_failed new) (not (was_purged old) && was_purged new)
   where
     from : (a b : Bool) → status_after (cond a (failure id ∷ []) (cond b (purging id ∷ []) [])) t status ≡ status
-    from true b = ap (λ c. cond c (failed_status status) status) (ne_eqb id t other)
+    from true b = ap (λ c. cond c Failed status) (ne_eqb id t other)
     from false true = ap (λ c. cond c Purged status) (ne_eqb id t other)
     from false false = refl
 

@@ -1,12 +1,13 @@
 -- What an event of a drive does in the world around it: where no such drive is online; and who fails by a sync that failed.
-use Rattle.std.specs.Prelude.{◌≡◌, ◌≢◌, ◌⊎◌, ℕ, ◌+◌, Bool, true, false, not, ◌==◌, ◌&&◌, if◌then◌else◌, Option, Some, None, List, [], ◌∷◌, map, slice_get, slice_set}
-use Rattle.std.specs.List.{list_any}
+use Rattle.std.specs.Prelude.{◌≡◌, ◌≢◌, ◌⊎◌, ℕ, ◌+◌, Bool, true, false, not, ◌==◌, ◌&&◌, if◌then◌else◌, Option, Some, None, List, [], map, slice_get, slice_set}
+use Rattle.std.specs.List.{list_any, AllZip}
+use Rattle.std.specs.Option.{option_or}
 use Rattle.sd_base.specs.declared.refusal.Refusal.{Refusal}
 use Rattle.sd_base.specs.declared.refusal.Refusal.TheVariants.{NoSuchDrive, DriveOffline, InUse, VolumeNotOnShelf, DeviceFault, Memory}
 use Rattle.sd_desk.specs.Desk.{DeskView}
 use Rattle.sd_driver.specs.Meaning.{Meaning, IsHonest}
 use Rattle.sd_driver.specs.Shelf.{SameShelf, StillLastsBelow}
-use Rattle.sd_drive.specs.Moves.{AddsNone, EmptiesVolume, place_of, purge_due}
+use Rattle.sd_drive.specs.Moves.{AddsNone, EmptiesVolume, index_of, purge_due}
 use Rattle.sd_drive.specs.Shelf.{KeepsOtherPieces}
 use Rattle.sd_drive.specs.View.{DriveIs}
 use Rattle.sd_journal.specs.Journal.{Entry, fails_with, has_on}
@@ -17,7 +18,7 @@ use Rattle.sd_machine.specs.declared.reply.Reply.{Reply}
 use Rattle.sd_machine.specs.declared.reply.Reply.TheVariants.{Refused}
 use Rattle.sd_session.specs.Session.{SessionView, FailsSession}
 use Rattle.sd_session.specs.declared.status.Status.{Status}
-use Rattle.sd_session.specs.declared.status.Status.TheVariants.{Active, Ended, Closed, Cancelled, Failed, Purged}
+use Rattle.sd_session.specs.declared.status.Status.TheVariants.{Active, Ended, Purged}
 use Rattle.sd_volume.specs.Adopt.{CutsAt}
 use Rattle.sd_volume.specs.Device.{Counted}
 use Rattle.sd_volume.specs.Volume.{VolumeView}
@@ -40,10 +41,7 @@ DriveMissing {D} w drive why = (at : ℕ) × (drive ≡ at + 1)
 abbrev pub is_running : Status → Bool
 is_running Active = true
 is_running Ended = true
-is_running Closed = false
-is_running Cancelled = false
-is_running Failed = false
-is_running Purged = false
+is_running status = false
 
 -- the session goes on at the drive, and a block of it awaits a sync of the volume
 abbrev pub loses_by : ℕ → List ℕ → List Entry → WorldSession → Bool
@@ -57,10 +55,7 @@ FailsWhere false e e' = e' ≡ e
 
 -- of the sessions exactly those fail that lose a block by it
 abbrev pub FailExactly : (WorldSession → Bool) → List WorldSession → List WorldSession → Type 0
-FailExactly loses [] [] = Unit {0}
-FailExactly loses [] (e' ∷ es') = ⊥
-FailExactly loses (e ∷ es) [] = ⊥
-FailExactly loses (e ∷ es) (e' ∷ es') = FailsWhere (loses e) e e' × FailExactly loses es es'
+FailExactly loses old new = AllZip (λ e e'. FailsWhere (loses e) e e') old new
 
 -- Where blocks of a volume are lost, exactly the sessions fail that go on at the drive and have a block on the volume
 -- that wasn't synced.
@@ -128,12 +123,8 @@ RetireRefused {D} old drive why new = (new ≡ old) × (DriveMissing old drive w
 
 -- the session was purged
 abbrev pub was_purged : Status → Bool
-was_purged Active = false
-was_purged Ended = false
-was_purged Closed = false
-was_purged Cancelled = false
-was_purged Failed = false
 was_purged Purged = true
+was_purged status = false
 
 -- the session is of the drive, and a block of it was placed on the volume
 abbrev pub is_on : ℕ → List ℕ → List Entry → WorldSession → Bool
@@ -147,15 +138,10 @@ keeps_volume drive name journal e = is_on drive name journal e && not (is_done j
 abbrev pub is_kept : ℕ → List ℕ → List Entry → List WorldSession → Bool
 is_kept drive name journal sessions = list_any (keeps_volume drive name journal) sessions
 
--- the drive's own refusal, or else in use, where this is so
-abbrev pub due_or_kept : Option Refusal → Bool → Option Refusal
-due_or_kept (Some why) kept = Some why
-due_or_kept None kept = if kept then Some InUse else None
-
 -- Which refusal of a purge is due before the device is asked: the drive's own; or a session of the drive that keeps its lane from being
 -- free has a block on the volume.
 abbrev pub purge_due_in : {D : Type 0} → List WorldSession → ℕ → DriveIs D → List ℕ → Option Refusal
-purge_due_in sessions drive d name = due_or_kept (purge_due d name) (is_kept drive name d.journal sessions)
+purge_due_in sessions drive d name = option_or (purge_due d name) (if is_kept drive name d.journal sessions then Some InUse else None)
 
 -- such a session is purged; any other is as it was
 abbrev pub purged_if_on : ℕ → List ℕ → List Entry → WorldSession → WorldSession
@@ -178,7 +164,7 @@ pub record CallsPurging {D : Type 0} (meaning : D → Meaning) (fault : Type 0) 
 pub record PurgesNamed {D : Type 0} (meaning : D → Meaning) (fault : Type 0) (status : VolumeStatus) (name : List ℕ) (d after : DriveIs D) : Type 0 where
   pub place : ℕ
   pub volume : VolumeView
-  pub place_is : place_of d.volumes name ≡ Some place
+  pub place_is : index_of d.volumes name ≡ Some place
   pub there : slice_get d.volumes place ≡ Some volume
   pub name_is : volume.name ≡ name
   pub empties : EmptiesVolume place volume status d after

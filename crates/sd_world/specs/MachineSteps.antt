@@ -3,12 +3,12 @@ use Rattle.std.specs.Prelude.{◌≡◌, ℕ, ◌&&◌, not, if◌then◌else◌
 use Rattle.sd_driver.specs.Meaning.{Meaning}
 use Rattle.sd_drive.specs.Shelf.{KeepsPieces}
 use Rattle.sd_drive.specs.View.{DriveIs}
-use Rattle.sd_machine.specs.Machine.{Machine, Strike, failure, purging, empty_machine}
+use Rattle.sd_machine.specs.Machine.{Machine, Strike, empty_machine}
 use Rattle.sd_machine.specs.Step.{Step}
 use Rattle.sd_machine.specs.declared.event.Event.{Event}
 use Rattle.sd_machine.specs.declared.reply.Reply.{Reply}
 use Rattle.sd_session.specs.declared.status.Status.{Status}
-use Rattle.sd_session.specs.declared.status.Status.TheVariants.{Active, Ended, Closed, Cancelled, Failed, Purged}
+use Rattle.sd_session.specs.declared.status.Status.TheVariants.{Failed, Purged}
 use Rattle.sd_world.specs.World.{WorldView, WorldSession, BayView, IsOnline, with_drive}
 use Rattle.sd_world.specs.Drives.{is_running, was_purged}
 use Rattle.sd_world.specs.Moves.{Moves}
@@ -17,12 +17,16 @@ use Rattle.sd_world.specs.Matches.{Matches}
 
 -- the session has failed
 abbrev pub is_failed : Status → Bool
-is_failed Active = false
-is_failed Ended = false
-is_failed Closed = false
-is_failed Cancelled = false
 is_failed Failed = true
-is_failed Purged = false
+is_failed status = false
+
+-- the session of this ticket fails
+abbrev pub failure : ℕ → Strike
+failure ticket = record { ticket = ticket; status = Failed }
+
+-- the session of this ticket is purged
+abbrev pub purging : ℕ → Strike
+purging ticket = record { ticket = ticket; status = Purged }
 
 -- how a session was struck that had the first status, and has the second: with Failed, with Purged, or not
 abbrev pub strikes_of : ℕ → Status → Status → List Strike

@@ -1,6 +1,6 @@
 -- When a world matches a list machine: its sessions' bodies, wherever they stand, are cuttings of the machine's lists.
-use Rattle.std.specs.Prelude.{◌≡◌, ◌≢◌, ◌⊎◌, ℕ, ◌+◌, Bool, true, false, not, ◌&&◌, if◌then◌else◌, IsTrue, Option, Some, None, List, [], ◌∷◌, ◌++◌, length, map, slice_get}
-use Rattle.std.specs.List.{list_any}
+use Rattle.std.specs.Prelude.{◌≡◌, ◌≢◌, ◌⊎◌, ℕ, ◌+◌, not, ◌&&◌, if◌then◌else◌, IsTrue, Option, Some, None, List, [], ◌∷◌, ◌++◌, length, map, slice_get}
+use Rattle.std.specs.List.{list_any, AllZip}
 use Rattle.std.specs.Option.{option_to_list}
 use Rattle.sd_base.specs.Key.{is_key}
 use Rattle.sd_base.specs.Record.{Record}
@@ -19,7 +19,7 @@ use Rattle.sd_pack.specs.Body.{PackedBody}
 use Rattle.sd_pack.specs.Packing.{Packs}
 use Rattle.sd_session.specs.Session.{SessionView, parts_of, store_of}
 use Rattle.sd_session.specs.declared.status.Status.{Status}
-use Rattle.sd_session.specs.declared.status.Status.TheVariants.{Active, Ended, Closed, Cancelled, Failed, Purged}
+use Rattle.sd_session.specs.declared.status.Status.TheVariants.{Active, Ended, Closed, Cancelled}
 use Rattle.sd_volume.specs.Image.{Block}
 use Rattle.sd_world.specs.Honest.{StoreIsTrue}
 use Rattle.sd_world.specs.World.{WorldView, WorldSession, BayView, LaneView, IsOnline, session_at}
@@ -37,10 +37,9 @@ sent_body i b = record { key = i.key; body = record { bytes = b.body; first = i.
 
 -- the bodies of these, one by one; those whose blocks are gone are left out
 abbrev pub sent_bodies : List Item → List (Option Block) → List SentBody
-sent_bodies [] bs = []
-sent_bodies (i ∷ is) [] = []
 sent_bodies (i ∷ is) (Some b ∷ bs) = sent_body i b ∷ sent_bodies is bs
 sent_bodies (i ∷ is) (None ∷ bs) = sent_bodies is bs
+sent_bodies is bs = []
 
 -- The bodies that were given to a drive, in order: those placed, by the bytes that stand on its shelf, unless they are gone, then
 -- the one in its hand.
@@ -98,16 +97,10 @@ pub record IsHonestAt {D : Type 0} (meaning : D → Meaning) (w : WorldView D) (
 
 -- Matching.
 
--- the bodies are a packed cutting of the list, with its end label or without
-abbrev pub PacksCutting : ℕ → List PackedBody → List Record → Bool → Type 0
-PacksCutting room bodies records false = Packs room bodies records Between
-PacksCutting room bodies records true = Packs room bodies records AtEnd
-
--- the bodies begin a packed cutting of the list: those behind them were dropped
+-- the bodies begin a packed cutting of the list, with its end label or without: those behind them were dropped
 pub record BeginsPacked (room : ℕ) (bodies : List PackedBody) (records : List Record) : Type 0 where
   pub dropped : List PackedBody
-  pub ended : Bool
-  pub packs : PacksCutting room (bodies ++ dropped) records ended
+  pub packs : Packs room (bodies ++ dropped) records Between ⊎ Packs room (bodies ++ dropped) records AtEnd
 
 -- How the bodies of a session stand to its list of records: of an active session they are a cutting of it, of an ended or
 -- closed one with its end label; of a cancelled one those that were sent begin a cutting of it; of a failed or purged one
@@ -117,8 +110,7 @@ HasBodies room sent all Active records = Packs room all records Between
 HasBodies room sent all Ended records = Packs room all records AtEnd
 HasBodies room sent all Closed records = Packs room all records AtEnd
 HasBodies room sent all Cancelled records = BeginsPacked room sent records
-HasBodies room sent all Failed records = Unit {0}
-HasBodies room sent all Purged records = Unit {0}
+HasBodies room sent all status records = Unit {0}
 
 -- The session is that of the machine: its key, its status, its counts. Where its drive is online, and the drive's device
 -- and spools are honest, its bodies are those of the machine's list. Once it is closed, nothing of it is outstanding.
@@ -135,10 +127,7 @@ pub record SessionMatches {D : Type 0} (meaning : D → Meaning) (w : WorldView 
 
 -- the same sessions in the same order
 abbrev pub SessionsMatch : {D : Type 0} → (D → Meaning) → WorldView D → List WorldSession → List MachineSession → Type 0
-SessionsMatch meaning w [] [] = Unit {0}
-SessionsMatch meaning w [] (s ∷ ss) = ⊥
-SessionsMatch meaning w (e ∷ es) [] = ⊥
-SessionsMatch meaning w (e ∷ es) (s ∷ ss) = SessionMatches meaning w e s × SessionsMatch meaning w es ss
+SessionsMatch meaning w es ss = AllZip (SessionMatches meaning w) es ss
 
 -- the world matches the machine
 pub record Matches {D : Type 0} (meaning : D → Meaning) (w : WorldView D) (m : Machine) : Type 0 where

@@ -7,7 +7,7 @@ use Rattle.sd_base.specs.declared.refusal.Refusal.TheVariants.{OtherPoolOrMedia,
 use Rattle.sd_desk.specs.Desk.{DeskView, claim_of, claimed_by, new_claim, purged_claim, SameClaims, OtherClaimsStay, HasNotAsked}
 use Rattle.sd_desk.specs.Next.{TakesBlocksOf}
 use Rattle.sd_desk.specs.declared.request.Request.{Request}
-use Rattle.sd_drive.specs.Moves.{TakesBlocks, Mounts, Unmounts, RefusesLoad, AddsVolume, AddsNone, AdoptsVolume, label_of, mount_due, place_of}
+use Rattle.sd_drive.specs.Moves.{TakesBlocks, Mounts, Unmounts, RefusesLoad, AddsVolume, AddsNone, AdoptsVolume, label_of, mount_due, index_of}
 use Rattle.sd_drive.specs.Shelf.{KeepsPieces}
 use Rattle.sd_drive.specs.View.{DriveIs}
 use Rattle.sd_driver.specs.Meaning.{Meaning, IsHonest}
@@ -141,7 +141,7 @@ AdoptRefused meaning name why s o =
 pub record MountsAt {D : Type 0} (meaning : D → Meaning) (own : ℕ) (name : List ℕ) (s : Station D) (o : Outcome D) : Type 0 where
   pub place : ℕ
   pub due : mount_due s.drive name ≡ None
-  pub place_is : place_of s.drive.volumes name ≡ Some place
+  pub place_is : index_of s.drive.volumes name ≡ Some place
   pub mounts : Mounts {T = Unit {0}} place (Ok tt) s.drive o.drive
   pub calls : Calls meaning ⊥ ⊥ s.drive o.drive
   pub answers : AnswersDrive own s.desk o.desk

@@ -1,6 +1,7 @@
 -- What reading a session back through a world answers, and what it leaves.
-use Rattle.std.specs.Prelude.{◌≡◌, ◌⊎◌, ℕ, zero, suc, ◌<◌, ◌^◌, ◌==◌, ◌&&◌, ◌||◌, Bool, true, false, not, if◌then◌else◌, Option, Some, None, Result, Ok, Err, List, [], ◌∷◌, ◌++◌, length, slice_get, IfOk, IfErr, OnErr}
+use Rattle.std.specs.Prelude.{◌≡◌, ◌⊎◌, ℕ, suc, ◌<◌, ◌^◌, ◌==◌, ◌&&◌, ◌||◌, Bool, true, false, not, if◌then◌else◌, Option, Some, None, Result, Ok, Err, List, [], ◌∷◌, ◌++◌, length, slice_get, IfOk, IfErr, OnErr}
 use Rattle.std.specs.List.{list_all, list_any}
+use Rattle.std.specs.Option.{option_map_or}
 use Rattle.sd_base.specs.Key.{is_key}
 use Rattle.sd_base.specs.Record.{Record}
 use Rattle.sd_base.specs.declared.number.SessionKey.{SessionKey}
@@ -24,8 +25,7 @@ use Rattle.sd_world.specs.World.{WorldView, WorldSession, BayView, IsOnline, ses
 
 -- the volume is at the drive of this number
 abbrev pub is_at_drive : ℕ → Option ℕ → Bool
-is_at_drive drive None = false
-is_at_drive drive (Some other) = other == drive
+is_at_drive drive claimed = option_map_or (λ other. other == drive) claimed false
 
 -- every span is on a volume of the drive
 abbrev pub are_at_drive : DeskView → ℕ → List Span → Bool
@@ -33,8 +33,7 @@ are_at_drive desk drive spans = list_all (λ s. is_at_drive drive (claimed_by de
 
 -- the session of the key is there, and purged
 abbrev pub is_purged_session : SessionKey → Option WorldSession → Bool
-is_purged_session key None = false
-is_purged_session key (Some e) = is_key key e.session.key && was_purged e.session.status
+is_purged_session key found = option_map_or (λ (e : WorldSession). is_key key e.session.key && was_purged e.session.status) found false
 
 -- the volume of a span was purged in this run
 abbrev pub any_purged_at : DeskView → List Span → Bool
@@ -52,16 +51,11 @@ due_with gone desk drive spans None = Some DriveOffline
 due_with gone desk drive spans (Some d) =
     if gone then Some VolumePurged else if are_at_drive desk drive spans then None else Some VolumeNotOnShelf
 
--- which is due where the first span is at the drive in this bay
-abbrev pub due_in : {D : Type 0} → Bool → DeskView → ℕ → List Span → Option (BayView D) → Option Refusal
-due_in gone desk drive spans None = Some VolumeNotOnShelf
-due_in gone desk drive spans (Some bay) = due_with gone desk drive spans bay.drive
-
 -- which is due where the first span's volume is at the drive of this number, if any; drives are numbered from 1
 abbrev pub due_at : {D : Type 0} → WorldView D → SessionKey → List Span → Option ℕ → Option Refusal
-due_at w key spans None = Some VolumeNotOnShelf
-due_at w key spans (Some zero) = Some VolumeNotOnShelf
-due_at w key spans (Some (suc at)) = due_in (is_gone w key spans) w.desk (suc at) spans (slice_get w.bays at)
+due_at w key spans (Some (suc at)) =
+    option_map_or (λ bay. due_with (is_gone w key spans) w.desk (suc at) spans bay.drive) (slice_get w.bays at) (Some VolumeNotOnShelf)
+due_at w key spans drive = Some VolumeNotOnShelf
 
 -- Which refusal is due before a drive is asked, in this order: there are no spans; the first one's volume is at no drive;
 -- that drive is offline for good; what is read was purged; another span's volume isn't at that drive.

@@ -1,5 +1,6 @@
 -- What every world keeps, whatever happens to it.
 use Rattle.std.specs.Prelude.{◌≡◌, ◌≢◌, ℕ, ◌+◌, ◌≤◌, ◌<◌, false, Some, None, IfSome, IsSome, List, [], ◌∷◌, length, slice_get}
+use Rattle.std.specs.List.{AllByRecursion}
 use Rattle.sd_base.specs.Limits.{most_number, most_drives, most_lanes}
 use Rattle.sd_desk.specs.Desk.{claimed_by}
 use Rattle.sd_drive.specs.Limits.{AreLimits}
@@ -21,11 +22,6 @@ pub record IsOfOpened (time next : ℕ) (i : Item) : Type 0 where
   pub time_is : i.key.time ≡ time
   pub id_least : 1 ≤ i.key.id
   pub id_most : i.key.id < next
-
--- all of them are
-abbrev pub AreOfOpened : ℕ → ℕ → List Item → Type 0
-AreOfOpened time next [] = Unit {0}
-AreOfOpened time next (i ∷ is) = IsOfOpened time next i × AreOfOpened time next is
 
 -- The session's drive and lane are there. Where the drive is online: as many pieces were given to it or are before it as
 -- were sent of the session. A session that goes on has its lane, on a drive that is online and lost none of its blocks.
@@ -66,7 +62,7 @@ pub record IsBay {D : Type 0} (w : WorldView D) (at : ℕ) (bay : BayView D) : T
   pub limits_are : (d : DriveIs D) → bay.drive ≡ Some d → d.limits ≡ w.limits
   pub claimed : (d : DriveIs D) → bay.drive ≡ Some d → (place : ℕ) (v : VolumeView)
       → slice_get d.volumes place ≡ Some v → claimed_by w.desk v.name ≡ Some (at + 1)
-  pub of_opened : (d : DriveIs D) → bay.drive ≡ Some d → AreOfOpened w.limits.time w.next (items_before d bay.queue)
+  pub of_opened : (d : DriveIs D) → bay.drive ≡ Some d → AllByRecursion (IsOfOpened w.limits.time w.next) (items_before d bay.queue)
   pub lanes : (place : ℕ) (lane : LaneView) → slice_get bay.lanes place ≡ Some lane → IsLane w.sessions (at + 1) place lane
 
 -- a world keeps this

@@ -27,7 +27,6 @@ pub record IsStep {D : Type 0} (meaning : D → Meaning) (old : WorldView D) (ev
 -- from the one world the events lead to the other, each by a step, with these replies
 abbrev pub StepsAlong : {D : Type 0} → (D → Meaning) → WorldView D → List Event → List Reply → WorldView D → Type 0
 StepsAlong meaning old [] [] new = new ≡ old
-StepsAlong meaning old [] (reply ∷ replies) new = ⊥
-StepsAlong meaning old (event ∷ events) [] new = ⊥
 StepsAlong {D} meaning old (event ∷ events) (reply ∷ replies) new =
     (between : WorldView D) × IsStep meaning old event reply between × StepsAlong meaning between events replies new
+StepsAlong meaning old events replies new = ⊥

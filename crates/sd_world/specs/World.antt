@@ -1,7 +1,7 @@
 -- A world: its sessions, its drives, each with its lanes and the queue before it, and the operator's desk.
 use Rattle.std.specs.Prelude.{◌≡◌, ℕ, ◌+◌, ◌==◌, if◌then◌else◌, Bool, true, false, not, Option, Some, None, is_some, List, [], ◌∷◌, ◌++◌, length, map, filter, slice_get, slice_set}
 use Rattle.std.specs.List.{count_by}
-use Rattle.std.specs.Option.{option_and_then, option_map}
+use Rattle.std.specs.Option.{option_and_then, option_map, option_map_or}
 use Rattle.sd_base.specs.Key.{is_key}
 use Rattle.sd_base.specs.declared.number.SessionKey.{SessionKey}
 use Rattle.sd_desk.specs.Desk.{DeskView}
@@ -13,7 +13,7 @@ use Rattle.sd_lane.specs.declared.piece.Queued.{Queued}
 use Rattle.sd_reserve.specs.declared.drive.DriveView.{DriveView}
 use Rattle.sd_session.specs.Session.{SessionView}
 use Rattle.sd_session.specs.declared.status.Status.{Status}
-use Rattle.sd_session.specs.declared.status.Status.TheVariants.{Active, Ended, Closed, Cancelled, Failed, Purged}
+use Rattle.sd_session.specs.declared.status.Status.TheVariants.{Active, Ended, Cancelled, Failed}
 use Rattle.sd_spool.specs.Job.{StoreState}
 
 -- A lane of a drive: the ticket of the session that used it last; and its spool's store, unless that session has it.
@@ -95,24 +95,18 @@ items_with key is = filter (λ (i : Item). is_key key i.key) is
 abbrev pub leaves_lane : Status → Bool → Bool
 leaves_lane Active placed = false
 leaves_lane Ended placed = false
-leaves_lane Closed placed = true
 leaves_lane Cancelled placed = placed
 leaves_lane Failed placed = placed
-leaves_lane Purged placed = true
+leaves_lane status placed = true
 
 -- whether this session no longer keeps its lane at the drive with this journal
 abbrev pub is_done : List Entry → SessionView → Bool
 is_done journal s = leaves_lane s.status (s.sent == placed_of s.key journal)
 
--- the same of a session, if there is one
-abbrev pub is_done_of : List Entry → Option WorldSession → Bool
-is_done_of journal None = true
-is_done_of journal (Some e) = is_done journal e.session
-
 -- whether a lane is free: no session used it yet, or the one that did last no longer keeps it
 abbrev pub lane_is_free : List WorldSession → List Entry → Option ℕ → Bool
-lane_is_free sessions journal None = true
-lane_is_free sessions journal (Some ticket) = is_done_of journal (session_at ticket sessions)
+lane_is_free sessions journal holder =
+    option_map_or (λ ticket. option_map_or (λ (e : WorldSession). is_done journal e.session) (session_at ticket sessions) true) holder true
 
 -- of each lane of a drive whether it is free
 abbrev pub free_lanes : List WorldSession → List Entry → List LaneView → List Bool

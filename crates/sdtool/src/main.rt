@@ -8,7 +8,7 @@ use sd_base::Refusal;
 use sd_files::{Extracted, list_volume, read_back};
 use sd_lane::Lanes;
 use sd_printer::Printer;
-use sd_progress::Progress;
+use sd_progress::ShownProgress;
 use sd_ruled::RuledLanes;
 use sd_scan::{Told, scan_folder, scan_named};
 use sd_tool::{memory_drives, read_settings, run_lines};
@@ -70,7 +70,7 @@ fn run_script<R: Input + Print + AllocGlobal, Q: Lanes + Drop>(rt: &R, queue: Q)
 }
 
 /// Lists the volume in the file at this path.
-fn list(rt: &HostRuntime, volume: &str, progress: Progress) -> ExitCode {
+fn list(rt: &HostRuntime, volume: &str, progress: ShownProgress) -> ExitCode {
     let Ok(writer) = BufWriter::new(rt.alloc(), io::writer(rt)) else {
         return without_memory(rt);
     };
@@ -82,7 +82,7 @@ fn list(rt: &HostRuntime, volume: &str, progress: Progress) -> ExitCode {
 }
 
 /// Reads a session back by the text in the file `spans`, from the volumes in `folder`.
-fn read(rt: &HostRuntime, spans: &str, folder: &str, progress: Progress) -> ExitCode {
+fn read(rt: &HostRuntime, spans: &str, folder: &str, progress: ShownProgress) -> ExitCode {
     let Ok(writer) = BufWriter::new(rt.alloc(), io::writer(rt)) else {
         return without_memory(rt);
     };
@@ -92,7 +92,7 @@ fn read(rt: &HostRuntime, spans: &str, folder: &str, progress: Progress) -> Exit
 }
 
 /// Finds the sessions on these volumes of a folder, or on all of them where none is named.
-fn scan(rt: &HostRuntime, folder: &str, volumes: &[&str], progress: Progress) -> ExitCode {
+fn scan(rt: &HostRuntime, folder: &str, volumes: &[&str], progress: ShownProgress) -> ExitCode {
     let Ok(writer) = BufWriter::new(rt.alloc(), io::writer(rt)) else {
         return without_memory(rt);
     };
@@ -112,7 +112,7 @@ fn verify(rt: &HostRuntime, folder: &str) -> ExitCode {
         return without_memory(rt);
     };
     let mut out = Printer::new(writer);
-    let status = scan_folder(rt, folder, Told::Unsound, Progress::Told, &mut out);
+    let status = scan_folder(rt, folder, Told::Unsound, ShownProgress::Told, &mut out);
     let _ = out.into_writer().into_parts();
     ExitCode::from(status)
 }

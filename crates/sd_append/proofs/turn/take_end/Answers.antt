@@ -1,6 +1,6 @@
 use Rattle.std.proofs.Common.{◌∷◌, [], Some}
-use Rattle.sd_append.specs.declared.line.Line.TheVariants.{Appended}
-use Rattle.sd_append.specs.declared.stage.Stage.TheVariants.{Command, Header, Refused, Over}
+use Rattle.sd_append.specs.declared.line.ReplyLine.TheVariants.{Appended}
+use Rattle.sd_append.specs.declared.stage.TalkStage.TheVariants.{Command, Header, Refused, Over}
 use Rattle.sd_append.specs.Out.{out_view}
 use Rattle.sd_append.specs.Talk.{end_of_data, refused, said}
 use Rattle.sd_append.proofs.OutLemmas.{puts_none}

@@ -1,8 +1,8 @@
 use Rattle.std.proofs.Common.{[], Option, sym, subst}
 use Rattle.sd_append.specs.declared.stage.Own.{Own}
-use Rattle.sd_append.specs.declared.stage.Stage.TheVariants.{Over}
+use Rattle.sd_append.specs.declared.stage.TalkStage.TheVariants.{Over}
 use Rattle.sd_append.specs.Does.{Does}
-use Rattle.sd_append.specs.Stage.{own_of}
+use Rattle.sd_append.specs.TalkStage.{own_of}
 use Rattle.sd_append.specs.Out.{out_view}
 use Rattle.sd_append.specs.Talk.{Only, poll_said}
 use Rattle.sd_append.proofs.OutLemmas.{puts_none}

@@ -6,13 +6,13 @@ use Rattle.sd_files.proofs.list_file.list_volume.Goals as goal
 
 pub returns-in_default-open_folder : goal.returns-in_default-open_folder
 returns-in_default-open_folder g c =
-    let folder = c.place_of-place.result.folder.now in
-    let name = c.place_of-place.result.name.now in
+    let folder = c.split_path-place.result.folder.now in
+    let name = c.split_path-place.result.name.now in
     let device = g.H.Host.device_of c.args.host.now folder c.args.progress in
     let same : OnlyReads ⊥ device device = search rules in (
       folder,
       name,
-      c.place_of-place.ensures,
+      c.split_path-place.ensures,
       inr (
         c.in-Ok.ensures.accepted.0 refl,
         device,

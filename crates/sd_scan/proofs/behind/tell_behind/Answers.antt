@@ -5,7 +5,7 @@ use Rattle.sd_printer.specs.Says.{said_view}
 use Rattle.sd_printer.proofs.SaysLemmas.{says_none, says_then}
 use Rattle.sd_volume.proofs.DeviceLemmas.{OnlyReads-trans, OnlyReads-as}
 use Rattle.sd_scan.specs.Lines.{line_text}
-use Rattle.sd_scan.specs.declared.line.Line.TheVariants.{Damage}
+use Rattle.sd_scan.specs.declared.line.ScanLine.TheVariants.{Damage}
 use Rattle.sd_scan.specs.Run.{NoneBetween}
 use Rattle.sd_scan.specs.Volume.{damage_line}
 use Rattle.sd_scan.specs.declared.kind.Kind.{Kind}

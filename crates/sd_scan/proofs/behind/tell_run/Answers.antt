@@ -4,7 +4,7 @@ use Rattle.sd_printer.specs.Says.{said_view}
 use Rattle.sd_printer.proofs.SaysLemmas.{says_then}
 use Rattle.sd_words.specs.Lines.{line}
 use Rattle.sd_scan.specs.Lines.{line_text}
-use Rattle.sd_scan.specs.declared.line.Line.TheVariants.{Behind}
+use Rattle.sd_scan.specs.declared.line.ScanLine.TheVariants.{Behind}
 use Rattle.sd_scan.proofs.VolumeLemmas.{says_named, tells_run}
 use Rattle.sd_volume.proofs.DeviceLemmas.{OnlyReads-as}
 use Rattle.sd_scan.proofs.behind.tell_run.Goals as goal

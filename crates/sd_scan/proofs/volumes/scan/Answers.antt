@@ -4,7 +4,7 @@ use Rattle.sd_printer.specs.Says.{said_view}
 use Rattle.sd_printer.proofs.SaysLemmas.{says_then}
 use Rattle.sd_words.specs.Lines.{line}
 use Rattle.sd_scan.specs.Lines.{line_text}
-use Rattle.sd_scan.specs.declared.line.Line.TheVariants.{Done}
+use Rattle.sd_scan.specs.declared.line.ScanLine.TheVariants.{Done}
 use Rattle.sd_scan.proofs.VolumeLemmas.{scans_all}
 use Rattle.sd_scan.proofs.volumes.scan.Goals as goal
 

@@ -6,7 +6,7 @@ use Rattle.sd_printer.proofs.SaysLemmas.{says_none, says_then}
 use Rattle.sd_volume.proofs.DeviceLemmas.{OnlyReads-trans, OnlyReads-as, only_reads_call}
 use Rattle.sd_words.specs.Lines.{line}
 use Rattle.sd_scan.specs.Lines.{line_text}
-use Rattle.sd_scan.specs.declared.line.Line.TheVariants.{Volume}
+use Rattle.sd_scan.specs.declared.line.ScanLine.TheVariants.{Volume}
 use Rattle.sd_scan.proofs.FaultLemmas.{OnlyReads-again, OnlyReads-scan, fault_is}
 use Rattle.sd_scan.proofs.VolumeLemmas.{says_named}
 use Rattle.sd_scan.proofs.volumes.scan_volume.Goals as goal

@@ -1,5 +1,5 @@
 use Rattle.std.proofs.Common.{Err, Ok}
-use Rattle.sd_script.specs.declared.line.Line.TheVariants.{Empty}
+use Rattle.sd_script.specs.declared.line.ScriptLine.TheVariants.{Empty}
 use Rattle.sd_script.specs.declared.line.LineFault.TheVariants.{BadCommand}
 use Rattle.sd_script.proofs.LineLemmas.{empty_told, no_command_told, line_told, told_of}
 use Rattle.sd_script.proofs.read.read_line.Goals as goal

@@ -20,19 +20,19 @@ returns-in-Err g c =
 
 pub index-bay-requires : goal.index-bay-requires
 index-bay-requires g c =
-    let within = sits_within (world_of c.args.parts.now) c.args.ticket _ _ _ _ _ c.requires.world c.in-Some.ensures.found c.deref.ensures.value c.index_mut-entry.ensures.value c.entry.view_is c.place_of-place.ensures in
+    let within = sits_within (world_of c.args.parts.now) c.args.ticket _ _ _ _ _ c.requires.world c.in-Some.ensures.found c.deref.ensures.value c.index_mut-entry.ensures.value c.entry.view_is c.index_of-place.ensures in
     omega (arith, within, c.args.parts.now.bays.ok.0)
 
 pub unwrap-drive-requires : goal.unwrap-drive-requires
 unwrap-drive-requires g c =
-    let s = seated (world_of c.args.parts.now) c.args.ticket _ _ _ _ _ _ _ c.requires.world c.in-Some.ensures.found c.deref.ensures.value c.index_mut-entry.ensures.value c.entry.view_is c.place_of-place.ensures c.index-bay.ensures c.bay.view_is in
+    let s = seated (world_of c.args.parts.now) c.args.ticket _ _ _ _ _ _ _ c.requires.world c.in-Some.ensures.found c.deref.ensures.value c.index_mut-entry.ensures.value c.entry.view_is c.index_of-place.ensures c.index-bay.ensures c.bay.view_is in
     let on = online_at s c.in_default-running.ensures.ok in
     is_some_copied c.as_ref.result on.0 (c.as_ref.ensures.value ∙ on.1.online)
 
 pub returns-in-Err-may_close : goal.returns-in-Err-may_close
 returns-in-Err-may_close g c =
     let w = world_of c.args.parts.now in
-    let s = seated (world_of c.args.parts.now) c.args.ticket _ _ _ _ _ _ _ c.requires.world c.in-Some.ensures.found c.deref.ensures.value c.index_mut-entry.ensures.value c.entry.view_is c.place_of-place.ensures c.index-bay.ensures c.bay.view_is in
+    let s = seated (world_of c.args.parts.now) c.args.ticket _ _ _ _ _ _ _ c.requires.world c.in-Some.ensures.found c.deref.ensures.value c.index_mut-entry.ensures.value c.entry.view_is c.index_of-place.ensures c.index-bay.ensures c.bay.view_is in
     let a = asked c.as_ref.result c.unwrap-drive.result c.key-key.result c.progress-progress.result s c.as_ref.ensures.value c.unwrap-drive.ensures c.progress-progress.ensures c.key-key.ensures in
     let why = c.in-Err-may_close.why in
     record { moves = refuses_read w c.args.ticket _ _ _ why (CloseCauses w why) s.read c.entry.view_is (close_causes why a c.in-Err-may_close.ensures.why) }
@@ -40,20 +40,20 @@ returns-in-Err-may_close g c =
 pub returns-in_default-spans : goal.returns-in_default-spans
 returns-in_default-spans g c =
     let w = world_of c.args.parts.now in
-    let s = seated (world_of c.args.parts.now) c.args.ticket _ _ _ _ _ _ _ c.requires.world c.in-Some.ensures.found c.deref.ensures.value c.index_mut-entry.ensures.value c.entry.view_is c.place_of-place.ensures c.index-bay.ensures c.bay.view_is in
+    let s = seated (world_of c.args.parts.now) c.args.ticket _ _ _ _ _ _ _ c.requires.world c.in-Some.ensures.found c.deref.ensures.value c.index_mut-entry.ensures.value c.entry.view_is c.index_of-place.ensures c.index-bay.ensures c.bay.view_is in
     let a = asked c.as_ref.result c.unwrap-drive.result c.key-key.result c.progress-progress.result s c.as_ref.ensures.value c.unwrap-drive.ensures c.progress-progress.ensures c.key-key.ensures in
     record { moves = refuses_read w c.args.ticket _ _ _ Memory (CloseCauses w Memory) s.read c.entry.view_is (close_memory a c.in_default-may_close.ensures.ok) }
 
 pub returns-in-Ok-close : goal.returns-in-Ok-close
 returns-in-Ok-close g c =
-    let s = seated (world_of c.args.parts.now) c.args.ticket _ _ _ _ _ _ _ c.requires.world c.in-Some.ensures.found c.deref.ensures.value c.index_mut-entry.ensures.value c.entry.view_is c.place_of-place.ensures c.index-bay.ensures c.bay.view_is in
+    let s = seated (world_of c.args.parts.now) c.args.ticket _ _ _ _ _ _ _ c.requires.world c.in-Some.ensures.found c.deref.ensures.value c.index_mut-entry.ensures.value c.entry.view_is c.index_of-place.ensures c.index-bay.ensures c.bay.view_is in
     let a = asked c.as_ref.result c.unwrap-drive.result c.key-key.result c.progress-progress.result s c.as_ref.ensures.value c.unwrap-drive.ensures c.progress-progress.ensures c.key-key.ensures in
     record { moves = closes_at c.close.new.self c.key-key.result c.in-Ok.spans a s.read c.in-Ok-close.ensures.ok c.key-key.ensures c.in-Ok.ensures }
 
 pub returns-in-Err-close : goal.returns-in-Err-close
 returns-in-Err-close g c =
     let w = world_of c.args.parts.now in
-    let s = seated (world_of c.args.parts.now) c.args.ticket _ _ _ _ _ _ _ c.requires.world c.in-Some.ensures.found c.deref.ensures.value c.index_mut-entry.ensures.value c.entry.view_is c.place_of-place.ensures c.index-bay.ensures c.bay.view_is in
+    let s = seated (world_of c.args.parts.now) c.args.ticket _ _ _ _ _ _ _ c.requires.world c.in-Some.ensures.found c.deref.ensures.value c.index_mut-entry.ensures.value c.entry.view_is c.index_of-place.ensures c.index-bay.ensures c.bay.view_is in
     let a = asked c.as_ref.result c.unwrap-drive.result c.key-key.result c.progress-progress.result s c.as_ref.ensures.value c.unwrap-drive.ensures c.progress-progress.ensures c.key-key.ensures in
     let why = c.in-Err-close.why in
     record { moves = refuses_one w c.args.ticket _ _ c.close.new.self why (CloseCauses w why) s.read (close_causes why a c.in-Err-close.ensures.why) c.in-Err-close.ensures.err }

@@ -19,22 +19,22 @@ returns-in_default g c =
 
 pub index_mut-bay-requires : goal.index_mut-bay-requires
 index_mut-bay-requires g c =
-    let r = reached (world_of c.args.parts.now) c.args.pool c.args.media _ _ c.place_of-place.ensures c.in-Ok.ensures.ok in
+    let r = reached (world_of c.args.parts.now) c.args.pool c.args.media _ _ c.index_of-place.ensures c.in-Ok.ensures.ok in
     omega (arith, r.within, c.args.parts.now.bays.ok.0)
 
 pub unreachable-requires : goal.unreachable-requires
 unreachable-requires g c =
-    let b = bay_reached (world_of c.args.parts.now) c.args.pool c.args.media _ _ _ _ c.requires.world c.place_of-place.ensures c.in-Ok.ensures.ok c.index_mut-bay.ensures.value c.bay.view_is in
+    let b = bay_reached (world_of c.args.parts.now) c.args.pool c.args.media _ _ _ _ c.requires.world c.index_of-place.ensures c.in-Ok.ensures.ok c.index_mut-bay.ensures.value c.bay.view_is in
     never_offline b c.in_default-drive.is
 
 pub choose_lane-lane-requires-clause-most : goal.choose_lane-lane-requires-clause-most
 choose_lane-lane-requires-clause-most g c κs within =
-    let b = bay_reached (world_of c.args.parts.now) c.args.pool c.args.media _ _ _ _ c.requires.world c.place_of-place.ensures c.in-Ok.ensures.ok c.index_mut-bay.ensures.value c.bay.view_is in
+    let b = bay_reached (world_of c.args.parts.now) c.args.pool c.args.media _ _ _ _ c.requires.world c.index_of-place.ensures c.in-Ok.ensures.ok c.index_mut-bay.ensures.value c.bay.view_is in
     lanes_few c.deref-2.result.now b c.deref-2.ensures.value
 
 pub choose_lane-lane-requires-clause-free : goal.choose_lane-lane-requires-clause-free
 choose_lane-lane-requires-clause-free g c κs within =
-    let b = bay_reached (world_of c.args.parts.now) c.args.pool c.args.media _ _ _ _ c.requires.world c.place_of-place.ensures c.in-Ok.ensures.ok c.index_mut-bay.ensures.value c.bay.view_is in
+    let b = bay_reached (world_of c.args.parts.now) c.args.pool c.args.media _ _ _ _ c.requires.world c.index_of-place.ensures c.in-Ok.ensures.ok c.index_mut-bay.ensures.value c.bay.view_is in
     some_free c.in-Some-drive.at c.deref.result.now c.deref-2.result.now b c.in-Some-drive.is c.deref.ensures.value c.deref-2.ensures.value
 
 pub index_mut-slot-requires : goal.index_mut-slot-requires
@@ -44,14 +44,14 @@ index_mut-slot-requires g c =
 
 pub open_at-requires-clause-stored : goal.open_at-requires-clause-stored
 open_at-requires-clause-stored g c κs within =
-    let b = bay_reached (world_of c.args.parts.now) c.args.pool c.args.media _ _ _ _ c.requires.world c.place_of-place.ensures c.in-Ok.ensures.ok c.index_mut-bay.ensures.value c.bay.view_is in
+    let b = bay_reached (world_of c.args.parts.now) c.args.pool c.args.media _ _ _ _ c.requires.world c.index_of-place.ensures c.in-Ok.ensures.ok c.index_mut-bay.ensures.value c.bay.view_is in
     let l = lane_reached c.in-Some-drive.at _ _ _ _ _ b c.in-Some-drive.is c.deref.ensures.value c.deref-2.ensures.value c.get-2.ensures.value c.choose_lane-lane.ensures.lowest c.index_mut-slot.ensures.value in
     l.can_take
 
 pub returns-in-Ok-open_at : goal.returns-in-Ok-open_at
 returns-in-Ok-open_at g c =
     let w = world_of c.args.parts.now in
-    let b = bay_reached (world_of c.args.parts.now) c.args.pool c.args.media _ _ _ _ c.requires.world c.place_of-place.ensures c.in-Ok.ensures.ok c.index_mut-bay.ensures.value c.bay.view_is in
+    let b = bay_reached (world_of c.args.parts.now) c.args.pool c.args.media _ _ _ _ c.requires.world c.index_of-place.ensures c.in-Ok.ensures.ok c.index_mut-bay.ensures.value c.bay.view_is in
     let l = lane_reached c.in-Some-drive.at _ _ _ _ _ b c.in-Some-drive.is c.deref.ensures.value c.deref-2.ensures.value c.get-2.ensures.value c.choose_lane-lane.ensures.lowest c.index_mut-slot.ensures.value in
     let ticket = c.in-Some.ensures.value in
     let o = opens_with w _ c.args.job c.args.pool c.args.media c.args.moment _ c.get.result c.choose_lane-lane.result c.in-Some.ticket c.in-Ok.drive c.index_mut-slot.result.now
@@ -62,7 +62,7 @@ returns-in-Ok-open_at g c =
 pub returns-in-Err-open_at : goal.returns-in-Err-open_at
 returns-in-Err-open_at g c =
     let w = world_of c.args.parts.now in
-    let b = bay_reached (world_of c.args.parts.now) c.args.pool c.args.media _ _ _ _ c.requires.world c.place_of-place.ensures c.in-Ok.ensures.ok c.index_mut-bay.ensures.value c.bay.view_is in
+    let b = bay_reached (world_of c.args.parts.now) c.args.pool c.args.media _ _ _ _ c.requires.world c.index_of-place.ensures c.in-Ok.ensures.ok c.index_mut-bay.ensures.value c.bay.view_is in
     let l = lane_reached c.in-Some-drive.at _ _ _ _ _ b c.in-Some-drive.is c.deref.ensures.value c.deref-2.ensures.value c.get-2.ensures.value c.choose_lane-lane.ensures.lowest c.index_mut-slot.ensures.value in
     record {
       moves = not_opened c.in-Err-open_at.why c.open_at.new.at c.open_at.new.lane c.open_at.new.sessions.items (c.in-Some.ensures.within.0 refl).1 l.reserves

@@ -1,4 +1,4 @@
-use Rattle.sd_script.specs.declared.line.Line.TheVariants.{Set}
+use Rattle.sd_script.specs.declared.line.ScriptLine.TheVariants.{Set}
 use Rattle.sd_tool.proofs.SettingLemmas.{none_tells}
 use Rattle.sd_tool.proofs.settings.setting_of.Goals as goal
 

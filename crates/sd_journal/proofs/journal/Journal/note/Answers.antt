@@ -18,25 +18,25 @@ invariant_of-self c =
     let key = placement.key in
     let before = c.self.inside in
     let names = before.names.names in
-    let names' = c.place_of-volume.new.self.names in
-    let grown = c.place_of-volume.ensures.names in
+    let names' = c.index_of-volume.new.self.names in
+    let grown = c.index_of-volume.ensures.names in
     let kept : c.retain.new.self.items ≡ without_key key before.ready.items = filter_same _ _ _ (λ x b f' k. search rules) _ _ c.retain.ensures.filtered in
     let was : list_any (is_key key) before.ready.items ≡ true = ap (λ v. list_any (is_key key) v.ready) c.self.view_is ∙ c.requires.ready in
     let less = without_one key before.ready.items was in
     let same = ap length kept in
     let room = c.self.invariant.room in
     let names_room = c.self.invariant.names_room in
-    let left = c.place_of-volume.ensures.room in
+    let left = c.index_of-volume.ensures.room in
     let len = c.push_reserved.ensures.len in
     let capacity = c.push_reserved.ensures.capacity in
     let pushed = c.push_reserved.ensures.items in
     let more = length_more before.noted.items c.push_reserved.new.self.items _ pushed in
     let within = c.self.invariant.within in
-    let is = ap (λ v. noted (record placement { volume = v })) c.place_of-volume.ensures.named in
+    let is = ap (λ v. noted (record placement { volume = v })) c.index_of-volume.ensures.named in
     let entries : entries_of names' c.push_reserved.new.self.items ≡ entries_of names before.noted.items ++ noted placement ∷ [] =
     ap (entries_of names') pushed ∙ entries_more placement.volume names names' before.noted.items _ placement grown c.self.invariant.named is in
     record {
-      named = rw pushed (named_more placement.volume names names' before.noted.items _ grown c.self.invariant.named c.place_of-volume.ensures.within);
+      named = rw pushed (named_more placement.volume names names' before.noted.items _ grown c.self.invariant.named c.index_of-volume.ensures.within);
       ends = rw entries (ends_more (entries_of names before.noted.items) placement c.self.invariant.ends c.requires.end);
       room = omega (arith, less, same, room, len, capacity);
       names_room = omega (arith, less, same, names_room, left);
@@ -53,11 +53,11 @@ returns c =
     let placement = c.args.placement in
     let key = placement.key in
     let before = c.self.inside in
-    let names' = c.place_of-volume.new.self.names in
+    let names' = c.index_of-volume.new.self.names in
     let kept : c.retain.new.self.items ≡ without_key key before.ready.items = filter_same _ _ _ (λ x b f' k. search rules) _ _ c.retain.ensures.filtered in
-    let is = ap (λ v. noted (record placement { volume = v })) c.place_of-volume.ensures.named in
+    let is = ap (λ v. noted (record placement { volume = v })) c.index_of-volume.ensures.named in
     ap₂ view_with
     (ap (entries_of names') c.push_reserved.ensures.items
-    ∙ entries_more placement.volume before.names.names names' before.noted.items _ placement c.place_of-volume.ensures.names c.self.invariant.named is
+    ∙ entries_more placement.volume before.names.names names' before.noted.items _ placement c.index_of-volume.ensures.names c.self.invariant.named is
     ∙ ap (λ v. v.entries ++ noted placement ∷ []) c.self.view_is)
     (kept ∙ ap (λ v. without_key key v.ready) c.self.view_is)

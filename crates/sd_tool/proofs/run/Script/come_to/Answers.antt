@@ -1,6 +1,6 @@
 use Rattle.std.proofs.Common.{sym, subst}
 use Rattle.sd_script.specs.Grammar.{IsWithin}
-use Rattle.sd_script.specs.declared.line.Line.{Line}
+use Rattle.sd_script.specs.declared.line.ScriptLine.{ScriptLine}
 use Rattle.sd_tool.specs.Run.{LineComes}
 use Rattle.sd_tool.specs.Script.{script_view}
 use Rattle.sd_tool.proofs.RunLemmas.{other_comes, restart_within}
@@ -16,7 +16,7 @@ restarted-requires-clause-time_most g c κs within =
 
 pub returns-in-Restart : goal.returns-in-Restart
 returns-in-Restart g c =
-    let Does : Line → Type 0 = λ l. LineComes g.W.Write.contents (λ d. g.D.Driver.meaning d) l (script_view g.W.Write.contents c.args.self) c.restarted.result in
+    let Does : ScriptLine → Type 0 = λ l. LineComes g.W.Write.contents (λ d. g.D.Driver.meaning d) l (script_view g.W.Write.contents c.args.self) c.restarted.result in
     subst Does (sym c.in-Restart.is) c.restarted.ensures
 
 pub returns-in_default : goal.returns-in_default

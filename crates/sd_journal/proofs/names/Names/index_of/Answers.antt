@@ -1,7 +1,7 @@
 use Rattle.std.proofs.Common.{◌∙◌, ◌++◌, ◌∷◌, [], ap, ap₂, sym, refl, arith, subst, None}
 use Rattle.sd_journal.specs.Names.{IsPlaceOf}
 use Rattle.sd_journal.proofs.NameLemmas.{with_found, with_new, different_with}
-use Rattle.sd_journal.proofs.names.Names.place_of.Goals as goal
+use Rattle.sd_journal.proofs.names.Names.index_of.Goals as goal
 
 pub returns-in-Some-clause-names : goal.returns-in-Some-clause-names
 returns-in-Some-clause-names c = sym (with_found c.args.self.now.names c.args.name.now c.in-Some.place c.in-Some.ensures)

@@ -1,7 +1,7 @@
 -- When a reading is told of.
 use Rattle.std.specs.Prelude.{ℕ, ◌*◌, ◌-◌, ◌/◌, ◌^◌, min, max, Bool, nat_lt}
-use Rattle.sd_progress.specs.declared.watched.Progress.{Progress}
-use Rattle.sd_progress.specs.declared.watched.Progress.TheVariants.{Silent, Told, Of}
+use Rattle.sd_progress.specs.declared.watched.ShownProgress.{ShownProgress}
+use Rattle.sd_progress.specs.declared.watched.ShownProgress.TheVariants.{Silent, Told, Of}
 
 -- how many bytes are read from one line to the next: 256 MB
 abbrev pub step : ℕ
@@ -12,7 +12,7 @@ abbrev pub is_due : ℕ → ℕ → Bool
 is_due before after = nat_lt (before / step) (after / step)
 
 -- how a reading of so many bytes is told of, where it is told of at all
-abbrev pub of_total : Progress → ℕ → Progress
+abbrev pub of_total : ShownProgress → ℕ → ShownProgress
 of_total Silent total = Silent
 of_total Told total = Of total
 of_total (Of other) total = Of total

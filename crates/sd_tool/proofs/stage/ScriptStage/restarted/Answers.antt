@@ -4,10 +4,10 @@ use Rattle.sd_driver.specs.Meaning.{Meaning}
 use Rattle.sd_tool.specs.Making.{StartsAs}
 use Rattle.sd_tool.specs.Restart.{IsThere, unfit}
 use Rattle.sd_tool.specs.Settings.{ValuesView, capacity_for, drive_count}
-use Rattle.sd_tool.specs.Stage.{StageView}
+use Rattle.sd_tool.specs.ScriptStage.{StageView}
 use Rattle.sd_tool.proofs.DoingLemmas.{none_of}
 use Rattle.sd_tool.proofs.StageLemmas.{devices_long, handed_as, hands_on_long, restarts_anew, tail_there, unfit_none}
-use Rattle.sd_tool.proofs.stage.Stage.restarted.Goals as goal
+use Rattle.sd_tool.proofs.stage.ScriptStage.restarted.Goals as goal
 
 pub append_tail-refused-requires-after_bounds : goal.append_tail-refused-requires-after_bounds
 append_tail-refused-requires-after_bounds g c κs within =

@@ -2,9 +2,9 @@ use Rattle.std.proofs.Common.{ap, subst, ◌∙◌}
 use Rattle.std.specs.Prelude.{IfOk, OnErr}
 use Rattle.sd_rounds.specs.Rounds.{Drains, PlaysMoving}
 use Rattle.sd_drive.specs.declared.limits.Limits.{Limits}
-use Rattle.sd_tool.specs.Stage.{StageView}
+use Rattle.sd_tool.specs.ScriptStage.{StageView}
 use Rattle.sd_tool.proofs.StageLemmas.{drain_stays}
-use Rattle.sd_tool.proofs.stage.Stage.drain.Goals as goal
+use Rattle.sd_tool.proofs.stage.ScriptStage.drain.Goals as goal
 
 pub invariant_of-self : goal.invariant_of-self
 invariant_of-self g c =

@@ -3,8 +3,8 @@ use Rattle.std.specs.Prelude.{ℕ, Bool, true, false, List, ◌++◌, codes}
 use Rattle.std.specs.Fmt.{decimal}
 use Rattle.sd_base.specs.Refusal.{refusal_text}
 use Rattle.sd_span.specs.JobMedia.{session_text}
-use Rattle.sd_append.specs.declared.line.Line.{Line}
-use Rattle.sd_append.specs.declared.line.Line.TheVariants.{Opened, Data, Appended, Ended, Closed, Session, Read, Header, Refused}
+use Rattle.sd_append.specs.declared.line.ReplyLine.{ReplyLine}
+use Rattle.sd_append.specs.declared.line.ReplyLine.TheVariants.{Opened, Data, Appended, Ended, Closed, Session, Read, Header, Refused}
 
 -- how it is said that a session has its end label
 abbrev pub ended_text : Bool → List ℕ
@@ -12,7 +12,7 @@ ended_text true = codes " Ended=1"
 ended_text false = codes " Ended=0"
 
 -- a line without its newline
-abbrev pub line_text : Line → List ℕ
+abbrev pub line_text : ReplyLine → List ℕ
 line_text (Opened ticket) = codes "3000 OK open ticket = " ++ decimal ticket
 line_text Data = codes "3000 OK data"
 line_text Appended = codes "3000 OK append data"

@@ -1,6 +1,6 @@
 use Rattle.std.proofs.Common.{inr}
 use Rattle.sd_files.proofs.PathLemmas.{at_slash}
-use Rattle.sd_files.proofs.path.place_of.Goals as goal
+use Rattle.sd_files.proofs.path.split_path.Goals as goal
 
 pub returns-in-Some : goal.returns-in-Some
 returns-in-Some c =

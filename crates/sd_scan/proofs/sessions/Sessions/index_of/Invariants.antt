@@ -2,7 +2,7 @@ use Rattle.std.proofs.Common.{◌≡◌, ◌≤◌, ℕ, false, length, slice_ge
 use Rattle.std.specs.Prelude.{Some}
 use Rattle.sd_base.specs.Key.{is_key}
 use Rattle.sd_scan.specs.declared.session.Session.{Session}
-use Rattle.sd_scan.proofs.sessions.Sessions.place_of.Given as goal
+use Rattle.sd_scan.proofs.sessions.Sessions.index_of.Given as goal
 
 abbrev pub invariant-loop-at : goal.invariant-loop-at
 invariant-loop-at l = record {

@@ -1,9 +1,9 @@
 use Rattle.std.proofs.Common.{ap, subst, ◌∙◌}
 use Rattle.sd_world.specs.Deeds.{IsRead}
 use Rattle.sd_drive.specs.declared.limits.Limits.{Limits}
-use Rattle.sd_tool.specs.Stage.{StageView}
+use Rattle.sd_tool.specs.ScriptStage.{StageView}
 use Rattle.sd_tool.proofs.StageLemmas.{reads_stay}
-use Rattle.sd_tool.proofs.stage.Stage.read.Goals as goal
+use Rattle.sd_tool.proofs.stage.ScriptStage.read.Goals as goal
 
 pub invariant_of-self : goal.invariant_of-self
 invariant_of-self g c =

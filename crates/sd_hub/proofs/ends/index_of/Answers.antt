@@ -4,7 +4,7 @@ use Rattle.std.proofs.lemmas.Option.{slice_get_read}
 use Rattle.sd_base.proofs.ChoiceLemmas.{none_all, none_more}
 use Rattle.sd_hub.specs.Settles.{is_end}
 use Rattle.sd_hub.proofs.EndLemmas.{IsOf, none_found, stands}
-use Rattle.sd_hub.proofs.ends.place_of.Goals as goal
+use Rattle.sd_hub.proofs.ends.index_of.Goals as goal
 
 pub returns-then-is_end-clause-some : goal.returns-then-is_end-clause-some
 returns-then-is_end-clause-some g c =

@@ -4,7 +4,7 @@ use Rattle.std.proofs.lemmas.Option.{slice_get_read}
 use Rattle.sd_base.specs.Key.{is_key}
 use Rattle.sd_scan.proofs.TableLemmas.{key_same, same_item}
 use Rattle.sd_scan.specs.declared.session.Session.{Session}
-use Rattle.sd_scan.proofs.sessions.Sessions.place_of.Goals as goal
+use Rattle.sd_scan.proofs.sessions.Sessions.index_of.Goals as goal
 
 pub returns-then-eq-clause-some : goal.returns-then-eq-clause-some
 returns-then-eq-clause-some c =

@@ -5,8 +5,8 @@ use Rattle.sd_base.specs.declared.refusal.Refusal.TheVariants as refusals
 use Rattle.sd_machine.specs.declared.reply.Reply.{Reply}
 use Rattle.sd_machine.specs.declared.reply.Reply.TheVariants as replies
 use Rattle.sd_append.specs.declared.stage.Own.{Own}
-use Rattle.sd_append.specs.declared.stage.Stage.{Stage}
-use Rattle.sd_append.specs.declared.stage.Stage.TheVariants.{Command, Header, Records, Refused, Dropped, Spans, BadSpans, Over}
+use Rattle.sd_append.specs.declared.stage.TalkStage.{TalkStage}
+use Rattle.sd_append.specs.declared.stage.TalkStage.TheVariants.{Command, Header, Records, Refused, Dropped, Spans, BadSpans, Over}
 use Rattle.sd_append.specs.declared.signal.Meaning.{Meaning}
 use Rattle.sd_append.specs.declared.signal.Meaning.TheVariants.{EndOfData, Terminate, Poll, Other}
 
@@ -16,7 +16,7 @@ meaning_of (pos n) = Other
 meaning_of (negsuc n) = if n == 0 then EndOfData else (if n == 3 then Terminate else (if n == 4 || n == 5 then Poll else Other))
 
 -- the session that the talk opened last
-abbrev pub own_of : Stage → Option Own
+abbrev pub own_of : TalkStage → Option Own
 own_of (Command own) = own
 own_of (Header own) = Some own
 own_of (Records own header) = Some own

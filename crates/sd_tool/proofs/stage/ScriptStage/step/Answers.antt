@@ -2,9 +2,9 @@ use Rattle.std.proofs.Common.{ap, subst, ◌∙◌}
 use Rattle.sd_drive.specs.declared.limits.Limits.{Limits}
 use Rattle.sd_driver.specs.Meaning.{Meaning}
 use Rattle.sd_world.specs.Steps.{IsStep}
-use Rattle.sd_tool.specs.Stage.{StageView}
+use Rattle.sd_tool.specs.ScriptStage.{StageView}
 use Rattle.sd_tool.proofs.StageLemmas.{moves_limits, moves_online, retired_other}
-use Rattle.sd_tool.proofs.stage.Stage.step.Goals as goal
+use Rattle.sd_tool.proofs.stage.ScriptStage.step.Goals as goal
 
 pub invariant_of-self-in_default : goal.invariant_of-self-in_default
 invariant_of-self-in_default g c =
