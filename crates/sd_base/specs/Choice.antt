@@ -1,8 +1,7 @@
 -- The first of the candidates in a list, by an order and then by their place.
 use Rattle.std.specs.Prelude.{◌≡◌, ℕ, ◌<◌, List, Some, slice_get}
 
--- At this place stands the first candidate: it precedes every candidate before it, and none behind it
--- precedes it.
+-- At this place is the first candidate: it precedes each candidate before it, and none after it precedes it.
 pub record FirstOf {A : Type 0} (IsCandidate : A → Type 0) (Precedes : A → A → Type 0) (xs : List A) (place : ℕ) : Type 0 where
   pub first : A
   pub there : slice_get xs place ≡ Some first

@@ -8,8 +8,7 @@ pub record Record : Type 0 where
   pub stream : ℕ
   pub bytes : List ℕ
 
--- index and stream are 1 or more and fit a signed field, and the data are no longer than a packet
--- may be
+-- Index and stream are 1 or more and fit a signed field; the data are no longer than a packet may be.
 pub record IsRecord (r : Record) : Type 0 where
   pub index_least : 1 ≤ r.index
   pub index_most : r.index ≤ most_number

@@ -5,8 +5,7 @@ use Rattle.sd_base.specs.Limits.{block_header, least_body}
 use Rattle.sd_base.specs.declared.number.SessionKey.{SessionKey}
 use Rattle.sd_crc.specs.Crc32.{crc32_of}
 
--- the header behind its checksum: the size of the block, its number, `BB02`, the session's number,
--- the session's time
+-- the header after its checksum: the block's size, its number, `BB02`, the session's number, its time
 unfoldable pub header_fields : SessionKey → ℕ → ℕ → List ℕ
 header_fields key number size =
     u32_bytes size ++ u32_bytes number ++ codes "BB02" ++ u32_bytes key.id ++ u32_bytes key.time

@@ -6,9 +6,8 @@ use Rattle.sd_drive.specs.declared.limits.Limits.{Limits}
 use Rattle.sd_lane.specs.Queue.{LanesView}
 use Rattle.sd_core.specs.declared.conf.WorldConf.{WorldConf}
 
--- The settings are those that a world may have: each limit is in its bounds, a volume has room for two blocks, a spool,
--- where there is one, for a block, and a queue for a piece; there is a drive, and each has a lane, and there are not too
--- many of either.
+-- The settings are those that a world may have: each limit is in its bounds, a volume has room for two blocks, a spool, if there
+-- is one, for a block, a queue for a piece; there is a drive, each has a lane, and there are not too many of either.
 pub record IsConf (conf : WorldConf) : Type 0 where
   pub block_least : least_block_limit ≤ conf.block
   pub block_most : conf.block ≤ most_block

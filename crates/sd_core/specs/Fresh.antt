@@ -17,8 +17,7 @@ pub record StaysDevice {D : Type 0} (meaning : D → Meaning) (old new : D) : Ty
   pub same : IsHonest (meaning old) → SameShelf (meaning old).shelf (meaning new).shelf
   pub later : StillLasts (meaning old).shelf (meaning new).shelf
 
--- A drive over the device that has no volume and served no session yet. Where the device is honest, a stop before would
--- have left what was stable.
+-- A drive over the device, with no volume and no session yet. If it is honest, a stop before left what was stable.
 pub record IsNewDrive {D : Type 0} (meaning : D → Meaning) (limits : Limits) (media : List ℕ) (device : D) (d : DriveIs D) : Type 0 where
   pub is : d ≡ record { device = d.device; media = media; limits = limits; volumes = []; loaded = None; pool = None; hand = None; journal = []; ready = [] }
   pub stays : StaysDevice meaning device d.device
@@ -54,8 +53,7 @@ abbrev pub new_bays : {D Q S Z : Type 0} → (Q → LanesView) → (S → StoreM
 new_bays queue store (d ∷ ds) (q ∷ qs) (s ∷ ss) = new_bay store d (queue q) s ∷ new_bays queue store ds qs ss
 new_bays queue store ds qs ss = []
 
--- A world that was just made: no session was opened, no volume is known and none asked for, and each drive is new, with
--- its queue and its stores.
+-- A new world: no session, no volume that is known or asked for, and each drive is new, with its queue and stores.
 pub record IsFresh {D Q S Z : Type 0} (meaning : D → Meaning) (queue : Q → LanesView) (store : S → StoreMeaning)
     (limits : Limits) (room : ℕ) (medias : List (List ℕ × ℕ)) (devices : List D) (queues : List Q) (spools : List (Vec S Z))
     (w : WorldView D) : Type 0 where

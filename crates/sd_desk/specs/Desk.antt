@@ -9,8 +9,7 @@ use Rattle.std.specs.String.{string_bytes}
 use Rattle.sd_desk.specs.declared.claim.Claim.{Claim}
 use Rattle.sd_desk.specs.declared.request.Request.{Request}
 
--- all that clauses say of a desk: the names of volumes, each with its claim; the requests, in the order in which they were
--- asked
+-- all that clauses say of a desk: the names of volumes, each with its claim, and the requests in the order asked
 pub record DeskView : Type 0 where
   pub claims : List (List ℕ × Claim)
   pub requests : List Request

@@ -11,7 +11,6 @@ use Rattle.sd_driver.specs.Meaning.{Meaning, IsHonest}
 use Rattle.sd_driver.specs.Shelf.{Shelf, SameShelf, StillLasts, StillLastsBelow}
 use Rattle.sd_journal.specs.Journal.{Entry, is_purged, live, purged, purged_one}
 use Rattle.sd_journal.specs.declared.mark.Mark.TheVariants.{Unsynced, Purged}
-use Rattle.sd_journal.proofs.EntryLemmas.{purging}
 use Rattle.sd_lane.specs.declared.piece.Piece.{Piece}
 use Rattle.sd_volume.specs.declared.fault.AdoptFault.{AdoptFault}
 use Rattle.sd_volume.specs.declared.fault.AdoptFault.TheVariants as adopt
@@ -21,12 +20,12 @@ use Rattle.sd_volume.specs.Fault.{adopt_refusal}
 use Rattle.sd_volume.specs.Purge.{emptied}
 use Rattle.sd_volume.specs.Volume.{VolumeView}
 use Rattle.sd_drive.specs.View.{DriveIs, name_loaded}
-use Rattle.sd_drive.specs.Shelf.{bytes_at, placements_on, IsSafeIfSynced, LiesOn, IsOnLoaded, Kept, KeepsPieces, KeepsOtherPieces}
+use Rattle.sd_drive.specs.Shelf.{bytes_at, placements_on, IsSafeIfSynced, LiesOn, IsOnLoaded, Kept, KeepsPieces}
 use Rattle.sd_drive.specs.Moves.{AddsNone, EmptiesVolume, Purges, KeepsPurging}
 use Rattle.sd_drive.proofs.Places.{some_is, get_set_here, get_set_other, set_same, within_get, names_set, differ_same}
 use Rattle.sd_drive.proofs.Stays.{Stands, same_bytes, still_on, SameBlock, blocks_same}
 use Rattle.sd_drive.proofs.LaidLemmas.{placements_on-append, off_front, laid_first, all_laid_set}
-use Rattle.sd_drive.proofs.Kept.{still, all_map, blocks_of, items_by}
+use Rattle.sd_drive.proofs.Kept.{still, all_map, blocks_of}
 use Rattle.sd_drive.proofs.LoadLemmas.{none_when}
 use Rattle.sd_drive.proofs.SyncLemmas.{parts_are}
 use Rattle.sd_drive.proofs.VolumeLists.{kept_called}
@@ -146,10 +145,10 @@ kept_unpurged old new vs l js js' at v w k none there is journal honest loaded m
     (kept_called old new vs l js k none honest loaded moment (λ o. still_on vs old.shelf new.shelf later) (λ o place x here. same_bytes old.shelf new.shelf x.name (same o x.name))))
 
 pub pieces_purged : (old new : Meaning) (name : List ℕ) (js : List Entry) (hand : Option Piece) → new.honest ≡ old.honest
-    → (IsHonest old → (other : List ℕ) → other ≢ name → new.shelf.volume other ≡ old.shelf.volume other) → KeepsOtherPieces name old new js hand
+    → (IsHonest old → (other : List ℕ) → other ≢ name → new.shelf.volume other ≡ old.shelf.volume other) → KeepsPieces old new (purged name js) (purged name js) hand hand
 pieces_purged old new name js hand honest others = record {
   honest = honest;
-  items = items_by js (purged name js) hand (purging name js).placements;
+  items = refl;
   blocks = λ o. blocks_of old.shelf new.shelf (purged name js) (purged name js) hand
       (blocks_same old.shelf new.shelf (purged name js) (purged_blocks old.shelf new.shelf name js (others o)));
 }
@@ -182,7 +181,7 @@ purges_err T adopt.Device at v old new is device other = inl (refl, device refl)
 purges_err T adopt.Memory at v old new is device other = inr (inr refl, other (λ e. cc))
 
 pub keeps_err : (T : Type 0) (fault : AdoptFault) (name : List ℕ) (old new : Meaning) (js : List Entry) (hand : Option Piece)
-    → (fault ≡ adopt.Device → KeepsOtherPieces name old new js hand) → (fault ≢ adopt.Device → KeepsPieces old new js js hand hand) → KeepsPurging {T = T} (Err (adopt_refusal fault)) name old new js hand
+    → (fault ≡ adopt.Device → KeepsPieces old new (purged name js) (purged name js) hand hand) → (fault ≢ adopt.Device → KeepsPieces old new js js hand hand) → KeepsPurging {T = T} (Err (adopt_refusal fault)) name old new js hand
 keeps_err T adopt.NotOnShelf name old new js hand device other = other (λ e. cc)
 keeps_err T adopt.NotOurVolume name old new js hand device other = other (λ e. cc)
 keeps_err T adopt.OtherMedia name old new js hand device other = other (λ e. cc)

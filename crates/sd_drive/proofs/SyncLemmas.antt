@@ -4,6 +4,7 @@ use Rattle.std.proofs.lemmas.Option.{slice_get_read}
 use Rattle.std.proofs.Math.Seq.{take-length}
 use Rattle.std.specs.Prelude.{IsTrue, IfSome}
 use Rattle.std.specs.List.{AllByRecursion}
+use Rattle.std.specs.Option.{option_map_or}
 use Rattle.std.specs.Str.{bytes_eq}
 use Rattle.std.proofs.lemmas.Slice.Eq.{bytes_eq-Decides}
 use Rattle.sd_base.specs.declared.number.SessionKey.{SessionKey}
@@ -20,7 +21,7 @@ use Rattle.sd_span.specs.declared.placement.Placement.{Placement}
 use Rattle.sd_volume.specs.Volume.{VolumeView}
 use Rattle.sd_drive.specs.View.{DriveIs, name_loaded}
 use Rattle.sd_drive.specs.Shelf.{block_at, block_of_entry, IsSafe, IsSafeIfSynced, LiesOn, IsOnLoaded, Kept, KeepsPieces}
-use Rattle.sd_drive.specs.Moves.{awaits_on, settled_on}
+use Rattle.sd_drive.specs.Moves.{settled_on}
 use Rattle.sd_drive.proofs.Places.{some_is, names_set, differ_same, loaded_at}
 use Rattle.sd_drive.proofs.Stays.{AllStand, front_of, SameBytes, same_bytes, fronts_same, still_on, all_safe, all_same_block, blocks_same}
 use Rattle.sd_drive.proofs.LaidLemmas.{laid_same, laid_shut, all_laid_same, all_laid_by, all_laid_set}
@@ -101,7 +102,7 @@ settled_none mark name (e ∷ es) quiet =
     second false b h = h
 
 -- where no entry awaits a sync of the loaded volume, none is unsynced
-pub none_unsynced : (loaded : Option (List ℕ)) (es : List Entry) → awaits_on loaded es ≡ false → AllByRecursion (IsOnLoaded loaded) es → AllByRecursion (λ e. e.mark ≢ mark.Unsynced) es
+pub none_unsynced : (loaded : Option (List ℕ)) (es : List Entry) → option_map_or (λ name. any_awaits_sync name es) loaded false ≡ false → AllByRecursion (IsOnLoaded loaded) es → AllByRecursion (λ e. e.mark ≢ mark.Unsynced) es
 none_unsynced None [] quiet on = on
 none_unsynced None (e ∷ es) quiet on = (λ u. absurd (cc (on.0 u)), none_unsynced None es refl on.1)
 none_unsynced (Some name) [] quiet on = on
@@ -173,8 +174,8 @@ loaded_name_is vs l at v is there = ap (name_loaded vs) is ∙ loaded_at vs at v
 pub settled_is : (m : Mark) (vs : List VolumeView) (l : Option ℕ) (js : List Entry) (at : ℕ) (v : VolumeView) → l ≡ Some at → slice_get vs at ≡ Some v → settled_on m (name_loaded vs l) js ≡ settled m v.name js
 settled_is m vs l js at v is there = ap (λ o. settled_on m o js) (loaded_name_is vs l at v is there)
 
-pub awaits_is : (vs : List VolumeView) (l : Option ℕ) (js : List Entry) (at : ℕ) (v : VolumeView) → l ≡ Some at → slice_get vs at ≡ Some v → awaits_on (name_loaded vs l) js ≡ any_awaits_sync v.name js
-awaits_is vs l js at v is there = ap (λ o. awaits_on o js) (loaded_name_is vs l at v is there)
+pub awaits_is : (vs : List VolumeView) (l : Option ℕ) (js : List Entry) (at : ℕ) (v : VolumeView) → l ≡ Some at → slice_get vs at ≡ Some v → option_map_or (λ name. any_awaits_sync name js) (name_loaded vs l) false ≡ any_awaits_sync v.name js
+awaits_is vs l js at v is there = ap (λ o. option_map_or (λ name. any_awaits_sync name js) o false) (loaded_name_is vs l at v is there)
 
 -- the loaded volume, which stands at its place
 pub loaded_read : (vs : List VolumeView) (l : Option ℕ) (at : ℕ) (v : VolumeView) → IfSome l (λ n. n < length vs) → l ≡ Some at → v ≡ get_or vs at v → slice_get vs at ≡ Some v

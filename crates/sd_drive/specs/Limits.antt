@@ -3,8 +3,7 @@ use Rattle.std.specs.Prelude.{◌≢◌, ◌*◌, ◌≤◌}
 use Rattle.sd_base.specs.Limits.{least_block_limit, most_block, most_number, most_volume}
 use Rattle.sd_drive.specs.declared.limits.Limits.{Limits}
 
--- The limits are those that a drive, and so a world, may have: each is in its bounds, a volume has room for two blocks, and
--- a spool, where there is one, for a block.
+-- A drive, and so a world, may have these limits: in bounds, a volume for two blocks or more, a spool, if any, for one.
 pub record AreLimits (limits : Limits) : Type 0 where
   pub block_least : least_block_limit ≤ limits.block
   pub block_most : limits.block ≤ most_block

@@ -23,7 +23,7 @@ use Rattle.sd_driver.specs.Shelf.{StillLastsBelow}
 use Rattle.sd_drive.specs.declared.adopt.Adopted.{Adopted}
 use Rattle.sd_drive.specs.declared.place.Placed.{Placed}
 use Rattle.sd_drive.specs.declared.place.Placed.TheVariants.{At, NeedVolume, VolumeFull, VolumeError, Idle}
-use Rattle.sd_drive.specs.Shelf.{KeepsPieces, KeepsOtherPieces}
+use Rattle.sd_drive.specs.Shelf.{KeepsPieces}
 use Rattle.sd_drive.specs.View.{DriveIs, name_loaded, block_length}
 
 -- Placing.
@@ -82,22 +82,17 @@ PlacesOn (Err error) limit piece old new journal journal' =
     IsWithin limit piece old × (new ≡ old) × (journal' ≡ journal)
 PlacesOn result limit piece old new journal journal' = ⊥
 
--- room was made for the session's next placement, or not
-abbrev pub MayHaveRoom : SessionKey → List SessionKey → List SessionKey → Type 0
-MayHaveRoom key old new = (new ≡ old) ⊎ (new ≡ with_key key old)
-
 -- what is in the hand after that answer: the piece stays there until it is placed
 abbrev pub hand_after : {E : Type 0} → Result Placed E → Option Piece → Option Piece
 hand_after (Ok (At p)) hand = None
 hand_after result hand = hand
 
--- The sessions for whose next placement there is room after that answer: what was placed used the room of its session up;
--- else room may have been made for it.
+-- for which sessions' next placement there is room then: that of the placed one is used up; else it may have been made
 abbrev pub RoomAfter : {E : Type 0} → Result Placed E → SessionKey → List SessionKey → List SessionKey → Type 0
 RoomAfter (Ok (At p)) key old new = new ≡ without_key key (with_key key old)
 RoomAfter (Ok NeedVolume) key old new = new ≡ old
 RoomAfter (Ok Idle) key old new = new ≡ old
-RoomAfter result key old new = MayHaveRoom key old new
+RoomAfter result key old new = (new ≡ old) ⊎ (new ≡ with_key key old)
 
 -- the piece in the hand met a volume that takes blocks; nothing changes but that volume, the journal and the hand
 pub record PlacesPiece {D E : Type 0} (result : Result Placed E) (old new : DriveIs D) : Type 0 where
@@ -132,17 +127,13 @@ LimitAllows d = (piece : Piece) × (at : ℕ) × (volume : VolumeView) × IsRead
 
 -- Syncing.
 
--- an entry awaits a sync of the loaded volume
-abbrev pub awaits_on : Option (List ℕ) → List Entry → Bool
-awaits_on loaded entries = option_map_or (λ name. any_awaits_sync name entries) loaded false
-
 -- the entries once a sync of the loaded volume is over
 abbrev pub settled_on : Mark → Option (List ℕ) → List Entry → List Entry
 settled_on mark loaded entries = option_map_or (λ name. settled mark name entries) loaded entries
 
 -- an entry of the drive's journal awaits a sync of its loaded volume
 abbrev pub awaits_sync : {D : Type 0} → DriveIs D → Bool
-awaits_sync d = awaits_on (name_loaded d.volumes d.loaded) d.journal
+awaits_sync d = option_map_or (λ name. any_awaits_sync name d.journal) (name_loaded d.volumes d.loaded) false
 
 -- the drive's journal once a sync of its loaded volume has succeeded
 abbrev pub synced_journal : {D : Type 0} → DriveIs D → List Entry
@@ -319,6 +310,7 @@ pub record PurgesAt {D T : Type 0} (name : List ℕ) (at : ℕ) (result : Result
 -- what a purge leaves of the pieces given: where it emptied the volume, by its answer, its blocks are gone
 abbrev pub KeepsPurging : {T : Type 0} → Result T Refusal → (name : List ℕ) → (old new : Meaning)
     → List Entry → Option Piece → Type 0
-KeepsPurging (Ok done) name old new journal hand = KeepsOtherPieces name old new journal hand
-KeepsPurging (Err refusal.DeviceFault) name old new journal hand = KeepsOtherPieces name old new journal hand
+KeepsPurging (Ok done) name old new journal hand = KeepsPieces old new (purged name journal) (purged name journal) hand hand
+KeepsPurging (Err refusal.DeviceFault) name old new journal hand =
+    KeepsPieces old new (purged name journal) (purged name journal) hand hand
 KeepsPurging (Err fault) name old new journal hand = KeepsPieces old new journal journal hand hand

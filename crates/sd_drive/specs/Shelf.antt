@@ -6,7 +6,7 @@ use Rattle.std.specs.Option.{option_to_list}
 use Rattle.sd_base.specs.Limits.{block_header}
 use Rattle.sd_driver.specs.Meaning.{Meaning, IsHonest}
 use Rattle.sd_driver.specs.Shelf.{Shelf, Held, Lasts, stable_bytes}
-use Rattle.sd_journal.specs.Journal.{Entry, is_purged, live, purged}
+use Rattle.sd_journal.specs.Journal.{Entry, is_purged, live}
 use Rattle.sd_journal.specs.declared.mark.Mark.TheVariants.{Unsynced, Synced}
 use Rattle.sd_label.specs.declared.label.VolumeLabel.{VolumeLabel}
 use Rattle.sd_lane.specs.declared.piece.Piece.{Piece}
@@ -32,14 +32,12 @@ block_at shelf p = record { key = p.key; body = drop block_header (image_at shel
 abbrev pub block_of_entry : Shelf → Entry → Option Block
 block_of_entry shelf e = if is_purged e.mark then None else Some (block_at shelf e.placement)
 
--- the blocks at the journal's placements, those that are gone left blank, and then the one of the piece in the hand, in the
--- order of the pieces given
+-- the blocks at the journal's placements, blank if gone, then that of the piece in the hand, in the order of the pieces
 abbrev pub blocks : Shelf → List Entry → Option Piece → List (Option Block)
 blocks shelf journal hand =
     map (block_of_entry shelf) journal ++ map (λ (p : Piece). Some (block_of_piece p)) (option_to_list hand)
 
--- the placement ends at or below the stable length of its volume, and since some moment, now or earlier, every stop
--- leaves the volume up to that end
+-- the placement ends at or below its volume's stable length, and since some moment every stop leaves the volume up to there
 pub record IsSafe (shelf : Shelf) (p : Placement) : Type 0 where
   pub held : Held
   pub there : shelf.volume p.volume ≡ Some held
@@ -61,8 +59,7 @@ placements_on name (p ∷ ps) = if bytes_eq p.volume name then p ∷ placements_
 abbrev pub blocks_on : Shelf → List ℕ → List Placement → List Block
 blocks_on shelf name ps = map (block_at shelf) (placements_on name ps)
 
--- The placements are those of these blocks behind the earlier ones of a volume: each reaches from where the blocks
--- before it end to where its own does.
+-- The placements are those of these blocks after a volume's earlier ones: each reaches from the end before it to its own.
 abbrev pub LieBehind : VolumeLabel → List Block → List Placement → List Block → Type 0
 LieBehind label earlier [] [] = Unit {0}
 LieBehind label earlier [] (b ∷ bs) = ⊥
@@ -121,12 +118,6 @@ pub record KeepsPieces (old new : Meaning)
   pub honest : new.honest ≡ old.honest
   pub items : items journal' hand' ≡ items journal hand
   pub blocks : IsHonest old → blocks new.shelf journal' hand' ≡ blocks old.shelf journal hand
-
--- what a purge of the volume keeps: the same, but that its blocks are gone
-pub record KeepsOtherPieces (name : List ℕ) (old new : Meaning) (journal : List Entry) (hand : Option Piece) : Type 0 where
-  pub honest : new.honest ≡ old.honest
-  pub items : items (purged name journal) hand ≡ items journal hand
-  pub blocks : IsHonest old → blocks new.shelf (purged name journal) hand ≡ blocks old.shelf (purged name journal) hand
 
 -- what a stop now leaves of the shelf is what is stable now; it is so after every call of a device
 abbrev pub LeavesStable : Shelf → Type 0

@@ -6,8 +6,7 @@ pub record Held : Type 0 where
   pub bytes : List ℕ
   pub stable : ℕ
 
--- the volumes by their names, and what a stop left at each moment up to now; a moment is the count of the
--- calls that had changed a volume by then
+-- the volumes by name, and what a stop left at each moment till now; a moment counts the calls that had changed a volume
 pub record Shelf : Type 0 where
   pub volume : List ℕ → Option Held
   pub moment : ℕ

@@ -96,9 +96,9 @@ key_of s v is = ap (λ (x : SessionView). x.key) is
 
 spools_key : (answer : Spooling) (s v : SessionView) → Spools answer s v → v.key ≡ s.key
 spools_key Spooled s v t = ap (λ (x : SessionView). x.key) t.is
-spools_key SpoolFull s v t = ap (λ (x : SessionView). x.key) t.is
-spools_key NothingWaits s v t = key_of s v t.is
-spools_key NoSpool s v t = key_of s v t.is
+spools_key SpoolFull s v t = ap (λ (x : SessionView). x.key) t.2
+spools_key NothingWaits s v t = key_of s v t.3
+spools_key NoSpool s v t = key_of s v t.2
 
 not_spooled_key : (why : Refusal) (s v : SessionView) → SpoolRefused s why v → v.key ≡ s.key
 not_spooled_key why s v (inl t) = key_of s v t.1
@@ -132,8 +132,8 @@ sends_by : (p q : PartIs) (answer : Despooled) (capacity : ℕ) → q ≡ record
     → SendsBy answer capacity p.seat p.session q.seat q.session → GoesOn p [] q
 sends_by p q Sent capacity is t = sends p q (_ ∷ []) is t.1 (ap (λ (x : SessionView). x.key) t.0.is)
 sends_by p q LaneFull capacity is t = sends p q [] is (t.1 ∙ sends_none p.seat) (ap (λ (x : SessionView). x.key) t.0.is)
-sends_by p q Nothing capacity is t = sends p q [] is (t.1 ∙ sends_none p.seat) (key_of p.session q.session t.0.is)
-sends_by p q NotDue capacity is t = sends p q [] is (t.1 ∙ sends_none p.seat) (key_of p.session q.session t.0.is)
+sends_by p q Nothing capacity is t = sends p q [] is (t.1 ∙ sends_none p.seat) (key_of p.session q.session t.0.3)
+sends_by p q NotDue capacity is t = sends p q [] is (t.1 ∙ sends_none p.seat) (key_of p.session q.session t.0.2)
 
 pub sends_on : (p q : PartIs) (capacity : ℕ) (result : Result Despooled Refusal) → q ≡ record p { seat = q.seat; session = q.session }
     → IfOk result (λ answer. SendsBy answer capacity p.seat p.session q.seat q.session)

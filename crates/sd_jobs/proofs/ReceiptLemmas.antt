@@ -1,5 +1,5 @@
 -- What a close of a part answers, as a receipt of its session.
-use Rattle.std.proofs.Common.{◌≡◌, ◌≢◌, ℕ, refl, sym, ap, ◌∙◌, List, [], ◌∷◌, inl, inr}
+use Rattle.std.proofs.Common.{◌≡◌, sym, ap, ◌∙◌, List}
 use Rattle.std.specs.Prelude.{Ok}
 use Rattle.sd_drive.specs.Receipt.{ReceiptIs}
 use Rattle.sd_jobs.specs.Jobs.{IsReceiptOf}
@@ -8,17 +8,6 @@ use Rattle.sd_part.specs.Closes.{Closes}
 use Rattle.sd_part.specs.declared.closing.Closing.TheVariants.{Closed}
 use Rattle.sd_session.specs.Session.{SessionView, parts_of}
 use Rattle.sd_span.specs.Spans.{spans_of}
-use Rattle.sd_world.proofs.Lookups.{one_or_two}
-
-same : (m n : ℕ) → (m ≢ n → ⊥) → m ≡ n
-same m n h = elim (one_or_two m n) [
-  | inl is ↦ is
-  | inr apart ↦ absurd (h apart)
-]
-
-none_of : {A : Type 0} (xs : List A) → (xs ≢ [] → ⊥) → xs ≡ []
-none_of [] h = refl
-none_of (x ∷ xs) h = absurd (h (λ e. cc))
 
 pub receipt_of : (journal : List Entry) (r : ReceiptIs) (s v : SessionView) → Closes journal s (Ok (Closed r)) v
     → IsReceiptOf v r × (r.spans ≡ spans_of s.key (placements journal))
@@ -29,12 +18,12 @@ receipt_of journal r s v c =
       record {
         closed_by = record {
           closed = ap (λ (x : SessionView). x.status) c.0.is;
-          none_left = ap parts_of c.0.is ∙ none_of (parts_of s) (λ some. c.0.may.none_outstanding (inl some));
+          none_left = ap parts_of c.0.is ∙ c.0.may.none_left;
           span_all = record {
             journal = journal;
             placed_are = ap (λ k. placed_of k journal) key ∙ c.1 ∙ sym sent;
             synced_are = ap (λ k. synced_of k journal) key
-                ∙ same (synced_of s.key journal) s.sent (λ apart. c.0.may.none_outstanding (inr apart)) ∙ sym sent;
+                ∙ c.0.may.all_synced ∙ sym sent;
             spans_are = spans ∙ ap (λ k. spans_of k (placements journal)) (sym key);
           };
         };

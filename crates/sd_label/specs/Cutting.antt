@@ -36,16 +36,14 @@ pub record Unfinished (fs : List Fragment) : Type 0 where
   pub some_remain : remaining ≢ []
   pub fragments_are : Fragments unfinished (fs ++ remaining)
 
--- what stands behind the whole records: nothing, the front of one more record, or the end label
--- with their totals and nothing after it
+-- what follows the whole records: nothing, the front of one more, or the end label with their totals and nothing else
 abbrev pub Behind : List Record → Standing → List Fragment → Type 0
 Behind records Between fs = fs ≡ []
 Behind records Within fs = Unfinished fs
 Behind records AtEnd fs =
     (label : SessionLabel) × IsEnd label records × (fs ≡ session_label_fragment label ∷ [])
 
--- the fragments of a session: a start label, those of its records in order, and what stands behind
--- them
+-- a session's fragments: a start label, those of its records in order, and what follows them
 pub record IsSession (fs : List Fragment) (records : List Record) (standing : Standing)
     : Type 0 where
   pub start : SessionLabel
@@ -66,8 +64,7 @@ AreBodies (fs ∷ rest) = (fs ≢ []) × FitTogether fs × AreBodies rest
 abbrev pub joined : List (List Fragment) → List Fragment
 joined fragments = flat_map (λ fs. fs) fragments
 
--- the bodies are the bytes of these fragments, listed for each body, which joined are a session with
--- those records whole
+-- the bodies are the bytes of these fragments, listed by body, which joined are a session with these records whole
 pub record HoldsBy (fragments : List (List Fragment)) (bodies : List (List ℕ)) (records : List Record)
     (standing : Standing) : Type 0 where
   pub bytes_are : bodies ≡ map fragments_bytes fragments

@@ -38,8 +38,7 @@ pub record WasFull (lanes capacity lane : ℕ) (sent : List Piece) : Type 0 wher
   pub before : List Piece
   pub sent_is : sent ≡ before ++ pieces_of lane held
 
--- what a world sees of a queue with one owner: its lanes, how many pieces it has room for, and what it
--- holds, the piece that came first in front
+-- what a world sees of a queue with one owner: its lanes, the pieces that it has room for, and those in it, oldest first
 pub record LanesView : Type 0 where
   pub lanes : ℕ
   pub capacity : ℕ

@@ -131,7 +131,7 @@ adopt_last meaning name why s o (inr (inr (inr m))) = inr (name, m.unclaimed, m.
 
 mount_last : {D : Type 0} (meaning : D → Meaning) (name : List ℕ) (why : Refusal) (s : Station D) (o : Outcome D) → MountFails meaning name why s o → LastsBut meaning s o
 mount_last meaning name why s o (inl m) = inl m.2.calls.later
-mount_last meaning name why s o (inr m) = inl m.unmounts.1.later
+mount_last meaning name why s o (inr m) = inl m.3.1.later
 
 moves_last : {D : Type 0} (meaning : D → Meaning) (own : ℕ) (event : Event) (reply : Reply) (s : Station D) (o : Outcome D) → operated_at event ≡ Some own
     → DriveMoves meaning own event reply s o → LastsBut meaning s o

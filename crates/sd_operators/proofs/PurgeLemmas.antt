@@ -11,9 +11,9 @@ use Rattle.sd_base.specs.declared.refusal.Refusal.{Refusal}
 use Rattle.sd_base.specs.declared.refusal.Refusal.TheVariants.{InUse, DeviceFault, VolumeNotOnShelf, Memory}
 use Rattle.sd_desk.specs.Desk.{DeskView}
 use Rattle.sd_driver.specs.Meaning.{Meaning, IsHonest}
-use Rattle.sd_driver.specs.Shelf.{SameShelf, StillLasts, StillLastsBelow}
+use Rattle.sd_driver.specs.Shelf.{SameShelf, StillLasts}
 use Rattle.sd_drive.specs.Moves.{PurgesAt, KeepsPurging, AddsNone, index_of}
-use Rattle.sd_drive.specs.Shelf.{KeepsPieces, KeepsOtherPieces}
+use Rattle.sd_drive.specs.Shelf.{KeepsPieces}
 use Rattle.sd_drive.specs.View.{DriveIs}
 use Rattle.sd_journal.specs.Journal.{Entry, purged, has_on}
 use Rattle.sd_journal.proofs.EntryLemmas.{purged_placements}
@@ -87,11 +87,9 @@ module _ {D T : Type 0} (meaning : D → Meaning) (name : List ℕ) (at : ℕ) (
         there = p.there;
         name_is = p.name_is;
         empties = q.1;
-        calls = record {
-          counted = recounted _ _ (λ x. ap Err q.0) (λ x. tt) (λ x. x) (λ x. x) counted;
-          keeps = subst (λ n. KeepsOtherPieces n (meaning d.device) (meaning after.device) d.journal d.hand) (sym p.name_is) (subst keeps_by q.0 keeps);
-          below = subst (λ n. StillLastsBelow p.volume.first n (meaning d.device).shelf (meaning after.device).shelf) (sym p.name_is) p.below;
-        };
+        counted = recounted _ _ (λ x. ap Err q.0) (λ x. tt) (λ x. x) (λ x. x) counted;
+        keeps = subst keeps_by q.0 keeps;
+        below = p.below;
         cuts = λ never. absurd (never tt);
       },
     ))

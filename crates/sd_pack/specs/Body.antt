@@ -4,8 +4,7 @@ use Rattle.sd_base.specs.Limits.{least_body, most_body}
 use Rattle.sd_record.specs.Fragment.{Fragment, fragment_bytes, fragments_bytes}
 use Rattle.sd_base.specs.FileIndex.{first_nonzero}
 
--- the bytes of a body, and the first and the last FileIndex of the records or parts in it, 0 and 0
--- if none
+-- a body's bytes, and the first and last FileIndex of the records or parts in it, 0 and 0 if none
 pub record PackedBody : Type 0 where
   pub bytes : List ℕ
   pub first : ℕ

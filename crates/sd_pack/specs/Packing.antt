@@ -8,8 +8,7 @@ use Rattle.sd_label.specs.Label.{session_label_bytes}
 use Rattle.sd_label.specs.Cutting.{Standing, Between, AtEnd, IsEnd, HoldsBy, AreTight, Holds, HoldsTightly}
 use Rattle.sd_pack.specs.Body.{PackedBody, body_of}
 
--- the most bytes of a body, the closed bodies that wait, and the open body, which has no bytes where
--- none is open
+-- the most bytes of a body, the closed bodies that wait, and the open body, without bytes if none is open
 pub record PackerView : Type 0 where
   pub room : ℕ
   pub waiting : List PackedBody
@@ -36,8 +35,7 @@ bytes_of bodies = map (λ body. body.bytes) bodies
 abbrev pub all_bytes : List PackedBody → List ℕ
 all_bytes bodies = flat_map (λ body. body.bytes) bodies
 
--- the bodies hold a session so far, tightly in bodies of at most `room` bytes, and each says the first
--- and last FileIndex of its own fragments
+-- the bodies hold a session so far, tightly in at most `room` bytes each, with the first and last FileIndex in each
 pub record Packs (room : ℕ) (bodies : List PackedBody) (records : List Record) (standing : Standing)
     : Type 0 where
   -- the fragments of each body

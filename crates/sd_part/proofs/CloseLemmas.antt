@@ -6,7 +6,7 @@ use Rattle.sd_base.specs.declared.refusal.Refusal.TheVariants.{SessionNotOpen, S
 use Rattle.sd_base.specs.declared.number.SessionKey.{SessionKey}
 use Rattle.sd_drive.specs.Receipt.{ReceiptIs}
 use Rattle.sd_journal.specs.Journal.{Entry, placements, placed_of, synced_of}
-use Rattle.sd_session.specs.Session.{SessionView, IsRunning, MayClose, ClosesSession, CloseRefused, FailsSession, HasOutstanding, status_refusal}
+use Rattle.sd_session.specs.Session.{SessionView, IsRunning, MayClose, ClosesSession, CloseRefused, FailsSession, status_refusal}
 use Rattle.sd_session.specs.declared.status.Status.{Status}
 use Rattle.sd_session.specs.declared.status.Status.TheVariants.{Active, Ended, Closed as IsClosed, Cancelled, Failed, Purged}
 use Rattle.sd_span.specs.Spans.{spans_of}
@@ -48,8 +48,15 @@ refuses journal s v progress why result far (inr (inl t)) h =
     subst (λ r. Closes journal s r v) (sym d.0) (inr (inl (t.0, subst (λ (p : Progress). IsTrue p.failed) far t.1, t.2, d.1)))
 refuses journal s v progress why result far (inr (inr t)) h =
     let d = h.not_yet t.3 in
-    subst (λ r. Closes journal s r v) (sym d.0)
-    (t.0, ap (λ (p : Progress). p.failed) (sym far) ∙ t.1, inl (subst (HasOutstanding s) far t.2), d.1)
+    subst (λ r. Closes journal s r v) (sym d.0) (
+      t.0,
+      ap (λ (p : Progress). p.failed) (sym far) ∙ t.1,
+      elim t.2 [
+        | inl left ↦ inl left
+        | inr apart ↦ inr (inl (subst (λ (p : Progress). p.synced ≢ s.sent) far apart))
+      ],
+      d.1,
+    )
 
 -- what the receipt was asked for
 pub wanted : (journal : List Entry) (s : SessionView) (progress : Progress) → progress ≡ progress_in journal s → MayClose s progress → MayClose s (progress_in journal s)

@@ -15,11 +15,9 @@ use Rattle.sd_session.specs.Sending.{QueueView, SendsBody, stations_of}
 use Rattle.sd_session.specs.declared.opening.Opening.{Opening}
 use Rattle.sd_session.specs.declared.status.Status.{Status}
 use Rattle.sd_session.specs.declared.status.Status.TheVariants.{Active, Ended, Closed, Cancelled, Failed, Purged}
-use Rattle.sd_spool.specs.Job.{StoreState, state_of}
-use Rattle.sd_spool.specs.Meaning.{Meaning}
+use Rattle.sd_spool.specs.Job.{StoreState}
 use Rattle.sd_world.specs.Honest.{StoreIsTrue}
 use Rattle.sd_world.specs.Matches.{HasBodies}
-use Rattle.sd_world.specs.Sessions.{StartsOn}
 use Rattle.sd_world.proofs.Changes.{running_bodies, spool_is_honest}
 use Rattle.sd_part.specs.Ends.{ToldSession, EndIs, KeepsEnd, IsOfLane, IsOver, LastIsOver, TellsAll, SentBy, BringsStore, LastGivesBack, pieces_from, last_store, lane_store}
 use Rattle.sd_part.specs.Parts.{PartIs, KeepsPart, told_of, end_of, next_piece}
@@ -201,20 +199,20 @@ state_keeps time e store store' is same h =
 -- Beginning.
 
 -- the store of a new session is the one that it was given
-store_begun : (limit : ℕ) (m : Meaning) → home_of (unused_store limit m) (new_spool limit m) ≡ Some (state_of m)
-store_begun zero m = refl
-store_begun (suc n) m = refl
+store_begun : (limit : ℕ) (store : StoreState) → home_of (unused_store limit store) (new_spool limit store) ≡ Some store
+store_begun zero store = refl
+store_begun (suc n) store = refl
 
-pub starts_stored : (opening : Opening) (room limit : ℕ) (m : Meaning) (s : SessionView) → StartsSession opening room limit m s → store_of s ≡ Some (state_of m)
-starts_stored opening room limit m s t = ap store_of t.is ∙ store_begun limit m
+pub starts_stored : (opening : Opening) (room limit : ℕ) (store : StoreState) (s : SessionView) → StartsSession opening room limit store s → store_of s ≡ Some store
+starts_stored opening room limit store s t = ap store_of t.is ∙ store_begun limit store
 
 pub begins : (time : ℕ → ℕ) (e : EndIs) (store : StoreState) (opening : Opening) (room limit : ℕ) (s : SessionView) → KeepsEnd time e → LastIsOver e.sessions
     → e.store ≡ Some store → opening.key.time ≡ time e.seat.no → 1 ≤ opening.key.id → opening.key.id ≤ most_number → opening.lane ≡ e.seat.seat.lane
-    → StartsOn store opening room limit s → KeepsPart time (record { seat = e.seat; before = e.sessions; session = s; told = [] })
-begins time e store opening room limit s h over stored run least most lane (m, state, t) =
+    → StartsSession opening room limit store s → KeepsPart time (record { seat = e.seat; before = e.sessions; session = s; told = [] })
+begins time e store opening room limit s h over stored run least most lane t =
     let key : s.key ≡ opening.key = ap (λ (x : SessionView). x.key) t.is in
     let status : s.status ≡ Active = ap (λ (x : SessionView). x.status) t.is in
-    let home : store_of s ≡ lane_store e = starts_stored opening room limit m s t ∙ ap Some (sym state) ∙ sym (ap (λ x. option_or x (last_store e.sessions)) stored) in
+    let home : store_of s ≡ lane_store e = starts_stored opening room limit store s t ∙ sym (ap (λ x. option_or x (last_store e.sessions)) stored) in
     record {
       of_lane = record {
         time_is = ap (λ (k : SessionKey). k.time) key ∙ run;

@@ -12,6 +12,7 @@ use Rattle.sd_spool.specs.Job.{StoreState, state_of}
 use Rattle.sd_spool.specs.Meaning.{Meaning}
 use Rattle.sd_part.specs.Ends.{ToldSession, EndIs, KeepsEnd, LastIsOver, LastGivesBack, BringsStore, last_store}
 use Rattle.sd_part.specs.Parts.{PartIs, KeepsPart, OpensAt, OpensNotAt}
+use Rattle.sd_session.proofs.PartLemmas.{cleared_fails}
 use Rattle.sd_part.proofs.Keeps.{begins, state_keeps, starts_stored}
 use Rattle.sd_part.proofs.Sequences.{last_is_over, last_store_push}
 
@@ -28,22 +29,22 @@ mapped_some f (Some x) h = h
 
 pub begun : (time : ℕ → ℕ) (e f : EndIs) (before : List ToldSession) (m : Meaning) (opening : Opening) (room limit : ℕ) (s : SessionView)
     → KeepsEnd time f → f ≡ e → before ≡ f.sessions → f.store ≡ Some (state_of m) → LastIsOver e.sessions → opening.key.time ≡ time e.seat.no
-    → (1 ≤ opening.key.id) × (opening.key.id ≤ most_number) → opening.lane ≡ e.seat.seat.lane → StartsSession opening room limit m s
+    → (1 ≤ opening.key.id) × (opening.key.id ≤ most_number) → opening.lane ≡ e.seat.seat.lane → StartsSession opening room limit (state_of m) s
     → KeepsPart time (record { seat = f.seat; before = before; session = s; told = [] })
 begun time e f before m opening room limit s h is same stored over run id lane starts =
     subst (λ ss. KeepsPart time (record { seat = f.seat; before = ss; session = s; told = [] })) (sym same)
     (begins time f (state_of m) opening room limit s h (subst (λ (x : EndIs). LastIsOver x.sessions) (sym is) over) stored
-    (run ∙ ap (λ (x : EndIs). time x.seat.no) (sym is)) id.0 id.1 (lane ∙ ap (λ (x : EndIs). x.seat.seat.lane) (sym is)) (m, refl, starts))
+    (run ∙ ap (λ (x : EndIs). time x.seat.no) (sym is)) id.0 id.1 (lane ∙ ap (λ (x : EndIs). x.seat.seat.lane) (sym is)) starts)
 
 pub opened : (limits : Limits) (e f : EndIs) (before : List ToldSession) (m : Meaning) (opening : Opening) (s : SessionView)
-    → f ≡ e → before ≡ f.sessions → f.store ≡ Some (state_of m) → StartsSession opening (limits.block - block_header) limits.spool m s
+    → f ≡ e → before ≡ f.sessions → f.store ≡ Some (state_of m) → StartsSession opening (limits.block - block_header) limits.spool (state_of m) s
     → OpensAt limits opening e (record { seat = f.seat; before = before; session = s; told = [] })
 opened limits e f before m opening s is same stored starts =
     subst (λ x. OpensAt limits opening x (record { seat = f.seat; before = before; session = s; told = [] })) is
     (record {
       store = state_of m;
       store_is = stored;
-      starts = (m, refl, starts);
+      starts = starts;
       is = ap (λ ss. let p : PartIs = record { seat = f.seat; before = ss; session = s; told = [] } in p) same;
     })
 
@@ -69,7 +70,7 @@ not_opened limits e f before store store' why is same stored r =
       is = ap (λ ss. end_with f ss (state_of store')) same;
       cause = elim r [
         | inl m ↦ inl (m.0, ap state_of m.1)
-        | inr x ↦ inr (x.0, x.1, (store, store', refl, refl, x.2))
+        | inr x ↦ inr (x.0, x.1, cleared_fails store store' x.2)
       ];
     })
 
@@ -91,10 +92,10 @@ pub answered : (limits : Limits) (e : EndIs) (why why' : Refusal) (back back' : 
 answered limits e why why' back back' h is same = subst₂ (OpensNotAt limits e) (sym is) (sym same) h
 
 -- the store that a new session gave back is the one that it was given
-pub given_back : (opening : Opening) (room limit : ℕ) (m : Meaning) (s : SessionView) (store : StoreState) → StartsSession opening room limit m s
+pub given_back : (opening : Opening) (room limit : ℕ) (m : Meaning) (s : SessionView) (store : StoreState) → StartsSession opening room limit (state_of m) s
     → store_of s ≡ Some store → store ≡ state_of m
 given_back opening room limit m s store starts is =
-    let e : Some store ≡ Some (state_of m) = sym is ∙ starts_stored opening room limit m s starts in cc (e)
+    let e : Some store ≡ Some (state_of m) = sym is ∙ starts_stored opening room limit (state_of m) s starts in cc (e)
 
 -- The last session, which is over and has the store, gives it back.
 pub gave : {A : Type 0} (option : Option A) (all earlier : List ToldSession) (last : ToldSession) (v : SessionView) → all ≡ earlier ++ last ∷ [] → LastIsOver all

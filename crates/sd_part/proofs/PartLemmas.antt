@@ -66,8 +66,8 @@ module _ (time : ℕ → ℕ) (seat : SeatIs) (before : List ToldSession) (s v :
       subst (λ x. KeepsPart time (part_of x before v records)) (sym t.1)
       (sends_keep time (part_of seat before s records) v (queue_at capacity seat) (queue_at capacity seat') t.0 h)
   answers_keep LaneFull capacity seat' t h = same_seat seat' t.1 (found_full s v records (queue_at capacity seat) (queue_at capacity seat') t.0) h
-  answers_keep Nothing capacity seat' t h = same_seat seat' t.1 (stays s v records t.0.is) h
-  answers_keep NotDue capacity seat' t h = same_seat seat' t.1 (stays s v records t.0.is) h
+  answers_keep Nothing capacity seat' t h = same_seat seat' t.1 (stays s v records t.0.3) h
+  answers_keep NotDue capacity seat' t h = same_seat seat' t.1 (stays s v records t.0.2) h
 
   pub pushes_keep : (capacity : ℕ) (seat' : SeatIs) (result : Result Despooled Refusal) → IfOk result (λ answer. SendsBy answer capacity seat s seat' v)
       → IfErr result (λ why. DespoolRefused s why v) → OnErr result (seat' ≡ seat)

@@ -119,10 +119,10 @@ spooled Spooled s v records t =
     moved s v records (moves_bodies s v s.sent s.ready (Some t.job') s.despooling v.packer t.is t.moves.room_is)
     (ap (λ (x : SessionView). x.lane) t.is) (ap (λ (x : SessionView). x.sent) t.is) store t.running (λ honest. t.bodies (spool_is_honest s honest))
 spooled SpoolFull s v records t =
-    moved s v records (moves_bodies s v s.sent s.ready s.spool true s.packer t.is refl)
-    (ap (λ (x : SessionView). x.lane) t.is) (ap (λ (x : SessionView). x.sent) t.is) (ap store_of t.is) t.running (λ honest. ap parts_of t.is)
-spooled Nothing s v records t = stays s v records t.is
-spooled NoSpool s v records t = stays s v records t.is
+    moved s v records (moves_bodies s v s.sent s.ready s.spool true s.packer t.2 refl)
+    (ap (λ (x : SessionView). x.lane) t.2) (ap (λ (x : SessionView). x.sent) t.2) (ap store_of t.2) t.0 (λ honest. ap parts_of t.2)
+spooled Nothing s v records t = stays s v records t.3
+spooled NoSpool s v records t = stays s v records t.2
 
 pub not_spooled : (s v : SessionView) (records : List Record) (why : Refusal) → SpoolRefused s why v → StepsOn s records v records
 not_spooled s v records why (inl t) = stays s v records t.1
@@ -155,15 +155,10 @@ not_sent s v records why (inr (inr t)) = stays s v records t.2
 
 -- Closing.
 
--- what is not other than none is none
-none_of : {A : Type 0} (xs : List A) → (xs ≢ [] → ⊥) → xs ≡ []
-none_of [] h = refl
-none_of (x ∷ xs) h = absurd (h (λ e. cc))
-
 pub closed : (s v : SessionView) (records : List Record) (progress : Progress) → ClosesSession s progress v → StepsOn s records v records
 closed s v records progress t =
     let status : v.status ≡ Closed = ap (λ (x : SessionView). x.status) t.is in
-    let none : parts_of v ≡ [] = ap parts_of t.is ∙ none_of (parts_of s) (λ some. t.may.none_outstanding (inl some)) in
+    let none : parts_of v ≡ [] = ap parts_of t.is ∙ t.may.none_left in
     let some : 1 ≤ v.sent = subst (λ n. 1 ≤ n) (sym (ap (λ (x : SessionView). x.sent) t.is)) t.may.some_sent in
     step s v records (record (machine_of (told s records)) { status = Closed })
     (ap (λ (x : SessionView). x.key) t.is) (ap (λ (x : SessionView). x.lane) t.is) (ap (λ (x : SessionView). x.sent) t.is) (ap store_of t.is)

@@ -12,14 +12,14 @@ use Rattle.sd_line.specs.Side.{LineIs, SeatIs, sends_one}
 use Rattle.sd_pack.specs.Body.{PackedBody, empty_body}
 use Rattle.sd_part.specs.Ends.{ToldSession, EndIs, IsOfLane, IsOver, TellsAll, SentBy, BringsStore, pieces_from}
 use Rattle.sd_drive.specs.declared.limits.Limits.{Limits}
-use Rattle.sd_session.specs.Session.{SessionView, store_of}
+use Rattle.sd_session.specs.Session.{SessionView, StartsSession, store_of}
 use Rattle.sd_session.specs.Sending.{QueueView, queue_view, SendsBody, Despools}
 use Rattle.sd_session.specs.declared.answer.Despooled.{Despooled}
 use Rattle.sd_session.specs.declared.answer.Despooled.TheVariants.{Sent, LaneFull, Nothing, NotDue}
 use Rattle.sd_session.specs.declared.opening.Opening.{Opening}
 use Rattle.sd_spool.specs.Job.{StoreState}
 use Rattle.sd_world.specs.Honest.{StoreIsTrue}
-use Rattle.sd_world.specs.Sessions.{StartsOn, FailsToEmpty}
+use Rattle.sd_session.specs.Spooling.{HasFailed}
 
 -- A session's part: the seat of its lane, the sessions that used the lane before, the session, and the records that it took.
 pub record PartIs : Type 0 where
@@ -70,7 +70,7 @@ opening_at line lane id job pool moment = record {
 pub record OpensAt (limits : Limits) (opening : Opening) (e : EndIs) (p : PartIs) : Type 0 where
   pub store : StoreState
   pub store_is : e.store ≡ Some store
-  pub starts : StartsOn store opening (limits.block - block_header) limits.spool p.session
+  pub starts : StartsSession opening (limits.block - block_header) limits.spool store p.session
   pub is : p ≡ record { seat = e.seat; before = e.sessions; session = p.session; told = [] }
 
 -- none begins: for want of memory, or the store could not be cleared, which lies in the end still
@@ -79,7 +79,7 @@ pub record OpensNotAt (limits : Limits) (e : EndIs) (why : Refusal) (e' : EndIs)
   pub store' : StoreState
   pub store_is : e.store ≡ Some store
   pub is : e' ≡ record e { store = Some store' }
-  pub cause : ((why ≡ Memory) × (store' ≡ store)) ⊎ ((limits.spool ≢ 0) × (why ≡ SpoolFault) × FailsToEmpty store store')
+  pub cause : ((why ≡ Memory) × (store' ≡ store)) ⊎ ((limits.spool ≢ 0) × (why ≡ SpoolFault) × HasFailed store store')
 
 -- a session of this number begins at the end of a lane of this line, on the lane's store, wherever that lay
 pub record OpensPart (line : LineIs) (id job : ℕ) (pool : List ℕ) (moment : ℤ) (e : EndIs) (p : PartIs) : Type 0 where

@@ -20,9 +20,9 @@ use Rattle.sd_readback.specs.declared.fault.ReadFault.{ReadFault}
 use Rattle.sd_readback.specs.declared.fault.ReadFault.TheVariants.{BadSpan, VolumeNotOnShelf, SpanEndsEarly, DamagedBlock, Device, Memory}
 use Rattle.sd_volume.specs.Image.{Block, images, AreImages}
 use Rattle.sd_readback.specs.Reading.{blocks_of}
-use Rattle.sd_readback.specs.Reading.{Volumes, SpanHolds, AllHold}
-use Rattle.sd_readback.specs.Faults.{IsPartOf, AreCountable, AreReadable, last_number, ComesNext, BeginsWithBlock, HasBadHead, HasBadBlock, BeginsWithNoBlock, BeginsWithRefused, StopsWithin, StopsInPart, CantRead, FaultIsNoReading}
-use Rattle.sd_readback.proofs.ReadingLemmas.{joined_blocks, part_one, part_within, held_part, same_bytes, all_hold_one, hold_apart, blocks_of-append}
+use Rattle.sd_readback.specs.Reading.{Volumes, IsPartOf, SpanHolds, AllHold}
+use Rattle.sd_readback.specs.Faults.{AreCountable, AreReadable, last_number, ComesNext, BeginsWithBlock, HasBadHead, HasBadBlock, BeginsWithNoBlock, BeginsWithRefused, StopsWithin, StopsInPart, CantRead, FaultIsNoReading}
+use Rattle.sd_readback.proofs.ReadingLemmas.{joined_blocks, part_one, part_within, same_bytes, all_hold_one, hold_apart, blocks_of-append}
 use Rattle.sd_volume.proofs.ImageLemmas.{AreImages-behind, one_block_there}
 use Rattle.sd_readback.proofs.BlockLemmas.{images_front}
 
@@ -43,19 +43,14 @@ readable_front : (xs ys : List (List ℕ)) → AreReadable (xs ++ ys) → AreRea
 readable_front xs ys (inl none) = inl (front_nil xs ys none)
 readable_front [] ys (inr h) = inl refl
 readable_front (x ∷ xs) ys (inr h) =
-    let front = holds_front (x ∷ xs) ys h.records h.standing (λ e. cc) h.holds in
-    inr (record {
-      records = front.whole;
-      standing = front.standing;
-      holds = front.holds;
-      countable = countable_front front.whole front.others (subst AreCountable front.records_split h.countable);
-    })
+    let front = holds_front (x ∷ xs) ys h.0 h.1 (λ e. cc) h.2 in
+    inr (front.whole, front.standing, front.holds, countable_front front.whole front.others (subst AreCountable front.records_split h.3))
 
 pub readable_blocks : (key : SessionKey) (xs ys : List Block) → AreReadable (blocks_of key (xs ++ ys)) → AreReadable (blocks_of key xs)
 readable_blocks key xs ys are = readable_front (blocks_of key xs) (blocks_of key ys) (subst AreReadable (blocks_of-append key xs ys) are)
 
 whole_readable : (bodies : List (List ℕ)) (records : List Record) (ended : Bool) → WholeOf bodies records ended → AreCountable records → AreReadable bodies
-whole_readable bodies records ended w are = inr (record { records = records; standing = w.0; holds = w.1; countable = are })
+whole_readable bodies records ended w are = inr (records, w.0, w.1, are)
 
 -- Where a block comes next, nothing is wrong with the bytes.
 
@@ -172,7 +167,7 @@ stops_in_part_not : (volumes : Volumes) (key : SessionKey) (earlier blocks later
     → AreReadable (blocks_of key (earlier ++ (blocks ++ later))) → ⊥
 stops_in_part_not volumes key earlier blocks later s fault h stop readable =
     let same = same_bytes (volumes s.volume) stop.bytes h.bytes stop.there h.there in
-    let part = part_one h.bytes stop.part (images h.number blocks) s (subst (λ bytes. IsPartOf bytes s stop.part) same stop.part_is) (held_part volumes s blocks h) in
+    let part = part_one h.bytes stop.part (images h.number blocks) s (subst (λ bytes. IsPartOf bytes s stop.part) same stop.part_is) h.part_is in
     stops_within_not key earlier blocks later h.number fault h.blocks_are (subst (λ p. StopsWithin key earlier p fault) part stop.stops) readable
 
 -- a span that holds blocks which can be read meets no fault
@@ -181,7 +176,7 @@ can_read : (fault : ReadFault) (volumes : Volumes) (key : SessionKey) (earlier b
 can_read VolumeNotOnShelf volumes key earlier blocks later s h c readable = let there = h.there in cc
 can_read SpanEndsEarly volumes key earlier blocks later s h c readable =
     let same : length c.0 ≡ length h.bytes = ap length (same_bytes (volumes s.volume) c.0 h.bytes c.1 h.there) in
-    let within = part_within h.bytes (images h.number blocks) s (held_part volumes s blocks h) in
+    let within = part_within h.bytes (images h.number blocks) s h.part_is in
     let short = c.2 in
     omega arith
 can_read BadSpan volumes key earlier blocks later s h c readable = stops_in_part_not volumes key earlier blocks later s BadSpan h c readable
@@ -206,6 +201,5 @@ fault_no_reading volumes key spans fault records ended (inr (are, inl s)) r coun
     held_to_the_end volumes key s.before s.at s.after fault s.blocks r.blocks s.hold s.stops (subst (λ ss. AllHold volumes ss r.blocks) s.spans_are r.hold)
     (whole_readable (blocks_of key (joined_blocks r.blocks)) records ended r.whole countable)
 fault_no_reading volumes key spans fault records ended (inr (are, inr none)) r countable =
-    let h = none.1 in
-    let same = all_hold_one volumes spans h.blocks r.blocks h.hold r.hold in
-    r.some_block (subst (λ bss. blocks_of key (joined_blocks bss) ≡ []) same h.none)
+    let same = all_hold_one volumes spans none.1 r.blocks none.2 r.hold in
+    r.some_block (subst (λ bss. blocks_of key (joined_blocks bss) ≡ []) same none.3)

@@ -1,5 +1,5 @@
 -- The first fault is one.
-use Rattle.std.proofs.Common.{◌≡◌, ℕ, suc, ◌+◌, refl, sym, ap, ap₂, subst, ◌∙◌, arith, inl, inr, ◌⊎◌, List, [], ◌∷◌, ◌++◌, length, add-zero}
+use Rattle.std.proofs.Common.{◌≡◌, ℕ, suc, ◌+◌, ◌<◌, refl, sym, ap, ap₂, subst, ◌∙◌, arith, inl, inr, ◌⊎◌, List, [], ◌∷◌, ◌++◌, length, add-zero}
 use Rattle.std.specs.Prelude.{Option, Some, None}
 use Rattle.std.proofs.lemmas.List.{append_assoc, append-nil}
 use Rattle.sd_base.specs.declared.number.SessionKey.{SessionKey}
@@ -11,8 +11,8 @@ use Rattle.sd_readback.specs.declared.fault.ReadFault.{ReadFault}
 use Rattle.sd_readback.specs.declared.fault.ReadFault.TheVariants.{BadSpan, VolumeNotOnShelf, SpanEndsEarly, DamagedBlock, Device, Memory}
 use Rattle.sd_volume.specs.Image.{Block, images, AreImages}
 use Rattle.sd_readback.specs.Reading.{blocks_of}
-use Rattle.sd_readback.specs.Reading.{Volumes, AllHold}
-use Rattle.sd_readback.specs.Faults.{AreReadable, IsPartOf, last_number, BeginsWithNoBlock, BeginsWithRefused, StopsWithin, StopsInPart, EndsEarly, CantRead, StopsAtSpan, HoldNone, OneFirstFault}
+use Rattle.sd_readback.specs.Reading.{Volumes, IsPartOf, AllHold}
+use Rattle.sd_readback.specs.Faults.{AreReadable, last_number, BeginsWithNoBlock, BeginsWithRefused, StopsWithin, StopsInPart, CantRead, StopsAtSpan, OneFirstFault}
 use Rattle.sd_readback.proofs.ReadingLemmas.{joined_blocks, part_one, part_within, same_bytes, all_hold_one}
 use Rattle.sd_volume.proofs.ImageLemmas.{one_block_there}
 use Rattle.sd_readback.proofs.FaultLemmas.{no_bad_head, block_begins, stop_refuted, next_readable, left_begins, held_to_the_end}
@@ -135,6 +135,10 @@ within_one key earlier part fault other a b =
 
 -- The fault of one span.
 
+-- the volume of the span is there, and ends before the span does
+abbrev EndsEarly : Volumes → Span → Type 0
+EndsEarly volumes s = (bytes : List ℕ) × (volumes s.volume ≡ Some bytes) × (length bytes < s.end)
+
 abbrev CantSo : ReadFault → Volumes → SessionKey → List Block → Span → Type 0
 CantSo fault volumes key earlier s =
     ((fault ≡ VolumeNotOnShelf) × (volumes s.volume ≡ None)) ⊎ (((fault ≡ SpanEndsEarly) × EndsEarly volumes s) ⊎ StopsInPart volumes key earlier s fault)
@@ -221,15 +225,16 @@ stops_one volumes key spans fault other a b =
       | inr (inr f) ↦ absurd (behind_refuted volumes key b.before b.at a.before other b.blocks a.blocks b.hold b.stops f a.hold a.readable)
     ]
 
-hold_none_not : (volumes : Volumes) (key : SessionKey) (spans : List Span) (fault : ReadFault) → StopsAtSpan volumes key spans fault → HoldNone volumes key spans → ⊥
-hold_none_not volumes key spans fault a none =
-    held_to_the_end volumes key a.before a.at a.after fault a.blocks none.blocks a.hold a.stops (subst (λ ss. AllHold volumes ss none.blocks) a.spans_are none.hold) (inl none.none)
+hold_none_not : (volumes : Volumes) (key : SessionKey) (spans : List Span) (fault : ReadFault) (blocks : List (List Block)) → StopsAtSpan volumes key spans fault → AllHold volumes spans blocks
+    → blocks_of key (joined_blocks blocks) ≡ [] → ⊥
+hold_none_not volumes key spans fault blocks a hold none =
+    held_to_the_end volumes key a.before a.at a.after fault a.blocks blocks a.hold a.stops (subst (λ ss. AllHold volumes ss blocks) a.spans_are hold) (inl none)
 
 pub first_fault_one : OneFirstFault
 first_fault_one volumes key spans fault other (inl a) (inl b) = a.0 ∙ sym b.0
 first_fault_one volumes key spans fault other (inl a) (inr b) = absurd (a.1 b.0)
 first_fault_one volumes key spans fault other (inr a) (inl b) = absurd (b.1 a.0)
 first_fault_one volumes key spans fault other (inr (are, inl a)) (inr (are', inl b)) = stops_one volumes key spans fault other a b
-first_fault_one volumes key spans fault other (inr (are, inl a)) (inr (are', inr b)) = absurd (hold_none_not volumes key spans fault a b.1)
-first_fault_one volumes key spans fault other (inr (are, inr a)) (inr (are', inl b)) = absurd (hold_none_not volumes key spans other b a.1)
+first_fault_one volumes key spans fault other (inr (are, inl a)) (inr (are', inr b)) = absurd (hold_none_not volumes key spans fault b.1 a b.2 b.3)
+first_fault_one volumes key spans fault other (inr (are, inr a)) (inr (are', inl b)) = absurd (hold_none_not volumes key spans other a.1 b a.2 a.3)
 first_fault_one volumes key spans fault other (inr (are, inr a)) (inr (are', inr b)) = a.0 ∙ sym b.0

@@ -14,14 +14,14 @@ use Rattle.sd_readback.specs.declared.reader.Reader.{Reader}
 use Rattle.sd_volume.specs.Image.{Block, images}
 use Rattle.sd_readback.specs.Reading.{blocks_of}
 use Rattle.sd_base.specs.Key.{is_key}
-use Rattle.sd_readback.specs.Reading.{Volumes, SpanHolds, AllHold}
+use Rattle.sd_readback.specs.Reading.{Volumes, IsPartOf, SpanHolds, AllHold}
 use Rattle.sd_readback.specs.Device.{stretch}
-use Rattle.sd_readback.specs.Faults.{AreSpans, IsPartOf, ComesNext, BeginsWithBlock}
+use Rattle.sd_readback.specs.Faults.{AreSpans, ComesNext, BeginsWithBlock}
 use Rattle.sd_readback.specs.HandsOver.{GotFirstOf, SpanBegins, NextBegins, AreHeldFirst, HandsOverFront, HandedOverAreFirst}
 use Rattle.sd_readback.specs.Reader.{HasRead, HandsOverInBlock, HandsOverInPart, HandsOverInSpan}
 use Rattle.sd_readback.proofs.ListLemmas.{push_not_nil}
 use Rattle.sd_readback.proofs.BlockLemmas.{images_front}
-use Rattle.sd_readback.proofs.ReadingLemmas.{joined_blocks, part_one, held_part, same_bytes, all_hold_one, hold_apart, blocks_of-append}
+use Rattle.sd_readback.proofs.ReadingLemmas.{joined_blocks, part_one, same_bytes, all_hold_one, hold_apart, blocks_of-append}
 use Rattle.sd_readback.proofs.ReaderLemmas.{body_more, unpacked_holds, no_fragments, nothing_held}
 use Rattle.sd_readback.proofs.PartLemmas.{HasReadPart, numbered_for, with_next}
 use Rattle.sd_readback.proofs.SpanLemmas.{HasReadSpans}
@@ -111,8 +111,13 @@ nothing_front volumes key spans got = record {
   more = [];
   got_is = sym (append-nil got);
   bad_spans = λ bad. refl;
-  blocks = [];
-  blocks_first = record { before = []; after = spans; spans_are = refl; held = []; last = []; hold = tt; begins = none_begin volumes spans; blocks_are = refl };
+  before = [];
+  after = spans;
+  spans_are = refl;
+  held = [];
+  last = [];
+  hold = tt;
+  begins = none_begin volumes spans;
   records_first = inl refl;
 }
 
@@ -123,18 +128,15 @@ spans_front volumes key spans before after reader got got' are e h = record {
   more = h.more;
   got_is = h.got_is;
   bad_spans = λ bad. absurd (bad are);
-  blocks = joined_blocks h.blocks;
-  blocks_first = record {
-    before = before;
-    after = after;
-    spans_are = e;
-    held = h.blocks;
-    last = [];
-    hold = h.hold;
-    begins = none_begin volumes after;
-    blocks_are = sym (append-nil (joined_blocks h.blocks));
-  };
-  records_first = read_first key (joined_blocks h.blocks) h.more reader h.read;
+  before = before;
+  after = after;
+  spans_are = e;
+  held = h.blocks;
+  last = [];
+  hold = h.hold;
+  begins = none_begin volumes after;
+  records_first =
+      subst (λ bs. AreHeldFirst (blocks_of key bs) h.more) (sym (append-nil (joined_blocks h.blocks))) (read_first key (joined_blocks h.blocks) h.more reader h.read);
 }
 
 -- and of the part of the next span
@@ -145,26 +147,22 @@ span_front volumes key spans before after s reader got got' got'' bytes part are
   more = h.more ++ p.more;
   got_is = p.got_is ∙ ap (λ l. l ++ p.more) h.got_is ∙ append_assoc got h.more p.more;
   bad_spans = λ bad. absurd (bad are);
-  blocks = joined_blocks h.blocks ++ p.done;
-  blocks_first = record {
-    before = before;
-    after = s ∷ after;
-    spans_are = e;
-    held = h.blocks;
-    last = p.done;
-    hold = h.hold;
-    begins = inr (record {
-      bytes = bytes;
-      part = part;
-      number = p.number;
-      rest = p.rest;
-      there = there;
-      part_is = is;
-      begins = p.part_is;
-      blocks_are = p.done_are;
-    });
-    blocks_are = refl;
-  };
+  before = before;
+  after = s ∷ after;
+  spans_are = e;
+  held = h.blocks;
+  last = p.done;
+  hold = h.hold;
+  begins = inr (record {
+    bytes = bytes;
+    part = part;
+    number = p.number;
+    rest = p.rest;
+    there = there;
+    part_is = is;
+    begins = p.part_is;
+    blocks_are = p.done_are;
+  });
   records_first = p.first key (joined_blocks h.blocks) h.more h.read;
 }
 
@@ -183,7 +181,7 @@ span_stopped_front volumes key spans before after s reader got got' got'' are e 
 span_begins_held : (volumes : Volumes) (s : Span) (blocks held : List Block) → SpanBegins volumes s blocks → SpanHolds volumes s held → (more : List Block) × (held ≡ blocks ++ more)
 span_begins_held volumes s blocks held b h =
     let same = same_bytes (volumes s.volume) b.bytes h.bytes b.there h.there in
-    let part = part_one h.bytes b.part (images h.number held) s (subst (λ bytes. IsPartOf bytes s b.part) same b.part_is) (held_part volumes s held h) in
+    let part = part_one h.bytes b.part (images h.number held) s (subst (λ bytes. IsPartOf bytes s b.part) same b.part_is) h.part_is in
     let on = images_front b.number h.number blocks held b.rest b.blocks_are h.blocks_are (sym b.begins ∙ part) in
     (on.more, on.blocks_are)
 
@@ -227,10 +225,10 @@ held_first_front bodies others first records ended (inr h) w =
 -- where the spans can be read, the sink got the first of their records
 pub front_of_records : HandedOverAreFirst
 front_of_records volumes key spans got got' records ended h r =
-    let f = h.blocks_first in
-    let whole = subst (λ ss. AllHold volumes ss r.blocks) f.spans_are r.hold in
-    let on = first_held volumes f.before f.after f.held f.last r.blocks f.hold f.begins whole in
-    let all : blocks_of key (joined_blocks r.blocks) ≡ blocks_of key h.blocks ++ blocks_of key on.0 =
-    ap (blocks_of key) (on.1 ∙ ap (λ l. l ++ on.0) (sym f.blocks_are)) ∙ blocks_of-append key h.blocks on.0 in
-    let split = held_first_front (blocks_of key h.blocks) (blocks_of key on.0) h.more records ended h.records_first (subst (λ bodies. WholeOf bodies records ended) all r.whole) in
+    let first = joined_blocks h.held ++ h.last in
+    let whole = subst (λ ss. AllHold volumes ss r.blocks) h.spans_are r.hold in
+    let on = first_held volumes h.before h.after h.held h.last r.blocks h.hold h.begins whole in
+    let all : blocks_of key (joined_blocks r.blocks) ≡ blocks_of key first ++ blocks_of key on.0 =
+    ap (blocks_of key) on.1 ∙ blocks_of-append key first on.0 in
+    let split = held_first_front (blocks_of key first) (blocks_of key on.0) h.more records ended h.records_first (subst (λ bodies. WholeOf bodies records ended) all r.whole) in
     record { more = h.more; others = split.0; got_is = h.got_is; records_are = split.1 }

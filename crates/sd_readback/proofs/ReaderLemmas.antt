@@ -166,19 +166,14 @@ has_read_readable key blocks taken reader r = readable_so (blocks_of key blocks)
     readable_so [] taken view u none are = inl refl
     readable_so (x ∷ xs) taken view u none are =
         let h = unpacked_holds (x ∷ xs) taken view u (λ e. cc) in
-        inr (record {
-          records = taken;
-          standing = h.0;
-          holds = subst (λ l. Holds (x ∷ xs) l h.0) (ap (λ l. taken ++ l) none ∙ append-nil taken) h.2;
-          countable = are;
-        })
+        inr (taken, h.0, subst (λ l. Holds (x ∷ xs) l h.0) (ap (λ l. taken ++ l) none ∙ append-nil taken) h.2, are)
 
 -- no beginning of a cutting whose records can be counted has the body
 pub refused_so : (key : SessionKey) (before : List Block) (b : Block) → is_key key b.key ≡ true
     → ((records : List Record) (standing : Standing) → Holds (blocks_of key before ++ b.body ∷ []) records standing → AreCountable records → ⊥)
     → AreReadable (blocks_of key (before ++ b ∷ [])) → ⊥
 refused_so key before b same none (inl empty) = push_not_nil (blocks_of key before) b.body (sym (body_more key before b same) ∙ empty)
-refused_so key before b same none (inr h) = none h.records h.standing (subst (λ bodies. Holds bodies h.records h.standing) (body_more key before b same) h.holds) h.countable
+refused_so key before b same none (inr h) = none h.0 h.1 (subst (λ bodies. Holds bodies h.0 h.1) (body_more key before b same) h.2) h.3
 
 -- with what waits there are too many records or bytes
 abbrev pub AreTooMany : Reader → Unpacking → Type 0

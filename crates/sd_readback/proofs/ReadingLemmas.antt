@@ -12,8 +12,7 @@ use Rattle.sd_span.specs.declared.span.Span.{Span}
 use Rattle.sd_volume.specs.Image.{Block, images}
 use Rattle.sd_readback.specs.Reading.{blocks_of}
 use Rattle.sd_base.specs.Key.{is_key}
-use Rattle.sd_readback.specs.Reading.{Volumes, SpanHolds, AllHold, KeepSpans, ReadsToOneList, KeptSpansRead}
-use Rattle.sd_readback.specs.Faults.{IsPartOf}
+use Rattle.sd_readback.specs.Reading.{Volumes, IsPartOf, SpanHolds, AllHold, KeepSpans, ReadsToOneList, KeptSpansRead}
 use Rattle.sd_span.proofs.SpanLemmas.{cond_more}
 use Rattle.sd_readback.proofs.BlockLemmas.{images_one}
 
@@ -42,24 +41,14 @@ part_within bytes part s is =
     let to = is.end_is in
     omega arith
 
--- what a span holds is its part
-pub held_part : (volumes : Volumes) (s : Span) (blocks : List Block) → (h : SpanHolds volumes s blocks) → IsPartOf h.bytes s (images h.number blocks)
-held_part volumes s blocks h = record {
-  front = h.front;
-  back = h.back;
-  bytes_are = h.bytes_are;
-  start_is = h.start_is;
-  end_is = h.end_is;
-}
-
 pub same_bytes : (there : Option (List ℕ)) (bytes bytes' : List ℕ) → there ≡ Some bytes → there ≡ Some bytes' → bytes ≡ bytes'
 same_bytes there bytes bytes' e e' = cc
 
 pub span_holds_one : (volumes : Volumes) (s : Span) (blocks others : List Block) → SpanHolds volumes s blocks → SpanHolds volumes s others → blocks ≡ others
 span_holds_one volumes s blocks others h h' =
     let same = same_bytes (volumes s.volume) h.bytes h'.bytes h.there h'.there in
-    let part = subst (λ bytes. IsPartOf bytes s (images h.number blocks)) same (held_part volumes s blocks h) in
-    images_one h.number h'.number blocks others h.blocks_are h'.blocks_are (part_one h'.bytes _ _ s part (held_part volumes s others h'))
+    let part = subst (λ bytes. IsPartOf bytes s (images h.number blocks)) same h.part_is in
+    images_one h.number h'.number blocks others h.blocks_are h'.blocks_are (part_one h'.bytes _ _ s part h'.part_is)
 
 pub all_hold_one : (volumes : Volumes) (spans : List Span) (blocks others : List (List Block)) → AllHold volumes spans blocks → AllHold volumes spans others → blocks ≡ others
 all_hold_one volumes [] [] [] h h' = refl
@@ -147,17 +136,20 @@ span_kept : (old new : Volumes) (s : Span) (blocks : List Block)
     → SpanHolds old s blocks → SpanHolds new s blocks
 span_kept old new s blocks keeps h =
     let after = keeps h.bytes h.there in
-    let from = h.start_is in
-    let to = h.end_is in
+    let part = h.part_is in
+    let from = part.start_is in
+    let to = part.end_is in
     record {
       bytes = after.0;
-      front = h.front;
-      back = drop s.end after.0;
       number = h.number;
       there = after.1;
-      bytes_are = kept_front h.bytes after.0 h.front (images h.number blocks) h.back s.end h.bytes_are (omega arith) after.2;
-      start_is = h.start_is;
-      end_is = h.end_is;
+      part_is = record {
+        front = part.front;
+        back = drop s.end after.0;
+        bytes_are = kept_front h.bytes after.0 part.front (images h.number blocks) part.back s.end part.bytes_are (omega arith) after.2;
+        start_is = part.start_is;
+        end_is = part.end_is;
+      };
       blocks_are = h.blocks_are;
     }
 

@@ -13,8 +13,8 @@ use Rattle.sd_readback.specs.declared.reader.Reader.{Reader}
 use Rattle.sd_volume.specs.Image.{Block, images, AreImages}
 use Rattle.sd_readback.specs.Reading.{blocks_of}
 use Rattle.sd_readback.specs.Device.{stretch}
-use Rattle.sd_readback.specs.Faults.{last_number, BeginsWithRefused, StopsWithin, AreSpans, IsPartOf, CantRead, IsOfSpans, AreCountable, MeetsFault}
-use Rattle.sd_readback.specs.Reading.{Volumes, SpanHolds, AllHold, AreNumbered, Reads}
+use Rattle.sd_readback.specs.Faults.{last_number, BeginsWithRefused, StopsWithin, AreSpans, CantRead, IsOfSpans, AreCountable, MeetsFault}
+use Rattle.sd_readback.specs.Reading.{Volumes, IsPartOf, SpanHolds, AllHold, AreNumbered, Reads}
 use Rattle.sd_span.specs.declared.span.Span.{Span}
 use Rattle.sd_readback.specs.Reader.{HasRead, ReadsOn}
 use Rattle.sd_readback.proofs.ReadingLemmas.{joined_blocks, AllHold-more}
@@ -90,16 +90,11 @@ part_is_stretch bytes s below within =
 pub span_holds : (volumes : Volumes) (s : Span) (bytes : List ℕ) (blocks : List Block) (number : ℕ) → s.start < s.end → s.end ≤ length bytes → volumes s.volume ≡ Some bytes
     → stretch s.start s.end bytes ≡ images number blocks → AreImages number blocks → SpanHolds volumes s blocks
 span_holds volumes s bytes blocks number below within there e are =
-    let own : IsPartOf bytes s (images number blocks) = subst (IsPartOf bytes s) e (part_is_stretch bytes s below within) in
     record {
       bytes = bytes;
-      front = own.front;
-      back = own.back;
       number = number;
       there = there;
-      bytes_are = own.bytes_are;
-      start_is = own.start_is;
-      end_is = own.end_is;
+      part_is = subst (IsPartOf bytes s) e (part_is_stretch bytes s below within);
       blocks_are = are;
     }
 
@@ -134,7 +129,7 @@ pub spans_hold_none : (volumes : Volumes) (key : SessionKey) (spans : List Span)
     → ((key : SessionKey) (blocks : List Block) (taken : List Record) → HasRead key blocks taken reader → blocks_of key blocks ≡ [])
     → MeetsFault volumes key spans fault
 spans_hold_none volumes key spans reader got got' fault are h e none =
-    inr (are, inr (e, record { blocks = h.blocks; hold = h.hold; none = none key (joined_blocks h.blocks) h.more h.read }))
+    inr (are, inr (e, h.blocks, h.hold, none key (joined_blocks h.blocks) h.more h.read))
 
 -- spans that can be read meet no fault of theirs
 pub none_of_spans : {X : Type 0} (volumes : Volumes) (key : SessionKey) (spans : List Span) (answer : Result X ReadFault)

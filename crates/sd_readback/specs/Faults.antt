@@ -8,7 +8,7 @@ use Rattle.sd_base.specs.declared.refusal.Refusal.{Refusal}
 use Rattle.sd_base.specs.declared.refusal.Refusal.TheVariants as refusal
 use Rattle.sd_block.specs.Image.{block_image, IsBlockImage}
 use Rattle.sd_block.specs.Head.{HasId, IsHeadOf}
-use Rattle.sd_block.specs.Fault.{HasBadId, HasBadSize, HasBadSum}
+use Rattle.sd_block.specs.Fault.{HasBadSize, HasSum}
 use Rattle.sd_block.specs.declared.head.Head.{Head}
 use Rattle.sd_label.specs.Cutting.{Standing, Holds, total_bytes}
 use Rattle.sd_driver.specs.declared.driver.DriverFault.{DriverFault}
@@ -19,7 +19,7 @@ use Rattle.sd_span.specs.declared.span.Span.{Span}
 use Rattle.sd_readback.specs.declared.fault.ReadFault.{ReadFault}
 use Rattle.sd_readback.specs.declared.fault.ReadFault.TheVariants.{BadSpan, VolumeNotOnShelf, SpanEndsEarly, DamagedBlock, Device, Memory}
 use Rattle.sd_volume.specs.Image.{Block, images, AreImages}
-use Rattle.sd_readback.specs.Reading.{Volumes, blocks_of, AreNumbered, AllHold, Reads}
+use Rattle.sd_readback.specs.Reading.{Volumes, blocks_of, AreNumbered, IsPartOf, AllHold, Reads}
 
 -- the refusal of a fault
 abbrev pub fault_refusal : ReadFault → Refusal
@@ -47,28 +47,13 @@ device_fault_of driver.Memory = Memory
 abbrev pub AreSpans : List Span → Type 0
 AreSpans spans = (spans ≢ []) × AreNumbered 1 spans
 
--- these are the bytes from the start of the span to its end
-pub record IsPartOf (bytes : List ℕ) (s : Span) (part : List ℕ) : Type 0 where
-  pub front : List ℕ
-  pub back : List ℕ
-  pub bytes_are : bytes ≡ front ++ (part ++ back)
-  pub start_is : length front ≡ s.start
-  pub end_is : s.start + length part ≡ s.end
-
 -- as many records and data bytes as an end label can say
 abbrev pub AreCountable : List Record → Type 0
 AreCountable records = (length records < 2 ^ 64) × (total_bytes records < 2 ^ 64)
 
--- the bodies hold a session so far, with as many whole records as an end label can say
-pub record HoldsCountable (bodies : List (List ℕ)) : Type 0 where
-  pub records : List Record
-  pub standing : Standing
-  pub holds : Holds bodies records standing
-  pub countable : AreCountable records
-
--- nothing is wrong with the bodies of a session, so far as they were read
+-- nothing is wrong with a session's bodies so far: they hold it, with no more whole records than an end label can say
 abbrev pub AreReadable : List (List ℕ) → Type 0
-AreReadable bodies = (bodies ≡ []) ⊎ HoldsCountable bodies
+AreReadable bodies = (bodies ≡ []) ⊎ ((records : List Record) × (standing : Standing) × Holds bodies records standing × AreCountable records)
 
 -- the number of the last of these blocks; none at the start of a span
 abbrev pub last_number : ℕ → List Block → Option ℕ
@@ -88,11 +73,11 @@ pub record BeginsWithBlock (last : Option ℕ) (bytes : List ℕ) (b : Block) (n
 
 -- the header of the bytes has a bad id or a bad size
 abbrev pub HasBadHead : List ℕ → Type 0
-HasBadHead bytes = HasBadId bytes ⊎ (HasId bytes × HasBadSize most_block bytes)
+HasBadHead bytes = ¬ HasId bytes ⊎ (HasId bytes × HasBadSize most_block bytes)
 
 -- the block with this header has a bad checksum, or its number doesn't come next
 abbrev pub HasBadBlock : Option ℕ → List ℕ → Head → Type 0
-HasBadBlock last bytes head = HasBadSum (take head.size bytes) ⊎ (ComesNext last head.number → ⊥)
+HasBadBlock last bytes head = ¬ HasSum (take head.size bytes) ⊎ (ComesNext last head.number → ⊥)
 
 -- The bytes that are left of a span don't begin with the block that comes next: there are too few of
 -- them for any block, or for this one, or what stands there is no such block.
@@ -112,8 +97,7 @@ pub record BeginsWithRefused (key : SessionKey) (before : List Block) (last : Op
   pub begins : BeginsWithBlock last bytes block number behind
   pub refused : AreReadable (blocks_of key (before ++ block ∷ [])) → ⊥
 
--- Behind the blocks of earlier spans, the part begins with blocks that can be read, and what is left
--- behind them can't.
+-- after the blocks of earlier spans the part begins with blocks that can be read, and what follows them can't
 pub record StopsWithin (key : SessionKey) (earlier : List Block) (part : List ℕ) (fault : ReadFault) : Type 0 where
   pub done : List Block
   pub number : ℕ
@@ -133,14 +117,10 @@ pub record StopsInPart (volumes : Volumes) (key : SessionKey) (earlier : List Bl
   pub part_is : IsPartOf bytes s part
   pub stops : StopsWithin key earlier part fault
 
--- the volume of the span is there, and ends before the span does
-abbrev pub EndsEarly : Volumes → Span → Type 0
-EndsEarly volumes s = (bytes : List ℕ) × (volumes s.volume ≡ Some bytes) × (length bytes < s.end)
-
 -- behind the blocks of earlier spans, this span can't be read: its volume isn't there, or ends early, or its bytes stop
 abbrev pub CantRead : ReadFault → Volumes → SessionKey → List Block → Span → Type 0
 CantRead VolumeNotOnShelf volumes key earlier s = volumes s.volume ≡ None
-CantRead SpanEndsEarly volumes key earlier s = EndsEarly volumes s
+CantRead SpanEndsEarly volumes key earlier s = (bytes : List ℕ) × (volumes s.volume ≡ Some bytes) × (length bytes < s.end)
 CantRead fault volumes key earlier s = StopsInPart volumes key earlier s fault
 
 -- the spans before it hold blocks that can be read, and this one can't
@@ -154,18 +134,12 @@ pub record StopsAtSpan (volumes : Volumes) (key : SessionKey) (spans : List Span
   pub readable : AreReadable (blocks_of key (flat_map (λ bs. bs) blocks))
   pub stops : CantRead fault volumes key (flat_map (λ bs. bs) blocks) at
 
--- all spans hold blocks, and none of them is the session's
-pub record HoldNone (volumes : Volumes) (key : SessionKey) (spans : List Span) : Type 0 where
-  pub blocks : List (List Block)
-  pub hold : AllHold volumes spans blocks
-  pub none : blocks_of key (flat_map (λ bs. bs) blocks) ≡ []
-
--- This is the first fault: the spans themselves are bad; else one of them can't be read, and those before
--- it can; else no block of the session stands in them.
+-- The first fault: the spans are bad; else one of them can't be read, after some that can; else no block is the session's.
 abbrev pub MeetsFault : Volumes → SessionKey → List Span → ReadFault → Type 0
 MeetsFault volumes key spans fault =
     ((fault ≡ BadSpan) × (AreSpans spans → ⊥))
-    ⊎ (AreSpans spans × (StopsAtSpan volumes key spans fault ⊎ ((fault ≡ BadSpan) × HoldNone volumes key spans)))
+    ⊎ (AreSpans spans × (StopsAtSpan volumes key spans fault
+    ⊎ ((fault ≡ BadSpan) × (blocks : List (List Block)) × AllHold volumes spans blocks × (blocks_of key (flat_map (λ bs. bs) blocks) ≡ []))))
 
 -- The fault is one of the spans or of what stands in them: neither the device nor memory failed.
 abbrev pub IsOfSpans : ReadFault → Type 0

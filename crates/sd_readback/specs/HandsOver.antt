@@ -6,8 +6,8 @@ use Rattle.sd_base.specs.declared.number.SessionKey.{SessionKey}
 use Rattle.sd_label.specs.Cutting.{Standing, Holds}
 use Rattle.sd_span.specs.declared.span.Span.{Span}
 use Rattle.sd_volume.specs.Image.{Block, images, AreImages}
-use Rattle.sd_readback.specs.Reading.{Volumes, blocks_of, AllHold, Reads}
-use Rattle.sd_readback.specs.Faults.{AreSpans, IsPartOf}
+use Rattle.sd_readback.specs.Reading.{Volumes, blocks_of, IsPartOf, AllHold, Reads}
+use Rattle.sd_readback.specs.Faults.{AreSpans}
 
 -- the sink got the first of these records more
 pub record GotFirstOf (records got got' : List Record) : Type 0 where
@@ -32,9 +32,17 @@ abbrev pub NextBegins : Volumes → List Span → List Block → Type 0
 NextBegins volumes [] blocks = blocks ≡ []
 NextBegins volumes (s ∷ ss) blocks = (blocks ≡ []) ⊎ SpanBegins volumes s blocks
 
--- The blocks are the first that stand in the spans: all those of some spans, from the first span on, and
--- then some of the next one, from its start on.
-pub record StandFirst (volumes : Volumes) (spans : List Span) (blocks : List Block) : Type 0 where
+-- the records are none, or the first of those that the bodies hold whole
+abbrev pub AreHeldFirst : List (List ℕ) → List Record → Type 0
+AreHeldFirst bodies records = (records ≡ []) ⊎ ((others : List Record) × (standing : Standing) × Holds bodies (records ++ others) standing)
+
+-- A sink got some records more before a fault. If the spans themselves are bad there are none. Else they are the first of those
+-- that the session's bodies hold whole among some blocks which stand first in the spans: all those of some spans, from the first
+-- span on, and then some of the next one, from its start on.
+pub record HandsOverFront (volumes : Volumes) (key : SessionKey) (spans : List Span) (got got' : List Record) : Type 0 where
+  pub more : List Record
+  pub got_is : got' ≡ got ++ more
+  pub bad_spans : (AreSpans spans → ⊥) → more ≡ []
   pub before : List Span
   pub after : List Span
   pub spans_are : spans ≡ before ++ after
@@ -42,21 +50,7 @@ pub record StandFirst (volumes : Volumes) (spans : List Span) (blocks : List Blo
   pub last : List Block
   pub hold : AllHold volumes before held
   pub begins : NextBegins volumes after last
-  pub blocks_are : blocks ≡ flat_map (λ bs. bs) held ++ last
-
--- the records are none, or the first of those that the bodies hold whole
-abbrev pub AreHeldFirst : List (List ℕ) → List Record → Type 0
-AreHeldFirst bodies records = (records ≡ []) ⊎ ((others : List Record) × (standing : Standing) × Holds bodies (records ++ others) standing)
-
--- A sink got some records more before a fault. Where the spans themselves are bad there are none. Else they
--- are the first of those that the session's bodies hold whole among some blocks which stand first in the spans.
-pub record HandsOverFront (volumes : Volumes) (key : SessionKey) (spans : List Span) (got got' : List Record) : Type 0 where
-  pub more : List Record
-  pub got_is : got' ≡ got ++ more
-  pub bad_spans : (AreSpans spans → ⊥) → more ≡ []
-  pub blocks : List Block
-  pub blocks_first : StandFirst volumes spans blocks
-  pub records_first : AreHeldFirst (blocks_of key blocks) more
+  pub records_first : AreHeldFirst (blocks_of key (flat_map (λ bs. bs) held ++ last)) more
 
 -- Laws.
 

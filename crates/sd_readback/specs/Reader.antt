@@ -7,8 +7,8 @@ use Rattle.sd_unpack.specs.Unpacking.{Unpacks}
 use Rattle.sd_readback.specs.declared.reader.Reader.{Reader}
 use Rattle.sd_volume.specs.Image.{Block, images, AreImages}
 use Rattle.sd_span.specs.declared.span.Span.{Span}
-use Rattle.sd_readback.specs.Reading.{Volumes, blocks_of}
-use Rattle.sd_readback.specs.Faults.{AreCountable, IsPartOf}
+use Rattle.sd_readback.specs.Reading.{Volumes, blocks_of, IsPartOf}
+use Rattle.sd_readback.specs.Faults.{AreCountable}
 use Rattle.sd_readback.specs.HandsOver.{AreHeldFirst}
 
 -- the reader was given these blocks, and handed over all records that those of its session hold whole

@@ -32,16 +32,20 @@ abbrev pub AreNumbered : ℕ → List Span → Type 0
 AreNumbered index [] = Unit {0}
 AreNumbered index (s ∷ ss) = (s.vol_index ≡ index) × (s.start < s.end) × AreNumbered (index + 1) ss
 
+-- these are the bytes from the start of the span to its end
+pub record IsPartOf (bytes : List ℕ) (s : Span) (part : List ℕ) : Type 0 where
+  pub front : List ℕ
+  pub back : List ℕ
+  pub bytes_are : bytes ≡ front ++ (part ++ back)
+  pub start_is : length front ≡ s.start
+  pub end_is : s.start + length part ≡ s.end
+
 -- from the start of the span to its end stand the images of these blocks, without gap, their numbers rising by one
 pub record SpanHolds (volumes : Volumes) (s : Span) (blocks : List Block) : Type 0 where
   pub bytes : List ℕ
-  pub front : List ℕ
-  pub back : List ℕ
   pub number : ℕ
   pub there : volumes s.volume ≡ Some bytes
-  pub bytes_are : bytes ≡ front ++ (images number blocks ++ back)
-  pub start_is : length front ≡ s.start
-  pub end_is : s.start + length (images number blocks) ≡ s.end
+  pub part_is : IsPartOf bytes s (images number blocks)
   pub blocks_are : AreImages number blocks
 
 -- each span holds its own

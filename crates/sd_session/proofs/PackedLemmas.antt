@@ -1,5 +1,5 @@
 -- What is packed of a session stays packed, whatever its steps do.
-use Rattle.std.proofs.Common.{◌≡◌, ◌⊎◌, inl, inr, refl, map, ℕ, ◌+◌, ◌^◌, ◌<◌, ◌≤◌, Bool, sym, ap, subst, ◌∙◌, arith, List, [], ◌∷◌, ◌++◌, length}
+use Rattle.std.proofs.Common.{◌≡◌, ◌≢◌, ◌⊎◌, inl, inr, refl, map, ℕ, ◌+◌, ◌^◌, ◌<◌, ◌≤◌, Bool, sym, ap, subst, ◌∙◌, arith, List, [], ◌∷◌, ◌++◌, length}
 use Rattle.std.specs.Prelude.{Option, Some, None}
 use Rattle.std.specs.Option.{option_to_list}
 use Rattle.std.proofs.lemmas.List.{append_assoc, append-nil, length-append}
@@ -13,7 +13,7 @@ use Rattle.sd_session.specs.declared.answer.Spooling.{Spooling}
 use Rattle.sd_session.specs.declared.answer.Spooling.TheVariants.{Spooled, SpoolFull, Nothing, NoSpool}
 use Rattle.sd_session.specs.declared.status.Status.{Status}
 use Rattle.sd_session.specs.declared.status.Status.TheVariants.{Active}
-use Rattle.sd_session.specs.Session.{SessionView, IsRunning, IsPacked, HasNoneDue, standing_of, spooled_count}
+use Rattle.sd_session.specs.Session.{SessionView, IsRunning, IsPacked, HasNoneDue, standing_of, spooled_count, spooled_in, due_of, parts_of}
 use Rattle.sd_session.specs.Spooling.{PutsWaiting}
 use Rattle.sd_session.specs.Sending.{Stations, stations_of, TakesNext}
 use Rattle.sd_session.proofs.PartLemmas.{none_ready}
@@ -149,6 +149,15 @@ some_bodies room records standing packs = cc (ap joined (sym (none_joined packs.
 one_left : (room : ℕ) (left : List PackedBody) (records : List Record) (standing : Standing) → Packs room left records standing → 1 ≤ length left
 one_left room [] records standing packs = absurd (some_bodies room records standing packs)
 one_left room (body ∷ left) records standing packs = omega arith
+
+-- a session that has no closed body, and none open, has none
+pub nothing_left : (s : SessionView) → s.packer.open_body ≡ empty_body → (due_of s ≢ [] → ⊥) → parts_of s ≡ []
+nothing_left s closed none =
+    ap (λ l. option_to_list s.ready ++ (spooled_in s.spool ++ l)) (waiting_alone s.packer closed) ∙ empty (due_of s) none
+  where
+    empty : (bodies : List PackedBody) → (bodies ≢ [] → ⊥) → bodies ≡ []
+    empty [] none = refl
+    empty (b ∷ bodies) none = absurd (none (λ e. cc e))
 
 -- of a session that has no closed body left, and none open, one was sent
 pub some_sent : (s : SessionView) → IsPacked s → s.packer.open_body ≡ empty_body → HasNoneDue s → 1 ≤ s.sent

@@ -4,7 +4,8 @@ use Rattle.std.specs.Prelude.{◌↔◌, Option, Some, None, IsSome, slice_get}
 use Rattle.std.specs.Option.{option_to_list, MatchOption}
 use Rattle.sd_pack.specs.Body.{PackedBody}
 use Rattle.sd_pack.specs.Packing.{PackerView, bodies_of, unless_empty}
-use Rattle.sd_spool.specs.Job.{JobView, StoreState, BodyShape}
+use Rattle.sd_spool.specs.Meaning.{Meaning}
+use Rattle.sd_spool.specs.Job.{JobView, StoreState, BodyShape, state_of, FailsToClear}
 use Rattle.sd_spool.specs.declared.store.SpoolStoreFault.{SpoolStoreFault}
 use Rattle.sd_spool.specs.declared.store.SpoolStoreFault.TheVariants.{Device}
 use Rattle.sd_lane.specs.Queue.{queued}
@@ -110,6 +111,14 @@ fails_by_spool old now job state ready store spool packer now-is running failed 
       };
     })
     running
+
+-- a store that could not be cleared has counted that
+pub cleared_fails : (store store' : Meaning) → FailsToClear Device store store' → HasFailed (state_of store) (state_of store')
+cleared_fails store store' fails = record {
+  honest = fails.counts.honest;
+  failures = fails.counts.failures.later;
+  cause = fails.counts.failures.rose.0 refl;
+}
 
 -- What sending does.
 

@@ -16,8 +16,7 @@ use Rattle.sd_session.specs.declared.status.Status.TheVariants.{Ended}
 use Rattle.sd_session.specs.Session.{SessionView, SpoolIsHonest, IsRunning, NotRunning, parts_of}
 use Rattle.sd_session.specs.Spooling.{FailsBySpool, HasFailed}
 
--- What is known of the queue before the drive: what each lane sent; and, where its owner is alone with it, what
--- it holds and how many pieces it has room for.
+-- what is known of the queue: what each lane sent; and, to an owner who is alone, what is in it and its room
 pub record QueueView : Type 0 where
   pub sent : ℕ → List Piece
   pub alone : Bool
@@ -34,8 +33,7 @@ pub record PutsIn (old : QueueView) (q : Queued) (new : QueueView) : Type 0 wher
   pub room : old.alone ≡ true → length old.held < old.capacity
   pub held : old.alone ≡ true → new.held ≡ old.held ++ q ∷ []
 
--- The queue was full, and no lane sent anything. Where its owner isn't alone it was so at some moment of the step
--- (`WasFull`), which the step says itself.
+-- The queue was full, at some moment of the step (`WasFull`) if it is shared, and no lane sent anything.
 pub record IsFull (old new : QueueView) : Type 0 where
   pub none_sent : SendsNone old.sent new.sent
   pub full : old.alone ≡ true → old.capacity ≤ length old.held
@@ -71,8 +69,7 @@ pub record StopsWaiting (body : PackedBody) (old new : Stations) : Type 0 where
   pub room_is : new.packer.room ≡ old.packer.room
   pub is : new ≡ record old { packer = new.packer }
 
--- The body leaves that is to be sent next: the ready one; else the oldest in the spool; where there is no
--- spool, the one that has waited longest.
+-- the body to be sent next leaves: the ready one; else the oldest in the spool; without one, that which waited longest
 abbrev pub TakesNext : PackedBody → Stations → Stations → Type 0
 TakesNext body old new =
     ((old.ready ≡ Some body) × (new ≡ record old { ready = None }))
@@ -88,8 +85,7 @@ NoneIn (Some job) packer = job.shapes ≡ []
 abbrev pub HasNoNext : Stations → Type 0
 HasNoNext at = (at.ready ≡ None) × NoneIn at.spool at.packer
 
--- a session that spools is due to send while it despools, and once it is ended and nothing waits any more; one
--- that doesn't spool always is
+-- a session that spools is due to send while it despools, and once ended with none waiting; one without a spool always is
 abbrev pub IsDueToSend : SessionView → Type 0
 IsDueToSend s = (s.spool ≡ None) ⊎ (s.despooling ≡ true) ⊎ ((s.status ≡ Ended) × (s.packer.waiting ≡ []))
 
@@ -115,8 +111,7 @@ pub record SendsBody (old : SessionView) (queue : QueueView) (new : SessionView)
   pub is : new ≡ record old { sent = old.sent + 1; ready = None; spool = between.spool; despooling = goes_on between.spool old.despooling; packer = between.packer }
   pub bodies : SpoolIsHonest old.spool → parts_of old ≡ body ∷ parts_of new
 
--- The queue is full: the next body is ready now. With an honest store the bodies of the session are those
--- that it had.
+-- The queue is full: the next body is ready now. With an honest store the session has the bodies that it had.
 pub record FindsLaneFull (old : SessionView) (queue : QueueView) (new : SessionView) (queue' : QueueView) : Type 0 where
   pub running : IsRunning old.status
   pub due : IsDueToSend old
@@ -127,25 +122,12 @@ pub record FindsLaneFull (old : SessionView) (queue : QueueView) (new : SessionV
   pub is : new ≡ record old { ready = Some body; spool = between.spool; packer = between.packer }
   pub bodies : SpoolIsHonest old.spool → parts_of new ≡ parts_of old
 
--- it is due, but there is nothing to send
-pub record HasNothingDue (old new : SessionView) : Type 0 where
-  pub running : IsRunning old.status
-  pub due : IsDueToSend old
-  pub none_next : HasNoNext (stations_of old)
-  pub is : new ≡ old
-
--- it isn't due
-pub record IsNotDue (old new : SessionView) : Type 0 where
-  pub running : IsRunning old.status
-  pub not_due : IsDueToSend old → ⊥
-  pub is : new ≡ old
-
--- what one step of sending did
+-- what a step of sending did: a body was sent; the queue is full; the session is due to send, but has nothing; it isn't due
 abbrev pub Despools : Despooled → SessionView → QueueView → SessionView → QueueView → Type 0
 Despools Sent old queue new queue' = SendsBody old queue new queue'
 Despools LaneFull old queue new queue' = FindsLaneFull old queue new queue'
-Despools Nothing old queue new queue' = HasNothingDue old new
-Despools NotDue old queue new queue' = IsNotDue old new
+Despools Nothing old queue new queue' = IsRunning old.status × IsDueToSend old × HasNoNext (stations_of old) × (new ≡ old)
+Despools NotDue old queue new queue' = IsRunning old.status × (IsDueToSend old → ⊥) × (new ≡ old)
 
 -- a body is to come out of the spool now
 pub record ReadsSpool (s : SessionView) : Type 0 where
@@ -156,8 +138,7 @@ pub record ReadsSpool (s : SessionView) : Type 0 where
   pub spool_is : s.spool ≡ Some job
   pub some_there : job.shapes ≢ []
 
--- Why nothing is sent: the status; else, where a body is to come out of the spool, a fault of its store, or
--- want of memory. Only the fault changes the session.
+-- Why nothing is sent: the status; else, if the spool is due to give a body, its fault, which fails the session, or memory.
 abbrev pub DespoolRefused : SessionView → Refusal → SessionView → Type 0
 DespoolRefused old why new =
     (NotRunning old why × (new ≡ old))

@@ -13,17 +13,16 @@ use Rattle.sd_pack.specs.Body.{PackedBody, empty_body}
 use Rattle.sd_pack.specs.Packing.{PackerView, Packs, HasOpen, bodies_of, all_bytes}
 use Rattle.sd_span.specs.declared.progress.Progress.{Progress}
 use Rattle.sd_spool.specs.Meaning.{Meaning}
-use Rattle.sd_spool.specs.Job.{JobView, StoreState, StoreIsHonest, state_of, empty_on, FailsToClear}
+use Rattle.sd_spool.specs.Job.{JobView, StoreState, StoreIsHonest, empty_on, FailsToClear}
 use Rattle.sd_spool.specs.declared.store.SpoolStoreFault.{SpoolStoreFault}
 use Rattle.sd_spool.specs.declared.store.SpoolStoreFault.TheVariants.{Device, Memory as OutOfMemory}
 use Rattle.sd_session.specs.declared.opening.Opening.{Opening}
 use Rattle.sd_session.specs.declared.status.Status.{Status}
 use Rattle.sd_session.specs.declared.status.Status.TheVariants.{Active, Ended, Closed, Cancelled, Failed, Purged}
 
--- A session: whose it is, by which lane it sends, and for which pool and media; its status; the records and
--- data bytes that it took, and the index of the last; how many of its bodies were sent; the body that is ready
--- to be sent, if a full queue kept one; the lane's store, where it lies unused; its spool, where it spools;
--- whether it despools, so that nothing goes into the spool; and its packer.
+-- A session: whose it is, its lane, job, pool and media; its status; how many records and data bytes it took, and the last index;
+-- how many bodies it sent; the one that a full queue left ready; the lane's store, while unused; its spool, if it spools; whether
+-- it despools, so that nothing goes into the spool; its packer.
 pub record SessionView : Type 0 where
   pub key : SessionKey
   pub lane : ℕ
@@ -143,17 +142,17 @@ pub record IsSessionView (s : SessionView) : Type 0 where
 -- Opening.
 
 -- with a limit of 0 nothing is spooled, and the store lies unused
-abbrev pub unused_store : ℕ → Meaning → Option StoreState
-unused_store zero store = Some (state_of store)
+abbrev pub unused_store : ℕ → StoreState → Option StoreState
+unused_store zero store = Some store
 unused_store (suc n) store = None
 
 -- with any other limit there is an empty spool on the store
-abbrev pub new_spool : ℕ → Meaning → Option JobView
+abbrev pub new_spool : ℕ → StoreState → Option JobView
 new_spool zero store = None
 new_spool (suc n) store = Some (empty_on store (suc n))
 
--- a new session: no record, and its start label packed, in a body that is open
-pub record StartsSession (o : Opening) (room limit : ℕ) (store : Meaning) (s : SessionView) : Type 0 where
+-- a new session over a store in this state: no record, and its start label packed, in a body that is open
+pub record StartsSession (o : Opening) (room limit : ℕ) (store : StoreState) (s : SessionView) : Type 0 where
   pub is : s ≡ record {
     key = o.key;
     lane = o.lane;
@@ -233,8 +232,7 @@ pub record EndsSession (old : SessionView) (moment : ℤ) (new : SessionView) : 
 abbrev pub EndRefused : SessionView → Refusal → Type 0
 EndRefused s why = ((s.status ≢ Active) × (why ≡ status_refusal s.status)) ⊎ ((s.status ≡ Active) × (why ≡ Memory))
 
--- what the session still has is dropped, with this status: what is ready, in the spool, waiting or open; what
--- was sent stays sent
+-- with this status, what is ready, in the spool, waiting or open is dropped; what was sent stays sent
 pub record DropsParts (old : SessionView) (status : Status) (new : SessionView) : Type 0 where
   pub running : IsRunning old.status
   pub is : new ≡ record old { status = status; ready = None; store = store_of old; spool = None; despooling = false; packer = new.packer }
@@ -254,16 +252,12 @@ abbrev pub PurgesSession : SessionView → SessionView → Type 0
 PurgesSession old new =
     ((IsRunning old.status → ⊥) × (new ≡ record old { status = Purged })) ⊎ (IsRunning old.status × (new ≡ old))
 
--- something of the session is outstanding: a body that it has itself, or one that was sent and isn't synced
-abbrev pub HasOutstanding : SessionView → Progress → Type 0
-HasOutstanding s progress = (parts_of s ≢ []) ⊎ (progress.synced ≢ s.sent)
-
--- the session may be closed: it has its end label, it doesn't fail, and nothing of it is outstanding; so one body of it was
--- sent at least
+-- it may be closed: it has its end label, doesn't fail, has no body left, and all that it sent, a body at least, is synced
 pub record MayClose (s : SessionView) (progress : Progress) : Type 0 where
   pub ended : s.status ≡ Ended
   pub sound : progress.failed ≡ false
-  pub none_outstanding : HasOutstanding s progress → ⊥
+  pub none_left : parts_of s ≡ []
+  pub all_synced : progress.synced ≡ s.sent
   pub some_sent : 1 ≤ s.sent
 
 -- the session is closed, which it may be
@@ -271,12 +265,12 @@ pub record ClosesSession (old : SessionView) (progress : Progress) (new : Sessio
   pub may : MayClose old progress
   pub is : new ≡ record old { status = Closed }
 
--- why a session isn't closed: the status; its volume failed; something is outstanding
+-- why a session isn't closed: the status; its volume failed; it has a body left itself, or not all that was sent of it is synced
 abbrev pub CloseRefused : SessionView → Progress → Refusal → Type 0
 CloseRefused s progress why =
     ((s.status ≢ Ended) × (why ≡ status_refusal s.status))
     ⊎ ((s.status ≡ Ended) × IsTrue progress.failed × (why ≡ SessionFailed))
-    ⊎ ((s.status ≡ Ended) × (progress.failed ≡ false) × HasOutstanding s progress × (why ≡ NotYet))
+    ⊎ ((s.status ≡ Ended) × (progress.failed ≡ false) × ((parts_of s ≢ []) ⊎ (progress.synced ≢ s.sent)) × (why ≡ NotYet))
 
 -- the session gives the lane's store back, and has none from then on; all else stays
 pub record GivesBack (old : SessionView) (store : StoreState) (new : SessionView) : Type 0 where

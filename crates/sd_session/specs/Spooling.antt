@@ -1,5 +1,5 @@
 -- What one step of spooling does to a session.
-use Rattle.std.specs.Prelude.{◌≡◌, ◌⊎◌, ◌+◌, ◌<◌, ◌≤◌, Bool, true, false, Some, None, List, [], ◌∷◌, length}
+use Rattle.std.specs.Prelude.{◌≡◌, ◌⊎◌, ◌+◌, ◌<◌, ◌≤◌, Bool, true, false, Some, None, IsSome, List, [], ◌∷◌, length}
 use Rattle.sd_base.specs.Count.{Rose}
 use Rattle.sd_base.specs.declared.refusal.Refusal.{Refusal}
 use Rattle.sd_base.specs.declared.refusal.Refusal.TheVariants.{SpoolFault, Memory}
@@ -11,8 +11,7 @@ use Rattle.sd_session.specs.declared.answer.Spooling.TheVariants.{Spooled, Spool
 use Rattle.sd_session.specs.declared.status.Status.TheVariants.{Failed}
 use Rattle.sd_session.specs.Session.{SessionView, SpoolIsHonest, IsRunning, NotRunning, parts_of, DropsParts}
 
--- The body has waited longest, and goes into the spool now: the session isn't despooling, and the body doesn't
--- pass the limit.
+-- the body waited longest, and goes into the spool: the session isn't despooling, and the body is within the limit
 pub record GoesIn (despooling : Bool) (job : JobView) (waiting : List PackedBody) (body : PackedBody) (rest : List PackedBody) : Type 0 where
   pub waits : waiting ≡ body ∷ rest
   pub not_despooling : despooling ≡ false
@@ -44,8 +43,7 @@ pub record HasFailed (old new : StoreState) : Type 0 where
   pub failures : old.failures ≤ new.failures
   pub cause : Rose old.failures new.failures
 
--- The body that has waited longest is the last in the spool. With an honest store the bodies of the session are
--- those that it had.
+-- The body that waited longest is the spool's last. With an honest store the session has the bodies that it had.
 pub record SpoolsBody (old new : SessionView) : Type 0 where
   pub running : IsRunning old.status
   pub job : JobView
@@ -55,34 +53,14 @@ pub record SpoolsBody (old new : SessionView) : Type 0 where
   pub is : new ≡ record old { spool = Some job'; packer = new.packer }
   pub bodies : SpoolIsHonest old.spool → parts_of new ≡ parts_of old
 
--- a body waits that stays out of the spool: the session despools from now on
-pub record FindsSpoolFull (old new : SessionView) : Type 0 where
-  pub running : IsRunning old.status
-  pub job : JobView
-  pub spool_is : old.spool ≡ Some job
-  pub stays_out : StaysOut old.despooling job old.packer.waiting
-  pub is : new ≡ record old { despooling = true }
-
--- no closed body waits
-pub record HasNoneWaiting (old new : SessionView) : Type 0 where
-  pub running : IsRunning old.status
-  pub job : JobView
-  pub spool_is : old.spool ≡ Some job
-  pub none_waits : old.packer.waiting ≡ []
-  pub is : new ≡ old
-
--- the session doesn't spool
-pub record HasNoSpool (old new : SessionView) : Type 0 where
-  pub running : IsRunning old.status
-  pub none_there : old.spool ≡ None
-  pub is : new ≡ old
-
--- what one step of spooling did
+-- What one step of spooling did to a session that goes on: a body went in; one waits that stays out, so that the session despools
+-- from now on; no closed body waits; the session doesn't spool.
 abbrev pub Spools : Spooling → SessionView → SessionView → Type 0
 Spools Spooled old new = SpoolsBody old new
-Spools SpoolFull old new = FindsSpoolFull old new
-Spools Nothing old new = HasNoneWaiting old new
-Spools NoSpool old new = HasNoSpool old new
+Spools SpoolFull old new = IsRunning old.status
+    × ((job : JobView) × (old.spool ≡ Some job) × StaysOut old.despooling job old.packer.waiting) × (new ≡ record old { despooling = true })
+Spools Nothing old new = IsRunning old.status × IsSome old.spool × (old.packer.waiting ≡ []) × (new ≡ old)
+Spools NoSpool old new = IsRunning old.status × (old.spool ≡ None) × (new ≡ old)
 
 -- A fault of the spool's store, which counted it: the session fails, and its parts are dropped.
 pub record FailsBySpool (old : SessionView) (job : JobView) (new : SessionView) : Type 0 where
@@ -98,8 +76,7 @@ pub record WouldSpool (s : SessionView) : Type 0 where
   pub spool_is : s.spool ≡ Some job
   pub goes_in : WouldGoIn s.despooling job s.packer.waiting
 
--- Why nothing is spooled: the status; else, where a body would go in, a fault of the store, or want of memory.
--- Only the fault changes the session.
+-- Why nothing is spooled: the status; else, if a body would go in, the store's fault, which fails the session, or memory.
 abbrev pub SpoolRefused : SessionView → Refusal → SessionView → Type 0
 SpoolRefused old why new =
     (NotRunning old why × (new ≡ old))

@@ -112,7 +112,7 @@ impl<S: SpoolStore + Drop> Session<S> {
         requires most { block ≤ most_block }
         requires spool_least { spool ≢ 0 → block ≤ spool }
         ensures ok { IfOk result
-            (λ s. StartsSession opening (block - block_header) spool (S.meaning store) s) }
+            (λ s. StartsSession opening (block - block_header) spool (state_of (S.meaning store)) s) }
         ensures err { IfErr result
             (λ kept. StartRefused spool (S.meaning store) kept.why (S.meaning kept.store)) }
     {

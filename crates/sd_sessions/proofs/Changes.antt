@@ -5,7 +5,7 @@ use Rattle.sd_session.specs.Session.{SessionView}
 use Rattle.sd_session.specs.Spooling.{SpoolRefused}
 use Rattle.sd_session.specs.Sending.{DespoolRefused}
 use Rattle.sd_world.specs.World.{WorldView, WorldSession}
-use Rattle.sd_world.specs.Sessions.{ChangesSession, TicketRefused, StaysAs}
+use Rattle.sd_world.specs.Sessions.{ChangesSession, TicketRefused}
 use Rattle.sd_world.proofs.Lookups.{set_same}
 use Rattle.sd_parts.proofs.Found.{IsReadAt}
 
@@ -21,21 +21,21 @@ changes_one w ticket at e s change f changed key =
 
 -- the session at its place stays as it is
 pub stays_as : {D : Type 0} (w : WorldView D) (ticket at : ℕ) (e : WorldSession) (s : SessionView)
-    → IsReadAt ticket w.sessions at e → s ≡ e.session → StaysAs w (with_session_at at e s w)
+    → IsReadAt ticket w.sessions at e → s ≡ e.session → with_session_at at e s w ≡ w
 stays_as w ticket at e s f same =
     ap (λ (x : SessionView). record w { sessions = slice_set w.sessions at (record e { session = x }) }) same
     ∙ ap (λ (es : List WorldSession). record w { sessions = es }) (set_same w.sessions at e f.there)
 
 -- the session at its place refuses the event
 pub refuses_one : {D : Type 0} (w : WorldView D) (ticket at : ℕ) (e : WorldSession) (s : SessionView) (why : Refusal) (causes : WorldSession → Type 0)
-    → IsReadAt ticket w.sessions at e → causes e → s ≡ e.session → TicketRefused w ticket why causes × StaysAs w (with_session_at at e s w)
+    → IsReadAt ticket w.sessions at e → causes e → s ≡ e.session → TicketRefused w ticket why causes × (with_session_at at e s w ≡ w)
 refuses_one w ticket at e s why causes f cause same = (inr (e, f.found, cause), stays_as w ticket at e s f same)
 
 -- the session at its place refuses the event, and stands there as it was read
 pub refuses_read : {D : Type 0} (w : WorldView D) (ticket at : ℕ) (e read : WorldSession) (why : Refusal) (causes : WorldSession → Type 0)
-    → IsReadAt ticket w.sessions at e → e ≡ read → causes e → TicketRefused w ticket why causes × StaysAs w (with_session_at at read read.session w)
+    → IsReadAt ticket w.sessions at e → e ≡ read → causes e → TicketRefused w ticket why causes × (with_session_at at read read.session w ≡ w)
 refuses_read w ticket at e read why causes f same cause =
-    subst (λ (x : WorldSession). TicketRefused w ticket why causes × StaysAs w (with_session_at at x x.session w)) same
+    subst (λ (x : WorldSession). TicketRefused w ticket why causes × (with_session_at at x x.session w ≡ w)) same
     (refuses_one w ticket at e e.session why causes f cause refl)
 
 -- a step of spooling that is refused keeps the session's number

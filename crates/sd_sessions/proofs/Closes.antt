@@ -1,5 +1,5 @@
 -- What a close does to a world.
-use Rattle.std.proofs.Common.{◌≡◌, ℕ, refl, sym, ap, subst, ◌∙◌, inl, inr, Option, Some, None, List, slice_set, Bor}
+use Rattle.std.proofs.Common.{◌≡◌, ◌≢◌, ◌⊎◌, ℕ, [], refl, sym, ap, subst, ◌∙◌, inl, inr, Option, Some, None, List, slice_set, Bor}
 use Rattle.std.specs.Prelude.{IsSome, IsTrue}
 use Rattle.std.specs.Option.{option_copied}
 use Rattle.sd_base.specs.declared.number.SessionKey.{SessionKey}
@@ -11,7 +11,7 @@ use Rattle.sd_span.specs.Spans.{spans_of}
 use Rattle.sd_span.specs.declared.progress.Progress.{Progress}
 use Rattle.sd_span.specs.declared.span.Span.{Span}
 use Rattle.sd_session.specs.declared.status.Status.TheVariants.{Closed}
-use Rattle.sd_session.specs.Session.{SessionView, HasOutstanding, MayClose, ClosesSession, CloseRefused}
+use Rattle.sd_session.specs.Session.{SessionView, parts_of, MayClose, ClosesSession, CloseRefused}
 use Rattle.sd_world.specs.World.{WorldView, WorldSession, BayView, IsOnline}
 use Rattle.sd_world.specs.Sessions.{CloseCauses, ClosesAt}
 use Rattle.sd_parts.proofs.Found.{IsReadAt}
@@ -42,7 +42,7 @@ close_causes why a (inl r) = inl r
 close_causes {place = place} {bay = bay} {d = d} why a (inr (inl r)) =
     inr (r.0, place, bay, d, a.online, inl (inr (inl (r.0, subst (λ (p : Progress). IsTrue p.failed) a.far r.1, r.2))))
 close_causes {e = e} {place = place} {bay = bay} {d = d} why a (inr (inr r)) =
-    inr (r.0, place, bay, d, a.online, inl (inr (inr (r.0, ap (λ (p : Progress). p.failed) (sym a.far) ∙ r.1, subst (HasOutstanding e.session) a.far r.2, r.3))))
+    inr (r.0, place, bay, d, a.online, inl (inr (inr (r.0, ap (λ (p : Progress). p.failed) (sym a.far) ∙ r.1, subst (λ (p : Progress). (parts_of e.session ≢ []) ⊎ (p.synced ≢ e.session.sent)) a.far r.2, r.3))))
 
 -- want of memory, where it may be closed
 pub close_memory : {D : Type 0} {w : WorldView D} {e : WorldSession} {place : ℕ} {bay : BayView D} {d : DriveIs D} {progress : Progress}

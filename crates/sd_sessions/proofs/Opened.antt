@@ -6,7 +6,7 @@ use Rattle.sd_drive.specs.View.{DriveIs}
 use Rattle.sd_journal.specs.Journal.{with_key}
 use Rattle.sd_world.specs.World.{WorldView, WorldSession, BayView, LaneView}
 use Rattle.sd_world.specs.Rules.{NumbersRise}
-use Rattle.sd_world.specs.Sessions.{Reserves, OpensSession, OpenRefused, StaysAs, next_key, opening_for}
+use Rattle.sd_world.specs.Sessions.{Reserves, OpensSession, OpenRefused, next_key, opening_for}
 use Rattle.sd_sessions.specs.Opening.{OpensAt, OpensNotAt, StartsNot}
 use Rattle.sd_world.proofs.Lookups.{set_same}
 
@@ -72,19 +72,17 @@ starts_not {D} w pool media why drive at place bay d lane lane' es' left reserve
         reserves = reserves;
         before = s.store;
         after = s.store';
-        leaves = record {
-          sessions = es';
-          takes = s.takes;
-          new_is = ap (λ (l : LaneView). with_lane at place bay (record d { ready = with_key (next_key w) d.ready }) l es' w) s.lane_is;
-        };
         cause = s.cause;
+        sessions = es';
+        takes = s.takes;
+        new_is = ap (λ (l : LaneView). with_lane at place bay (record d { ready = with_key (next_key w) d.ready }) l es' w) s.lane_is;
       },
     )))
 
 -- the world with nothing changed
 nothing_changed : {D : Type 0} (w : WorldView D) (at place : ℕ) (bay : BayView D) (d : DriveIs D) (lane lane' : LaneView) (es' : List WorldSession)
     → slice_get w.bays at ≡ Some bay → bay.drive ≡ Some d → slice_get bay.lanes place ≡ Some lane → lane' ≡ lane → es' ≡ w.sessions
-    → StaysAs w (with_lane at place bay d lane' es' w)
+    → with_lane at place bay d lane' es' w ≡ w
 nothing_changed {D} w at place bay d lane lane' es' there on stands same stay =
     own_drive w at place bay d lane' es' on
     ∙ ap (λ (es : List WorldSession). record w { sessions = es; bays = slice_set w.bays at (record bay { lanes = slice_set bay.lanes place lane' }) }) stay

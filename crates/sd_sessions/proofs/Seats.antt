@@ -61,15 +61,15 @@ sends (Err why) old new sent sent' alone alone' q q' step is is' lanes capacity 
 sends_running : (answer : Despooled) (old new : SessionView) (q q' : LanesView) → SendsStep answer old q new q' → IsRunning old.status
 sends_running Sent old new q q' s = s.step.running
 sends_running LaneFull old new q q' s = s.step.running
-sends_running Nothing old new q q' s = s.step.running
-sends_running NotDue old new q q' s = s.step.running
+sends_running Nothing old new q q' s = s.step.0
+sends_running NotDue old new q q' s = s.step.0
 
 -- and keeps its number
 sends_key : (answer : Despooled) (old new : SessionView) (q q' : LanesView) → SendsStep answer old q new q' → new.key.id ≡ old.key.id
 sends_key Sent old new q q' s = ap (λ (x : SessionView). x.key.id) s.step.is
 sends_key LaneFull old new q q' s = ap (λ (x : SessionView). x.key.id) s.step.is
-sends_key Nothing old new q q' s = ap (λ (x : SessionView). x.key.id) s.step.is
-sends_key NotDue old new q q' s = ap (λ (x : SessionView). x.key.id) s.step.is
+sends_key Nothing old new q q' s = ap (λ (x : SessionView). x.key.id) s.step.3
+sends_key NotDue old new q q' s = ap (λ (x : SessionView). x.key.id) s.step.2
 
 -- A session's seat, at the place of its drive's bay.
 pub record SitsAt {D : Type 0} (w : WorldView D) (e : WorldSession) (place : ℕ) : Type 0 where

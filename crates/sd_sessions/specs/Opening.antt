@@ -7,11 +7,12 @@ use Rattle.sd_base.specs.declared.refusal.Refusal.TheVariants.{SpoolFault, Memor
 use Rattle.sd_drive.specs.View.{DriveIs}
 use Rattle.sd_drive.specs.declared.limits.Limits.{Limits}
 use Rattle.sd_journal.specs.Journal.{with_key}
-use Rattle.sd_session.specs.Session.{SessionView}
+use Rattle.sd_session.specs.Session.{SessionView, StartsSession}
+use Rattle.sd_session.specs.Spooling.{HasFailed}
 use Rattle.sd_session.specs.declared.opening.Opening.{Opening}
 use Rattle.sd_spool.specs.Job.{StoreState}
 use Rattle.sd_world.specs.World.{WorldSession, LaneView}
-use Rattle.sd_world.specs.Sessions.{TakesStore, StartsOn, FailsToEmpty}
+use Rattle.sd_world.specs.Sessions.{TakesStore}
 
 -- the lane's store can be taken
 abbrev pub CanTakeStore : LaneView → List WorldSession → Type 0
@@ -22,7 +23,7 @@ pub record StartsInLane (limits : Limits) (ticket : ℕ) (opening : Opening) (la
     (session : SessionView) (after : LaneView) (new : List WorldSession) : Type 0 where
   pub store : StoreState
   pub takes : TakesStore lane old store new
-  pub starts : StartsOn store opening (limits.block - block_header) limits.spool session
+  pub starts : StartsSession opening (limits.block - block_header) limits.spool store session
   pub lane_is : after ≡ record { holder = Some ticket; store = None }
 
 -- none starts: for want of memory, or the lane's store could not be cleared; it lies in the lane now
@@ -32,7 +33,7 @@ pub record StartsNot (limits : Limits) (lane : LaneView) (old : List WorldSessio
   pub store' : StoreState
   pub takes : TakesStore lane old store new
   pub lane_is : after ≡ record lane { store = Some store' }
-  pub cause : ((why ≡ Memory) × (store' ≡ store)) ⊎ ((limits.spool ≢ 0) × (why ≡ SpoolFault) × FailsToEmpty store store')
+  pub cause : ((why ≡ Memory) × (store' ≡ store)) ⊎ ((limits.spool ≢ 0) × (why ≡ SpoolFault) × HasFailed store store')
 
 -- it starts, comes behind all other sessions, and its pool is the drive's from now on, where there is room for its first placement
 pub record OpensAt {D : Type 0} (limits : Limits) (ticket drive : ℕ) (opening : Opening) (lane : LaneView) (old : List WorldSession) (d : DriveIs D)

@@ -115,10 +115,10 @@ begin_bytes false bytes = bytes
 
 -- what calls do
 
--- an empty spool on a store
-abbrev pub empty_on : Meaning → ℕ → JobView
+-- an empty spool on a store in this state
+abbrev pub empty_on : StoreState → ℕ → JobView
 empty_on store limit = record {
-  store = state_of store;
+  store = store;
   shapes = [];
   bodies = [];
   used = 0;

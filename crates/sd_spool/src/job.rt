@@ -56,7 +56,7 @@ impl<S: SpoolStore> Model for JobSpool<S> {
 impl<S: SpoolStore> JobSpool<S> {
     /// An empty spool on a store, which it clears.
     pub fn new(alloc: Global, store: S, limit: u64) -> Result<JobSpool<S>, NotCleared<S>>
-        ensures ok { IfOk result (λ spool. spool ≡ empty_on (S.meaning store) limit) }
+        ensures ok { IfOk result (λ spool. spool ≡ empty_on (state_of (S.meaning store)) limit) }
         ensures err { IfErr result (λ kept.
             FailsToClear kept.fault (S.meaning store) (S.meaning kept.store)) }
     {

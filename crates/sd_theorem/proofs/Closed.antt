@@ -85,8 +85,7 @@ module _ {D : Type 0} (meaning : D → Meaning) (table : ℕ → TableId) (time 
         e = x.e;
         there = x.there;
         key_is = own;
-        closed = sym x.matches.status_is ∙ has.status_is;
-        spans_are = spans_here key x.e x.there own;
+        holds = (sym x.matches.status_is ∙ has.status_is, spans_here key x.e x.there own);
       }
 
   -- Receipts.

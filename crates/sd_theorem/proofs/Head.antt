@@ -41,11 +41,11 @@ module _ {D : Type 0} (meaning : D → Meaning) (w : WorldView D) (m : Machine) 
 
   pub reads_closed : StandsClosed w key spans → ReadsClosed meaning w m key spans got got' result
   reads_closed s =
-      elim s.spans_are [
-        | inl p ↦ elim s.stands [
+      elim s.holds.3 [
+        | inl p ↦ elim s.holds.0 [
           | inl closed ↦
               let here = honest_drive meaning w s.e.drive p.0 p.1 p.2 sound honest p.3 in
-              let t = closed_reads meaning w m key spans p.0 p.1 p.2 pairs (record { e = s.e; there = s.there; key_is = s.key_is; closed = closed; spans_are = p }) here in
+              let t = closed_reads meaning w m key spans p.0 p.1 p.2 pairs (record { e = s.e; there = s.there; key_is = s.key_is; holds = (closed, p) }) here in
               let small = counts_small meaning w m key s.e t.s pairs s.there t.there read.fit in
               let kept = own_gone w key spans s.e sound.rules s.there s.key_is ∙ ap was_purged closed in
               record {
@@ -56,7 +56,7 @@ module _ {D : Type 0} (meaning : D → Meaning) (w : WorldView D) (m : Machine) 
                 there = s.there;
                 reads = inl (
                   t.closed,
-                  world_gives meaning w after key spans t.s.records _ got got' result s.e.drive p.0 p.1 p.2 p.3 s.claimed here.honest.device kept t.reads small.0 small.1 read.reads,
+                  world_gives meaning w after key spans t.s.records _ got got' result s.e.drive p.0 p.1 p.2 p.3 s.holds.2 here.honest.device kept t.reads small.0 small.1 read.reads,
                 );
               }
           | inr purged ↦
@@ -68,7 +68,7 @@ module _ {D : Type 0} (meaning : D → Meaning) (w : WorldView D) (m : Machine) 
                 key_is = f.matches.key_is ∙ s.key_is;
                 e = s.e;
                 there = s.there;
-                reads = inr (inr (f.matches.status_is ∙ purged, world_purged meaning w after key spans got got' result s.e.drive p.0 p.1 p.2 p.3 s.claimed s.some gone read.reads));
+                reads = inr (inr (f.matches.status_is ∙ purged, world_purged meaning w after key spans got got' result s.e.drive p.0 p.1 p.2 p.3 s.holds.2 s.holds.1 gone read.reads));
               }
         ]
         | inr retired ↦
@@ -79,7 +79,7 @@ module _ {D : Type 0} (meaning : D → Meaning) (w : WorldView D) (m : Machine) 
               key_is = f.matches.key_is ∙ s.key_is;
               e = s.e;
               there = s.there;
-              reads = inr (inl (world_refuses meaning w after key spans got got' result s.e.drive retired s.claimed s.some read.reads));
+              reads = inr (inl (world_refuses meaning w after key spans got got' result s.e.drive retired s.holds.2 s.holds.1 read.reads));
             }
       ]
 

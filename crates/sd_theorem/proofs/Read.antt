@@ -32,7 +32,7 @@ use Rattle.sd_world.proofs.Pairs.{is_numbered}
 use Rattle.sd_world.proofs.Sessions.{found_session}
 use Rattle.sd_world.specs.Deeds.{CountsFit}
 use Rattle.sd_world.specs.Reading.{is_at_drive, are_at_drive, is_purged_session, any_purged_at, is_gone, due_with, due_at, read_due, ReadsDrive, ReadsWorld}
-use Rattle.sd_world.specs.Stands.{IsRetired}
+use Rattle.sd_world.specs.Kept.{IsRetired}
 use Rattle.sd_world.specs.Stays.{AreClaimed}
 use Rattle.sd_world.proofs.ClaimLemmas.{one_drive}
 use Rattle.sd_theorem.specs.Gives.{GivesAll, ReadsOnline, IsAnsweredOffline, IsAnsweredPurged}

@@ -92,15 +92,17 @@ pub record WentOn {D : Type 0} (meaning : D → Meaning) (key : SessionKey) (spa
 -- a closed session stands closed
 pub stands_closed : {D : Type 0} (meaning : D → Meaning) (w : WorldView D) (key : SessionKey) (spans : List Span) → IsSound meaning w → IsClosedAt w key spans → StandsClosed w key spans
 stands_closed meaning w key spans sound c =
-    let s = c.spans_are in
+    let s = c.holds.1 in
     record {
       e = c.e;
       there = c.there;
       key_is = c.key_is;
-      stands = inl c.closed;
-      some = closed_has_span w key spans sound.rules c;
-      claimed = closed_is_found meaning w key spans s.0 s.1 s.2 sound.rules c s.3 (sound.drives s.0 s.1 s.2 s.3.there s.3.online);
-      spans_are = inl s;
+      holds = (
+        inl c.holds.0,
+        closed_has_span w key spans sound.rules c,
+        closed_is_found meaning w key spans s.0 s.1 s.2 sound.rules c s.3 (sound.drives s.0 s.1 s.2 s.3.there s.3.online),
+        inl s,
+      );
     }
 
 -- What comes back of it, by the machine that the world now matches.
@@ -154,19 +156,19 @@ module _ {D Q S : Type 0} (Z : Type 0) (is : Meanings D Q S) (key : SessionKey) 
       let t = stood in
       let kept = leads_keep is.device c.at_close w c.after c.sound c.goes_on in
       let first = stands_closed is.device c.at_close key spans c.sound c.closed in
-      let still = still_closed is.device c.at_close w c.after key spans c.sound c.goes_on first c.closed.closed c.unpurged in
+      let still = still_closed is.device c.at_close w c.after key spans c.sound c.goes_on first c.closed.holds.0 c.unpurged in
       let s = still.0 in
       let one : s.e ≡ c.e = some_one (sym s.there ∙ c.there) in
       let drive : s.e.drive ≡ c.e.drive = ap (λ (y : WorldSession). y.drive) one in
       let online : IsOnline w s.e.drive c.at c.bay c.d = subst (λ n. IsOnline w n c.at c.bay c.d) (sym drive) c.online in
-      let spans_are : SpansAt w s.e spans = elim s.spans_are [
+      let spans_are : SpansAt w s.e spans = elim s.holds.3 [
         | inl is_so ↦ is_so
         | inr off ↦
             let here : off.0 ≡ c.at = omega (arith, off.2, online.number) in
             let bay : off.1 ≡ c.bay = some_one (sym off.3 ∙ ap (slice_get w.bays) here ∙ online.there) in
             absurd (none_some (sym off.4 ∙ ap (λ (y : BayView D). y.drive) bay ∙ online.online))
       ] in
-      let closed : IsClosedAt w key spans = record { e = s.e; there = s.there; key_is = s.key_is; closed = still.1; spans_are = spans_are } in
+      let closed : IsClosedAt w key spans = record { e = s.e; there = s.there; key_is = s.key_is; holds = (still.1, spans_are) } in
       let h = honest_drive is.device w s.e.drive c.at c.bay c.d kept.0 (kept.1.honest c.honest) online in
       let all = closed_reads is.device w m key spans c.at c.bay c.d pairs closed h in
       let shelf = (is.device c.d.device).shelf in

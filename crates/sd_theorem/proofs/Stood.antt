@@ -93,7 +93,7 @@ told_of {D} meaning asked now key spans sound step =
 
 -- the spans that are told of a session that stands are those that it stands with
 one_list : {D : Type 0} (meaning : D → Meaning) (w : WorldView D) (key : SessionKey) (others spans : List Span) → (s : StandsClosed w key others) → SpansAt w s.e spans → others ≡ spans
-one_list {D} meaning w key others spans s told = elim s.spans_are [
+one_list {D} meaning w key others spans s told = elim s.holds.3 [
   | inl is ↦ (
       let d : is.2 ≡ told.2 = one_drive w s.e.drive told.0 is.0 told.1 is.1 told.2 is.2 told.3 is.3 in
       is.4 ∙ ap (λ (x : DriveIs D). spans_of s.e.session.key (placements x.journal)) d ∙ sym told.4)
@@ -122,10 +122,7 @@ asked_stood {D} meaning old new m key spans others deeds sound honest pairs stoo
       e = s.e;
       there = s.there;
       key_is = s.key_is;
-      stands = s.stands;
-      some = subst (λ l. l ≢ []) same s.some;
-      claimed = claimed;
-      spans_are = inl spans_are;
+      holds = (s.holds.0, subst (λ l. l ≢ []) same s.holds.1, claimed, inl spans_are);
     })
 
 pub told_stood : {D : Type 0} (meaning : D → Meaning) (old new : WorldView D) (m : Machine) (key : SessionKey) (spans : List Span) (deeds : List Deed) → IsSound meaning old → AreHonest meaning old

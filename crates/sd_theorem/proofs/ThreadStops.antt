@@ -46,7 +46,7 @@ stood_spans : {D : Type 0} (w : WorldView D) (key : SessionKey) (spans : List Sp
 stood_spans {D} w key spans e at bay d s there online =
     let one : s.e ≡ e = some_one (sym s.there ∙ there) in
     let on : IsOnline w s.e.drive at bay d = subst (λ (x : WorldSession). IsOnline w x.drive at bay d) (sym one) online in
-    elim s.spans_are [
+    elim s.holds.3 [
       | inl is ↦ is.4 ∙ ap (λ (k : SessionKey). spans_of k (placements is.2.journal)) s.key_is
           ∙ ap (λ (x : DriveIs D). spans_of key (placements x.journal)) (one_drive w s.e.drive at is.0 bay is.1 d is.2 on is.3)
       | inr off ↦

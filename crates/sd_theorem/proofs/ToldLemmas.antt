@@ -6,9 +6,8 @@ use Rattle.sd_theorem.proofs.Fresh.{made_honest}
 use Rattle.sd_theorem.proofs.Head.{made_matches}
 use Rattle.sd_drive.proofs.Places.{some_is}
 use Rattle.sd_theorem.proofs.Stood.{honest_drive, told_stood}
-use Rattle.sd_world.specs.Kept.{IsClosedAt}
+use Rattle.sd_world.specs.Kept.{IsClosedAt, IsRetired}
 use Rattle.sd_world.specs.Sessions.{SpansAt}
-use Rattle.sd_world.specs.Stands.{IsRetired}
 use Rattle.sd_world.specs.World.{BayView, IsOnline, WorldSession, WorldView}
 use Rattle.sd_world.proofs.DeedLemmas.{leads_keep, leads_run}
 use Rattle.sd_theorem.specs.Closed.{ScanTellsTold}
@@ -29,11 +28,11 @@ scan_tells_told is start first w deeds key spans e at bay d scanned vs due outco
     let run = leads_run is.device first w deeds (empty_machine start.time) made.sound leads pairs in
     let s = told_stood is.device first w (empty_machine start.time) key spans deeds made.sound h pairs leads told in
     let one : s.e ≡ e = some_is (sym s.there ∙ there) in
-    let spans_are : SpansAt w e spans = elim s.spans_are [
+    let spans_are : SpansAt w e spans = elim s.holds.3 [
       | inl here ↦ subst (λ (x : WorldSession). SpansAt w x spans) one here
       | inr off ↦ absurd (not_retired w e.drive at bay d online (subst (λ (x : WorldSession). IsRetired w x.drive) one off))
     ] in
     let c : IsClosedAt w key spans =
-    record { e = e; there = there; key_is = ap (λ (x : WorldSession). x.session.key) (sym one) ∙ s.key_is; closed = closed; spans_are = spans_are } in
+    record { e = e; there = there; key_is = ap (λ (x : WorldSession). x.session.key) (sym one) ∙ s.key_is; holds = (closed, spans_are) } in
     let drive = honest_drive is.device w e.drive at bay d kept.0 (kept.1.honest h) online in
     (run.0, run.1, scan_tells_closed is.device w run.0 key spans at bay d scanned vs due outcome run.2 c drive have scans)

@@ -80,7 +80,7 @@ not_purged : {D : Type 0} (w : WorldView D) (event : Event) (reply : Reply) (key
 not_purged {D} w event reply key spans s none v =
     let here : PurgesName event reply v.name = purges_it w event reply s.e v in
     let apart = apart_from event reply v.name spans here none in
-    elim s.spans_are [
+    elim s.holds.3 [
       | inl at ↦ (
           let d : at.2 ≡ v.d = one_drive w s.e.drive v.at at.0 v.bay at.1 v.d at.2 v.online at.3 in
           let on : list_any (λ (x : Span). bytes_eq x.volume v.name) spans ≡ true =
@@ -104,7 +104,7 @@ step_closed : {D : Type 0} (meaning : D → Meaning) (w w' : WorldView D) (event
 step_closed meaning w w' event reply key spans sound step s closed none =
     let t = (steps_keep_spans meaning w w' event reply sound step).closed_last key spans s in
     let cause = purged_by_cause meaning w w' event reply sound.rules step.moves key.id s.e t.e s.there t.there (λ purged. cc (sym closed ∙ purged)) in
-    elim t.stands [
+    elim t.holds.0 [
       | inl is ↦ (t, is)
       | inr is ↦ absurd (not_purged w event reply key spans s none (cause.0 is))
     ]

@@ -12,7 +12,7 @@ use Rattle.sd_readback.specs.Reading.{Reads, volumes_on}
 use Rattle.sd_readback.specs.declared.read.ReadEnd.{ReadEnd}
 use Rattle.sd_span.specs.declared.span.Span.{Span}
 use Rattle.sd_world.specs.World.{WorldView, BayView, IsOnline}
-use Rattle.sd_world.specs.Stands.{IsRetired}
+use Rattle.sd_world.specs.Kept.{IsRetired}
 
 -- A read gave exactly these records, once each and in order; and told their number, their bytes, and whether the session
 -- ended. It was refused only where the device failed or memory was wanted, and then it gave the first of them, if any.

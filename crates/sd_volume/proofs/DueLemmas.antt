@@ -244,21 +244,18 @@ same_bytes shelf name held other label blocks tail there here is =
 
 -- where nothing changed, whole blocks are kept
 pub KeepsWholeBlocks-same : (name : List ℕ) (old new : Shelf) → SameShelf old new → StillLasts old new → KeepsWholeBlocks name old new
-KeepsWholeBlocks-same name old new same still = record {
-  bytes = λ held there label blocks tail is. KeepsUpTo-same (volume_end label blocks) name old new same;
-  lasts = λ held there label blocks tail is. StillLastsBelow-of (volume_end label blocks) name old new still;
-}
+KeepsWholeBlocks-same name old new same still held there label blocks tail is =
+    (KeepsUpTo-same (volume_end label blocks) name old new same, StillLastsBelow-of (volume_end label blocks) name old new still)
 
 -- and so they are by what keeps a volume up to the end of its last whole block
 pub KeepsWholeBlocks-cut : (name media : List ℕ) (start : ℕ) (v : VolumeView) (to : ℕ) (old mid new : Shelf) (held : Held) → old.volume name ≡ Some held → IsAdoptable name media start held.bytes v → to ≡ v.end
     → SameShelf old mid → StillLasts old mid → KeepsUpTo to name mid new → StillLastsBelow to name mid new → KeepsWholeBlocks name old new
-KeepsWholeBlocks-cut name media start v to old mid new held there found at same still keeps below = record {
-  bytes = λ other here label blocks tail is. KeepsUpTo-lower (volume_end label blocks) to name old mid new (within other here label blocks tail is) same keeps;
-  lasts = λ other here label blocks tail is. (
-      let end = volume_end label blocks in
-      StillLastsBelow-trans end name old mid new (StillLastsBelow-of end name old mid still) (StillLastsBelow-lower end to name mid new (within other here label blocks tail is) below));
-}
+KeepsWholeBlocks-cut name media start v to old mid new held there found at same still keeps below other here label blocks tail is =
+    let end = volume_end label blocks in (
+      KeepsUpTo-lower end to name old mid new within same keeps,
+      StillLastsBelow-trans end name old mid new (StillLastsBelow-of end name old mid still) (StillLastsBelow-lower end to name mid new within below),
+    )
   where
-    within : (other : Held) → old.volume name ≡ Some other → (label : VolumeLabel) (blocks : List Block) (tail : List ℕ) → VolumeImage other.bytes label blocks tail → volume_end label blocks ≤ to
-    within other here label blocks tail is =
+    within : volume_end label blocks ≤ to
+    within =
         omega (arith, at, found.end_is, end_within held.bytes label found.label blocks found.blocks tail found.tail (same_bytes old name other held label blocks tail here there is) found.whole)

@@ -24,8 +24,7 @@ pub record IsLabelOf (name block : List ℕ) (label : VolumeLabel) : Type 0 wher
   pub name_is : label.name ≡ name
   pub block_is : block ≡ label_block label
 
--- the bytes are a volume of this profile with this name: the block of its label begins them, and they are no
--- longer than a volume may be
+-- a volume of this profile and name: the bytes begin with its label block, and are no longer than a volume may be
 pub record IsVolumeOf (name bytes : List ℕ) (label : VolumeLabel) : Type 0 where
   pub label_is : IsVolumeLabel label
   pub name_is : label.name ≡ name
@@ -97,18 +96,12 @@ pub record KeepsUpTo (to : ℕ) (name : List ℕ) (old new : Shelf) : Type 0 whe
       × BeginsWith after.bytes (take to held.bytes)
   pub others : (other : List ℕ) → other ≢ name → new.volume other ≡ old.volume other
 
--- this holds of each place of a volume where whole blocks end: where its label block does, and where any blocks do that
--- stand in order behind it
-abbrev pub WhereBlocksEnd : List ℕ → Shelf → (ℕ → Type 0) → Type 0
-WhereBlocksEnd name shelf holds = (held : Held) → shelf.volume name ≡ Some held
-    → (label : VolumeLabel) (blocks : List Block) (tail : List ℕ)
-    → VolumeImage held.bytes label blocks tail → holds (volume_end label blocks)
-
--- A volume keeps its whole blocks, whatever becomes of what stands behind them: up to each place where whole blocks end
--- its bytes are as they were, and what lasted of them still lasts. All other volumes stay.
-pub record KeepsWholeBlocks (name : List ℕ) (old new : Shelf) : Type 0 where
-  pub bytes : WhereBlocksEnd name old (λ end. KeepsUpTo end name old new)
-  pub lasts : WhereBlocksEnd name old (λ end. StillLastsBelow end name old new)
+-- A volume keeps its whole blocks, whatever becomes of what stands behind them: up to where its label block ends, and any blocks
+-- that stand in order behind it, its bytes are as they were, and what lasted of them still lasts. All other volumes stay.
+abbrev pub KeepsWholeBlocks : List ℕ → Shelf → Shelf → Type 0
+KeepsWholeBlocks name old new = (held : Held) → old.volume name ≡ Some held
+    → (label : VolumeLabel) (blocks : List Block) (tail : List ℕ) → VolumeImage held.bytes label blocks tail
+    → KeepsUpTo (volume_end label blocks) name old new × StillLastsBelow (volume_end label blocks) name old new
 
 -- a volume was cut at a place, and all of what is left lasts from now on; all others stay
 pub record CutsAt (to : ℕ) (name : List ℕ) (old new : Shelf) : Type 0 where

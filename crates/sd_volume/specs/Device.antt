@@ -21,8 +21,7 @@ pub record Counted (fault no_room : Type 0) (old new : Meaning) : Type 0 where
 abbrev pub CallsAtMost : ℕ → Meaning → Meaning → Type 0
 CallsAtMost count old new = new.shelf.moment ≤ old.shelf.moment + count
 
--- a call that only reads: it loads nothing and unloads nothing, what lasted lasts, and an honest device holds
--- what it held
+-- a call that only reads: what was loaded stays so, what lasted lasts, and an honest device holds what it held
 pub record OnlyReads (fault : Type 0) (old new : Meaning) : Type 0 where
   pub counted : Counted fault ⊥ old new
   pub loaded : new.loaded ≡ old.loaded

@@ -28,8 +28,7 @@ abbrev pub BeginsWithBlock : List ℕ → SessionKey → ℕ → List ℕ → Ty
 BeginsWithBlock bytes key number body =
     IsBlockImage most_block (take (block_header + length body) bytes) key number body
 
--- the bytes begin with no image of a block with this number; they may begin with anything else, also with
--- most of such a block
+-- the bytes begin with no block of this number, but perhaps with anything else, even most of such a block
 abbrev pub NoBlockNext : ℕ → List ℕ → Type 0
 NoBlockNext number bytes =
     (key : SessionKey) (body : List ℕ) → ¬ BeginsWithBlock bytes key number body
@@ -57,8 +56,7 @@ pub record VolumeImage (bytes : List ℕ)
 abbrev pub volume_end : VolumeLabel → List Block → ℕ
 volume_end label blocks = length (label_and_blocks label blocks)
 
--- These are all the blocks: where they end stands no image of a block with the next number. So `volume_end` of
--- them is the end of the volume.
+-- These are all the blocks: at `volume_end` of them, the volume's end, no block with the next number begins.
 pub record WholeImage (bytes : List ℕ)
     (label : VolumeLabel) (blocks : List Block) (tail : List ℕ) : Type 0 where
   pub image : VolumeImage bytes label blocks tail

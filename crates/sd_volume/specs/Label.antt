@@ -26,8 +26,7 @@ pub record Stores (name bytes : List ℕ) (old new : Shelf) : Type 0 where
   pub lasts : Lasts new.moment name bytes new
   pub others : (other : List ℕ) → other ≢ name → new.volume other ≡ old.volume other
 
--- the shelf lacked the name; now a volume with this label stands there, with no block and no tail. Its label block
--- lasts from now on, and all other volumes stay.
+-- a name that the shelf lacked is a volume with this label now, no block and no tail; its label block lasts, others stay
 pub record Labels (label : VolumeLabel) (old new : Shelf) : Type 0 where
   pub absent : old.volume label.name ≡ None
   pub stands : StandsOn (new_volume label) new label [] []

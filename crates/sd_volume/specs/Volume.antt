@@ -27,9 +27,8 @@ pub record IsVolumeView (v : VolumeView) : Type 0 where
   pub next_least : 1 ≤ v.next_number
   pub next_most : v.next_number * least_block ≤ v.end
 
--- On the shelf stands a volume of this name with this label, these blocks and this tail, and what is known of it
--- is so. The blocks may be of earlier runs too. While it takes blocks there is no tail; after an append that
--- failed there may be one, of any bytes.
+-- The shelf has a volume of this name with this label, these blocks, perhaps of earlier runs, and this tail, and what is known
+-- of it is so. While it takes blocks there is no tail; after a failed append there may be one, of any bytes.
 pub record StandsOn (v : VolumeView) (shelf : Shelf)
     (label : VolumeLabel) (blocks : List Block) (tail : List ℕ) : Type 0 where
   pub held : Held

@@ -55,7 +55,7 @@ one_drive {D} w drive at other bay b d x online is =
 pub closed_spans : {D : Type 0} (w : WorldView D) (key : SessionKey) (spans : List Span) (at : ℕ) (bay : BayView D) (d : DriveIs D) → (c : IsClosedAt w key spans)
     → IsOnline w c.e.drive at bay d → spans ≡ spans_of key (placements d.journal)
 closed_spans {D} w key spans at bay d c online =
-    let is = c.spans_are in
+    let is = c.holds.1 in
     is.4 ∙ ap (λ k. spans_of k (placements is.2.journal)) c.key_is
     ∙ ap (λ (y : DriveIs D). spans_of key (placements y.journal)) (one_drive w c.e.drive at is.0 bay is.1 d is.2 online is.3)
 

@@ -76,14 +76,14 @@ despool_nothing : {D : Type 0} (meaning : D → Meaning) (old new : WorldView D)
 despool_nothing meaning old new m ticket rules h moves =
     session_stays meaning old new m ticket moves.e moves.session (Despool ticket) Nothing rules h moves.has
     (moves.new_is ∙ queue_stays old moves.e moves.session moves.at moves.bay moves.queue moves.online.there (moves.step.else_same (λ x. absurd (cc x))))
-    moves.step.step.is moves.step.step.running (λ s there runs. ((s, there, runs, refl), inr (inr (inl refl)))) refl
+    moves.step.step.3 moves.step.step.0 (λ s there runs. ((s, there, runs, refl), inr (inr (inl refl)))) refl
 
 despool_not_due : {D : Type 0} (meaning : D → Meaning) (old new : WorldView D) (m : Machine) (ticket : ℕ) → IsWorld old → Matches meaning old m
     → DespoolsSession despooled.NotDue old ticket new → StepsTo meaning m old (Despool ticket) NotDue new
 despool_not_due meaning old new m ticket rules h moves =
     session_stays meaning old new m ticket moves.e moves.session (Despool ticket) NotDue rules h moves.has
     (moves.new_is ∙ queue_stays old moves.e moves.session moves.at moves.bay moves.queue moves.online.there (moves.step.else_same (λ x. absurd (cc x))))
-    moves.step.step.is moves.step.step.running (λ s there runs. ((s, there, runs, refl), inr (inr (inr (inl refl))))) refl
+    moves.step.step.2 moves.step.step.0 (λ s there runs. ((s, there, runs, refl), inr (inr (inr (inl refl))))) refl
 
 -- A body is sent.
 

@@ -125,7 +125,7 @@ module _ {D : Type 0} {meaning : D → Meaning} {s : Station D} {o : Outcome D} 
     | inr (inr (inr is)) ↦ inr (inr (inr (inr (inl is))))
   ]
   mount_refused name why (inr (inl m)) = inr (inr (inr (inr (inr (inl m.1)))))
-  mount_refused name why (inr (inr m)) = elim m.refuses [
+  mount_refused name why (inr (inr m)) = elim m.1 [
     | inl is ↦ inr (inl is)
     | inr (inl is) ↦ inr (inr (inr (inr (inr (inl is)))))
     | inr (inr is) ↦ inr (inr (inr (inr (inr (inr (inl is))))))
@@ -134,7 +134,7 @@ module _ {D : Type 0} {meaning : D → Meaning} {s : Station D} {o : Outcome D} 
   seek_refused : (m : Machine) (drive own : ℕ) (why : Refusal) → SeekRefused meaning own why s o → MayRefuse m (Seek drive) why
   seek_refused m drive own why (inl c) = inr (inr (inr (inl c.2)))
   seek_refused m drive own why (inr (name, next, inl c)) = inr (inr (inl c.1))
-  seek_refused m drive own why (inr (name, next, inr c)) = elim c.refuses [
+  seek_refused m drive own why (inr (name, next, inr c)) = elim c.1 [
     | inl is ↦ inr (inl is)
     | inr (inl is) ↦ inr (inr (inl is))
     | inr (inr is) ↦ inr (inr (inr (inl is)))

@@ -151,11 +151,11 @@ module _ {D : Type 0} (meaning : D → Meaning) (w w' : WorldView D) (event : Ev
       (λ x y q. status_caused x y q.status_is)
   caused h (shape.opens_not pool media why o) =
       let R = LosesStore (o.at + 1) (o.place + 1) in
-      let taken = taken_from w o.at o.place o.bay o.lane o.before o.leaves.sessions h o.reserves.online.there o.reserves.lane_there o.leaves.takes in
+      let taken = taken_from w o.at o.place o.bay o.lane o.before o.sessions h o.reserves.online.there o.reserves.lane_there o.takes in
       known_caused R
       (λ number x there.
-      let p = pair_after R (session_at number w.sessions) (session_at number o.leaves.sessions) x (taken.pairs number) there in
-      (p.0, ap (λ (v : WorldView D). session_at number v.sessions) o.leaves.new_is ∙ p.1, p.2))
+      let p = pair_after R (session_at number w.sessions) (session_at number o.sessions) x (taken.pairs number) there in
+      (p.0, ap (λ (v : WorldView D). session_at number v.sessions) o.new_is ∙ p.1, p.2))
       (λ x y q. status_caused x y q.status_is)
   caused h (shape.takes drive ticket seq m) = same_caused (ap (λ (v : WorldView D). v.sessions) m.new_is)
   caused h (shape.calls m) = same_caused (ap (λ (v : WorldView D). v.sessions) m.new_is)

@@ -112,13 +112,15 @@ reach_holds shelf all v s before own laid name r =
     record {
       holds = record {
         bytes = w.stands.held.bytes;
-        front = label_and_blocks w.label bs;
-        back = images (n + length cs) ds ++ w.tail;
         number = n;
         there = ap bytes_of (ap shelf.volume (sym name) ∙ w.stands.there);
-        bytes_are = image.bytes_are ∙ blocks_amid w.label bs cs ds w.tail;
-        start_is = sym start;
-        end_is = omega arith;
+        part_is = record {
+          front = label_and_blocks w.label bs;
+          back = images (n + length cs) ds ++ w.tail;
+          bytes_are = image.bytes_are ∙ blocks_amid w.label bs cs ds w.tail;
+          start_is = sym start;
+          end_is = omega arith;
+        };
         blocks_are = are_own;
       };
       some = omega arith;
@@ -162,18 +164,21 @@ all_hold shelf volumes journal index (s ∷ ss) (own ∷ owns) lie laid r =
     λ none. not_none before (own ++ reach.after) (reach.behind ++ reach.after) reach.first (ap (λ l. l ++ reach.after) reach.from) (sym reach.parted ∙ none) in
     let v = has_volume volumes journal s.volume lie some in
     let h = reach_holds shelf (live journal) v.volume s before own (laid v.at v.volume v.there) v.name_is reach in
+    let part = h.holds.part_is in
     let rest = all_hold shelf volumes journal (index + 1) ss owns lie laid r.1 in
     record {
       hold = (
         record {
           bytes = h.holds.bytes;
-          front = h.holds.front;
-          back = h.holds.back;
           number = h.holds.number;
           there = h.holds.there;
-          bytes_are = h.holds.bytes_are;
-          start_is = h.holds.start_is;
-          end_is = h.holds.end_is;
+          part_is = record {
+            front = part.front;
+            back = part.back;
+            bytes_are = part.bytes_are;
+            start_is = part.start_is;
+            end_is = part.end_is;
+          };
           blocks_are = h.holds.blocks_are;
         },
         rest.hold,

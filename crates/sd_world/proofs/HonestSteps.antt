@@ -10,9 +10,9 @@ use Rattle.sd_machine.specs.declared.event.Event.{Event}
 use Rattle.sd_machine.specs.declared.reply.Reply.{Reply}
 use Rattle.sd_session.specs.Session.{SessionView, home_of, store_of, unused_store, new_spool}
 use Rattle.sd_spool.specs.Job.{StoreState}
-use Rattle.sd_spool.specs.Meaning.{Meaning as StoreMeaning}
+use Rattle.sd_session.specs.Spooling.{HasFailed}
 use Rattle.sd_world.specs.World.{WorldView, WorldSession, BayView, LaneView, IsOnline, session_at, with_session}
-use Rattle.sd_world.specs.Sessions.{TakesStore, FailsToEmpty, OpensSession, OpensNot, next_key}
+use Rattle.sd_world.specs.Sessions.{TakesStore, OpensSession, OpensNot, next_key}
 use Rattle.sd_world.specs.Drives.{FailsWhere, loses_by}
 use Rattle.sd_world.specs.Honest.{StoreIsTrue, AreHonest}
 use Rattle.sd_world.specs.Moves.{Moves}
@@ -68,13 +68,11 @@ taken_true lane es es' store (inl t) own h = subst StoreIsTrue t.0 own
 taken_true lane es es' store (inr t) own h = subst StoreIsTrue t.6.store_is (h t.1 t.2 t.5)
 
 -- a store that could not be cleared is as true as it was
-emptied_true : (before after : StoreState) → FailsToEmpty before after → IsTrue before.honest → IsTrue after.honest
-emptied_true before after f honest =
-    subst (λ (s : StoreState). IsTrue s.honest) (sym f.3)
-    (subst IsTrue (sym f.4.counts.honest) (subst (λ (s : StoreState). IsTrue s.honest) f.2 honest))
+emptied_true : (before after : StoreState) → HasFailed before after → IsTrue before.honest → IsTrue after.honest
+emptied_true before after f honest = subst IsTrue (sym f.honest) honest
 
 -- a new session has the store that it was given
-starts_true : (limit : ℕ) (store : StoreMeaning) → IsTrue store.honest → StoreIsTrue (home_of (unused_store limit store) (new_spool limit store))
+starts_true : (limit : ℕ) (store : StoreState) → IsTrue store.honest → StoreIsTrue (home_of (unused_store limit store) (new_spool limit store))
 starts_true zero store honest = honest
 starts_true (suc n) store honest = honest
 
@@ -131,8 +129,7 @@ opens {D} meaning w w' job pool media moment ticket drive rules o h =
     let lane' : LaneView = record { holder = Some ticket; store = None } in
     let bay' : BayView D = record o.bay { drive = Some after; lanes = slice_set o.bay.lanes o.place lane' } in
     let was = taken_true o.lane w.sessions o.sessions o.store o.takes (h.lanes o.at o.place o.bay o.lane online.there stands) h.sessions in
-    let given : IsTrue o.starts.0.honest = subst (λ (s : StoreState). IsTrue s.honest) o.starts.1 was in
-    let own : StoreIsTrue (store_of o.session) = subst (λ (s : SessionView). StoreIsTrue (store_of s)) (sym o.starts.2.is) (starts_true w.limits.spool o.starts.0 given) in
+    let own : StoreIsTrue (store_of o.session) = subst (λ (s : SessionView). StoreIsTrue (store_of s)) (sym o.starts.is) (starts_true w.limits.spool o.store was) in
     let before = pairs_true (LosesStore (o.at + 1) (o.place + 1)) w.sessions o.sessions taken.pairs (λ x y q. q.honest) h.sessions in
     bay_changes meaning w w' h o.at bay' (ap (λ (x : WorldView D). x.bays) o.new_is)
     (λ x is. let same : after ≡ x = cc is in subst (λ (y : DriveIs D). IsHonest (meaning y.device)) same (h.devices drive o.at o.bay o.d online))
@@ -150,22 +147,22 @@ opens_not : {D : Type 0} (meaning : D → Meaning) (w w' : WorldView D) (pool me
 opens_not {D} meaning w w' pool media why rules o h =
     let online = o.reserves.online in
     let stands = o.reserves.lane_there in
-    let taken = taken_from w o.at o.place o.bay o.lane o.before o.leaves.sessions rules online.there stands o.leaves.takes in
+    let taken = taken_from w o.at o.place o.bay o.lane o.before o.sessions rules online.there stands o.takes in
     let lane' : LaneView = record o.lane { store = Some o.after } in
     let after : DriveIs D = record o.d { ready = with_key (next_key w) o.d.ready } in
     let bay' : BayView D = record o.bay { drive = Some after; lanes = slice_set o.bay.lanes o.place lane' } in
-    let was = taken_true o.lane w.sessions o.leaves.sessions o.before o.leaves.takes (h.lanes o.at o.place o.bay o.lane online.there stands) h.sessions in
+    let was = taken_true o.lane w.sessions o.sessions o.before o.takes (h.lanes o.at o.place o.bay o.lane online.there stands) h.sessions in
     let now : IsTrue o.after.honest = elim o.cause [
       | inl c ↦ subst (λ (s : StoreState). IsTrue s.honest) (sym c.1) was
       | inr c ↦ emptied_true o.before o.after c.2 was
     ] in
-    bay_changes meaning w w' h o.at bay' (ap (λ (x : WorldView D). x.bays) o.leaves.new_is)
+    bay_changes meaning w w' h o.at bay' (ap (λ (x : WorldView D). x.bays) o.new_is)
     (λ x is. let same : after ≡ x = cc is in subst (λ (y : DriveIs D). IsHonest (meaning y.device)) same (h.devices o.drive o.at o.bay o.d online))
     (λ place lane seat. elim (get_set-tells o.bay.lanes o.place place lane' lane seat) [
       | inl p ↦ subst (λ (l : LaneView). StoreIsTrue l.store) (sym p.1) now
       | inr p ↦ h.lanes o.at place o.bay lane online.there p.1
     ])
-    (sessions_of w' _ o.leaves.new_is (pairs_true (LosesStore (o.at + 1) (o.place + 1)) w.sessions o.leaves.sessions taken.pairs (λ x y q. q.honest) h.sessions))
+    (sessions_of w' _ o.new_is (pairs_true (LosesStore (o.at + 1) (o.place + 1)) w.sessions o.sessions taken.pairs (λ x y q. q.honest) h.sessions))
 
 loses_blocks : {D : Type 0} (meaning : D → Meaning) (w w' : WorldView D) (drive : ℕ) → LosesIn meaning w drive w' → AreHonest meaning w → AreHonest meaning w'
 loses_blocks {D} meaning w w' drive l h =

@@ -46,38 +46,31 @@ PlacedAreThere {D} w w' = (ticket : ℕ) (e : WorldSession) (at : ℕ) (bay : Ba
 pub closed_stay : {D : Type 0} (w w' : WorldView D) → ClosedAreThere w.sessions w'.sessions → PlacedAreThere w w' → ClosedStay w w'
 closed_stay {D} w w' there placed = record {
   statuses = λ key h.
-      let p = there key.id h.e h.there h.stands in
-      record { e = p.0; there = p.1; key_is = p.2.key_is ∙ h.key_is; stands = p.2.stands };
+      let p = there key.id h.e h.there h.holds in
+      record { e = p.0; there = p.1; key_is = p.2.key_is ∙ h.key_is; holds = p.2.stands };
   spans = λ key spans h.
-      let p = there key.id h.e h.there h.stands in
-      let at = h.spans_are.0 in
-      let online = h.spans_are.3 in
-      elim (placed key.id h.e at h.spans_are.1 h.spans_are.2 h.there h.stands online.number online.there online.online) [
-        | inl q ↦ inl (record {
-          e = p.0;
-          there = p.1;
-          key_is = p.2.key_is ∙ h.key_is;
-          stands = p.2.stands;
-          spans_are = (
-            at,
-            q.0,
-            q.1,
-            record { number = p.2.drive_is ∙ online.number; there = q.2; online = q.3 },
-            h.spans_are.4 ∙ ap (λ ps. numbered_from 1 (stretches ps)) (sym q.4)
-                ∙ ap (λ k. numbered_from 1 (stretches (placements_of k (placements q.1.journal)))) (sym p.2.key_is),
-          );
-        })
-        | inr q ↦ inr (record {
-          e = p.0;
-          there = p.1;
-          key_is = p.2.key_is ∙ h.key_is;
-          at = at;
-          bay = q.0;
-          drive_is = p.2.drive_is ∙ online.number;
-          bay_is = q.1;
-          offline = q.2;
-        })
-      ];
+      let p = there key.id h.e h.there h.holds.0 in
+      let was = h.holds.1 in
+      let online = was.3 in
+      record {
+        e = p.0;
+        there = p.1;
+        key_is = p.2.key_is ∙ h.key_is;
+        holds = elim (placed key.id h.e was.0 was.1 was.2 h.there h.holds.0 online.number online.there online.online) [
+          | inl q ↦ inl (
+            p.2.stands,
+            (
+              was.0,
+              q.0,
+              q.1,
+              record { number = p.2.drive_is ∙ online.number; there = q.2; online = q.3 },
+              was.4 ∙ ap (λ ps. numbered_from 1 (stretches ps)) (sym q.4)
+                  ∙ ap (λ k. numbered_from 1 (stretches (placements_of k (placements q.1.journal)))) (sym p.2.key_is),
+            ),
+          )
+          | inr q ↦ inr (was.0, q.0, p.2.drive_is ∙ online.number, q.1, q.2)
+        ];
+      };
 }
 
 -- Sessions.

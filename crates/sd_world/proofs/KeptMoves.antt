@@ -55,13 +55,13 @@ despools_one {D} w w' ticket m =
 pub opens_not : {D : Type 0} (w w' : WorldView D) (pool media : List ℕ) (why : Refusal) → IsWorld w → OpensNot w pool media why w' → ClosedStay w w'
 opens_not {D} w w' pool media why h o =
     let online = o.reserves.online in
-    let taken = taken_from w o.at o.place o.bay o.lane o.before o.leaves.sessions h online.there o.reserves.lane_there o.leaves.takes in
+    let taken = taken_from w o.at o.place o.bay o.lane o.before o.sessions h online.there o.reserves.lane_there o.takes in
     let after : DriveIs D = record o.d { ready = with_key (next_key w) o.d.ready } in
     let bay' : BayView D = record o.bay { drive = Some after; lanes = slice_set o.bay.lanes o.place (record o.lane { store = Some o.after }) } in
-    let v : WorldView D = record w { sessions = o.leaves.sessions; bays = slice_set w.bays o.at bay' } in
-    subst (ClosedStay w) (sym o.leaves.new_is)
+    let v : WorldView D = record w { sessions = o.sessions; bays = slice_set w.bays o.at bay' } in
+    subst (ClosedStay w) (sym o.new_is)
     (closed_stay w v
-    (pairs_there (LosesStore (o.at + 1) (o.place + 1)) w.sessions o.leaves.sessions taken.pairs (λ x y q. stands_still x y q.drive_is q.stays))
+    (pairs_there (LosesStore (o.at + 1) (o.place + 1)) w.sessions o.sessions taken.pairs (λ x y q. stands_still x y q.drive_is q.stays))
     (journal_there w v o.at o.bay bay' o.d after online.there online.online refl refl refl))
 
 pub opens : {D : Type 0} (w w' : WorldView D) (job : ℕ) (pool media : List ℕ) (moment : _) (ticket drive : ℕ) → IsWorld w
@@ -97,13 +97,15 @@ closes {D} w w' ticket key spans c =
         e = f;
         there = ap (λ n. session_at n es') (sym (ap (λ (k : SessionKey). k.id) own) ∙ id) ∙ session_at-same ticket f w.sessions c.e c.has id;
         key_is = own;
-        closed = ap (λ (s : SessionView). s.status) c.closes.is;
-        spans_are = (
-          c.at,
-          c.bay,
-          c.d,
-          record { number = c.online.number; there = c.online.there; online = c.online.online },
-          c.spans_are ∙ ap (λ k. spans_of k (placements c.d.journal)) (sym own),
+        holds = (
+          ap (λ (s : SessionView). s.status) c.closes.is,
+          (
+            c.at,
+            c.bay,
+            c.d,
+            record { number = c.online.number; there = c.online.there; online = c.online.online },
+            c.spans_are ∙ ap (λ k. spans_of k (placements c.d.journal)) (sym own),
+          ),
         );
       };
     })

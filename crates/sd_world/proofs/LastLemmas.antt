@@ -48,7 +48,7 @@ adoption_keeps_lasting keeps name old new whole others since at bytes label bloc
       let stood = stop_leaves since name bytes old old (λ n b l. l.now) own (image_some bytes label blocks is) in
       let front : take (volume_end label blocks) bytes ≡ bytes = bytes_before bytes label blocks [] is ∙ sym (is.bytes_are ∙ append-nil (label_and_blocks label blocks)) in
       let image = kept_blocks_stand bytes stood.0.bytes label blocks [] is (subst (BeginsWith stood.0.bytes) (sym front) stood.2) in
-      let below = whole.lasts stood.0 stood.1 label blocks (drop (volume_end label blocks) stood.0.bytes) image in
+      let below = (whole stood.0 stood.1 label blocks (drop (volume_end label blocks) stood.0.bytes) image).1 in
       subst (λ n. Lasts since n bytes new) (sym same) (below.below since bytes (omega (arith, image_length bytes label blocks is)) own))
   | inr other ↦ others.others since at bytes other lasts
 ]

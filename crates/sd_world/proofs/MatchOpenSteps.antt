@@ -21,8 +21,7 @@ use Rattle.sd_machine.specs.declared.reply.Reply.TheVariants.{Refused, Opened}
 use Rattle.sd_pack.specs.Packing.{Packs}
 use Rattle.sd_session.specs.Session.{SessionView, parts_of, store_of, home_of, unused_store, new_spool}
 use Rattle.sd_session.specs.declared.status.Status.TheVariants.{Active}
-use Rattle.sd_spool.specs.Job.{StoreState, state_of}
-use Rattle.sd_spool.specs.Meaning.{Meaning as StoreMeaning}
+use Rattle.sd_spool.specs.Job.{StoreState}
 use Rattle.sd_volume.specs.Image.{Block}
 use Rattle.sd_world.specs.Moves.{Moves}
 use Rattle.sd_world.specs.Rules.{IsWorld, IsOfOpened}
@@ -73,7 +72,7 @@ unsent shelf d queue key time next id h =
 -- A session is opened.
 
 -- the new session has the store
-started_home : (limit : ℕ) (store : StoreMeaning) → home_of (unused_store limit store) (new_spool limit store) ≡ Some (state_of store)
+started_home : (limit : ℕ) (store : StoreState) → home_of (unused_store limit store) (new_spool limit store) ≡ Some store
 started_home zero store = refl
 started_home (suc n) store = refl
 
@@ -103,10 +102,10 @@ open_opened {D} meaning old new job pool media moment ticket drive m rules o h =
     let d' : DriveIs D = record d { pool = Some pool; ready = with_key (next_key old) d.ready } in
     let new_lane : LaneView = record { holder = Some ticket; store = None } in
     let bay' : BayView D = record bay { drive = Some d'; lanes = slice_set bay.lanes o.place new_lane } in
-    let starts = o.starts.2 in
+    let starts = o.starts in
     let key : v.key ≡ record { time = old.limits.time; id = old.next } = ap (λ (x : SessionView). x.key) starts.is in
     let id : v.key.id ≡ old.next = ap (λ (k : SessionKey). k.id) key in
-    let store_is : store_of v ≡ Some o.store = ap store_of starts.is ∙ started_home old.limits.spool o.starts.0 ∙ ap Some (sym o.starts.1) in
+    let store_is : store_of v ≡ Some o.store = ap store_of starts.is ∙ started_home old.limits.spool o.store in
     let front : (t : ℕ) (x : WorldSession) → session_at t o.sessions ≡ Some x → session_at t w'.sessions ≡ Some x = λ t x here. session_at-front t o.sessions (f ∷ []) x here in
     let here : IsHonestAt meaning w' at bay' d' → IsHonestAt meaning old at bay d = λ honest.
     honest_taken meaning old at o.place bay d o.lane o.store o.sessions o.takes rules on.there lane_there
@@ -155,7 +154,7 @@ open_opened {D} meaning old new job pool media moment ticket drive m rules o h =
 left_honest : {D : Type 0} (old : WorldView D) (pool media : List ℕ) (why : Refusal) (new : WorldView D) → (n : OpensNot old pool media why new) → n.after.honest ≡ n.before.honest
 left_honest old pool media why new n = elim n.cause [
   | inl c ↦ ap (λ (s : StoreState). s.honest) c.1
-  | inr c ↦ ap (λ (s : StoreState). s.honest) c.2.3 ∙ c.2.4.counts.honest ∙ ap (λ (s : StoreState). s.honest) (sym c.2.2)
+  | inr c ↦ c.2.honest
 ]
 
 opens_not : {D : Type 0} (meaning : D → Meaning) (old new : WorldView D) (job : ℕ) (pool media : List ℕ) (moment : ℤ) (why : Refusal) (m : Machine) → IsWorld old → old.next ≤ most_number
@@ -164,8 +163,8 @@ opens_not {D} meaning old new job pool media moment why m rules low o h =
     let at = o.at in
     let bay = o.bay in
     let d = o.d in
-    let es' = o.leaves.sessions in
-    let takes = o.leaves.takes in
+    let es' = o.sessions in
+    let takes = o.takes in
     let on = o.reserves.online in
     let lane_there = o.reserves.lane_there in
     let new_lane : LaneView = record o.lane { store = Some o.after } in
@@ -195,9 +194,9 @@ opens_not {D} meaning old new job pool media moment why m rules low o h =
       ]),
     ) in
     steps meaning old new m m (Open job pool media moment) (Refused why)
-    (ap (λ w. newly_struck old.sessions w.sessions) o.leaves.new_is ∙ ap (newly_struck old.sessions) (sym (append-nil es')) ∙ taken_unstruck o.lane old.sessions o.before es' [] takes)
+    (ap (λ w. newly_struck old.sessions w.sessions) o.new_is ∙ ap (newly_struck old.sessions) (sym (append-nil es')) ∙ taken_unstruck o.lane old.sessions o.before es' [] takes)
     (may, refl) refl
-    (subst (λ w. Matches meaning w m) (sym o.leaves.new_is) (record {
+    (subst (λ w. Matches meaning w m) (sym o.new_is) (record {
       time_is = h.time_is;
       next_is = h.next_is;
       sessions = taken_match meaning old w' m o.lane o.before es' takes rules frames h;

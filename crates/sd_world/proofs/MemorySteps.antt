@@ -91,7 +91,7 @@ shape_stays meaning w w' event (shape.closes ticket key spans reply m) = absurd 
 shape_stays meaning w w' event (shape.sends ticket reply m) = absurd (cc reply)
 shape_stays meaning w w' event (shape.opens job pool media moment ticket drive reply m) = absurd (cc reply)
 shape_stays {D} meaning w w' event (shape.opens_not pool media why m) =
-    subst (λ (x : WorldView D). SessionsStay w.sessions x.sessions) (sym m.leaves.new_is) (taken_stays m.lane w.sessions m.leaves.sessions m.before m.leaves.takes)
+    subst (λ (x : WorldView D). SessionsStay w.sessions x.sessions) (sym m.new_is) (taken_stays m.lane w.sessions m.sessions m.before m.takes)
 shape_stays {D} meaning w w' event (shape.takes drive ticket seq m) = subst (λ (x : WorldView D). SessionsStay w.sessions x.sessions) (sym m.new_is) (all_same w.sessions)
 shape_stays {D} meaning w w' event (shape.calls m) = subst (λ (x : WorldView D). SessionsStay w.sessions x.sessions) (sym m.new_is) (all_same w.sessions)
 shape_stays {D} meaning w w' event (shape.gets m) = subst (λ (x : WorldView D). SessionsStay w.sessions x.sessions) (sym m.new_is) (all_same w.sessions)

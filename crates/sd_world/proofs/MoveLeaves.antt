@@ -181,7 +181,7 @@ shape_leaves {D} meaning w w' event reply (shape.opens job pool media moment tic
     one_bay meaning w w' event reply _ drive m.at m.bay _ m.d after m.new_is refl (keeps_same w.desk) refl m.reserves.online refl (untouched meaning m.d after refl refl)
 shape_leaves {D} meaning w w' event reply (shape.opens_not pool media why m) =
     let after : DriveIs D = record m.d { ready = with_key (next_key w) m.d.ready } in
-    one_bay meaning w w' event reply _ m.drive m.at m.bay _ m.d after m.leaves.new_is refl (keeps_same w.desk) refl m.reserves.online refl (untouched meaning m.d after refl refl)
+    one_bay meaning w w' event reply _ m.drive m.at m.bay _ m.d after m.new_is refl (keeps_same w.desk) refl m.reserves.online refl (untouched meaning m.d after refl refl)
 shape_leaves {D} meaning w w' event reply (shape.takes drive ticket seq m) =
     let after : DriveIs D = record m.d { hand = Some m.piece } in
     one_bay meaning w w' event reply _ drive m.at m.bay _ m.d after m.new_is refl (keeps_same w.desk) refl m.online refl (untouched meaning m.d after refl refl)

@@ -9,7 +9,6 @@ use Rattle.sd_journal.specs.Journal.{items_of, placements, fails, has_purged, wi
 use Rattle.sd_session.specs.Session.{SessionView, IsRunning, store_of, home_of, unused_store, new_spool}
 use Rattle.sd_session.specs.declared.status.Status.TheVariants.{Active}
 use Rattle.sd_spool.specs.Job.{StoreState}
-use Rattle.sd_spool.specs.Meaning.{Meaning as StoreMeaning}
 use Rattle.sd_world.specs.World.{WorldView, WorldSession, BayView, LaneView, session_at, with_session, items_before, items_with, lane_is_free}
 use Rattle.sd_world.specs.Rules.{NumbersRise, IsSeated, IsLane, IsWorld, IsOfOpened}
 use Rattle.sd_world.specs.Sessions.{TakesStore, Reserves, OpensSession, OpensNot, next_key}
@@ -101,8 +100,8 @@ pub opens_not : {D : Type 0} (w w' : WorldView D) (pool media : List ℕ) (why :
 opens_not {D} w w' pool media why h o =
     let there = o.reserves.online.there in
     let stands = o.reserves.lane_there in
-    let es' = o.leaves.sessions in
-    let taken = taken_from w o.at o.place o.bay o.lane o.before es' h there stands o.leaves.takes in
+    let es' = o.sessions in
+    let taken = taken_from w o.at o.place o.bay o.lane o.before es' h there stands o.takes in
     let lane' : LaneView = record o.lane { store = Some o.after } in
     let lanes' = slice_set o.bay.lanes o.place lane' in
     let after : DriveIs D = record o.d { ready = with_key (next_key w) o.d.ready } in
@@ -115,7 +114,7 @@ opens_not {D} w w' pool media why h o =
     let inside = inside_same w v o.at o.bay o.d stays old on in
     let own_inside : IsInBay v o.at o.bay.media o.bay.queue after =
     record { media_is = inside.media_is; limits_are = inside.limits_are; claimed = inside.claimed; of_opened = inside.of_opened } in
-    subst IsWorld (sym o.leaves.new_is)
+    subst IsWorld (sym o.new_is)
     (world_with w v o.at bay' h stays h.next_most taken.numbers refl
     (λ ticket y found.
     let p = pair_before R (session_at ticket w.sessions) (session_at ticket es') y (taken.pairs ticket) found in
@@ -159,7 +158,7 @@ reserved_free w pool media drive at place bay d lane r =
     let one : r.lowest.first ≡ free lane = cc is in sym one ∙ r.lowest.is_candidate
 
 -- it has a store
-starts_stored : (limit : ℕ) (store : StoreMeaning) → IsSome (home_of (unused_store limit store) (new_spool limit store))
+starts_stored : (limit : ℕ) (store : StoreState) → IsSome (home_of (unused_store limit store) (new_spool limit store))
 starts_stored zero store = refl
 starts_stored (suc n) store = refl
 
@@ -175,14 +174,14 @@ record IsNew (next time lane : ℕ) (s : SessionView) : Type 0 where
 is_new : {D : Type 0} (w w' : WorldView D) (job : ℕ) (pool media : List ℕ) (moment : _) (ticket drive : ℕ) → (o : OpensSession w job pool media moment ticket drive w')
     → IsNew w.next w.limits.time (o.place + 1) o.session
 is_new w w' job pool media moment ticket drive o =
-    let is = o.starts.2.is in
+    let is = o.starts.is in
     record {
       id_is = ap (λ (s : SessionView). s.key.id) is;
       time_is = ap (λ (s : SessionView). s.key.time) is;
       lane_is = ap (λ (s : SessionView). s.lane) is;
       sent_is = ap (λ (s : SessionView). s.sent) is;
       active = ap (λ (s : SessionView). s.status) is;
-      stored = subst (λ (s : SessionView). IsSome (store_of s)) (sym is) (starts_stored w.limits.spool o.starts.0);
+      stored = subst (λ (s : SessionView). IsSome (store_of s)) (sym is) (starts_stored w.limits.spool o.store);
     }
 
 pub opens : {D : Type 0} (w w' : WorldView D) (job : ℕ) (pool media : List ℕ) (moment : _) (ticket drive : ℕ) → IsWorld w

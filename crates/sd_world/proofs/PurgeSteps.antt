@@ -10,9 +10,9 @@ use Rattle.sd_desk.specs.Desk.{DeskView}
 use Rattle.sd_driver.specs.Meaning.{Meaning}
 use Rattle.sd_driver.specs.Shelf.{StillLastsBelow}
 use Rattle.sd_drive.specs.Moves.{EmptiesVolume, is_full, index_of, purge_due, purge_due_at}
-use Rattle.sd_drive.specs.Shelf.{KeepsOtherPieces}
+use Rattle.sd_drive.specs.Shelf.{KeepsPieces}
 use Rattle.sd_drive.specs.View.{DriveIs}
-use Rattle.sd_journal.specs.Journal.{Entry, has_on, placed_of}
+use Rattle.sd_journal.specs.Journal.{Entry, purged, has_on, placed_of}
 use Rattle.sd_session.specs.declared.status.Status.TheVariants.{Purged}
 use Rattle.sd_volume.specs.Volume.{VolumeView}
 use Rattle.sd_volume.specs.declared.volume.VolumeStatus.{VolumeStatus}
@@ -46,7 +46,7 @@ pub record PurgesIn {D : Type 0} (meaning : D → Meaning) (old : WorldView D) (
   pub empties : EmptiesVolume place volume status d after
   pub honest : (meaning after.device).honest ≡ (meaning d.device).honest
   pub moment : (meaning d.device).shelf.moment ≤ (meaning after.device).shelf.moment
-  pub keeps : KeepsOtherPieces name (meaning d.device) (meaning after.device) d.journal d.hand
+  pub keeps : KeepsPieces (meaning d.device) (meaning after.device) (purged name d.journal) (purged name d.journal) d.hand d.hand
   pub below : StillLastsBelow volume.first name (meaning d.device).shelf (meaning after.device).shelf
   pub notes : NotesPurge name old.desk desk
   pub new_is : new ≡ record old {
@@ -72,10 +72,10 @@ purges_in {D} {meaning} {fault} {status} m = record {
   there = m.purges.there;
   name_is = m.purges.name_is;
   empties = m.purges.empties;
-  honest = m.purges.calls.counted.honest;
-  moment = m.purges.calls.counted.moment;
-  keeps = subst (λ n. KeepsOtherPieces n (meaning m.d.device) (meaning m.after.device) m.d.journal m.d.hand) m.purges.name_is m.purges.calls.keeps;
-  below = subst (λ n. StillLastsBelow m.purges.volume.first n (meaning m.d.device).shelf (meaning m.after.device).shelf) m.purges.name_is m.purges.calls.below;
+  honest = m.purges.counted.honest;
+  moment = m.purges.counted.moment;
+  keeps = m.purges.keeps;
+  below = m.purges.below;
   notes = m.notes;
   new_is = m.new_is;
 }

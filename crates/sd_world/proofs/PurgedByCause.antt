@@ -100,8 +100,8 @@ module _ {D : Type 0} (meaning : D → Meaning) (w w' : WorldView D) (event : Ev
       let is : p.0 ≡ e' = cc (sym (session_at-front number o.sessions (f ∷ []) p.0 p.1) ∙ at') in
       subst (IsCaused w event reply e) is (status_caused e p.0 p.2.status_is))
   caused h (shape.opens_not pool media why o) =
-      let taken = taken_from w o.at o.place o.bay o.lane o.before o.leaves.sessions h o.reserves.online.there o.reserves.lane_there o.leaves.takes in
-      known _ o.leaves.new_is (pairs_caused (LosesStore (o.at + 1) (o.place + 1)) o.leaves.sessions taken.pairs (λ x y q. status_caused x y q.status_is))
+      let taken = taken_from w o.at o.place o.bay o.lane o.before o.sessions h o.reserves.online.there o.reserves.lane_there o.takes in
+      known _ o.new_is (pairs_caused (LosesStore (o.at + 1) (o.place + 1)) o.sessions taken.pairs (λ x y q. status_caused x y q.status_is))
   caused h (shape.takes drive ticket seq m) = known _ m.new_is same_caused
   caused h (shape.calls m) = known _ m.new_is same_caused
   caused h (shape.gets m) = known _ m.new_is same_caused

@@ -3,7 +3,7 @@ use Rattle.std.proofs.Common.{◌≡◌, ℕ, ◌+◌, ◌≤◌, ◌<◌, refl,
 use Rattle.sd_base.specs.Key.{is_key}
 use Rattle.sd_base.specs.declared.number.SessionKey.{SessionKey}
 use Rattle.sd_drive.specs.View.{DriveIs, item_of_piece}
-use Rattle.sd_journal.specs.Journal.{placed_of, synced_of, progress_of, fails, has_purged}
+use Rattle.sd_journal.specs.Journal.{placed_of, progress_of, fails, has_purged}
 use Rattle.sd_journal.proofs.EntryLemmas.{within}
 use Rattle.sd_lane.specs.Queue.{LanesView, queued}
 use Rattle.sd_lane.specs.declared.piece.Piece.{Piece}
@@ -21,7 +21,7 @@ use Rattle.sd_spool.specs.Job.{StoreState}
 use Rattle.std.specs.Prelude.{IsTrue}
 use Rattle.std.specs.List.{AllByRecursion}
 use Rattle.sd_world.proofs.Framed.{TakesIn}
-use Rattle.sd_world.proofs.Lookups.{one_or_two, session_id, set_same}
+use Rattle.sd_world.proofs.Lookups.{session_id, set_same}
 use Rattle.sd_world.proofs.Items.{is_key_same, is_key_other, items_with-own, items_with-other, items_before-take, items_before-send, of_opened-push, placed_most}
 use Rattle.sd_world.proofs.LaneSteps.{Lodges, lodge_of, lanes_lodge, running_busy}
 use Rattle.sd_world.proofs.Pairs.{PairAt, WithOne, pair_before, with_pairs, is_numbered, numbers_with}
@@ -215,10 +215,7 @@ all_placed : {D : Type 0} (s t : SessionView) (d : DriveIs D) (queue : LanesView
 all_placed s t d queue closes sent =
     let most = placed_most s.key d queue in
     let least = within s.key d.journal in
-    elim (one_or_two (synced_of s.key d.journal) s.sent) [
-      | inl same ↦ omega (arith, most, least, same, sent)
-      | inr apart ↦ absurd (closes.may.none_outstanding (inr apart))
-    ]
+    omega (arith, most, least, closes.may.all_synced, sent)
 
 pub closes_world : {D : Type 0} (w w' : WorldView D) (ticket : ℕ) (key : SessionKey) (spans : _) → IsWorld w → ClosesAt w ticket key spans w' → IsWorld w'
 closes_world {D} w w' ticket key spans h c =

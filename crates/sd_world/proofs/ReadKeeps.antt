@@ -63,17 +63,16 @@ device_leaves : {D : Type 0} (w : WorldView D) (drive at : ℕ) (bay : BayView D
     → after.journal ≡ d.journal → Leaves w (with_drive at bay after w)
 device_leaves {D} w drive at bay d after rules online same = record {
   rules = rules;
-  statuses = λ key h. record { e = h.e; there = h.there; key_is = h.key_is; stands = h.stands };
+  statuses = λ key h. record { e = h.e; there = h.there; key_is = h.key_is; holds = h.holds };
   spans = λ key spans c.
-      let p = c.spans_are in
+      let p = c.holds.1 in
       let q = is_online w drive at bay d after online same c.e.drive p.0 p.1 p.2 p.3 in
-      inl (record {
+      record {
         e = c.e;
         there = c.there;
         key_is = c.key_is;
-        stands = c.stands;
-        spans_are = (p.0, q.0, q.1, q.2, p.4 ∙ ap (λ l. spans_of c.e.session.key (placements l)) (sym q.3));
-      });
+        holds = inl (c.holds.0, (p.0, q.0, q.1, q.2, p.4 ∙ ap (λ l. spans_of c.e.session.key (placements l)) (sym q.3)));
+      };
   seats = λ ticket e there. (e, there, record { key_is = refl; drive_is = refl });
   grow = λ number place b x on.
       let q = was_online w drive at bay d after online same number place b x on in

@@ -126,7 +126,7 @@ settles : {D : Type 0} (meaning : D → Meaning) (w : WorldView D) (m : Machine)
     → Matches meaning w m → (c : IsClosedAt w key spans) → HasHonestDrive meaning w c.e.drive at bay d → Settles (meaning d.device).shelf d.journal m key
 settles meaning w m key spans at bay d pairs c h =
     let At : SessionKey → Type 0 = λ k. session_at k.id w.sessions ≡ Some c.e in
-    subst (Settles (meaning d.device).shelf d.journal m) c.key_is (settles_own meaning w m c.e at bay d pairs (subst At (sym c.key_is) c.there) c.closed h)
+    subst (Settles (meaning d.device).shelf d.journal m) c.key_is (settles_own meaning w m c.e at bay d pairs (subst At (sym c.key_is) c.there) c.holds.0 h)
 
 pub closed_reads : {D : Type 0} (meaning : D → Meaning) (w : WorldView D) (m : Machine) (key : SessionKey) (spans : List Span) (at : ℕ) (bay : BayView D) (d : DriveIs D)
     → Matches meaning w m → (c : IsClosedAt w key spans) → HasHonestDrive meaning w c.e.drive at bay d → ReadsToAll (volumes_on (meaning d.device).shelf) m key spans

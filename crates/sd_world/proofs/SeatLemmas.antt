@@ -66,8 +66,8 @@ opens {D} w w' job pool media moment ticket drive h o =
 opens_not : {D : Type 0} (w w' : WorldView D) (pool media : List ℕ) (why : Refusal) → IsWorld w → OpensNot w pool media why w' → SeatsStay w w'
 opens_not {D} w w' pool media why h o =
     let R = LosesStore (o.at + 1) (o.place + 1) in
-    let taken = taken_from w o.at o.place o.bay o.lane o.before o.leaves.sessions h o.reserves.online.there o.reserves.lane_there o.leaves.takes in
-    let now : w'.sessions ≡ o.leaves.sessions = ap (λ (x : WorldView D). x.sessions) o.leaves.new_is in
+    let taken = taken_from w o.at o.place o.bay o.lane o.before o.sessions h o.reserves.online.there o.reserves.lane_there o.takes in
+    let now : w'.sessions ≡ o.sessions = ap (λ (x : WorldView D). x.sessions) o.new_is in
     pairs_stay R w w' (λ number. subst (λ l. PairAt R w.sessions l number) (sym now) (taken.pairs number))
     (λ x y q. record { key_is = q.stays.key_is; drive_is = q.drive_is })
 

@@ -249,12 +249,12 @@ spool_moves meaning old new m ticket spooling.SpoolFull event reply rules h move
     let v = moves.1 in
     let finds = moves.3 in
     parts_step meaning old new m ticket e v event reply rules h moves.2 moves.4
-    (moves_bodies e.session v e.session.sent e.session.ready e.session.spool true e.session.packer finds.is refl) finds.running
-    (subst StoreIsTrue (ap store_of finds.is)) (λ honest. ap parts_of finds.is) turns fail
+    (moves_bodies e.session v e.session.sent e.session.ready e.session.spool true e.session.packer finds.2 refl) finds.0
+    (subst StoreIsTrue (ap store_of finds.2)) (λ honest. ap parts_of finds.2) turns fail
 spool_moves meaning old new m ticket spooling.Nothing event reply rules h moves turns fail =
-    session_stays meaning old new m ticket moves.0 moves.1 event reply rules h moves.2 moves.4 moves.3.is moves.3.running turns fail
+    session_stays meaning old new m ticket moves.0 moves.1 event reply rules h moves.2 moves.4 moves.3.3 moves.3.0 turns fail
 spool_moves meaning old new m ticket spooling.NoSpool event reply rules h moves turns fail =
-    session_stays meaning old new m ticket moves.0 moves.1 event reply rules h moves.2 moves.4 moves.3.is moves.3.running turns fail
+    session_stays meaning old new m ticket moves.0 moves.1 event reply rules h moves.2 moves.4 moves.3.2 moves.3.0 turns fail
 
 -- what holds of the three refusals by status holds of this one
 of_status : (P : Refusal → Type 0) (status : Status) → P SessionNotOpen → P SessionCancelled → P SessionFailed → P (status_refusal status)

@@ -118,9 +118,9 @@ other_status s t other not_that = record { cause = λ failed. absurd (not_that f
 
 spools_on : {event : Event} {reply : Reply} {ticket : ℕ} (answer : Spooling) → (reply ≡ Refused Memory → ⊥) → (s t : SessionView) → Spools answer s t → Tells event reply ticket s t
 spools_on spooling.Spooled other s t h = keeps_status s t other (ap (λ (x : SessionView). x.status) h.is)
-spools_on spooling.SpoolFull other s t h = keeps_status s t other (ap (λ (x : SessionView). x.status) h.is)
-spools_on spooling.Nothing other s t h = same_session s t h.is
-spools_on spooling.NoSpool other s t h = same_session s t h.is
+spools_on spooling.SpoolFull other s t h = keeps_status s t other (ap (λ (x : SessionView). x.status) h.2)
+spools_on spooling.Nothing other s t h = same_session s t h.3
+spools_on spooling.NoSpool other s t h = same_session s t h.2
 
 refuses_spool : {event : Event} {ticket : ℕ} (s t : SessionView) (why : Refusal) → IsOfSpool event ticket → SpoolRefused s why t → Tells event (Refused why) ticket s t
 refuses_spool s t why own (inl h) = same_session s t h.1
@@ -145,8 +145,8 @@ nothing_sent despooled.LaneFull s t queue queue' other step =
       }),
       ap (λ (x : SessionView). x.status) full.is,
     )
-nothing_sent despooled.Nothing s t queue queue' other step = (same_whole s t step.step.is, ap (λ (x : SessionView). x.status) step.step.is)
-nothing_sent despooled.NotDue s t queue queue' other step = (same_whole s t step.step.is, ap (λ (x : SessionView). x.status) step.step.is)
+nothing_sent despooled.Nothing s t queue queue' other step = (same_whole s t step.step.3, ap (λ (x : SessionView). x.status) step.step.3)
+nothing_sent despooled.NotDue s t queue queue' other step = (same_whole s t step.step.2, ap (λ (x : SessionView). x.status) step.step.2)
 
 -- By what an event does.
 

@@ -32,13 +32,13 @@ stretches_some (p ∷ ps) one = in_front_some p (stretches ps)
 
 pub closed_has_span : {D : Type 0} (w : WorldView D) (key : SessionKey) (spans : List Span) → IsWorld w → IsClosedAt w key spans → spans ≢ []
 closed_has_span {D} w key spans h c none =
-    let s = c.spans_are in
+    let s = c.holds.1 in
     let own = c.e.session.key in
     let seat = h.seated key.id c.e c.there in
     let at : seat.at ≡ s.0 = omega (arith, seat.drive_is, s.3.number) in
     let here : seat.bay ≡ s.1 = cc (sym seat.bay_there ∙ ap (slice_get w.bays) at ∙ s.3.there) in
     let on : seat.bay.drive ≡ Some s.2 = ap (λ (b : BayView D). b.drive) here ∙ s.3.online in
-    let placed : placed_of own s.2.journal ≡ c.e.session.sent = seat.closed c.closed s.2 on in
-    let some = seat.some_sent c.closed in
+    let placed : placed_of own s.2.journal ≡ c.e.session.sent = seat.closed c.holds.0 s.2 on in
+    let some = seat.some_sent c.holds.0 in
     let one : 1 ≤ length (placements_of own (placements s.2.journal)) = omega (arith, placed, some) in
     numbered_some 1 (stretches (placements_of own (placements s.2.journal))) (stretches_some (placements_of own (placements s.2.journal)) one) (sym s.4 ∙ none)

@@ -12,13 +12,13 @@ use Rattle.sd_world.specs.World.{WorldView, WorldSession, BayView, HasTicket, se
 use Rattle.sd_world.specs.Sessions.{SpansAt}
 use Rattle.sd_world.specs.Moves.{Moves}
 use Rattle.sd_world.specs.Rules.{IsWorld}
-use Rattle.sd_world.specs.Kept.{ClosedStands, StatusesStay, SpansStay, ClaimsLast}
+use Rattle.sd_world.specs.Kept.{ClosedStands, IsRetired, StatusesStay, SpansStay, ClaimsLast}
 use Rattle.sd_world.proofs.Moves.{moves_keep_rules, moves_keep_closed}
 use Rattle.sd_world.proofs.MoveLeaves.{moves_keep_claims}
 use Rattle.sd_world.specs.Grows.{Grows, AllGrow}
 use Rattle.sd_world.specs.Seats.{SeatsStay}
 use Rattle.sd_world.specs.Stays.{AreClaimed}
-use Rattle.sd_world.specs.Stands.{IsRetired, ClosedLast, ReplyStands, ToldAreClaimed, StepsKeepSpans}
+use Rattle.sd_world.specs.Stands.{ClosedLast, ReplyStands, ToldAreClaimed, StepsKeepSpans}
 use Rattle.sd_world.specs.Steps.{DrivesKeep}
 use Rattle.sd_world.proofs.ClaimLemmas.{closed_is_found, placed_is_found}
 use Rattle.sd_world.proofs.GrowLemmas.{journals_grow}
@@ -59,7 +59,7 @@ pub none_left : {D : Type 0} (w : WorldView D) → IsWorld w → Leaves w w
 none_left w h = record {
   rules = h;
   statuses = λ key c. c;
-  spans = λ key spans c. inl c;
+  spans = λ key spans c. record { e = c.e; there = c.there; key_is = c.key_is; holds = inl c.holds };
   seats = λ ticket e there. (e, there, record { key_is = refl; drive_is = refl });
   grow = λ drive at bay d online. (bay, d, online, same_growth d.journal);
   claims = λ name drive claimed. claimed;
@@ -84,26 +84,27 @@ retired_stays w w' ticket e e' rules grow there drive (at, bay, number, bay_is, 
 
 pub stands_on : {D : Type 0} (w w' : WorldView D) → Leaves w w' → ClosedLast w w'
 stands_on {D} w w' l key spans s =
-    let h = l.statuses key (record { e = s.e; there = s.there; key_is = s.key_is; stands = s.stands }) in
+    let h = l.statuses key (record { e = s.e; there = s.there; key_is = s.key_is; holds = s.holds.0 }) in
     let drive : h.e.drive ≡ s.e.drive = same_drive w w' key.id s.e h.e l.seats s.there h.there in
     record {
       e = h.e;
       there = h.there;
       key_is = h.key_is;
-      stands = h.stands;
-      some = s.some;
-      claimed = subst (λ n. AreClaimed w'.desk n spans) (sym drive) (claimed_stay w w' s.e.drive spans l.claims s.claimed);
-      spans_are = elim s.spans_are [
-        | inl is ↦ elim (l.spans key spans (record { e = s.e; there = s.there; key_is = s.key_is; stands = s.stands; spans_are = is })) [
-          | inl c ↦
+      holds = (
+        h.holds,
+        s.holds.1,
+        subst (λ n. AreClaimed w'.desk n spans) (sym drive) (claimed_stay w w' s.e.drive spans l.claims s.holds.2),
+        elim s.holds.3 [
+          | inl is ↦
+              let c = l.spans key spans (record { e = s.e; there = s.there; key_is = s.key_is; holds = (s.holds.0, is) }) in
               let one : c.e ≡ h.e = cc (sym c.there ∙ h.there) in
-              inl (subst (λ x. SpansAt w' x spans) one c.spans_are)
-          | inr off ↦
-              let one : off.e ≡ h.e = cc (sym off.there ∙ h.there) in
-              inr (off.at, off.bay, ap (λ (x : WorldSession). x.drive) (sym one) ∙ off.drive_is, off.bay_is, off.offline)
-        ]
-        | inr retired ↦ inr (retired_stays w w' key.id s.e h.e l.rules l.grow h.there drive retired)
-      ];
+              elim c.holds [
+                | inl here ↦ inl (subst (λ x. SpansAt w' x spans) one here.1)
+                | inr off ↦ inr (subst (λ (x : WorldSession). IsRetired w' x.drive) one off)
+              ]
+          | inr retired ↦ inr (retired_stays w w' key.id s.e h.e l.rules l.grow h.there drive retired)
+        ],
+      );
     }
 
 pub closed_last : {D : Type 0} (meaning : D → Meaning) (w w' : WorldView D) (event : Event) (reply : Reply) → IsWorld w → Moves meaning w event reply w' → ClosedLast w w'
@@ -123,15 +124,17 @@ closed_last meaning w w' event reply h m =
 -- the session that a reply closed stands closed
 reply_stands : {D : Type 0} (meaning : D → Meaning) (w : WorldView D) (r : Reply) → IsWorld w → ClosedStands w r → DrivesKeep meaning w.bays → ReplyStands w r
 reply_stands meaning w (reply.Closed key spans) h c keep =
-    let s = c.spans_are in
+    let s = c.holds.1 in
     record {
       e = c.e;
       there = c.there;
       key_is = c.key_is;
-      stands = inl c.closed;
-      some = closed_has_span w key spans h c;
-      claimed = closed_is_found meaning w key spans s.0 s.1 s.2 h c s.3 (keep s.0 s.1 s.2 s.3.there s.3.online);
-      spans_are = inl s;
+      holds = (
+        inl c.holds.0,
+        closed_has_span w key spans h c,
+        closed_is_found meaning w key spans s.0 s.1 s.2 h c s.3 (keep s.0 s.1 s.2 s.3.there s.3.online),
+        inl s,
+      );
     }
 reply_stands meaning w r h c keep = tt
 

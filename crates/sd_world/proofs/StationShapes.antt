@@ -4,8 +4,8 @@ use Rattle.sd_base.specs.declared.number.SessionKey.{SessionKey}
 use Rattle.sd_base.specs.declared.refusal.Refusal.{Refusal}
 use Rattle.sd_base.specs.declared.refusal.Refusal.TheVariants.{DeviceFault}
 use Rattle.sd_desk.specs.Desk.{SameClaims, claim_of}
-use Rattle.sd_driver.specs.Meaning.{Meaning, IsHonest, Unchanged}
-use Rattle.sd_driver.specs.Shelf.{StillLasts, StillLastsBelow}
+use Rattle.sd_driver.specs.Meaning.{Meaning, IsHonest}
+use Rattle.sd_driver.specs.Shelf.{SameShelf, StillLasts, StillLastsBelow}
 use Rattle.sd_drive.specs.Moves.{Places, PlacesPiece, Syncs, Unmounts, AddsVolume, awaits_sync, synced_journal}
 use Rattle.sd_drive.specs.Shelf.{KeepsPieces}
 use Rattle.sd_drive.specs.View.{DriveIs, items}
@@ -113,7 +113,7 @@ placed : {D E : Type 0} (result : Result PlaceAnswer E) (d after : DriveIs D) �
     → items after.journal after.hand ≡ items d.journal d.hand → DriveGoesOn d after × JournalGoes d after
 placed result d after c items_are = (places result d after c items_are, places_piece result d after c)
 
-unplaced : {D : Type 0} (meaning : D → Meaning) (d after : DriveIs D) → Places {E = Unit {0}} (Err tt) d after × Unchanged (meaning d.device) (meaning after.device)
+unplaced : {D : Type 0} (meaning : D → Meaning) (d after : DriveIs D) → Places {E = Unit {0}} (Err tt) d after × SameShelf (meaning d.device).shelf (meaning after.device).shelf
     → items after.journal after.hand ≡ items d.journal d.hand → DriveGoesOn d after × JournalGoes d after
 unplaced meaning d after c items_are = placed {E = Unit {0}} (Err tt) d after c.0 items_are
 
@@ -179,7 +179,7 @@ module _ {D : Type 0} {meaning : D → Meaning} {own : ℕ} {event : Event} {s :
 
   mount_fails : (name : List ℕ) (why : Refusal) → IsOfSync event own → MountFails meaning name why s o → StationShape meaning own event (Refused why) s o
   mount_fails name why of_sync (inl m) = fails_to_sync why of_sync m.1 m.2
-  mount_fails name why of_sync (inr m) = calls_drive _ _ _ (λ d after c l. unmounted d after c) m.unmounts
+  mount_fails name why of_sync (inr m) = calls_drive _ _ _ (λ d after c l. unmounted d after c) m.3
 
   mount_refused : (name : List ℕ) (why : Refusal) → IsOfSync event own → MountRefused meaning name why s o → StationShape meaning own event (Refused why) s o
   mount_refused name why of_sync (inl m) = rests m.1

@@ -167,13 +167,13 @@ spool_changes s t job job' spool_is store_is is = subst (StaysWhole s) (sym is) 
 
 pub spools : (answer : Spooling) (s t : SessionView) → Spools answer s t → StaysWhole s t
 spools Spooled s t h = spool_changes s t h.job h.job' h.spool_is h.moves.store_is h.is
-spools SpoolFull s t h = subst (StaysWhole s) (sym h.is) (record {
+spools SpoolFull s t h = subst (StaysWhole s) (sym h.2) (record {
   stays = alike_stays s _ refl refl refl refl;
   store = λ h. h;
   honest = λ h. h;
 })
-spools Nothing s t h = same_whole s t h.is
-spools NoSpool s t h = same_whole s t h.is
+spools Nothing s t h = same_whole s t h.3
+spools NoSpool s t h = same_whole s t h.2
 
 pub spool_refused : (s t : SessionView) (why : Refusal) → SpoolRefused s why t → StaysWhole s t
 spool_refused s t why (inl h) = same_whole s t h.1

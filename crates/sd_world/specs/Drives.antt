@@ -8,9 +8,9 @@ use Rattle.sd_desk.specs.Desk.{DeskView}
 use Rattle.sd_driver.specs.Meaning.{Meaning, IsHonest}
 use Rattle.sd_driver.specs.Shelf.{SameShelf, StillLastsBelow}
 use Rattle.sd_drive.specs.Moves.{AddsNone, EmptiesVolume, index_of, purge_due}
-use Rattle.sd_drive.specs.Shelf.{KeepsOtherPieces}
+use Rattle.sd_drive.specs.Shelf.{KeepsPieces}
 use Rattle.sd_drive.specs.View.{DriveIs}
-use Rattle.sd_journal.specs.Journal.{Entry, fails_with, has_on}
+use Rattle.sd_journal.specs.Journal.{Entry, purged, fails_with, has_on}
 use Rattle.sd_lane.specs.declared.piece.Queued.{Queued}
 use Rattle.sd_machine.specs.declared.event.Event.{Event}
 use Rattle.sd_machine.specs.declared.event.Event.TheVariants.{Take, Place, Sync, Label, Adopt, Mount, Unmount, Seek}
@@ -57,8 +57,7 @@ FailsWhere false e e' = e' ≡ e
 abbrev pub FailExactly : (WorldSession → Bool) → List WorldSession → List WorldSession → Type 0
 FailExactly loses old new = AllZip (λ e e'. FailsWhere (loses e) e e') old new
 
--- Where blocks of a volume are lost, exactly the sessions fail that go on at the drive and have a block on the volume
--- that wasn't synced.
+-- If a volume's blocks are lost, just those sessions fail that go on at the drive with an unsynced block on it.
 abbrev pub FailBy : ℕ → List Entry → Option (List ℕ) → List WorldSession → List WorldSession → Type 0
 FailBy drive journal None old new = new ≡ old
 FailBy drive journal (Some volume) old new = FailExactly (loses_by drive volume journal) old new
@@ -152,15 +151,8 @@ purged_if_on drive name journal e =
 abbrev pub purged_sessions : ℕ → List ℕ → List Entry → List WorldSession → List WorldSession
 purged_sessions drive name journal sessions = map (purged_if_on drive name journal) sessions
 
--- what a purge of a volume leaves of the drive's device: as every call does, but that what stood on the volume behind its label
--- block is gone
-pub record CallsPurging {D : Type 0} (meaning : D → Meaning) (fault : Type 0) (volume : VolumeView) (old new : DriveIs D) : Type 0 where
-  pub counted : Counted fault ⊥ (meaning old.device) (meaning new.device)
-  pub keeps : KeepsOtherPieces volume.name (meaning old.device) (meaning new.device) old.journal old.hand
-  pub below : StillLastsBelow volume.first volume.name (meaning old.device).shelf (meaning new.device).shelf
-
--- The drive's volume of this name is emptied, and has this status then, which is Error where the device failed. Else an honest
--- device cut it to its label block.
+-- The drive's volume of this name is emptied, and has this status then, which is Error if the device failed; else an honest device
+-- cut it to its label block. What every call leaves of the device it leaves too, but what stood on the volume behind its label block.
 pub record PurgesNamed {D : Type 0} (meaning : D → Meaning) (fault : Type 0) (status : VolumeStatus) (name : List ℕ) (d after : DriveIs D) : Type 0 where
   pub place : ℕ
   pub volume : VolumeView
@@ -168,7 +160,9 @@ pub record PurgesNamed {D : Type 0} (meaning : D → Meaning) (fault : Type 0) (
   pub there : slice_get d.volumes place ≡ Some volume
   pub name_is : volume.name ≡ name
   pub empties : EmptiesVolume place volume status d after
-  pub calls : CallsPurging meaning fault volume d after
+  pub counted : Counted fault ⊥ (meaning d.device) (meaning after.device)
+  pub keeps : KeepsPieces (meaning d.device) (meaning after.device) (purged name d.journal) (purged name d.journal) d.hand d.hand
+  pub below : StillLastsBelow volume.first name (meaning d.device).shelf (meaning after.device).shelf
   pub cuts : (fault → ⊥) → IsHonest (meaning d.device)
       → CutsAt volume.first name (meaning d.device).shelf (meaning after.device).shelf
 

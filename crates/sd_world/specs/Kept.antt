@@ -17,47 +17,30 @@ use Rattle.sd_world.specs.Sessions.{SpansAt}
 use Rattle.sd_world.specs.Moves.{Moves}
 use Rattle.sd_world.specs.Rules.{IsWorld}
 
--- the session of this key is closed, or purged
-pub record Stands {D : Type 0} (w : WorldView D) (key : SessionKey) : Type 0 where
-  pub e : WorldSession
-  pub there : session_at key.id w.sessions ≡ Some e
-  pub key_is : e.session.key ≡ key
-  pub stands : IsClosedOrPurged e.session.status
+-- the drive of this number was retired: it is offline for good
+abbrev pub IsRetired : {D : Type 0} → WorldView D → ℕ → Type 0
+IsRetired {D} w drive = (at : ℕ) × (bay : BayView D) × (drive ≡ at + 1) × (slice_get w.bays at ≡ Some bay) × (bay.drive ≡ None)
 
--- the session of this key is closed or purged, its drive is online, and these are its spans
-pub record StandsAt {D : Type 0} (w : WorldView D) (key : SessionKey) (spans : List Span) : Type 0 where
+-- The session of this key stands so, whatever happened to it since it was closed: this holds of it.
+pub record Stands {D : Type 0} (w : WorldView D) (key : SessionKey) (so : WorldSession → Type 0) : Type 0 where
   pub e : WorldSession
   pub there : session_at key.id w.sessions ≡ Some e
   pub key_is : e.session.key ≡ key
-  pub stands : IsClosedOrPurged e.session.status
-  pub spans_are : SpansAt w e spans
+  pub holds : so e
 
 -- the session of this key is closed, its drive is online, and these are its spans
-pub record IsClosedAt {D : Type 0} (w : WorldView D) (key : SessionKey) (spans : List Span) : Type 0 where
-  pub e : WorldSession
-  pub there : session_at key.id w.sessions ≡ Some e
-  pub key_is : e.session.key ≡ key
-  pub closed : e.session.status ≡ IsClosed
-  pub spans_are : SpansAt w e spans
-
--- the drive of the session of this key is offline for good
-pub record IsOffline {D : Type 0} (w : WorldView D) (key : SessionKey) : Type 0 where
-  pub e : WorldSession
-  pub there : session_at key.id w.sessions ≡ Some e
-  pub key_is : e.session.key ≡ key
-  pub at : ℕ
-  pub bay : BayView D
-  pub drive_is : e.drive ≡ at + 1
-  pub bay_is : slice_get w.bays at ≡ Some bay
-  pub offline : bay.drive ≡ None
+abbrev pub IsClosedAt : {D : Type 0} → WorldView D → SessionKey → List Span → Type 0
+IsClosedAt w key spans = Stands w key (λ e. (e.session.status ≡ IsClosed) × SpansAt w e spans)
 
 -- each session that was closed or purged is one of both
 abbrev pub StatusesStay : {D : Type 0} → WorldView D → WorldView D → Type 0
-StatusesStay old new = (key : SessionKey) → Stands old key → Stands new key
+StatusesStay old new = (key : SessionKey) → Stands old key (λ e. IsClosedOrPurged e.session.status)
+    → Stands new key (λ e. IsClosedOrPurged e.session.status)
 
 -- closed and purged sessions keep their spans, unless their drive is retired
 abbrev pub SpansStay : {D : Type 0} → WorldView D → WorldView D → Type 0
-SpansStay old new = (key : SessionKey) (spans : List Span) → StandsAt old key spans → StandsAt new key spans ⊎ IsOffline new key
+SpansStay old new = (key : SessionKey) (spans : List Span) → Stands old key (λ e. IsClosedOrPurged e.session.status × SpansAt old e spans)
+    → Stands new key (λ e. (IsClosedOrPurged e.session.status × SpansAt new e spans) ⊎ IsRetired new e.drive)
 
 -- what is claimed stays claimed for its drive
 abbrev pub ClaimsLast : {D : Type 0} → WorldView D → WorldView D → Type 0

@@ -1,19 +1,22 @@
 -- A move of a world is a step of each list machine that it matches.
-use Rattle.std.specs.Prelude.{◌≡◌, ℕ, ◌&&◌, not, if◌then◌else◌, Bool, true, false, List, [], ◌∷◌, ◌++◌}
+use Rattle.std.specs.Prelude.{◌≡◌, ◌↔◌, ℕ, ◌&&◌, not, if◌then◌else◌, Bool, true, false, List, [], ◌∷◌, ◌++◌}
+use Rattle.sd_base.specs.declared.refusal.Refusal.TheVariants.{NotYet}
 use Rattle.sd_driver.specs.Meaning.{Meaning}
 use Rattle.sd_drive.specs.Shelf.{KeepsPieces}
 use Rattle.sd_drive.specs.View.{DriveIs}
 use Rattle.sd_machine.specs.Machine.{Machine, Strike, empty_machine}
 use Rattle.sd_machine.specs.Step.{Step}
 use Rattle.sd_machine.specs.declared.event.Event.{Event}
+use Rattle.sd_machine.specs.declared.event.Event.TheVariants.{Close}
 use Rattle.sd_machine.specs.declared.reply.Reply.{Reply}
+use Rattle.sd_machine.specs.declared.reply.Reply.TheVariants.{Refused}
 use Rattle.sd_session.specs.declared.status.Status.{Status}
-use Rattle.sd_session.specs.declared.status.Status.TheVariants.{Failed, Purged}
-use Rattle.sd_world.specs.World.{WorldView, WorldSession, BayView, IsOnline, with_drive}
+use Rattle.sd_session.specs.declared.status.Status.TheVariants.{Ended, Failed, Purged}
+use Rattle.sd_world.specs.World.{WorldView, WorldSession, BayView, IsOnline, HasTicket, with_drive}
 use Rattle.sd_world.specs.Drives.{is_running, was_purged}
 use Rattle.sd_world.specs.Moves.{Moves}
 use Rattle.sd_world.specs.Rules.{IsWorld}
-use Rattle.sd_world.specs.Matches.{Matches}
+use Rattle.sd_world.specs.Matches.{Matches, IsOutstanding}
 
 -- the session has failed
 abbrev pub is_failed : Status → Bool
@@ -53,6 +56,12 @@ StepsTo meaning m old event reply new = (m' : Machine)
 abbrev pub MovesAreSteps : Type 0 → Type 0
 MovesAreSteps D = (meaning : D → Meaning) (old new : WorldView D) (event : Event) (reply : Reply) (m : Machine)
     → IsWorld old → Moves meaning old event reply new → Matches meaning old m → StepsTo meaning m old event reply new
+
+-- The close of a session that is ended is answered 'not yet' exactly if something of it is outstanding.
+abbrev pub NotYetIsOutstanding : Type 0 → Type 0
+NotYetIsOutstanding D = (meaning : D → Meaning) (old new : WorldView D) (ticket : ℕ) (reply : Reply) (e : WorldSession)
+    → IsWorld old → Moves meaning old (Close ticket) reply new → HasTicket old ticket e → e.session.status ≡ Ended
+    → (reply ≡ Refused NotYet) ↔ IsOutstanding old e
 
 -- a world without sessions matches the empty machine of its run
 abbrev pub FreshMatches : Type 0 → Type 0

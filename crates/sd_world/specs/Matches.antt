@@ -41,8 +41,7 @@ sent_bodies (i ∷ is) (Some b ∷ bs) = sent_body i b ∷ sent_bodies is bs
 sent_bodies (i ∷ is) (None ∷ bs) = sent_bodies is bs
 sent_bodies is bs = []
 
--- The bodies that were given to a drive, in order: those placed, by the bytes that stand on its shelf, unless they are gone, then
--- the one in its hand.
+-- the bodies given to a drive, in order: those placed, unless gone, by the bytes on its shelf, then the one in its hand
 abbrev pub given_to : {D : Type 0} → Shelf → DriveIs D → List SentBody
 given_to shelf d = sent_bodies (items d.journal d.hand) (blocks shelf d.journal d.hand)
 
@@ -78,8 +77,7 @@ IsOnTheWay d queue key = bodies_with key (map body_of_piece (option_to_list d.ha
 abbrev pub IsUnsynced : List Entry → SessionKey → Type 0
 IsUnsynced journal key = IsTrue (list_any (λ (e : Entry). is_key key e.placement.key && not (is_synced e.mark)) journal)
 
--- Something of the session is outstanding: a body that it has itself; or, where its drive is online, one that is on the
--- way, or a block that isn't synced.
+-- something is outstanding: a body that the session has itself; or, at its online drive, one on the way or an unsynced block
 abbrev pub IsOutstanding : {D : Type 0} → WorldView D → WorldSession → Type 0
 IsOutstanding {D} w e =
     (parts_of e.session ≢ [])
@@ -102,9 +100,8 @@ pub record BeginsPacked (room : ℕ) (bodies : List PackedBody) (records : List 
   pub dropped : List PackedBody
   pub packs : Packs room (bodies ++ dropped) records Between ⊎ Packs room (bodies ++ dropped) records AtEnd
 
--- How the bodies of a session stand to its list of records: of an active session they are a cutting of it, of an ended or
--- closed one with its end label; of a cancelled one those that were sent begin a cutting of it; of a failed or purged one
--- nothing is said.
+-- How a session's bodies are to its list: an active one's are a cutting of it, an ended or closed one's with its end label; what a
+-- cancelled one sent begins a cutting of it; of a failed or purged one nothing is said.
 abbrev pub HasBodies : ℕ → List PackedBody → List PackedBody → Status → List Record → Type 0
 HasBodies room sent all Active records = Packs room all records Between
 HasBodies room sent all Ended records = Packs room all records AtEnd

@@ -1,5 +1,5 @@
 -- What an event of the operator, or of a drive that seeks a volume, does where the drive is.
-use Rattle.std.specs.Prelude.{◌≡◌, ◌≢◌, ◌⊎◌, ℕ, ℤ, ◌==◌, not, filter, Some, None, IsSome, List, [], ◌∷◌, ◌++◌, Ok}
+use Rattle.std.specs.Prelude.{◌≡◌, ◌≢◌, ◌⊎◌, ℕ, ℤ, ◌==◌, not, filter, Some, None, IsSome, List, [], ◌∷◌, ◌++◌}
 use Rattle.std.specs.Option.{option_map}
 use Rattle.sd_base.specs.Choice.{FirstOf, NoneOf}
 use Rattle.sd_base.specs.declared.refusal.Refusal.{Refusal}
@@ -7,7 +7,7 @@ use Rattle.sd_base.specs.declared.refusal.Refusal.TheVariants.{OtherPoolOrMedia,
 use Rattle.sd_desk.specs.Desk.{DeskView, claim_of, claimed_by, new_claim, purged_claim, SameClaims, OtherClaimsStay, HasNotAsked}
 use Rattle.sd_desk.specs.Next.{TakesBlocksOf}
 use Rattle.sd_desk.specs.declared.request.Request.{Request}
-use Rattle.sd_drive.specs.Moves.{TakesBlocks, Mounts, Unmounts, RefusesLoad, AddsVolume, AddsNone, AdoptsVolume, label_of, mount_due, index_of}
+use Rattle.sd_drive.specs.Moves.{TakesBlocks, Unmounts, RefusesLoad, AddsVolume, AddsNone, AdoptsVolume, label_of, mount_due, synced_journal, index_of}
 use Rattle.sd_drive.specs.Shelf.{KeepsPieces}
 use Rattle.sd_drive.specs.View.{DriveIs}
 use Rattle.sd_driver.specs.Meaning.{Meaning, IsHonest}
@@ -83,8 +83,7 @@ pub record LabelFails {D : Type 0} (meaning : D → Meaning) (name media : List 
   pub may_create : IsHonest (meaning s.drive.device) → MayCreate name (meaning s.drive.device).shelf (meaning o.drive.device).shelf
   pub is : o ≡ record (stays s) { drive = o.drive; desk = o.desk }
 
--- Why no volume is labelled, in this order: another media; a volume is loaded; the name is claimed; then what the device
--- answers, or want of memory.
+-- Why no volume is labelled, in order: other media; a volume is loaded; the name is claimed; the device's answer, or memory.
 abbrev pub LabelRefused : {D : Type 0} → (D → Meaning) → List ℕ → List ℕ → Refusal → Station D → Outcome D → Type 0
 LabelRefused meaning name media why s o =
     ((media ≢ s.drive.media) × (why ≡ OtherPoolOrMedia) × (o ≡ stays s))
@@ -95,8 +94,7 @@ LabelRefused meaning name media why s o =
 
 -- Adoptions.
 
--- what an adoption leaves of the drive's device, whatever it answers: as every call does, but that bytes of the adopted
--- volume may be cut behind its whole blocks
+-- what an adoption leaves of the device: as every call does, but that bytes after the volume's whole blocks may be cut
 pub record CallsAdopting {D : Type 0} (meaning : D → Meaning) (fault : Type 0) (name : List ℕ) (old new : DriveIs D) : Type 0 where
   pub counted : Counted fault ⊥ (meaning old.device) (meaning new.device)
   pub keeps : KeepsPieces (meaning old.device) (meaning new.device) old.journal new.journal old.hand new.hand
@@ -126,8 +124,7 @@ pub record AdoptFails {D : Type 0} (meaning : D → Meaning) (name : List ℕ) (
   pub lasts : why ≢ DeviceFault → StillLasts (meaning s.drive.device).shelf (meaning o.drive.device).shelf
   pub is : o ≡ record (stays s) { drive = o.drive; desk = o.desk }
 
--- Why no volume is adopted, in this order: the name is claimed; a volume is loaded; then what stands on it and what the
--- device answers, or want of memory.
+-- Why no volume is adopted, in order: the name is claimed; a volume is loaded; what is on it, the device's answer, or memory.
 abbrev pub AdoptRefused : {D : Type 0} → (D → Meaning) → List ℕ → Refusal → Station D → Outcome D → Type 0
 AdoptRefused meaning name why s o =
     ((claimed_by s.desk name ≢ None) × (why ≡ AlreadyLabelled) × (o ≡ stays s))
@@ -142,22 +139,17 @@ pub record MountsAt {D : Type 0} (meaning : D → Meaning) (own : ℕ) (name : L
   pub place : ℕ
   pub due : mount_due s.drive name ≡ None
   pub place_is : index_of s.drive.volumes name ≡ Some place
-  pub mounts : Mounts {T = Unit {0}} place (Ok tt) s.drive o.drive
+  pub mounts : o.drive ≡ record s.drive { device = o.drive.device; loaded = Some place; journal = synced_journal s.drive }
   pub calls : Calls meaning ⊥ ⊥ s.drive o.drive
   pub answers : AnswersDrive own s.desk o.desk
   pub is : o ≡ record (stays s) { drive = o.drive; desk = o.desk }
 
--- the volume that was loaded is synced and out, and the other could not be loaded
-pub record LoadFails {D : Type 0} (meaning : D → Meaning) (name : List ℕ) (why : Refusal) (s : Station D) (o : Outcome D) : Type 0 where
-  pub due : mount_due s.drive name ≡ None
-  pub refuses : RefusesLoad why
-  pub on_shelf : IsHonest (meaning s.drive.device) → why ≢ VolumeNotOnShelf
-  pub unmounts : CallsDrive meaning (why ≡ DeviceFault) ⊥ Unmounts s o
-
--- a mount that isn't refused at once fails: in the sync of the loaded volume, or in the load of the other
+-- a mount not refused at once fails: in the sync of the loaded volume; or after it, with none loaded, in the other's load
 abbrev pub MountFails : {D : Type 0} → (D → Meaning) → List ℕ → Refusal → Station D → Outcome D → Type 0
 MountFails meaning name why s o =
-    ((mount_due s.drive name ≡ None) × (why ≡ DeviceFault) × LosesBlocks meaning s o) ⊎ LoadFails meaning name why s o
+    ((mount_due s.drive name ≡ None) × (why ≡ DeviceFault) × LosesBlocks meaning s o)
+    ⊎ ((mount_due s.drive name ≡ None) × RefusesLoad why × (IsHonest (meaning s.drive.device) → why ≢ VolumeNotOnShelf)
+    × CallsDrive meaning (why ≡ DeviceFault) ⊥ Unmounts s o)
 
 -- why a volume isn't mounted: by the drive's own order of refusals, or the mount fails
 abbrev pub MountRefused : {D : Type 0} → (D → Meaning) → List ℕ → Refusal → Station D → Outcome D → Type 0

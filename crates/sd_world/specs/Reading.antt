@@ -39,8 +39,7 @@ is_purged_session key found = option_map_or (λ (e : WorldSession). is_key key e
 abbrev pub any_purged_at : DeskView → List Span → Bool
 any_purged_at desk spans = list_any (λ (s : Span). is_purged_at desk s.volume) spans
 
--- what the spans of the key read was purged: the session is of this run, and purged; or it is of another run, and the volume of
--- a span was purged in this one
+-- what is read was purged: this run's session of the key was; or, with the key of another run, a span's volume, in this one
 abbrev pub is_gone : {D : Type 0} → WorldView D → SessionKey → List Span → Bool
 is_gone w key spans =
     is_purged_session key (session_at key.id w.sessions) || (not (key.time == w.limits.time) && any_purged_at w.desk spans)

@@ -23,10 +23,9 @@ pub record IsOfOpened (time next : ℕ) (i : Item) : Type 0 where
   pub id_least : 1 ≤ i.key.id
   pub id_most : i.key.id < next
 
--- The session's drive and lane are there. Where the drive is online: as many pieces were given to it or are before it as
--- were sent of the session. A session that goes on has its lane, on a drive that is online and lost none of its blocks.
--- Each piece of a closed session is placed, of which there is one at least. So is each piece of a session that was purged. No block is
--- gone of a session that wasn't purged.
+-- The session's drive and lane are there. If the drive is online, as many pieces were given to it or wait as the session sent. A
+-- session that goes on has its lane, on an online drive that lost none of its blocks. All pieces of a closed session, one at
+-- least, or of a purged one are placed. No block is gone of a session that wasn't purged.
 pub record IsSeated {D : Type 0} (w : WorldView D) (e : WorldSession) : Type 0 where
   pub at : ℕ
   pub place : ℕ

@@ -13,20 +13,15 @@ use Rattle.sd_lane.specs.declared.piece.Piece.{Piece}
 use Rattle.sd_reserve.specs.Reserve.{TakesMedia, IsOnline as IsOnlineFor, IsCandidate, Precedes}
 use Rattle.sd_session.specs.Session.{SessionView, StartsSession, GivesBack, ClosesSession, CloseRefused, status_refusal}
 use Rattle.sd_session.specs.Sending.{queue_view, Despools}
+use Rattle.sd_session.specs.Spooling.{HasFailed}
 use Rattle.sd_session.specs.declared.answer.Despooled.{Despooled}
 use Rattle.sd_session.specs.declared.answer.Despooled.TheVariants.{Sent}
 use Rattle.sd_session.specs.declared.opening.Opening.{Opening}
 use Rattle.sd_session.specs.declared.status.Status.TheVariants.{Ended as IsEnded}
 use Rattle.sd_span.specs.Spans.{spans_of}
 use Rattle.sd_span.specs.declared.span.Span.{Span}
-use Rattle.sd_spool.specs.Job.{StoreState, state_of, FailsToClear}
-use Rattle.sd_spool.specs.Meaning.{Meaning as StoreMeaning}
-use Rattle.sd_spool.specs.declared.store.SpoolStoreFault.TheVariants.{Device}
+use Rattle.sd_spool.specs.Job.{StoreState}
 use Rattle.sd_world.specs.World.{WorldView, WorldSession, BayView, LaneView, IsOnline, HasTicket, session_at, with_session, free_lanes, drives_for}
-
--- a refused event changes nothing
-abbrev pub StaysAs : {D : Type 0} → WorldView D → WorldView D → Type 0
-StaysAs old new = new ≡ old
 
 -- the ticket is unknown, or its session is there and the event is refused for one of these causes
 abbrev pub TicketRefused : {D : Type 0} → WorldView D → ℕ → Refusal → (WorldSession → Type 0) → Type 0
@@ -42,7 +37,7 @@ ChangesSession old ticket new change =
 -- the ticket is unknown, and nothing changes; or the event is refused for a cause that may change the session
 abbrev pub RefusedWith : {D : Type 0} → WorldView D → ℕ → Refusal → WorldView D → (SessionView → SessionView → Type 0) → Type 0
 RefusedWith old ticket why new change =
-    ((session_at ticket old.sessions ≡ None) × (why ≡ SessionNotOpen) × StaysAs old new) ⊎ ChangesSession old ticket new change
+    ((session_at ticket old.sessions ≡ None) × (why ≡ SessionNotOpen) × (new ≡ old)) ⊎ ChangesSession old ticket new change
 
 -- Opening.
 
@@ -77,13 +72,7 @@ opening_for w place job pool media moment = record {
   moment = moment;
 }
 
--- the session starts on a store of this state
-abbrev pub StartsOn : StoreState → Opening → ℕ → ℕ → SessionView → Type 0
-StartsOn state opening room limit s =
-    (store : StoreMeaning) × (state ≡ state_of store) × StartsSession opening room limit store s
-
--- A session is opened: it has the next number; its pool is the drive's from now on, where there is room for its first placement;
--- and its lane's store is its own.
+-- A session is opened: it has the next number and its lane's store; the drive has its pool now, and room for a placement of it.
 pub record OpensSession {D : Type 0} (old : WorldView D) (job : ℕ) (pool media : List ℕ) (moment : ℤ)
     (ticket drive : ℕ) (new : WorldView D) : Type 0 where
   pub number_left : old.next ≤ most_number
@@ -98,8 +87,7 @@ pub record OpensSession {D : Type 0} (old : WorldView D) (job : ℕ) (pool media
   pub sessions : List WorldSession
   pub takes : TakesStore lane old.sessions store sessions
   pub session : SessionView
-  pub starts : StartsOn store (opening_for old place job pool media moment)
-      (old.limits.block - block_header) old.limits.spool session
+  pub starts : StartsSession (opening_for old place job pool media moment) (old.limits.block - block_header) old.limits.spool store session
   pub new_is : new ≡ record old {
     next = old.next + 1;
     sessions = sessions ++ record { session = session; drive = drive } ∷ [];
@@ -116,26 +104,8 @@ NoneReserved w pool media why =
     ⊎ ((NoneOf (TakesMedia media) (drives_for w) → ⊥) × NoneOf (IsOnlineFor media) (drives_for w) × (why ≡ DriveOffline))
     ⊎ ((NoneOf (IsOnlineFor media) (drives_for w) → ⊥) × NoneOf (IsCandidate pool media) (drives_for w) × (why ≡ NoFreeLane))
 
--- the lane's store lies in the lane, in this state, and nothing else changes but the room that was made for a first placement
-pub record LeavesStore {D : Type 0} (old : WorldView D) (at place : ℕ) (bay : BayView D) (d : DriveIs D) (lane : LaneView)
-    (before after : StoreState) (new : WorldView D) : Type 0 where
-  pub sessions : List WorldSession
-  pub takes : TakesStore lane old.sessions before sessions
-  pub new_is : new ≡ record old {
-    sessions = sessions;
-    bays = slice_set old.bays at (record bay {
-      drive = Some (record d { ready = with_key (next_key old) d.ready });
-      lanes = slice_set bay.lanes place (record lane { store = Some after });
-    });
-  }
-
--- a store in the one state could not be cleared, and is in the other now
-abbrev pub FailsToEmpty : StoreState → StoreState → Type 0
-FailsToEmpty before after = (store store' : StoreMeaning)
-    × (before ≡ state_of store) × (after ≡ state_of store') × FailsToClear Device store store'
-
--- A drive and a lane were found, and the session isn't opened: for want of memory, or the lane's store could not be
--- cleared. The store lies in the lane now.
+-- A drive and a lane were found, and the session isn't opened: for want of memory, or the lane's store could not be cleared. The
+-- store lies in the lane now, and nothing else changes but the room that was made for a first placement.
 pub record OpensNot {D : Type 0} (old : WorldView D) (pool media : List ℕ) (why : Refusal) (new : WorldView D) : Type 0 where
   pub drive : ℕ
   pub at : ℕ
@@ -146,17 +116,24 @@ pub record OpensNot {D : Type 0} (old : WorldView D) (pool media : List ℕ) (wh
   pub reserves : Reserves old pool media drive at place bay d lane
   pub before : StoreState
   pub after : StoreState
-  pub leaves : LeavesStore old at place bay d lane before after new
-  pub cause : ((why ≡ Memory) × (after ≡ before))
-      ⊎ ((old.limits.spool ≢ 0) × (why ≡ SpoolFault) × FailsToEmpty before after)
+  pub cause : ((why ≡ Memory) × (after ≡ before)) ⊎ ((old.limits.spool ≢ 0) × (why ≡ SpoolFault) × HasFailed before after)
+  pub sessions : List WorldSession
+  pub takes : TakesStore lane old.sessions before sessions
+  pub new_is : new ≡ record old {
+    sessions = sessions;
+    bays = slice_set old.bays at (record bay {
+      drive = Some (record d { ready = with_key (next_key old) d.ready });
+      lanes = slice_set bay.lanes place (record lane { store = Some after });
+    });
+  }
 
 -- Why no session is opened, in this order: no number is left; no drive takes it; want of memory; the spool can't be cleared.
 abbrev pub OpenRefused : {D : Type 0} → WorldView D → List ℕ → List ℕ → Refusal → WorldView D → Type 0
 OpenRefused {D} old pool media why new =
-    ((most_number < old.next) × (why ≡ NoSessionNumberLeft) × StaysAs old new)
-    ⊎ ((old.next ≤ most_number) × NoneReserved old pool media why × StaysAs old new)
+    ((most_number < old.next) × (why ≡ NoSessionNumberLeft) × (new ≡ old))
+    ⊎ ((old.next ≤ most_number) × NoneReserved old pool media why × (new ≡ old))
     ⊎ ((old.next ≤ most_number) × OpensNot old pool media why new)
-    ⊎ ((old.next ≤ most_number) × (why ≡ Memory) × (at : ℕ) × FirstOf (IsCandidate pool media) (Precedes pool) (drives_for old) at × StaysAs old new)
+    ⊎ ((old.next ≤ most_number) × (why ≡ Memory) × (at : ℕ) × FirstOf (IsCandidate pool media) (Precedes pool) (drives_for old) at × (new ≡ old))
 
 -- Sending.
 

@@ -1,5 +1,5 @@
 -- How closed sessions stand: their spans, whatever happens afterwards.
-use Rattle.std.specs.Prelude.{◌≡◌, ◌≢◌, ◌⊎◌, ℕ, ◌+◌, Some, None, List, [], slice_get}
+use Rattle.std.specs.Prelude.{◌≡◌, ◌≢◌, ◌⊎◌, Some, List, []}
 use Rattle.sd_base.specs.declared.number.SessionKey.{SessionKey}
 use Rattle.sd_driver.specs.Meaning.{Meaning}
 use Rattle.sd_machine.specs.Kept.{IsClosedOrPurged}
@@ -8,25 +8,17 @@ use Rattle.sd_machine.specs.declared.event.Event.TheVariants.{Media}
 use Rattle.sd_machine.specs.declared.reply.Reply.{Reply}
 use Rattle.sd_machine.specs.declared.reply.Reply.TheVariants.{Closed, Media as Spans}
 use Rattle.sd_span.specs.declared.span.Span.{Span}
-use Rattle.sd_world.specs.World.{WorldView, WorldSession, BayView, session_at}
+use Rattle.sd_world.specs.World.{WorldView, WorldSession, session_at}
+use Rattle.sd_world.specs.Kept.{Stands, IsRetired}
 use Rattle.sd_world.specs.Sessions.{SpansAt}
 use Rattle.sd_world.specs.Stays.{AreClaimed}
 use Rattle.sd_world.specs.Steps.{IsSound, IsStep}
 
--- the drive of this number was retired: it is offline for good
-abbrev pub IsRetired : {D : Type 0} → WorldView D → ℕ → Type 0
-IsRetired {D} w drive = (at : ℕ) × (bay : BayView D) × (drive ≡ at + 1) × (slice_get w.bays at ≡ Some bay) × (bay.drive ≡ None)
-
 -- The session of this key was closed with these spans, one at least, whose volumes are claimed for its drive; it is closed, or was
 -- purged. Its drive's journal gives the spans, or the drive was retired.
-pub record StandsClosed {D : Type 0} (w : WorldView D) (key : SessionKey) (spans : List Span) : Type 0 where
-  pub e : WorldSession
-  pub there : session_at key.id w.sessions ≡ Some e
-  pub key_is : e.session.key ≡ key
-  pub stands : IsClosedOrPurged e.session.status
-  pub some : spans ≢ []
-  pub claimed : AreClaimed w.desk e.drive spans
-  pub spans_are : SpansAt w e spans ⊎ IsRetired w e.drive
+abbrev pub StandsClosed : {D : Type 0} → WorldView D → SessionKey → List Span → Type 0
+StandsClosed w key spans = Stands w key (λ e. IsClosedOrPurged e.session.status × (spans ≢ [])
+    × AreClaimed w.desk e.drive spans × (SpansAt w e spans ⊎ IsRetired w e.drive))
 
 -- who was closed with some spans stands closed with them
 abbrev pub ClosedLast : {D : Type 0} → WorldView D → WorldView D → Type 0

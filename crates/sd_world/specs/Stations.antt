@@ -1,10 +1,10 @@
 -- Where the events of a drive happen: the drive, the queue before it, and the operator's desk; and what a drive's own
 -- events do there.
-use Rattle.std.specs.Prelude.{◌≡◌, ℕ, ◌+◌, false, None, Some, Option, List, ◌∷◌, Ok, Err}
+use Rattle.std.specs.Prelude.{◌≡◌, ℕ, ◌+◌, None, Some, Option, List, ◌∷◌, Ok}
 use Rattle.sd_desk.specs.Desk.{DeskView}
-use Rattle.sd_driver.specs.Meaning.{Meaning, Unchanged}
+use Rattle.sd_driver.specs.Meaning.{Meaning}
 use Rattle.sd_driver.specs.Shelf.{StillLasts}
-use Rattle.sd_drive.specs.Moves.{FailsToSync, Places, Syncs, LimitAllows, awaits_sync}
+use Rattle.sd_drive.specs.Moves.{FailsToSync, Places}
 use Rattle.sd_drive.specs.Shelf.{KeepsPieces}
 use Rattle.sd_drive.specs.View.{DriveIs}
 use Rattle.sd_drive.specs.declared.place.Placed.TheVariants as place
@@ -31,9 +31,8 @@ pub record Outcome (D : Type 0) : Type 0 where
 abbrev pub stays : {D : Type 0} → Station D → Outcome D
 stays s = record { drive = s.drive; queue = s.queue; desk = s.desk; lost = None }
 
--- What every call of a drive leaves of its device: it is as honest as it was; a failure is counted where the call
--- answers a fault of the device, and room was told to lack where it answers that; the pieces given so far stay; what
--- lasted lasts.
+-- What every call leaves of a drive's device: it is as honest as it was; a fault or a lack of room that is answered was counted,
+-- and no other; the pieces given so far stay; what lasted lasts.
 pub record Calls {D : Type 0} (meaning : D → Meaning) (fault no_room : Type 0) (old new : DriveIs D) : Type 0 where
   pub counted : Counted fault no_room (meaning old.device) (meaning new.device)
   pub keeps : KeepsPieces (meaning old.device) (meaning new.device) old.journal new.journal old.hand new.hand
@@ -63,24 +62,7 @@ PlacesAt meaning volume start end s o = (p : Placement)
     × (volume ≡ p.volume) × (start ≡ p.start) × (end ≡ p.start + p.length)
     × CallsDrive meaning ⊥ ⊥ (Places {E = Unit {0}} (Ok (place.At p))) s o
 
--- the device has no room for the piece, or the limit keeps it off; the volume is full now
-abbrev pub FindsFull : {D : Type 0} → (D → Meaning) → Station D → Outcome D → Type 0
-FindsFull meaning s o = CallsDrive meaning ⊥ (LimitAllows s.drive) (Places {E = Unit {0}} (Ok place.VolumeFull)) s o
-
--- the device failed, and the volume has status Error now
-abbrev pub FindsError : {D : Type 0} → (D → Meaning) → Station D → Outcome D → Type 0
-FindsError meaning s o = CallsDrive meaning (Unit {0}) ⊥ (Places {E = Unit {0}} (Ok place.VolumeError)) s o
-
--- memory is wanted: the piece stays in the hand, and the drive's device is as it was
-abbrev pub PlacesNone : {D : Type 0} → (D → Meaning) → Station D → Outcome D → Type 0
-PlacesNone meaning s o = CallsDrive meaning ⊥ ⊥
-    (λ d after. Places {E = Unit {0}} (Err tt) d after × Unchanged (meaning d.device) (meaning after.device)) s o
-
 -- Syncing.
-
--- the drive's loaded volume is synced; where no block awaits that, the drive is as it was: its device isn't called
-abbrev pub SyncsLoaded : {D : Type 0} → (D → Meaning) → Station D → Outcome D → Type 0
-SyncsLoaded meaning s o = CallsDrive meaning ⊥ ⊥ (λ d after. Syncs d after × (awaits_sync d ≡ false → after ≡ d)) s o
 
 -- a sync of the drive's loaded volume failed, and its blocks that weren't synced are lost
 pub record LosesBlocks {D : Type 0} (meaning : D → Meaning) (s : Station D) (o : Outcome D) : Type 0 where

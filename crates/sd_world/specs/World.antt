@@ -90,8 +90,7 @@ items_with key is = filter (λ (i : Item). is_key key i.key) is
 
 -- Lanes.
 
--- whether a session no longer keeps its lane: it is closed or purged; or it is cancelled or failed, and each piece that was
--- sent of it is placed
+-- a session no longer keeps its lane: it is closed or purged; or cancelled or failed, with each piece that it sent placed
 abbrev pub leaves_lane : Status → Bool → Bool
 leaves_lane Active placed = false
 leaves_lane Ended placed = false

@@ -6,7 +6,7 @@ ghost use Rattle.sd_world.specs.Reads.{ClosedReads, ClosedIsCountable, Cancelled
 ghost use Rattle.sd_world.specs.Seats.{MovesKeepSeats};
 ghost use Rattle.sd_world.specs.Stands.{StepsKeepSpans};
 ghost use Rattle.sd_world.specs.Stays.{ClosedSpansLast, PlacedIsFound, ClosedIsFound};
-ghost use Rattle.sd_world.specs.MachineSteps.{MovesAreSteps, FreshMatches, ReadingKeepsMatches};
+ghost use Rattle.sd_world.specs.MachineSteps.{MovesAreSteps, NotYetIsOutstanding, FreshMatches, ReadingKeepsMatches};
 ghost use Rattle.sd_world.specs.Fails.{MovesFailByCause, MovesPurgeByCause};
 ghost use Rattle.sd_world.specs.Honest.{MovesKeepHonesty};
 ghost use Rattle.sd_world.specs.Kept.{MovesKeepRules, MovesKeepClaims, MovesKeepClosed};
@@ -50,6 +50,11 @@ pub fn moves_keep_honesty<D>()
 /// A move of a world is a step of each list machine that it matches.
 pub fn moves_are_steps<D>()
     ensures { MovesAreSteps D }
+{}
+
+/// The close of an ended session is answered 'not yet' exactly if something of it is outstanding.
+pub fn not_yet_is_outstanding<D>()
+    ensures { NotYetIsOutstanding D }
 {}
 
 /// A world without sessions matches the empty list machine of its run.

@@ -44,12 +44,12 @@ returns-in-Err g c = λ own queue requests.
             | inl u ↦ (
               desk,
               None,
-              inr (inr (record {
-                due = none;
-                refuses = u.1;
-                on_shelf = λ honest. e.on_shelf honest none;
-                unmounts = (u.0, called_refused (λ x. g.D.Driver.meaning x) why _ _ e.counted e.keeps e.later, refl);
-              })),
+              inr (inr (
+                none,
+                u.1,
+                (λ honest. e.on_shelf honest none),
+                (u.0, called_refused (λ x. g.D.Driver.meaning x) why _ _ e.counted e.keeps e.later, refl),
+              )),
             )
             | inr f ↦ (
               desk,

@@ -37,12 +37,12 @@ returns-in-Err g c = λ queue.
           elim (e.mounts none).2 [
             | inl u ↦ (
               None,
-              inr (inr (record {
-                due = none;
-                refuses = u.1;
-                on_shelf = λ honest. e.on_shelf honest none;
-                unmounts = (u.0, calls_are (λ x. g.D.Driver.meaning x) _ ⊥ _ _ (counted_refused _ _ why e.counted) e.keeps e.later, refl);
-              })),
+              inr (inr (
+                none,
+                u.1,
+                (λ honest. e.on_shelf honest none),
+                (u.0, calls_are (λ x. g.D.Driver.meaning x) _ ⊥ _ _ (counted_refused _ _ why e.counted) e.keeps e.later, refl),
+              )),
             )
             | inr f ↦ (
               Some f.0.volume.name,

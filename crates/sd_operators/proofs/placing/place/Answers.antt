@@ -71,7 +71,7 @@ returns-in-Err g c = λ own queue desk.
       (
         refl,
         (
-          (record { piece = p.piece; at = p.at; volume = p.volume; after = p.after; ready = p.ready; on = p.on; room = p.room; becomes = p.becomes }, c.in-Err.ensures.unchanged),
+          (record { piece = p.piece; at = p.at; volume = p.volume; after = p.after; ready = p.ready; on = p.on; room = p.room; becomes = p.becomes }, c.in-Err.ensures.unchanged.shelf),
           calls_are (λ d. g.D.Driver.meaning d) ⊥ ⊥ _ _ (recounted _ _ (λ x. absurd x) (λ x. cc x) (λ x. absurd x) (λ x. (let y = x.0 in cc y)) c.in-Err.ensures.counted) c.in-Err.ensures.keeps c.in-Err.ensures.later,
           refl,
         ),

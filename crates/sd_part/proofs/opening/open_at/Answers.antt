@@ -30,7 +30,7 @@ invariant_of-result g c =
 pub store_back-requires-clause-stored : goal.store_back-requires-clause-stored
 store_back-requires-clause-stored g c κs within =
     let l = c.limits-limits.result.now in
-    subst IsSome (sym (starts_stored c.args.opening (l.block - block_header) l.spool (g.S.SpoolStore.meaning c.unwrap-store.result) c.in-Ok.session c.in-Ok.ensures.ok)) refl
+    subst IsSome (sym (starts_stored c.args.opening (l.block - block_header) l.spool (state_of (g.S.SpoolStore.meaning c.unwrap-store.result)) c.in-Ok.session c.in-Ok.ensures.ok)) refl
 
 pub not_parted-requires-in-Err-serve-after_bounds : goal.not_parted-requires-in-Err-serve-after_bounds
 not_parted-requires-in-Err-serve-after_bounds g c κs within =
@@ -48,7 +48,7 @@ returns-in-Ok-serve-clause-ok g c =
     let f : EndIs = record { seat = c.end.inside.seat; store = option_map (λ s. state_of (g.S.SpoolStore.meaning s)) c.end.inside.store; sessions = c.end.inside.sessions.items } in
     opened c.args.line.now.limits c.args.end f c.reserve.new.self.items m c.args.opening c.in-Ok.session c.end.view_is c.reserve.ensures.items
     (ap (option_map (λ s. state_of (g.S.SpoolStore.meaning s))) c.unwrap-store.ensures)
-    (subst (λ (l : Limits). StartsSession c.args.opening (l.block - block_header) l.spool m c.in-Ok.session) c.limits-limits.ensures.limits c.in-Ok.ensures.ok)
+    (subst (λ (l : Limits). StartsSession c.args.opening (l.block - block_header) l.spool (state_of m) c.in-Ok.session) c.limits-limits.ensures.limits c.in-Ok.ensures.ok)
 
 pub returns-in-Err-serve-clause-err : goal.returns-in-Err-serve-clause-err
 returns-in-Err-serve-clause-err g c =

@@ -21,19 +21,19 @@ pub returns-in-Ok-SpoolFull : goal.returns-in-Ok-SpoolFull
 returns-in-Ok-SpoolFull g c =
     let f = read_found c.args.ticket _ _ _ _ _ c.in-Some.ensures.found c.deref.ensures.value c.index_mut-entry.ensures.value c.entry.view_is in
     let spools : Spools SpoolFull c.entry.inside.session c.spool_step.new.self = subst (λ (a : Spooling). Spools a c.entry.inside.session c.spool_step.new.self) c.in-Ok-SpoolFull.field-0-is c.in-Ok-SpoolFull.ensures.ok in
-    record { moves = changes_one (world_of c.args.parts.now) _ _ _ c.spool_step.new.self (Spools SpoolFull) f spools (ap (λ (x : SessionView). x.key.id) spools.is) }
+    record { moves = changes_one (world_of c.args.parts.now) _ _ _ c.spool_step.new.self (Spools SpoolFull) f spools (ap (λ (x : SessionView). x.key.id) spools.2) }
 
 pub returns-in-Ok-Nothing : goal.returns-in-Ok-Nothing
 returns-in-Ok-Nothing g c =
     let f = read_found c.args.ticket _ _ _ _ _ c.in-Some.ensures.found c.deref.ensures.value c.index_mut-entry.ensures.value c.entry.view_is in
     let spools : Spools Nothing c.entry.inside.session c.spool_step.new.self = subst (λ (a : Spooling). Spools a c.entry.inside.session c.spool_step.new.self) c.in-Ok-Nothing.field-0-is c.in-Ok-Nothing.ensures.ok in
-    record { moves = changes_one (world_of c.args.parts.now) _ _ _ c.spool_step.new.self (Spools Nothing) f spools (ap (λ (x : SessionView). x.key.id) spools.is) }
+    record { moves = changes_one (world_of c.args.parts.now) _ _ _ c.spool_step.new.self (Spools Nothing) f spools (ap (λ (x : SessionView). x.key.id) spools.3) }
 
 pub returns-in-Ok-NoSpool : goal.returns-in-Ok-NoSpool
 returns-in-Ok-NoSpool g c =
     let f = read_found c.args.ticket _ _ _ _ _ c.in-Some.ensures.found c.deref.ensures.value c.index_mut-entry.ensures.value c.entry.view_is in
     let spools : Spools NoSpool c.entry.inside.session c.spool_step.new.self = subst (λ (a : Spooling). Spools a c.entry.inside.session c.spool_step.new.self) c.in-Ok-NoSpool.field-0-is c.in-Ok-NoSpool.ensures.ok in
-    record { moves = changes_one (world_of c.args.parts.now) _ _ _ c.spool_step.new.self (Spools NoSpool) f spools (ap (λ (x : SessionView). x.key.id) spools.is) }
+    record { moves = changes_one (world_of c.args.parts.now) _ _ _ c.spool_step.new.self (Spools NoSpool) f spools (ap (λ (x : SessionView). x.key.id) spools.2) }
 
 pub returns-in-Err : goal.returns-in-Err
 returns-in-Err g c =

@@ -16,3 +16,6 @@ returns-clause-found g c = rw (← c.self.view_is) c.read_session.ensures.found
 
 pub returns-clause-first : goal.returns-clause-first
 returns-clause-first g c = rw (← c.self.view_is) c.read_session.ensures.first
+
+pub returns-clause-met : goal.returns-clause-met
+returns-clause-met g c = rw (← c.self.view_is) c.read_session.ensures.met
