@@ -2,7 +2,7 @@
 use Rattle.std.specs.Prelude.{◌≡◌, ℕ, ◌+◌, ◌-◌, ◌≤◌, ◌<◌, ◌==◌, not, if◌then◌else◌, Option, Some, None, List, [], ◌∷◌, filter, slice_get}
 use Rattle.sd_session.specs.declared.status.Status.{Status}
 use Rattle.sd_session.specs.declared.status.Status.TheVariants.{Active}
-use Rattle.sd_view.specs.declared.view.SessionLine.{SessionLine}
+use Rattle.sd_core.specs.declared.view.SessionLine.{SessionLine}
 use Rattle.sd_board.specs.declared.posted.Posted.{Posted}
 
 -- the tickets of these lines rise, from `least` on, up to `last`

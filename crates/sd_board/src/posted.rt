@@ -4,8 +4,8 @@ ghost use Rattle.sd_base.specs.Choice.{NoneOf};
 ghost use Rattle.sd_board.specs.Lines.{HasTicket, StandsAt, TicketsRise, session_line};
 
 use sd_base::{DriveNo, LaneNo, Ticket};
+use sd_core::SessionLine;
 use sd_session::Status;
-use sd_view::SessionLine;
 
 /// What the board tells of a session: the lane of the drive to which it sends, where it stands, and how many records it took.
 #[derive(Clone, Copy, Debug, PartialEq, Eq)]

@@ -5,10 +5,10 @@ ghost use Rattle.sd_board.specs.Lines.{line_of, posted_as, session_line};
 use crate::board::Board;
 use crate::posted::{Posted, find};
 use sd_base::{Items, Ticket};
+use sd_core::SessionLine;
 use sd_line::Naming;
 use sd_session::Status;
 use sd_spool::SpoolStore;
-use sd_view::SessionLine;
 use std::alloc::{AllocError, Global};
 
 impl<N: Naming, S: SpoolStore + Drop> Board<N, S> {

@@ -11,6 +11,7 @@ mod making;
 mod reading;
 mod showing;
 mod stepping;
+mod view;
 mod world;
 
 pub use conf::{NotMade, WorldConf};
@@ -18,5 +19,5 @@ pub use sd_machine::{Event, Reply};
 pub use sd_readback::{ReadEnd, Sink};
 pub use sd_session::Status;
 pub use sd_span::Span;
-pub use sd_view::{DriveLine, Loaded, SessionLine, View, VolumeLine};
+pub use view::{DriveLine, Loaded, SessionLine, View, VolumeLine};
 pub use world::World;

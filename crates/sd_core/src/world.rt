@@ -21,6 +21,7 @@ use crate::listing::list_running;
 use crate::reading::read_knowing;
 use crate::showing::{show_drives, show_sessions, show_volumes};
 use crate::stepping::{answer, answer_append};
+use crate::view::View;
 use sd_base::{Rec, Refusal, SessionKey, Ticket};
 use sd_desk::{Desk, Request};
 use sd_drive::Limits;
@@ -32,7 +33,6 @@ use sd_readback::{ReadEnd, Sink};
 use sd_session::Status;
 use sd_span::Span;
 use sd_spool::SpoolStore;
-use sd_view::View;
 use std::alloc::{AllocError, Global};
 use std::marker::Model;
 

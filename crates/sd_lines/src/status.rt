@@ -2,12 +2,12 @@
 use crate::hub::{Hub, Post};
 use sd_base::{DriveNo, Items, LaneNo};
 use sd_board::Board;
+use sd_core::{DriveLine, Loaded, SessionLine, View, VolumeLine};
 use sd_drive::Drive;
 use sd_driver::Driver;
 use sd_line::{DriveSide, Naming};
 use sd_session::Status;
 use sd_spool::SpoolStore;
-use sd_view::{DriveLine, Loaded, SessionLine, View, VolumeLine};
 use std::alloc::AllocError;
 use std::sync::Wait;
 use std::sync::atomic::Ordering;

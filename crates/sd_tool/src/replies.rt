@@ -10,13 +10,13 @@ ghost use Rattle.sd_words.specs.Lines.{line};
 use crate::line::SessionLine;
 use sd_base::{Refusal, SessionKey};
 use sd_console::{ReplyLine, requests_text, status_text};
+use sd_core::View;
 use sd_desk::Request;
 use sd_machine::Reply;
 use sd_printer::Printer;
 use sd_readback::ReadEnd;
 use sd_records::EndLine;
 use sd_span::Span;
-use sd_view::View;
 use std::alloc::Global;
 use std::io::Write;
 

@@ -10,6 +10,7 @@ ghost use Rattle.sd_tool.specs.ScriptStage.{KeepsStage, StageMoves};
 use crate::making::{Room, ScriptWorld};
 use crate::values::Values;
 use sd_base::{Refusal, SessionKey, Ticket};
+use sd_core::View;
 use sd_desk::Request;
 use sd_driver::Driver;
 use sd_lane::Lanes;
@@ -18,7 +19,6 @@ use sd_readback::{ReadEnd, Sink};
 use sd_rounds::drain;
 use sd_session::Status;
 use sd_span::Span;
-use sd_view::View;
 use std::alloc::{AllocError, Global};
 use std::marker::Model;
 
