@@ -7,7 +7,7 @@ use Rattle.sd_base.specs.declared.refusal.Refusal.{Refusal}
 use Rattle.sd_base.specs.declared.refusal.Refusal.TheVariants as refusals
 use Rattle.sd_bnet.specs.declared.packet.Packet.{Packet}
 use Rattle.sd_bnet.specs.declared.packet.Packet.TheVariants.{Bytes}
-use Rattle.sd_words.specs.Lines.{line}
+use Rattle.sd_text.specs.Lines.{line}
 use Rattle.sd_append.specs.Talk.{said}
 use Rattle.sd_append.specs.declared.line.ReplyLine.{ReplyLine}
 use Rattle.sd_append.specs.declared.line.ReplyLine.TheVariants as lines

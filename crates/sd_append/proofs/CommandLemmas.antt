@@ -6,10 +6,10 @@ use Rattle.std.specs.Str.Pattern.{LacksTextAt}
 use Rattle.std.proofs.lemmas.Bool.{cond-true}
 use Rattle.std.proofs.lemmas.List.{append_cancel_left}
 use Rattle.sd_base.specs.Limits.{most_number}
-use Rattle.sd_words.specs.Fields.{Fields, fields_of}
-use Rattle.sd_words.specs.Reading.{◌>>=◌, number_in, word_at, all_read}
-use Rattle.sd_words.proofs.NumberLemmas.{number_in_takes, number_in_again}
-use Rattle.sd_words.proofs.ReadingLemmas.{bind_some, some_is, word_at_takes, word_at_again, all_read_takes}
+use Rattle.sd_text.specs.Fields.{Fields, fields_of}
+use Rattle.sd_text.specs.Reading.{◌>>=◌, number_in, word_at, all_read}
+use Rattle.sd_text.proofs.NumberLemmas.{number_in_takes, number_in_again}
+use Rattle.sd_text.proofs.ReadingLemmas.{bind_some, some_is, word_at_takes, word_at_again, all_read_takes}
 use Rattle.sd_append.specs.declared.command.Command.{Command}
 use Rattle.sd_append.specs.declared.command.Command.TheVariants.{Open, Data, End, Close, Read, Console}
 use Rattle.sd_append.specs.declared.command.CommandFault.{CommandFault}

@@ -3,9 +3,9 @@ use Rattle.std.proofs.Common.{◌≡◌, ℕ, ◌<◌, refl, sym, ap, subst, ◌
 use Rattle.std.specs.Prelude.{All}
 use Rattle.std.specs.Fmt.{decimal}
 use Rattle.sd_base.specs.Limits.{most_number}
-use Rattle.sd_words.specs.Fields.{Fields, fields_of}
-use Rattle.sd_words.specs.Reading.{◌>>=◌, number_at, word_at, all_read}
-use Rattle.sd_words.proofs.ReadingLemmas.{bind_some, some_is, number_at_takes, number_at_again, word_at_takes, word_at_again, all_read_takes}
+use Rattle.sd_text.specs.Fields.{Fields, fields_of}
+use Rattle.sd_text.specs.Reading.{◌>>=◌, number_at, word_at, all_read}
+use Rattle.sd_text.proofs.ReadingLemmas.{bind_some, some_is, number_at_takes, number_at_again, word_at_takes, word_at_again, all_read_takes}
 use Rattle.sd_append.specs.Text.{trimmed}
 use Rattle.sd_append.specs.Header.{HeaderParts, AreWithin, IsInfo, HasHeaderForm, header_shape}
 

@@ -7,7 +7,7 @@ use Rattle.std.specs.Io.KnownBytes.{Appends}
 use Rattle.std.proofs.lemmas.Fmt.{contents_after_writes}
 use Rattle.sd_bnet.specs.Packet.{packet_bytes}
 use Rattle.sd_bnet.specs.declared.packet.Packet.TheVariants.{Bytes}
-use Rattle.sd_printer.specs.Says.{SendsUpTo}
+use Rattle.sd_text.specs.Says.{SendsUpTo}
 use Rattle.sd_append.specs.Out.{OutView, PutsOut, PutsBy}
 
 puts_none_by : (written : Option (List ℕ)) (failed : Bool) (waiting : List ℕ) → PutsBy written written failed failed waiting waiting []

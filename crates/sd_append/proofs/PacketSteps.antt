@@ -9,7 +9,7 @@ use Rattle.sd_machine.specs.declared.event.Event.TheVariants as events
 use Rattle.sd_machine.specs.declared.reply.Reply.{Reply}
 use Rattle.sd_machine.specs.declared.reply.Reply.TheVariants as replies
 use Rattle.sd_span.specs.JobMedia.{session_text}
-use Rattle.sd_words.specs.Lines.{line}
+use Rattle.sd_text.specs.Lines.{line}
 use Rattle.sd_append.specs.Command.{SpellsCommand}
 use Rattle.sd_append.specs.Header.{HeaderParts}
 use Rattle.sd_append.specs.Port.{Exchange, Stepped}

@@ -10,8 +10,8 @@ use Rattle.std.proofs.lemmas.Slice.Eq.{bytes_eq-Decides}
 use Rattle.sd_base.specs.declared.number.SessionKey.{SessionKey}
 use Rattle.sd_base.specs.declared.refusal.Refusal.{Refusal}
 use Rattle.sd_base.specs.declared.refusal.Refusal.TheVariants as refusals
-use Rattle.sd_words.specs.Lines.{line, lines_of}
-use Rattle.sd_words.proofs.LineLemmas.{HasNoNewline, lines_of-ended}
+use Rattle.sd_text.specs.Lines.{line, lines_of}
+use Rattle.sd_text.proofs.LineLemmas.{HasNoNewline, lines_of-ended}
 use Rattle.sd_span.specs.declared.span.Span.{Span}
 use Rattle.sd_span.specs.declared.jobmedia.JobMediaFault.{JobMediaFault}
 use Rattle.sd_span.specs.declared.jobmedia.JobMediaFault.TheVariants.{BadSpan, Memory}

@@ -12,7 +12,7 @@ use Rattle.sd_readback.specs.declared.read.ReadEnd.{ReadEnd}
 use Rattle.sd_span.specs.JobMedia.{KeyFits, SpanFits, jobmedia_text, session_text, span_text}
 use Rattle.sd_span.specs.declared.span.Span.{Span}
 use Rattle.sd_span.proofs.TextLemmas.{jobmedia_is_one}
-use Rattle.sd_words.specs.Lines.{line}
+use Rattle.sd_text.specs.Lines.{line}
 use Rattle.sd_append.specs.Command.{SpellsCommand}
 use Rattle.sd_append.specs.Port.{Exchange, WasRead}
 use Rattle.sd_append.specs.Talk.{IsSpanLine, ReadsBack, end_of_data, read_end_said, record_said, refused}

@@ -7,7 +7,7 @@ use Rattle.std.proofs.lemmas.List.Elements.{All-from_recursion}
 use Rattle.std.proofs.lemmas.List.{append-nil}
 use Rattle.sd_base.specs.declared.number.SessionKey.{SessionKey}
 use Rattle.sd_base.specs.declared.refusal.Refusal.TheVariants as refusals
-use Rattle.sd_words.specs.Lines.{line}
+use Rattle.sd_text.specs.Lines.{line}
 use Rattle.sd_span.specs.JobMedia.{session_text}
 use Rattle.sd_bnet.specs.Stream.{stream_of}
 use Rattle.sd_bnet.specs.declared.packet.Packet.{Packet}

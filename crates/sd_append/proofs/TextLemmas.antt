@@ -5,11 +5,11 @@ use Rattle.std.proofs.lemmas.Bool.{cond-true, cond-false}
 use Rattle.std.proofs.lemmas.Fmt.{digits_decimal}
 use Rattle.std.proofs.lemmas.List.Elements.{All-from_get_or}
 use Rattle.std.proofs.lemmas.Str.Parse.{digit_at}
-use Rattle.sd_words.specs.Fields.{HasNoBlank, fields_of, joined}
-use Rattle.sd_words.specs.Reading.{number_in, only_number}
-use Rattle.sd_words.proofs.FieldLemmas.{fields_of-joined, joined-fields_of}
-use Rattle.sd_words.proofs.NumberLemmas.{own, number_in_takes, number_in_again}
-use Rattle.sd_words.proofs.ReadingLemmas.{only_number_takes, only_number_again}
+use Rattle.sd_text.specs.Fields.{HasNoBlank, fields_of, joined}
+use Rattle.sd_text.specs.Reading.{number_in, only_number}
+use Rattle.sd_text.proofs.FieldLemmas.{fields_of-joined, joined-fields_of}
+use Rattle.sd_text.proofs.NumberLemmas.{own, number_in_takes, number_in_again}
+use Rattle.sd_text.proofs.ReadingLemmas.{only_number_takes, only_number_again}
 use Rattle.sd_append.specs.Text.{is_end, trimmed}
 
 -- a newline or a zero byte ends a text, and nothing else does

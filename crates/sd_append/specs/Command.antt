@@ -5,8 +5,8 @@ use Rattle.sd_base.specs.Name.{IsName}
 use Rattle.sd_base.specs.Limits.{most_number}
 use Rattle.sd_base.specs.declared.refusal.Refusal as base
 use Rattle.sd_base.specs.declared.refusal.Refusal.TheVariants as refusals
-use Rattle.sd_words.specs.Fields.{fields_of}
-use Rattle.sd_words.specs.Reading.{number_in}
+use Rattle.sd_text.specs.Fields.{fields_of}
+use Rattle.sd_text.specs.Reading.{number_in}
 use Rattle.sd_append.specs.declared.command.Command.{Command}
 use Rattle.sd_append.specs.declared.command.Command.TheVariants.{Open, Data, End, Close, Read, Console}
 use Rattle.sd_append.specs.declared.command.CommandFault.{CommandFault}

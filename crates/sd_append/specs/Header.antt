@@ -2,8 +2,8 @@
 use Rattle.std.specs.Prelude.{◌≡◌, ◌==◌, ℕ, ◌≤◌, ◌<◌, if◌then◌else◌, List, [], ◌∷◌, length, drop, slice_index, All, Option}
 use Rattle.std.specs.Fmt.{decimal}
 use Rattle.sd_base.specs.Limits.{most_number}
-use Rattle.sd_words.specs.Fields.{Fields, fields_of}
-use Rattle.sd_words.specs.Reading.{◌>>=◌, number_at, word_at, all_read}
+use Rattle.sd_text.specs.Fields.{Fields, fields_of}
+use Rattle.sd_text.specs.Reading.{◌>>=◌, number_at, word_at, all_read}
 use Rattle.sd_append.specs.Text.{IsDigit, trimmed}
 
 -- the FileIndex and the Stream of the records that follow

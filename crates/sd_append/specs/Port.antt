@@ -1,6 +1,6 @@
 -- What a port was asked, and what it answered.
 use Rattle.std.specs.Prelude.{◌≡◌, ℕ, ℤ, List, Result}
-use Rattle.sd_words.specs.Lines.{line}
+use Rattle.sd_text.specs.Lines.{line}
 use Rattle.sd_base.specs.Record.{Record}
 use Rattle.sd_base.specs.declared.refusal.Refusal.{Refusal}
 use Rattle.sd_base.specs.declared.number.SessionKey.{SessionKey}

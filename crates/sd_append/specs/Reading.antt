@@ -1,8 +1,8 @@
 -- What command a text spells that is read from its front on; apart from how commands are spelled.
 use Rattle.std.specs.Prelude.{◌≡◌, ◌==◌, ℕ, if◌then◌else◌, List, [], ◌∷◌, Option, Some, None, Result, Ok, Err, MatchResult, codes}
 use Rattle.sd_base.specs.Limits.{most_number}
-use Rattle.sd_words.specs.Fields.{Fields}
-use Rattle.sd_words.specs.Reading.{◌>>=◌, word_at, number_in, all_read}
+use Rattle.sd_text.specs.Fields.{Fields}
+use Rattle.sd_text.specs.Reading.{◌>>=◌, word_at, number_in, all_read}
 use Rattle.sd_append.specs.declared.command.Command.{Command}
 use Rattle.sd_append.specs.declared.command.Command.TheVariants.{Open, Read}
 use Rattle.sd_append.specs.declared.command.CommandFault.{CommandFault}

@@ -5,7 +5,7 @@ use Rattle.sd_base.specs.Record.{Record}
 use Rattle.sd_base.specs.declared.refusal.Refusal.{Refusal}
 use Rattle.sd_base.specs.declared.refusal.Refusal.TheVariants.{BadCommand, BadFileIndex, BadName, BadSpan, Memory, SessionNotOpen}
 use Rattle.sd_base.specs.declared.number.SessionKey.{SessionKey}
-use Rattle.sd_words.specs.Lines.{line}
+use Rattle.sd_text.specs.Lines.{line}
 use Rattle.sd_bnet.specs.declared.packet.Packet.{Packet}
 use Rattle.sd_bnet.specs.declared.packet.Packet.TheVariants.{Bytes, Signal}
 use Rattle.sd_span.specs.JobMedia.{IsJobMedia, SpanFits, session_text, span_text}

@@ -4,7 +4,7 @@ use Rattle.std.specs.Io.KnownBytes.{Appends, Consumes, IsAtEnd}
 use Rattle.std.specs.declared.alloc.AllocError.{AllocError}
 use Rattle.sd_bnet.specs.Stream.{stream_of}
 use Rattle.sd_bnet.specs.declared.packet.Packet.{Packet}
-use Rattle.sd_printer.specs.Says.{SendsUpTo}
+use Rattle.sd_text.specs.Says.{SendsUpTo}
 use Rattle.sd_append.specs.declared.end.TalkEnd.{TalkEnd}
 use Rattle.sd_append.specs.declared.end.TalkEnd.TheVariants.{OutOfTurns, WriteFault}
 use Rattle.sd_append.specs.Conversation.{Conversation}

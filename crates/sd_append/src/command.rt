@@ -5,7 +5,7 @@ ghost use Rattle.sd_append.specs.declared.command.CommandFault.TheVariants.{BadC
 
 use sd_base::{BadName, JobId, MediaName, PoolName, Refusal, SessionKey, Ticket};
 use sd_script::Text;
-use sd_words::BadField;
+use sd_text::BadField;
 
 /// A command of a client. A ticket is `None` where the command names a number that no session has.
 #[derive(Drop)]

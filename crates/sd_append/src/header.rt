@@ -1,12 +1,12 @@
 // The header before the records of one FileIndex and Stream.
 ghost use Rattle.std.specs.Prelude.{◌≡◌, ◌↔◌, ◌≤◌, Some, IfSome, IfOk, IsTrue};
 ghost use Rattle.sd_base.specs.Limits.{most_number};
-ghost use Rattle.sd_words.specs.Reading.{ReadsAll};
+ghost use Rattle.sd_text.specs.Reading.{ReadsAll};
 ghost use Rattle.sd_append.specs.Header.{AreWithin, HasHeaderForm, HeaderParts, IsInfo, header_shape, without_minus};
 
 use crate::text::{ascii_text, trimmed};
 use sd_base::{MOST_NUMBER, Rec};
-use sd_words::{BadField, Words};
+use sd_text::{BadField, Words};
 use std::marker::Model;
 
 /// The greatest FileIndex and Stream, in the width that fields are read in.

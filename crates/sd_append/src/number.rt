@@ -1,10 +1,10 @@
 // Numbers that stand alone in a text.
 ghost use Rattle.std.specs.Prelude.{◌≡◌, ◌↔◌, IsTrue};
-ghost use Rattle.sd_words.specs.Reading.{number_in};
+ghost use Rattle.sd_text.specs.Reading.{number_in};
 ghost use Rattle.sd_append.specs.Text.{IsDecimal};
 
 use sd_base::Number;
-use sd_words::Words;
+use sd_text::Words;
 
 /// The number from 1 to `MOST` that the text spells.
 pub(crate) fn number_of<K, const MOST: u32>(text: &str) -> Option<Number<K, MOST>>

@@ -2,14 +2,14 @@
 ghost use Rattle.std.specs.Prelude.{◌≡◌, ◌<◌, ◌≤◌, ◌++◌, ℕ, pos, negsuc, List, [], length, None, IfSome};
 ghost use Rattle.sd_base.specs.Field.{i32_bytes};
 ghost use Rattle.sd_base.specs.Limits.{most_data};
-ghost use Rattle.sd_words.specs.Lines.{line};
+ghost use Rattle.sd_text.specs.Lines.{line};
 ghost use Rattle.sd_bnet.specs.Packet.{packet_bytes};
 ghost use Rattle.sd_bnet.specs.declared.packet.Packet.TheVariants.{Bytes, Signal};
 ghost use Rattle.sd_append.specs.Out.{PutsOut, out_view};
 
 use arrayvec::ArrayString;
 use sd_base::put_i32;
-use sd_printer::{WriteFault, line_of, write_all};
+use sd_text::{WriteFault, line_of, write_all};
 use std::fmt::{Display, Write as _};
 use std::io::Write;
 

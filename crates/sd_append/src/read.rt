@@ -1,6 +1,6 @@
 // The commands of a client, read: what is read has the form of the command, and what has a form is read.
 ghost use Rattle.std.specs.Prelude.{◌≡◌, ◌++◌, ◌↔◌, List, ℕ, Ok, Err, IfOk, IfSome, IfNone, MatchResult};
-ghost use Rattle.sd_words.specs.Reading.{ReadsFirst};
+ghost use Rattle.sd_text.specs.Reading.{ReadsFirst};
 ghost use Rattle.sd_append.specs.Text.{IsDecimal};
 ghost use Rattle.sd_append.specs.Command.{SpellsCommand, HasShape, AreNames, IsTicket, head_text};
 ghost use Rattle.sd_append.specs.Reading.{Gives, Tells, keyed_at, keyed_number_at, open_shape, read_shape};
@@ -12,7 +12,7 @@ use crate::number::{is_decimal, number_of};
 use crate::text::{ascii_text, trimmed};
 use sd_base::{JobId, Name, Number, SessionKey, Ticket};
 use sd_script::Text;
-use sd_words::{BadField, Words};
+use sd_text::{BadField, Words};
 
 /// The command of a packet.
 pub fn read_command(packet: &[u8]) -> Result<Command<'_>, CommandFault>

@@ -3,7 +3,7 @@ ghost use Rattle.std.specs.Prelude.{◌≡◌, ◌++◌, List, true, Err, IfOk, 
 ghost use Rattle.sd_base.specs.declared.number.SessionKey.{SessionKey as SpecKey};
 ghost use Rattle.sd_span.specs.JobMedia.{IsJobMedia, session_text};
 ghost use Rattle.sd_span.specs.declared.span.Span.{Span as SpecSpan};
-ghost use Rattle.sd_words.specs.Lines.{line};
+ghost use Rattle.sd_text.specs.Lines.{line};
 ghost use Rattle.sd_append.specs.Talk.{IsSpanLine, is_one_line};
 
 use sd_base::SessionKey;
@@ -22,7 +22,7 @@ impl Model for SpanText {
     ghost use Rattle.std.specs.Prelude.{List, ℕ, ◌++◌};
     ghost use Rattle.std.specs.String.{string_bytes};
     ghost use Rattle.sd_span.specs.JobMedia.{session_text};
-    ghost use Rattle.sd_words.specs.Lines.{line};
+    ghost use Rattle.sd_text.specs.Lines.{line};
 
     ghost Value = { List ℕ };
 

@@ -4,7 +4,7 @@ ghost use Rattle.sd_append.specs.Does.{Does};
 ghost use Rattle.sd_append.specs.Out.{out_view};
 ghost use Rattle.sd_append.specs.Talk.{Obeys, TakesBytes, TakesCommand, TakesSpan, is_one_line};
 ghost use Rattle.sd_append.specs.Text.{trimmed};
-ghost use Rattle.sd_words.specs.Lines.{line};
+ghost use Rattle.sd_text.specs.Lines.{line};
 
 use crate::answers::refuse;
 use crate::command::Command;

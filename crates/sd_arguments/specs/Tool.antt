@@ -1,10 +1,8 @@
 -- What a command line of `sdtool` asks for.
-use Rattle.std.specs.Prelude.{◌≡◌, ◌⊎◌, Bool, if◌then◌else◌, List, [], ◌∷◌, Some, codes, map, unwrap_or}
+use Rattle.std.specs.Prelude.{◌≡◌, ◌⊎◌, Bool, List, [], ◌∷◌, Some, codes, map, unwrap_or}
 use Rattle.clap.specs.Lexer.{usize_max}
 use Rattle.clap.specs.Words.{App, IsAmong, Row, Rule, Shape, Text, all_of, fault_of, first_of, kind_of, new_rule, one_of}
 use Rattle.clap.specs.declared.builder.ArgAction.TheVariants.{Append}
-use Rattle.sd_progress.specs.declared.watched.ShownProgress.{ShownProgress}
-use Rattle.sd_progress.specs.declared.watched.ShownProgress.TheVariants as progress
 use Rattle.sd_arguments.specs.Lines.{IsFlagOf, IsGiven, NamesCommand, command_shape, flag_rule, program_line, required_rule}
 use Rattle.sd_arguments.specs.declared.tool.ToolTask.{ToolTask}
 use Rattle.sd_arguments.specs.declared.tool.ToolTask.TheVariants as asks
@@ -55,11 +53,9 @@ pub record HasItsWords (name : Text) (given : List Row) : Type 0 where
 abbrev pub texts_at : Text → List Row → List Text
 texts_at argument given = unwrap_or (all_of argument given) []
 
--- a reading is told of where `--progress` is given
-pub record IsProgress (given : List Row) (told : ShownProgress) : Type 0 where
-  pub is_told : Bool
-  pub flag : IsFlagOf (one_of (codes "progress") given) is_told
-  pub is : told ≡ (if is_told then progress.Told else progress.Silent)
+-- whether a reading is told of: `--progress` is given
+abbrev pub IsProgress : List Row → Bool → Type 0
+IsProgress given told = IsFlagOf (one_of (codes "progress") given) told
 
 -- the task that this subcommand stands for, with the words for its arguments
 abbrev pub IsToolTask : Text → List Row → ToolTask → Type 0

@@ -1,14 +1,13 @@
 // The command line of the tool.
 ghost use Rattle.std.specs.Prelude.{◌≡◌, IfErr, IfOk, Some, [], codes, false, map, string_bytes};
-ghost use Rattle.clap.specs.Words.{HasKind, app_of, fault_of, first_of, found_of, rows_of, rule_of, shape_of};
+ghost use Rattle.clap.specs.Words.{HasKind, app_of, fault_of, first_of, found_of, one_of, rows_of, rule_of, shape_of};
 ghost use Rattle.clap.specs.declared.builder.command.Command.TheViews.{out-Command as fields_of};
-ghost use Rattle.sd_arguments.specs.Lines.{IsGiven, command_shape, flag_rule, required_rule};
-ghost use Rattle.sd_arguments.specs.Tool.{AsksTool, HasItsWords, IsProgress, IsToolCommand, IsToolTask, list_shape, read_shape};
+ghost use Rattle.sd_arguments.specs.Lines.{IsFlagOf, IsGiven, command_shape, flag_rule, required_rule};
+ghost use Rattle.sd_arguments.specs.Tool.{AsksTool, HasItsWords, IsToolCommand, IsToolTask, list_shape, read_shape};
 ghost use Rattle.sd_arguments.specs.Tool.{scan_shape, texts_at, tool_line, verify_shape, volumes_rule};
 
 use crate::status::lacks_memory;
 use clap::{Arg, ArgAction, ArgMatches, Command, Error};
-use sd_progress::ShownProgress;
 use std::alloc::{AllocError, Global};
 
 /// What a command line of `sdtool` asks for.
@@ -19,19 +18,19 @@ pub enum ToolTask<'a> {
     /// To list the volume in the file at this path.
     List {
         volume: &'a str,
-        progress: ShownProgress,
+        progress: bool,
     },
     /// To read the session back whose JobMedia text is in the file `spans`, from the volumes in `folder`.
     Read {
         spans: &'a str,
         folder: &'a str,
-        progress: ShownProgress,
+        progress: bool,
     },
     /// To find the sessions on the volumes of these names in `folder`; of all volumes there where none is named.
     Scan {
         folder: &'a str,
         volumes: Vec<&'a str>,
-        progress: ShownProgress,
+        progress: bool,
     },
     /// To look for damage on all volumes in `folder`.
     Verify {
@@ -130,14 +129,10 @@ fn words_of<'a>(
     }
 }
 
-fn progress_of(given: &ArgMatches<'_>) -> ShownProgress
-    ensures { IsProgress (rows_of (found_of given.now)) result }
+fn progress_of(given: &ArgMatches<'_>) -> bool
+    ensures { IsFlagOf (one_of (codes "progress") (rows_of (found_of given.now))) result }
 {
-    if given.get_flag(PROGRESS) {
-        ShownProgress::Told
-    } else {
-        ShownProgress::Silent
-    }
+    given.get_flag(PROGRESS)
 }
 
 fn command<'a>(alloc: Global) -> Result<Command<'a>, AllocError>

@@ -7,7 +7,7 @@ use Rattle.sd_base.proofs.ChoiceLemmas.{same_some}
 use Rattle.sd_base.specs.Choice.{NoneOf}
 use Rattle.sd_base.specs.Limits.{most_drives, most_number}
 use Rattle.sd_drive.proofs.Places.{get_more, length_set}
-use Rattle.sd_part.specs.Ends.{EndIs}
+use Rattle.sd_line.specs.Ends.{EndIs}
 use Rattle.sd_session.specs.declared.status.Status.{Status}
 use Rattle.sd_world.proofs.Lookups.{get_set-tells}
 use Rattle.sd_board.specs.Board.{AreNumbered, BoardIs, KeepsBoard, MayRest, Rests}

@@ -10,7 +10,7 @@ use Rattle.sd_base.proofs.ChoiceLemmas.{NoneBelow, same_some}
 use Rattle.sd_base.specs.Choice.{FirstOf, NoneOf}
 use Rattle.sd_base.specs.Limits.{most_lanes}
 use Rattle.sd_drive.proofs.Places.{get_mapped, length_set}
-use Rattle.sd_part.specs.Ends.{EndIs, LastIsOver}
+use Rattle.sd_line.specs.Ends.{EndIs, LastIsOver}
 use Rattle.sd_world.proofs.Lookups.{get_set-tells}
 use Rattle.sd_board.specs.Slots.{AreNew, DriveLanesIs, IsAtHome, IsFree, KeepsLanes, MayLie, SlotIs, TakesLowest, arrived, change_at, ends_in, is_busy, is_free, lies_in, new_lanes, new_slot, slot_with}
 use Rattle.sd_board.specs.declared.sent.Sent.{Sent}

@@ -2,7 +2,7 @@
 use Rattle.std.specs.Prelude.{◌≡◌, ℕ, ◌+◌, ◌-◌, ◌≤◌, Option, Some, List, length, slice_get, slice_set}
 use Rattle.sd_base.specs.Limits.{most_drives, most_number}
 use Rattle.sd_desk.specs.Desk.{DeskView}
-use Rattle.sd_part.specs.Ends.{EndIs}
+use Rattle.sd_line.specs.Ends.{EndIs}
 use Rattle.sd_board.specs.Lines.{TicketsRise}
 use Rattle.sd_board.specs.Slots.{DriveLanesIs, MayLie, lies_in}
 use Rattle.sd_board.specs.declared.posted.Posted.{Posted}

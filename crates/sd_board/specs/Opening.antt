@@ -4,7 +4,7 @@ use Rattle.sd_base.specs.Choice.{FirstOf, NoneOf}
 use Rattle.sd_base.specs.Limits.{most_number}
 use Rattle.sd_base.specs.declared.refusal.Refusal.{Refusal}
 use Rattle.sd_base.specs.declared.refusal.Refusal.TheVariants.{NoSessionNumberLeft, NoDriveOfMedia, NoFreeLane, Memory}
-use Rattle.sd_part.specs.Ends.{EndIs}
+use Rattle.sd_line.specs.Ends.{EndIs}
 use Rattle.sd_reserve.specs.Reserve.{TakesMedia, IsCandidate, Precedes}
 use Rattle.sd_reserve.specs.declared.drive.DriveView.{DriveView}
 use Rattle.sd_board.specs.Board.{BoardIs}

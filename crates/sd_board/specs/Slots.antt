@@ -4,7 +4,7 @@ use Rattle.std.specs.List.{count_by}
 use Rattle.std.specs.Option.{option_and_then, option_to_list}
 use Rattle.sd_base.specs.Choice.{FirstOf}
 use Rattle.sd_base.specs.Limits.{most_lanes}
-use Rattle.sd_part.specs.Ends.{EndIs, LastIsOver}
+use Rattle.sd_line.specs.Ends.{EndIs, LastIsOver}
 use Rattle.sd_board.specs.declared.sent.Sent.{Sent}
 
 -- A lane: its end, unless a session uses it; and what its last session sent, while pieces of that may still be on their way

@@ -6,8 +6,7 @@ ghost use Rattle.sd_board.specs.Slots.{AreNew, IsNewAt, new_lanes};
 use crate::board::Board;
 use crate::lanes::DriveLanes;
 use sd_base::{DriveNo, MOST_DRIVES, MOST_LANES, MediaName};
-use sd_line::Naming;
-use sd_part::LaneEnd;
+use sd_line::{LaneEnd, Naming};
 use sd_spool::SpoolStore;
 use std::alloc::AllocError;
 

@@ -8,8 +8,7 @@ use crate::board::Board;
 use crate::place::drive_place;
 use crate::slot::LaneSlot;
 use sd_base::{DriveNo, MOST_LANES};
-use sd_line::Naming;
-use sd_part::LaneEnd;
+use sd_line::{LaneEnd, Naming};
 use sd_spool::SpoolStore;
 use std::alloc::AllocError;
 

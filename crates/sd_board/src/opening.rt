@@ -1,7 +1,7 @@
 // A session gets its number, its drive and its lane, or gives them back.
 ghost use Rattle.std.specs.Prelude.{◌≡◌, IfErr, IfOk, OnErr, OnOk, None};
 ghost use Rattle.std.specs.List.{AllByRecursion};
-ghost use Rattle.sd_part.specs.Ends.{LastIsOver};
+ghost use Rattle.sd_line.specs.Ends.{LastIsOver};
 ghost use Rattle.sd_board.specs.Board.{MayRest, Rests};
 ghost use Rattle.sd_board.specs.Lines.{IsBelow, last_without, without};
 ghost use Rattle.sd_board.specs.Opening.{OpensLane, OpensNone};
@@ -13,8 +13,7 @@ use crate::posted::Posted;
 use crate::resting::rest_in;
 use crate::seen::DriveSeen;
 use sd_base::{DriveNo, MediaName, PoolName, Refusal, Ticket};
-use sd_line::Naming;
-use sd_part::LaneEnd;
+use sd_line::{LaneEnd, Naming};
 use sd_session::Status;
 use sd_spool::SpoolStore;
 use std::alloc::AllocError;

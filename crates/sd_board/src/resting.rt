@@ -9,8 +9,7 @@ use crate::lanes::DriveLanes;
 use crate::place::drive_place;
 use crate::sent::Sent;
 use sd_base::{DriveNo, LaneNo};
-use sd_line::Naming;
-use sd_part::LaneEnd;
+use sd_line::{LaneEnd, Naming};
 use sd_spool::SpoolStore;
 
 impl<N: Naming, S: SpoolStore + Drop> Board<N, S> {

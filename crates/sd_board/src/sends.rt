@@ -4,14 +4,13 @@ ghost use Rattle.std.specs.Thread.{IsSend};
 ghost use Rattle.sd_board.specs.contracts.board.Board as board;
 ghost use Rattle.sd_board.specs.contracts.lanes.DriveLanes as lanes;
 ghost use Rattle.sd_board.specs.contracts.slot.LaneSlot as slot;
-ghost use Rattle.sd_part.specs.contracts.lane_end.LaneEnd as end;
+ghost use Rattle.sd_line.specs.contracts.lane_end.LaneEnd as end;
 
 use crate::board::Board;
 use crate::lanes::DriveLanes;
 use crate::posted::Posted;
 use crate::slot::LaneSlot;
-use sd_line::Naming;
-use sd_part::LaneEnd;
+use sd_line::{LaneEnd, Naming};
 use sd_spool::SpoolStore;
 
 // Values of the type may.

@@ -3,8 +3,7 @@ ghost use Rattle.std.specs.Prelude.{◌≡◌, None, Some, is_none};
 ghost use Rattle.sd_board.specs.Slots.{IsFree, arrived, is_free, new_slot, slot_with};
 
 use crate::sent::Sent;
-use sd_line::Naming;
-use sd_part::LaneEnd;
+use sd_line::{LaneEnd, Naming};
 use sd_spool::SpoolStore;
 use std::marker::Model;
 

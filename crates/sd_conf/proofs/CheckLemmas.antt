@@ -10,9 +10,9 @@ use Rattle.sd_conf.specs.declared.conf.DriveConf.{DriveConf}
 use Rattle.sd_conf.specs.declared.fault.ConfFault.{ConfFault}
 use Rattle.sd_conf.specs.declared.fault.ConfFault.TheVariants.{Text, Key, Memory}
 use Rattle.sd_conf.specs.declared.fault.FaultKind.{FaultKind}
-use Rattle.sd_printer.specs.Says.{SaidView, Says}
-use Rattle.sd_printer.proofs.SaysLemmas.{says_then}
-use Rattle.sd_words.specs.Lines.{line}
+use Rattle.sd_text.specs.Says.{SaidView, Says}
+use Rattle.sd_text.proofs.SaysLemmas.{says_then}
+use Rattle.sd_text.specs.Lines.{line}
 use Rattle.sd_conf.specs.Check.{Input, conf_lines, drive_lines, drive_text, fault_text, kind_word}
 use Rattle.sd_conf.specs.declared.check.CheckFault.{CheckFault}
 use Rattle.sd_conf.specs.declared.check.CheckFault.TheVariants.{Conf as Bad}

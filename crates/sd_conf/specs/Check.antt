@@ -12,8 +12,8 @@ use Rattle.sd_conf.specs.declared.fault.FaultKind.{FaultKind}
 use Rattle.sd_conf.specs.declared.fault.FaultKind.TheVariants.{Unknown, Missing, Kind, Range}
 use Rattle.sd_conf.specs.declared.fault.ConfFault.{ConfFault}
 use Rattle.sd_conf.specs.declared.fault.ConfFault.TheVariants.{Text, Key, Memory as NoMemory}
-use Rattle.sd_printer.specs.Says.{SaidView, Says}
-use Rattle.sd_words.specs.Lines.{line}
+use Rattle.sd_text.specs.Says.{SaidView, Says}
+use Rattle.sd_text.specs.Lines.{line}
 use Rattle.sd_conf.specs.declared.check.CheckFault.{CheckFault}
 use Rattle.sd_conf.specs.declared.check.CheckFault.TheVariants.{Input as NoInput, Conf as Bad}
 use Rattle.sd_conf.specs.declared.conf_line.ConfLine.{ConfLine}

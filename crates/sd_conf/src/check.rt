@@ -1,9 +1,9 @@
 // A configuration that is read from the input and printed.
 ghost use Rattle.std.specs.Prelude.{◌≡◌, IfErr, IfOk};
 ghost use Rattle.sd_conf.specs.Conf.{IsWithinLimits};
-ghost use Rattle.sd_printer.specs.Says.{Says, said_view};
+ghost use Rattle.sd_text.specs.Says.{Says, said_view};
 ghost use Rattle.std.specs.Fmt.{decimal};
-ghost use Rattle.sd_words.specs.Lines.{line};
+ghost use Rattle.sd_text.specs.Lines.{line};
 ghost use Rattle.sd_conf.specs.Check.{Input, IsOfText, PrintsCheck, ReadsConf, checked_lines, conf_lines, drive_lines, drive_text, fault_line, fault_text, kind_word, status_of};
 
 use crate::conf::{Conf, DriveConf};
@@ -13,7 +13,7 @@ use crate::read::read_conf;
 use crate::text::Text;
 use itoa::Buffer;
 use sd_base::Refusal;
-use sd_printer::Printer;
+use sd_text::Printer;
 use std::alloc::Global;
 use std::io::{ErrorKind, Read, Write};
 use std::str;

@@ -1,3 +1,6 @@
+pub mod Lines
 pub mod Replies
 pub mod Requests
 pub mod Status
+pub mod Told
+pub mod Watched

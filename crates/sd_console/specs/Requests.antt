@@ -1,7 +1,7 @@
 -- The lines of the requests for volumes, without their newlines.
 use Rattle.std.specs.Prelude.{ℕ, List, [], ◌∷◌, ◌++◌, length, map, codes}
 use Rattle.std.specs.Fmt.{decimal}
-use Rattle.sd_words.specs.Fields.{joined}
+use Rattle.sd_text.specs.Fields.{joined}
 use Rattle.sd_desk.specs.declared.request.Request.{Request}
 
 -- a request: which drive needs a volume, of which pool and media

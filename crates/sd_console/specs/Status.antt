@@ -1,7 +1,7 @@
 -- The lines of a status, without their newlines.
 use Rattle.std.specs.Prelude.{ℕ, List, [], ◌∷◌, ◌++◌, map, codes}
 use Rattle.std.specs.Fmt.{decimal}
-use Rattle.sd_words.specs.Fields.{joined}
+use Rattle.sd_text.specs.Fields.{joined}
 use Rattle.sd_session.specs.declared.status.Status.{Status}
 use Rattle.sd_session.specs.declared.status.Status.TheVariants.{Active, Ended, Closed, Cancelled, Failed, Purged}
 use Rattle.sd_volume.specs.declared.volume.VolumeStatus.{VolumeStatus}

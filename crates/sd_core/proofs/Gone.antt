@@ -3,8 +3,8 @@ use Rattle.std.proofs.Common.{◌≡◌, ◌≤◌, ◌||◌, ◌&&◌, ◌==◌
 use Rattle.sd_base.specs.Limits.{most_number}
 use Rattle.sd_base.specs.declared.number.SessionKey.{SessionKey}
 use Rattle.sd_base.specs.Key.{is_key}
-use Rattle.sd_parts.specs.Found.{IsFoundAt}
-use Rattle.sd_parts.proofs.Found.{read_found}
+use Rattle.sd_events.specs.Found.{IsFoundAt}
+use Rattle.sd_events.proofs.Found.{read_found}
 use Rattle.sd_span.specs.declared.span.Span.{Span}
 use Rattle.sd_world.specs.Drives.{was_purged}
 use Rattle.sd_world.specs.Reading.{is_gone, is_purged_session, any_purged_at}

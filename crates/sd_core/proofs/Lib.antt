@@ -5,6 +5,10 @@ pub mod FreshWorld
 pub mod Gone
 pub mod NewBays
 pub mod NewDrives
+pub mod Online
+pub mod Played
+pub mod RoundParts
 pub mod Shown
 pub mod Tickets
 pub mod Told
+pub mod TryLemmas

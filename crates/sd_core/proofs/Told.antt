@@ -3,8 +3,8 @@ use Rattle.std.proofs.Common.{◌≡◌, ℕ, Some, List, get_or, sym, ap, subst
 use Rattle.std.specs.Option.{option_map}
 use Rattle.sd_session.specs.declared.status.Status.{Status}
 use Rattle.sd_world.specs.World.{WorldSession, session_at}
-use Rattle.sd_parts.specs.Found.{IsFoundAt}
-use Rattle.sd_parts.proofs.Found.{read_found}
+use Rattle.sd_events.specs.Found.{IsFoundAt}
+use Rattle.sd_events.proofs.Found.{read_found}
 use Rattle.sd_core.specs.View.{status_at}
 
 -- the status of the session that was read at its place

@@ -1,6 +1,9 @@
+pub mod Again
 pub mod Conf
 pub mod Drives
 pub mod Fresh
 pub mod Listing
 pub mod Numbers
+pub mod Rounds
+pub mod Tries
 pub mod View

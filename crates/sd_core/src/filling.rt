@@ -9,8 +9,8 @@ use crate::making::{make_drives, make_lanes};
 use sd_base::MediaName;
 use sd_drive::{Drive, Limits};
 use sd_driver::Driver;
+use sd_events::{Bay, LaneSlot};
 use sd_lane::Lanes;
-use sd_parts::{Bay, LaneSlot};
 use sd_spool::SpoolStore;
 use std::alloc::{AllocError, Global};
 

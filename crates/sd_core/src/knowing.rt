@@ -8,8 +8,8 @@ ghost use Rattle.sd_core.specs.Numbers.{NumbersAreTickets};
 
 use sd_base::{SessionKey, Ticket};
 use sd_driver::Driver;
+use sd_events::{Bay, SessionEntry, find};
 use sd_lane::Lanes;
-use sd_parts::{Bay, SessionEntry, find};
 use sd_session::Session;
 use sd_spool::SpoolStore;
 

@@ -3,8 +3,8 @@ ghost use Rattle.std.specs.Prelude.{◌≡◌, ◌≤◌, ◌+◌, ◌++◌, [],
 ghost use Rattle.sd_core.specs.View.{devices_of};
 
 use sd_driver::Driver;
+use sd_events::Bay;
 use sd_lane::Lanes;
-use sd_parts::Bay;
 use sd_spool::SpoolStore;
 
 /// Moves the devices of the drives that are online behind the others, those of the first bays first. Calls itself for

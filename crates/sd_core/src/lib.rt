@@ -1,23 +1,34 @@
 //! The core of the storage daemon: a world of sessions and drives, changed by one event at a time. What a session
-//! was told is taken comes back, once and in order (as: Bacula Developer's Guide, storage daemon).
+//! was told is taken comes back, once and in order (as: Bacula Developer's Guide, storage daemon). A round moves all
+//! that is on its way one step on.
 #![tactic(auto)]
 
 mod conf;
 mod filling;
+mod headway;
 mod knowing;
 mod leaving;
 mod listing;
 mod making;
 mod reading;
+mod rounds;
+mod sending;
 mod showing;
 mod stepping;
+mod syncing;
+mod tries;
+mod turns;
 mod view;
 mod world;
 
 pub use conf::{NotMade, WorldConf};
+pub use headway::Round;
+pub use rounds::{carry, drain, round};
 pub use sd_machine::{Event, Reply};
 pub use sd_readback::{ReadEnd, Sink};
 pub use sd_session::Status;
 pub use sd_span::Span;
+pub use syncing::Syncing;
+pub use tries::answer;
 pub use view::{DriveLine, Loaded, SessionLine, View, VolumeLine};
 pub use world::World;

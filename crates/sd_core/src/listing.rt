@@ -6,8 +6,8 @@ ghost use Rattle.sd_core.specs.View.{running_tickets};
 
 use sd_base::Ticket;
 use sd_driver::Driver;
+use sd_events::{Bay, LaneSlot, SessionEntry, find};
 use sd_lane::Lanes;
-use sd_parts::{Bay, LaneSlot, SessionEntry, find};
 use sd_session::Status;
 use sd_spool::SpoolStore;
 use std::alloc::{AllocError, Global};

@@ -8,7 +8,7 @@ ghost use Rattle.sd_core.specs.Fresh.{AreNewDrives, StaysDevice, new_lane};
 use sd_base::MediaName;
 use sd_drive::{Drive, Limits};
 use sd_driver::Driver;
-use sd_parts::LaneSlot;
+use sd_events::LaneSlot;
 use sd_spool::SpoolStore;
 use std::alloc::{AllocError, Global};
 

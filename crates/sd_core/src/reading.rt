@@ -1,6 +1,7 @@
 // Reading a session back through the drive that has its volumes.
 ghost use Rattle.std.specs.Prelude.{◌≡◌, ◌≢◌, ◌↔◌, ◌==◌, ◌&&◌, ◌||◌, not, ℕ, Some, None, IfOk, IfErr, OnOk, OnErr, IsTrue};
-ghost use Rattle.sd_parts.specs.View.{world_of};
+ghost use Rattle.sd_base.specs.declared.refusal.Refusal.TheVariants.{NoSuchDrive, VolumeNotOnShelf};
+ghost use Rattle.sd_events.specs.View.{world_of};
 ghost use Rattle.sd_world.specs.Rules.{IsWorld, NumbersRise};
 ghost use Rattle.sd_world.specs.Drives.{was_purged};
 ghost use Rattle.sd_world.specs.World.{session_at};
@@ -15,8 +16,8 @@ use sd_base::{DriveNo, Refusal, SessionKey, Ticket, VolName};
 use sd_desk::Desk;
 use sd_drive::Drive;
 use sd_driver::Driver;
+use sd_events::{Parts, SessionEntry, find, online};
 use sd_lane::Lanes;
-use sd_parts::{Parts, SessionEntry, find};
 use sd_readback::{ReadEnd, Sink};
 use sd_session::Status;
 use sd_span::Span;
@@ -60,13 +61,13 @@ fn read_parts<D: Driver, Q: Lanes, S: SpoolStore + Drop, K: Sink>(
     };
     let all = are_at_drive(&parts.desk, number, spans);
     let gone = is_gone(&parts.sessions, parts.limits.time, &parts.desk, key, spans);
-    let at = number.get() as usize - 1;
-    if at >= parts.bays.len() {
-        return Err(Refusal::VolumeNotOnShelf);
-    }
-    let bay = &mut parts.bays[at];
+    let place = match online(parts, number) {
+        Ok(place) => place,
+        Err(why) => return Err(unread(why)),
+    };
+    let bay = &mut parts.bays[place];
     let Some(drive) = &mut bay.drive else {
-        return Err(Refusal::DriveOffline);
+        unreachable!();
     };
     if gone {
         return Err(Refusal::VolumePurged);
@@ -75,6 +76,17 @@ fn read_parts<D: Driver, Q: Lanes, S: SpoolStore + Drop, K: Sink>(
         return Err(Refusal::VolumeNotOnShelf);
     }
     read_drive(drive, key, spans, sink)
+}
+
+// Why nothing is read where the drive of the first volume isn't online: a volume of no drive is on no shelf.
+fn unread(why: Refusal) -> Refusal
+    ensures nowhere { why ≡ NoSuchDrive → result ≡ VolumeNotOnShelf }
+    ensures other { why ≢ NoSuchDrive → result ≡ why }
+{
+    match why {
+        Refusal::NoSuchDrive => Refusal::VolumeNotOnShelf,
+        other => other,
+    }
 }
 
 // Whether what is read was purged: the session is purged; or it is of another run, and the volume of a span was purged in

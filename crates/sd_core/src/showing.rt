@@ -10,8 +10,8 @@ ghost use Rattle.sd_core.specs.View.{drive_line, drive_lines, lines_of, loaded_i
 use crate::view::{DriveLine, Loaded, SessionLine, VolumeLine};
 use sd_base::{DriveNo, Items, Ticket};
 use sd_driver::Driver;
+use sd_events::{Bay, SessionEntry, free_lanes};
 use sd_lane::Lanes;
-use sd_parts::{Bay, SessionEntry, free_lanes};
 use sd_spool::SpoolStore;
 use sd_volume::Volume;
 use std::alloc::{AllocError, Global};

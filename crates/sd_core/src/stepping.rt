@@ -1,18 +1,19 @@
 // What an event does to the parts of a world.
+ghost use Rattle.std.specs.Prelude.{◌≡◌};
 ghost use Rattle.sd_world.specs.Moves.{Moves};
 ghost use Rattle.sd_world.specs.Rules.{IsWorld};
-ghost use Rattle.sd_parts.specs.View.{world_of};
+ghost use Rattle.sd_events.specs.View.{reply_of, world_of};
 ghost use Rattle.sd_machine.specs.declared.event.Event.TheVariants.{Append};
 ghost use Rattle.sd_world.specs.Steps.{DrivesKeep};
 
 use crate::knowing::know_drives;
-use sd_base::{Rec, Ticket};
+use sd_base::{Rec, Refusal, Ticket};
 use sd_driver::Driver;
+use sd_events::{
+    Parts, append, cancel, close, despool, end, media, open, operate, purge, retire, spool,
+};
 use sd_lane::Lanes;
 use sd_machine::{Event, Reply};
-use sd_operators::{operate, purge, retire};
-use sd_parts::Parts;
-use sd_sessions::{append, cancel, close, despool, end, media, open, spool};
 use sd_spool::SpoolStore;
 
 /// Answers one event; and what is known then of the drives.
@@ -25,7 +26,7 @@ pub(crate) fn answer<D: Driver + Drop, Q: Lanes, S: SpoolStore + Drop>(
         (world_of parts.new) }
     ensures drives { DrivesKeep (λ d. D.meaning d) (world_of parts.new).bays }
 {
-    let reply = apply(parts, event);
+    let reply = reply_of(apply(parts, event));
     know_drives(&parts.bays);
     reply
 }
@@ -41,19 +42,29 @@ pub(crate) fn answer_append<D: Driver + Drop, Q: Lanes, S: SpoolStore + Drop>(
         (world_of parts.new) }
     ensures drives { DrivesKeep (λ d. D.meaning d) (world_of parts.new).bays }
 {
-    let reply = append(parts, ticket, rec);
+    let reply = reply_of(append(parts, ticket, rec));
     know_drives(&parts.bays);
     reply
+}
+
+// The reply: a refusal is one too.
+fn reply_of(answer: Result<Reply, Refusal>) -> Reply
+    ensures { result ≡ reply_of answer }
+{
+    match answer {
+        Ok(reply) => reply,
+        Err(why) => Reply::Refused(why),
+    }
 }
 
 // What the event does.
 fn apply<D: Driver + Drop, Q: Lanes, S: SpoolStore + Drop>(
     parts: &mut Parts<D, Q, S>,
     event: Event,
-) -> Reply
+) -> Result<Reply, Refusal>
     requires world { IsWorld (world_of parts.old) }
-    ensures moves { Moves (λ d. D.meaning d) (world_of parts.old) event result
-        (world_of parts.new) }
+    ensures moves { Moves (λ d. D.meaning d) (world_of parts.old) event
+        (reply_of result) (world_of parts.new) }
 {
     match event {
         Event::Open {

@@ -8,7 +8,7 @@ ghost use Rattle.sd_world.specs.Matches.{Matches};
 ghost use Rattle.sd_world.specs.Deeds.{IsRead};
 ghost use Rattle.sd_world.specs.Rules.{IsWorld};
 ghost use Rattle.sd_world.specs.Steps.{IsSound, IsStep, StepsAlong};
-ghost use Rattle.sd_parts.specs.View.{world_of};
+ghost use Rattle.sd_events.specs.View.{world_of};
 ghost use Rattle.sd_core.specs.Conf.{IsConf, AreQueues, AreStores, limits_of};
 ghost use Rattle.sd_core.specs.Fresh.{IsFresh, StaysDevice};
 ghost use Rattle.sd_core.specs.View.{status_at, devices_of, running_tickets, view_of};
@@ -26,9 +26,9 @@ use sd_base::{Rec, Refusal, SessionKey, Ticket};
 use sd_desk::{Desk, Request};
 use sd_drive::Limits;
 use sd_driver::Driver;
+use sd_events::{Parts, find};
 use sd_lane::Lanes;
 use sd_machine::{Event, Reply};
-use sd_parts::{Parts, find};
 use sd_readback::{ReadEnd, Sink};
 use sd_session::Status;
 use sd_span::Span;
@@ -46,7 +46,7 @@ pub struct World<D: Driver, Q: Lanes, S: SpoolStore> {
 impl<D: Driver, Q: Lanes, S: SpoolStore> Model for World<D, Q, S> {
     ghost use Rattle.sd_world.specs.World.{WorldView};
     ghost use Rattle.sd_world.specs.Rules.{IsWorld};
-    ghost use Rattle.sd_parts.specs.View.{world_of};
+    ghost use Rattle.sd_events.specs.View.{world_of};
 
     ghost Value = { WorldView D };
 

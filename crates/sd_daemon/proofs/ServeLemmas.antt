@@ -6,9 +6,9 @@ use Rattle.std.specs.Prelude.{IfErr, IfOk}
 use Rattle.sd_conf.specs.declared.conf.Conf.{Conf}
 use Rattle.sd_conf.specs.declared.fault.ConfFault.TheVariants.{Memory as NoMemory}
 use Rattle.sd_conf.specs.Check.{Input}
-use Rattle.sd_printer.specs.Says.{SaidView, Says}
-use Rattle.sd_printer.proofs.SaysLemmas.{says_then}
-use Rattle.sd_words.specs.Lines.{line}
+use Rattle.sd_text.specs.Says.{SaidView, Says}
+use Rattle.sd_text.proofs.SaysLemmas.{says_then}
+use Rattle.sd_text.specs.Lines.{line}
 use Rattle.sd_daemon.specs.Serve.{IsConfOf, IsFaultOf, folder_text, serve_text, settle_lines}
 use Rattle.sd_daemon.specs.declared.serve_line.ServeLine.TheVariants.{Unsettled}
 use Rattle.sd_conf.specs.declared.check.CheckFault.{CheckFault}

@@ -4,12 +4,12 @@ use Rattle.std.specs.List.{flat_map}
 use Rattle.std.specs.Prelude.{◌≡◌, ℕ, List, [], ◌∷◌, ◌++◌, Bool, false, Ok, Err, codes}
 use Rattle.sd_base.specs.Refusal.{refusal_text}
 use Rattle.sd_base.specs.declared.refusal.Refusal.TheVariants.{Memory}
-use Rattle.sd_printer.specs.Says.{SaidView, Says}
+use Rattle.sd_text.specs.Says.{SaidView, Says}
 use Rattle.sd_conf.specs.declared.conf.Conf.{Conf}
 use Rattle.sd_daemon.specs.Locks.{IsFaultIn}
 use Rattle.sd_daemon.specs.declared.daemon.ServeFault.{ServeFault}
 use Rattle.sd_daemon.specs.declared.daemon.ServeFault.TheVariants as serves
-use Rattle.sd_words.specs.Lines.{line}
+use Rattle.sd_text.specs.Lines.{line}
 use Rattle.sd_conf.specs.Check.{Input, fault_line}
 use Rattle.sd_conf.specs.declared.check.CheckFault.{CheckFault}
 use Rattle.sd_conf.specs.declared.check.CheckFault.TheVariants.{Conf as Bad}

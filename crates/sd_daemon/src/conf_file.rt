@@ -1,16 +1,16 @@
 // The daemon, from the file of its configuration on.
 ghost use Rattle.std.specs.Prelude.{◌≡◌, IfErr, IfOk};
 ghost use Rattle.sd_conf.specs.Conf.{IsWithinLimits};
-ghost use Rattle.sd_printer.specs.Says.{Says, said_view};
-ghost use Rattle.sd_words.specs.Lines.{line};
+ghost use Rattle.sd_text.specs.Says.{Says, said_view};
+ghost use Rattle.sd_text.specs.Lines.{line};
 ghost use Rattle.sd_daemon.specs.Serve.{IsConfOf, IsFaultOf, IsOutcomeOf, PrintsServe, folder_text, outcome_lines, settle_lines, status_of, unserved_line};
 
 use crate::daemon::{Bounds, ServeFault, serve};
 use crate::serve_line::ServeLine;
 use sd_base::DriveNo;
 use sd_conf::{CheckFault, Conf, ConfFault, Text, conf_in, print_conf_fault};
-use sd_printer::Printer;
 use sd_serve::Log;
+use sd_text::Printer;
 use std::fs;
 use std::io::{ErrorKind, Write};
 use std::sync::Wait;

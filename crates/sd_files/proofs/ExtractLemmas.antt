@@ -4,13 +4,13 @@ use Rattle.std.specs.Prelude.{IfOk, Result, Ok, Err}
 use Rattle.sd_base.specs.Record.{Record}
 use Rattle.sd_base.specs.declared.number.SessionKey.{SessionKey}
 use Rattle.sd_label.specs.Cutting.{total_bytes}
-use Rattle.sd_printer.specs.Says.{SaidView, Says}
-use Rattle.sd_printer.proofs.SaysLemmas.{says_then}
+use Rattle.sd_text.specs.Says.{SaidView, Says}
+use Rattle.sd_text.proofs.SaysLemmas.{says_then}
 use Rattle.sd_readback.specs.Reading.{Reads, Volumes}
 use Rattle.sd_readback.specs.declared.fault.ReadFault.{ReadFault}
 use Rattle.sd_readback.specs.declared.read.ReadEnd.{ReadEnd}
 use Rattle.sd_span.specs.declared.span.Span.{Span}
-use Rattle.sd_words.specs.Lines.{line}
+use Rattle.sd_text.specs.Lines.{line}
 use Rattle.sd_files.specs.Lines.{record_lines, record_text}
 
 -- a record's line, its bytes, and a newline

@@ -17,7 +17,7 @@ use Rattle.sd_label.specs.declared.label.VolumeLabel.{VolumeLabel}
 use Rattle.sd_label.specs.Label.{IsVolumeLabel}
 use Rattle.sd_volume.specs.Image.{Block, BeginsWithBlock, NoBlockNext, images, label_block, VolumeImage}
 use Rattle.sd_volume.proofs.ImageLemmas.{images-append, one_block_more, volume_end-more}
-use Rattle.sd_words.specs.Lines.{line}
+use Rattle.sd_text.specs.Lines.{line}
 use Rattle.sd_files.specs.Listing.{HasBlocks, HasForm, HasFront, Lists, list_fault_of, ListsFront, ListsUpTo, ListsWhole, block_lines, head_of, head_text, label_text, tail_text}
 
 -- What is listed.

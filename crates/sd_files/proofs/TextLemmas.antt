@@ -13,7 +13,7 @@ use Rattle.sd_base.specs.Name.{IsName, is_name_char}
 use Rattle.sd_base.specs.declared.number.SessionKey.{SessionKey}
 use Rattle.sd_span.specs.JobMedia.{IsJobMedia, KeyFits, SpanFits, jobmedia_text, session_text, span_text}
 use Rattle.sd_span.specs.declared.span.Span.{Span}
-use Rattle.sd_words.specs.Lines.{line}
+use Rattle.sd_text.specs.Lines.{line}
 
 name_char-ascii : (c : ℕ) → IsTrue (is_name_char c) → c < 128
 name_char-ascii c is = search rules

@@ -5,7 +5,7 @@ use Rattle.sd_base.specs.Refusal.{refusal_text}
 use Rattle.sd_base.specs.declared.number.SessionKey.{SessionKey}
 use Rattle.sd_driver.specs.Meaning.{Meaning, IsHonest}
 use Rattle.sd_label.specs.Cutting.{total_bytes}
-use Rattle.sd_printer.specs.Says.{SaidView, Says}
+use Rattle.sd_text.specs.Says.{SaidView, Says}
 use Rattle.sd_readback.specs.Faults.{AreSpans, IsOfSpans, MeetsFault}
 use Rattle.sd_readback.specs.HandsOver.{HandsOverFront}
 use Rattle.sd_readback.specs.Reading.{Reads, volumes_on}
@@ -17,7 +17,7 @@ use Rattle.sd_span.specs.declared.jobmedia.JobMediaFault.TheVariants as media
 use Rattle.sd_span.specs.declared.jobmedia.SessionSpans.{SessionSpans}
 use Rattle.sd_span.specs.declared.span.Span.{Span}
 use Rattle.sd_volume.specs.Device.{OnlyReads}
-use Rattle.sd_words.specs.Lines.{line}
+use Rattle.sd_text.specs.Lines.{line}
 use Rattle.sd_files.specs.declared.input.SpansFault.{SpansFault}
 use Rattle.sd_files.specs.declared.input.SpansFault.TheVariants.{File, Text}
 use Rattle.sd_files.specs.Lines.{ending_text, records_lines}

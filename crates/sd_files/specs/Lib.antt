@@ -1,7 +1,11 @@
+pub mod End
 pub mod Extract
+pub mod Host
 pub mod Lines
 pub mod ListFile
 pub mod Listing
 pub mod Path
 pub mod ReadFile
+pub mod ShownProgress
+pub mod Sink
 pub mod Status

@@ -7,8 +7,8 @@ use Rattle.sd_base.specs.Refusal.{refusal_text}
 use Rattle.sd_readback.specs.Faults.{fault_refusal}
 use Rattle.sd_readback.specs.declared.fault.ReadFault.{ReadFault}
 use Rattle.sd_readback.specs.declared.read.ReadEnd.{ReadEnd}
-use Rattle.sd_records.specs.End.{end_text}
-use Rattle.sd_words.specs.Lines.{line}
+use Rattle.sd_files.specs.End.{end_text}
+use Rattle.sd_text.specs.Lines.{line}
 use Rattle.sd_files.specs.declared.lines.FileLine.{FileLine}
 use Rattle.sd_files.specs.declared.lines.FileLine.TheVariants as lines
 

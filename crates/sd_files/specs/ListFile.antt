@@ -4,8 +4,8 @@ use Rattle.sd_base.specs.Name.{IsName}
 use Rattle.sd_base.specs.Refusal.{refusal_text}
 use Rattle.sd_base.specs.declared.refusal.Refusal.TheVariants.{BadName}
 use Rattle.sd_driver.specs.Meaning.{Meaning}
-use Rattle.sd_printer.specs.Says.{SaidView, Says}
-use Rattle.sd_words.specs.Lines.{line}
+use Rattle.sd_text.specs.Says.{SaidView, Says}
+use Rattle.sd_text.specs.Lines.{line}
 use Rattle.sd_files.specs.Path.{IsPlaceOf}
 use Rattle.sd_files.specs.Status.{PrintsListing}
 

@@ -13,7 +13,7 @@ use Rattle.sd_label.specs.Label.{IsVolumeLabel}
 use Rattle.sd_label.specs.declared.label.VolumeLabel.{VolumeLabel}
 use Rattle.sd_volume.specs.Adopt.{IsLabelled}
 use Rattle.sd_volume.specs.Image.{Block as StoredBlock, NoBlockNext, label_block, volume_end, VolumeImage, WholeImage}
-use Rattle.sd_words.specs.Lines.{line}
+use Rattle.sd_text.specs.Lines.{line}
 use Rattle.sd_files.specs.declared.list_line.ListLine.{ListLine}
 use Rattle.sd_files.specs.declared.list_line.ListLine.TheVariants.{Label, Block, Tail, Refused}
 use Rattle.sd_files.specs.declared.listing.ListFault.{ListFault}

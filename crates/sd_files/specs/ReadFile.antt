@@ -1,7 +1,7 @@
 -- A session that is read back from files.
 use Rattle.std.specs.Prelude.{ℕ, List, Option}
 use Rattle.sd_driver.specs.Meaning.{Meaning}
-use Rattle.sd_printer.specs.Says.{SaidView}
+use Rattle.sd_text.specs.Says.{SaidView}
 use Rattle.sd_files.specs.Extract.{PrintsReading}
 
 -- The text of a file is read, by what it holds where that is known, and its session from the device of a folder, by what

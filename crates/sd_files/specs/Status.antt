@@ -2,9 +2,9 @@
 use Rattle.std.specs.Prelude.{◌≡◌, ℕ, Bool, true, false, List, [], ◌++◌, Result, Ok, Err, IsErrOf}
 use Rattle.sd_base.specs.Refusal.{refusal_text}
 use Rattle.sd_driver.specs.Meaning.{Meaning, IsHonest}
-use Rattle.sd_printer.specs.Says.{SaidView, Says}
+use Rattle.sd_text.specs.Says.{SaidView, Says}
 use Rattle.sd_volume.specs.Device.{OnlyReads}
-use Rattle.sd_words.specs.Lines.{line}
+use Rattle.sd_text.specs.Lines.{line}
 use Rattle.sd_files.specs.Listing.{HasForm, Lists, list_refusal}
 use Rattle.sd_files.specs.declared.listing.ListFault.{ListFault}
 use Rattle.sd_files.specs.declared.listing.ListFault.TheVariants.{Device}

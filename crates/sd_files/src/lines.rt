@@ -1,7 +1,7 @@
 // The lines of a reading.
+use crate::end::EndLine;
 use sd_base::Refusal;
 use sd_readback::ReadEnd;
-use sd_records::EndLine;
 use std::fmt;
 
 /// A line of a reading. Displays it without the newline.

@@ -2,15 +2,16 @@
 ghost use Rattle.std.specs.Prelude.{◌≡◌};
 ghost use Rattle.sd_base.specs.Refusal.{refusal_text};
 ghost use Rattle.sd_files.specs.ListFile.{ListsFile};
-ghost use Rattle.sd_printer.specs.Says.{Says, said_view};
-ghost use Rattle.sd_words.specs.Lines.{line};
+ghost use Rattle.sd_text.specs.Says.{Says, said_view};
+ghost use Rattle.sd_text.specs.Lines.{line};
 
+use crate::host::Host;
 use crate::list_line::ListLine;
 use crate::path::split_path;
 use crate::status::{FAILED, list_on};
+use crate::watched::ShownProgress;
 use sd_base::{Refusal, VolName};
-use sd_printer::Printer;
-use sd_progress::{Host, ShownProgress};
+use sd_text::Printer;
 use std::io::Write;
 
 /// Prints the listing of the volume in the file at `path`, whose name is the volume's: see `list_on`. A last word of the

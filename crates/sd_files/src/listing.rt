@@ -9,13 +9,13 @@ ghost use Rattle.sd_volume.specs.Device.{OnlyReads};
 ghost use Rattle.sd_volume.specs.Image.{label_block};
 ghost use Rattle.sd_volume.specs.Reader.{Shows};
 ghost use Rattle.sd_files.specs.Listing.{HasBlocks, HasForm, Lists, ListsBlocks, list_refusal};
-ghost use Rattle.sd_printer.specs.Says.{Says, said_view};
+ghost use Rattle.sd_text.specs.Says.{Says, said_view};
 ghost use Rattle.sd_files.specs.declared.listing.ListFault.TheVariants.{Memory as OutOfMemory};
 
 use crate::list_line::ListLine;
 use sd_base::{Refusal, VolName};
 use sd_driver::{Driver, DriverFault};
-use sd_printer::Printer;
+use sd_text::Printer;
 use sd_volume::{VolumeReader, numbered_block, read_label};
 use std::alloc::{AllocError, Global};
 use std::io::Write;

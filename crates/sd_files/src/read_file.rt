@@ -1,12 +1,13 @@
 // A session read back from the files of a folder.
 ghost use Rattle.sd_files.specs.ReadFile.{ReadsFiles};
-ghost use Rattle.sd_printer.specs.Says.{said_view};
+ghost use Rattle.sd_text.specs.Says.{said_view};
 
+use crate::host::Host;
 use crate::input::SpansFault;
 use crate::reading::{Extracted, extract, given_up};
-use sd_printer::Printer;
-use sd_progress::{Host, ShownProgress};
+use crate::watched::ShownProgress;
 use sd_span::JobMediaFault;
+use sd_text::Printer;
 use std::io::Write;
 
 /// Reads the JobMedia text in the file `spans`, then the session that it names from the volumes in `folder`, each a

@@ -2,15 +2,15 @@
 ghost use Rattle.std.specs.Prelude.{◌≡◌};
 ghost use Rattle.sd_files.specs.Extract.{PrintsReading, fault_text, status_of};
 ghost use Rattle.sd_files.specs.Lines.{ending_text};
-ghost use Rattle.sd_printer.specs.Says.{Says, said_view};
-ghost use Rattle.sd_words.specs.Lines.{line};
+ghost use Rattle.sd_text.specs.Says.{Says, said_view};
+ghost use Rattle.sd_text.specs.Lines.{line};
 
 use crate::input::{SpansFault, read_input};
 use crate::lines::FileLine;
 use crate::session::read_out;
 use sd_driver::Driver;
-use sd_printer::Printer;
 use sd_readback::{ReadEnd, ReadFault};
+use sd_text::Printer;
 use std::alloc::Global;
 use std::io::{Read, Write};
 use std::marker::Brand;

@@ -1,8 +1,8 @@
 // A record, printed as it comes.
 use crate::lines::FileLine;
+use crate::sink::PrintRecord;
 use sd_base::Rec;
-use sd_printer::Printer;
-use sd_records::PrintRecord;
+use sd_text::Printer;
 use std::io::Write;
 
 /// Prints of each record its line, its bytes as they are, and a newline.

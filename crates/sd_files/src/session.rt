@@ -3,15 +3,15 @@ ghost use Rattle.std.specs.Prelude.{◌≡◌, List};
 ghost use Rattle.sd_base.specs.Record.{Record};
 ghost use Rattle.sd_files.specs.Extract.{ReadsSession};
 ghost use Rattle.sd_files.specs.Lines.{records_lines};
-ghost use Rattle.sd_printer.specs.Says.{Says, said_view};
+ghost use Rattle.sd_text.specs.Says.{Says, said_view};
 
 use crate::record::WholeRecords;
+use crate::sink::{Before, RecordPrinter};
 use sd_base::SessionKey;
 use sd_driver::Driver;
-use sd_printer::Printer;
 use sd_readback::{ReadEnd, ReadFault, read_session};
-use sd_records::{Before, RecordPrinter};
 use sd_span::Span;
+use sd_text::Printer;
 use std::alloc::Global;
 use std::io::Write;
 

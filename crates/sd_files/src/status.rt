@@ -1,13 +1,13 @@
 // The listing of a volume with what is printed for a fault, and the status that it ends with.
 ghost use Rattle.std.specs.Prelude.{◌≡◌};
 ghost use Rattle.sd_files.specs.Status.{PrintsListing, fault_lines, status_of};
-ghost use Rattle.sd_printer.specs.Says.{Says, said_view};
+ghost use Rattle.sd_text.specs.Says.{Says, said_view};
 
 use crate::list_line::ListLine;
 use crate::listing::{ListFault, list};
 use sd_base::VolName;
 use sd_driver::Driver;
-use sd_printer::Printer;
+use sd_text::Printer;
 use std::alloc::Global;
 use std::io::Write;
 

@@ -5,10 +5,9 @@ ghost use Rattle.sd_line.specs.Side.{SeatIs};
 
 use sd_base::{DriveNo, JobId, Name, Ticket};
 use sd_drive::{Drive, Limits};
-use sd_line::{Line, Naming, Seat};
+use sd_line::{LaneEnd, Line, Naming, Seat, SessionPart};
 use sd_machine::{Event, Reply};
 use sd_memdrive::{Fail, MemDrive};
-use sd_part::{LaneEnd, SessionPart};
 use sd_ruled::RuledLanes;
 use sd_spool::MemSpool;
 use std::alloc::Global;

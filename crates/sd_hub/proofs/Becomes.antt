@@ -9,7 +9,7 @@ use Rattle.sd_drive.specs.Shelf.{Kept}
 use Rattle.sd_drive.specs.View.{DriveIs}
 use Rattle.sd_lane.specs.Queue.{LanesView}
 use Rattle.sd_line.specs.Side.{LineIs}
-use Rattle.sd_part.specs.Ends.{EndIs, IsOfLane, ToldSession}
+use Rattle.sd_line.specs.Ends.{EndIs, IsOfLane, ToldSession}
 use Rattle.sd_hub.specs.Settles.{CheckedIs, SettledIs, SettledLaneIs, Settles, SettlesNot, sessions_at, sessions_in, sessions_of, sessions_to}
 use Rattle.sd_hub.specs.declared.fault.SettleFault.{SettleFault}
 use Rattle.sd_hub.specs.Worlds.{BecomesWorld, SettlesEach, lane_sessions, lane_view, next_number, queue_view}

@@ -5,7 +5,7 @@ use Rattle.std.specs.List.{remove}
 use Rattle.std.proofs.lemmas.Bool.{and_parts, and_right, eqb-true, false_from_ne_true, ne_eqb}
 use Rattle.sd_base.specs.Choice.{NoneOf}
 use Rattle.sd_base.proofs.ChoiceLemmas.{NoneBelow}
-use Rattle.sd_part.specs.Ends.{EndIs}
+use Rattle.sd_line.specs.Ends.{EndIs}
 use Rattle.sd_hub.specs.Settles.{IsMissing, StandsAt, end_at, is_end}
 
 -- the end is of this drive and of this lane

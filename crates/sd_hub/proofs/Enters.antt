@@ -1,7 +1,7 @@
 -- Sessions come into the world one after another.
 use Rattle.std.proofs.Common.{◌≡◌, suc, refl, sym, ap, subst, List, [], ◌∷◌, ◌++◌, length}
 use Rattle.sd_journal.specs.Journal.{Entry}
-use Rattle.sd_part.specs.Ends.{ToldSession}
+use Rattle.sd_line.specs.Ends.{ToldSession}
 use Rattle.sd_hub.specs.Worlds.{SettlesEach, SettlesOne}
 use Rattle.sd_world.specs.World.{WorldSession}
 

@@ -6,7 +6,7 @@ use Rattle.std.proofs.lemmas.List.Sorted.{Contains-permutation, IsPermutation-sy
 use Rattle.std.proofs.lemmas.Option.{get_or_from_slice_get, slice_get-get_or, slice_get_within}
 use Rattle.sd_base.specs.Key.{is_key}
 use Rattle.sd_journal.specs.Journal.{Entry, fails}
-use Rattle.sd_part.specs.Ends.{ToldSession}
+use Rattle.sd_line.specs.Ends.{ToldSession}
 use Rattle.sd_session.specs.Session.{DropsParts, IsRunning, SessionView, store_of}
 use Rattle.sd_session.specs.declared.status.Status.{Status}
 use Rattle.sd_session.specs.declared.status.Status.TheVariants.{Active, Ended, Closed, Cancelled, Failed, Purged}

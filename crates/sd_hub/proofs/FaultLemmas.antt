@@ -7,7 +7,7 @@ use Rattle.sd_base.specs.declared.number.SessionKey.{SessionKey}
 use Rattle.sd_drive.specs.Receipt.{ReceiptIs}
 use Rattle.sd_drive.specs.View.{DriveIs}
 use Rattle.sd_line.specs.Side.{LineIs, SideIs}
-use Rattle.sd_part.specs.Ends.{EndIs}
+use Rattle.sd_line.specs.Ends.{EndIs}
 use Rattle.sd_hub.specs.Settles.{AllThere, AreDistinct, AreSettled, CheckedIs, FaultOf, HasKeys, HasLanes, HasSynced, HasUnsettled, IsGiven, IsMissing, checked_of, sessions_to, times_of}
 use Rattle.sd_hub.specs.declared.fault.SettleFault.TheVariants.{MissingLane, DoubleKey, Unsynced, Foreign}
 

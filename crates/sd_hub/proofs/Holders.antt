@@ -1,7 +1,7 @@
 -- The session that used a lane last, and where the lane's store lies.
 use Rattle.std.proofs.Common.{◌≡◌, ◌⊎◌, ℕ, zero, suc, refl, sym, ap, subst, inl, inr, Option, Some, None, IsSome, List, [], ◌∷◌, slice_get}
 use Rattle.std.specs.Option.{option_or}
-use Rattle.sd_part.specs.Ends.{EarlierAreOver, ToldSession, last_store}
+use Rattle.sd_line.specs.Ends.{EarlierAreOver, ToldSession, last_store}
 use Rattle.sd_session.specs.Session.{IsRunning, store_of}
 use Rattle.sd_spool.specs.Job.{StoreState}
 use Rattle.sd_world.specs.Honest.{StoreIsTrue}

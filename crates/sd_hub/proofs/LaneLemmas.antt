@@ -7,7 +7,7 @@ use Rattle.sd_base.specs.Key.{is_key}
 use Rattle.sd_base.specs.declared.number.SessionKey.{SessionKey}
 use Rattle.sd_drive.proofs.Places.{get_front}
 use Rattle.sd_journal.specs.Journal.{Entry}
-use Rattle.sd_part.specs.Ends.{EndIs, ToldSession}
+use Rattle.sd_line.specs.Ends.{EndIs, ToldSession}
 use Rattle.sd_hub.specs.Settles.{AreDistinct, HasUnsettled, sessions_at, sessions_to, times_of}
 
 -- what stands behind other elements

@@ -10,7 +10,7 @@ use Rattle.sd_lane.specs.Queue.{AreOfLanes, pieces_of}
 use Rattle.sd_lane.specs.declared.piece.Piece.{Piece}
 use Rattle.sd_lane.specs.declared.piece.Queued.{Queued}
 use Rattle.sd_pack.specs.Body.{PackedBody}
-use Rattle.sd_part.specs.Ends.{SentBy, TellsAll, ToldSession, pieces_from}
+use Rattle.sd_line.specs.Ends.{SentBy, TellsAll, ToldSession, pieces_from}
 use Rattle.sd_hub.specs.Settles.{AreDistinct, SettledLaneIs, times_of}
 use Rattle.sd_hub.specs.Worlds.{lane_sessions}
 use Rattle.sd_hub.proofs.Pieces.{keyed, keyed-append, keyed-other, keyed-own, pieces_in}

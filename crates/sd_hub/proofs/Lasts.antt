@@ -2,7 +2,7 @@
 use Rattle.std.proofs.Common.{◌≡◌, ℕ, zero, suc, ◌+◌, ◌-◌, ◌≤◌, sym, ap, ◌∙◌, arith, Option, Some, None, IsSome, IfSome, List, [], ◌∷◌, length, slice_get}
 use Rattle.std.proofs.lemmas.Option.{slice_get_within}
 use Rattle.sd_base.specs.Limits.{most_number}
-use Rattle.sd_part.specs.Ends.{ToldSession}
+use Rattle.sd_line.specs.Ends.{ToldSession}
 use Rattle.sd_hub.specs.Worlds.{last_ticket, next_number}
 use Rattle.sd_hub.specs.Tickets.{HaveTickets}
 

@@ -2,7 +2,7 @@
 use Rattle.std.proofs.Common.{◌≡◌, ℕ, zero, suc, ◌+◌, ◌<◌, ◌≤◌, refl, sym, ap, subst, ◌∙◌, arith, Some, List, [], ◌∷◌, ◌++◌, length, map, take, get_or, append_assoc, append-nil, slice_get}
 use Rattle.std.proofs.lemmas.List.{length-append, map-append, map-id}
 use Rattle.std.proofs.lemmas.Option.{slice_get_read}
-use Rattle.sd_part.specs.Ends.{ToldSession}
+use Rattle.sd_line.specs.Ends.{ToldSession}
 use Rattle.sd_hub.specs.Settles.{SettledLaneIs}
 use Rattle.sd_hub.specs.Worlds.{lane_sessions, lane_view}
 use Rattle.sd_world.specs.World.{LaneView}

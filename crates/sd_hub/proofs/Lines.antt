@@ -11,7 +11,7 @@ use Rattle.sd_journal.specs.Journal.{Entry}
 use Rattle.sd_lane.specs.Queue.{AreOfLanes, pieces_of}
 use Rattle.sd_lane.specs.declared.piece.Piece.{Piece}
 use Rattle.sd_lane.specs.declared.piece.Queued.{Queued}
-use Rattle.sd_part.specs.Ends.{EarlierAreOver, EndIs, IsOfLane, SentBy, ToldSession, last_store}
+use Rattle.sd_line.specs.Ends.{EarlierAreOver, EndIs, IsOfLane, SentBy, ToldSession, last_store}
 use Rattle.sd_hub.proofs.EndLemmas.{found_is, lane_is, no_is}
 use Rattle.sd_hub.specs.Settles.{AreDistinct, AreSettled, CheckedIs, SettledIs, SettledLaneIs, Settles, end_at, lane_of, sessions_at, sessions_in as in_end, sessions_to, times_of}
 use Rattle.sd_spool.specs.Job.{StoreState}

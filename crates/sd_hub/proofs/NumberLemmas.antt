@@ -5,7 +5,7 @@ use Rattle.std.specs.List.Sorted.{IsNonDecreasingBy}
 use Rattle.sd_base.specs.Limits.{most_number}
 use Rattle.sd_base.specs.declared.number.SessionKey.{SessionKey}
 use Rattle.sd_journal.specs.Journal.{Entry}
-use Rattle.sd_part.specs.Ends.{ToldSession}
+use Rattle.sd_line.specs.Ends.{ToldSession}
 use Rattle.sd_hub.specs.Settles.{AreDistinct, times_of}
 use Rattle.sd_world.specs.Rules.{NumbersRise}
 use Rattle.sd_world.specs.World.{WorldSession}

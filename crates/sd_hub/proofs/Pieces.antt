@@ -9,7 +9,7 @@ use Rattle.sd_lane.specs.Queue.{AreOfLanes, pieces_of}
 use Rattle.sd_lane.specs.declared.piece.Piece.{Piece}
 use Rattle.sd_lane.specs.declared.piece.Queued.{Queued}
 use Rattle.sd_pack.specs.Body.{PackedBody}
-use Rattle.sd_part.specs.Ends.{pieces_from}
+use Rattle.sd_line.specs.Ends.{pieces_from}
 use Rattle.sd_world.specs.Matches.{bodies_with, body_of_piece}
 use Rattle.sd_world.specs.World.{items_with}
 use Rattle.sd_world.proofs.Lookups.{one_or_two}

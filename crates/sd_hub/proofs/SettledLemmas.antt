@@ -10,7 +10,7 @@ use Rattle.sd_drive.specs.Shelf.{blocks}
 use Rattle.sd_drive.specs.View.{DriveIs, items}
 use Rattle.sd_journal.specs.Journal.{has_purged, placed_of, synced_of}
 use Rattle.sd_line.specs.Side.{blocks_taken, items_taken}
-use Rattle.sd_part.specs.Ends.{ToldSession}
+use Rattle.sd_line.specs.Ends.{ToldSession}
 use Rattle.sd_session.specs.declared.status.Status.TheVariants.{Closed}
 use Rattle.sd_hub.specs.Settles.{CheckedIs, SettledIs, Settles}
 use Rattle.sd_world.proofs.Lookups.{found_by_number, one_or_two}

@@ -9,7 +9,7 @@ use Rattle.sd_driver.specs.Meaning.{Meaning}
 use Rattle.sd_drive.proofs.Places.{get_front}
 use Rattle.sd_lane.specs.Queue.{AreOfLanes, LanesFollow}
 use Rattle.sd_line.specs.Side.{KeepsSide}
-use Rattle.sd_part.specs.Ends.{EndIs, KeepsEnd}
+use Rattle.sd_line.specs.Ends.{EndIs, KeepsEnd}
 use Rattle.sd_ruled.specs.Seats.{AreSeats, LaneSeatIs, RuledView, sent_by}
 use Rattle.sd_hub.specs.Settles.{AreTaken, CheckedIs, IsTaken, LaneSettles, Passes, SettledIs, SettledLaneIs, Settles, end_at, lane_of}
 use Rattle.sd_hub.proofs.EndLemmas.{found_is, lane_is}

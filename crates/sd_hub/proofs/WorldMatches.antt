@@ -5,7 +5,7 @@ use Rattle.sd_base.specs.declared.number.SessionKey.{SessionKey}
 use Rattle.sd_driver.specs.Meaning.{Meaning}
 use Rattle.sd_drive.specs.View.{DriveIs}
 use Rattle.sd_pack.specs.Body.{PackedBody}
-use Rattle.sd_part.specs.Ends.{ToldSession, last_store}
+use Rattle.sd_line.specs.Ends.{ToldSession, last_store}
 use Rattle.sd_session.specs.Session.{SessionView, parts_of}
 use Rattle.sd_session.specs.declared.status.Status.{Status}
 use Rattle.sd_session.specs.declared.status.Status.TheVariants.{Closed}

@@ -12,7 +12,7 @@ use Rattle.sd_drive.specs.Shelf.{Kept}
 use Rattle.sd_drive.specs.View.{DriveIs, item_of_piece}
 use Rattle.sd_journal.specs.Journal.{Item, fails, has_purged, placed_of}
 use Rattle.sd_lane.specs.declared.piece.Piece.{Piece}
-use Rattle.sd_part.specs.Ends.{IsOfLane, ToldSession, last_store}
+use Rattle.sd_line.specs.Ends.{IsOfLane, ToldSession, last_store}
 use Rattle.sd_session.specs.Session.{IsRunning, SessionView, store_of}
 use Rattle.sd_session.specs.declared.status.Status.{Status}
 use Rattle.sd_session.specs.declared.status.Status.TheVariants.{Closed, Failed, Purged}

@@ -3,7 +3,7 @@ use Rattle.std.specs.Prelude.{ℕ, List}
 use Rattle.atomic_table.specs.Seated.{TableId}
 use Rattle.sd_driver.specs.Meaning.{Meaning}
 use Rattle.sd_drive.specs.Shelf.{Kept}
-use Rattle.sd_part.specs.Ends.{ToldSession}
+use Rattle.sd_line.specs.Ends.{ToldSession}
 use Rattle.sd_hub.specs.Settles.{CheckedIs, SettledIs, Settles}
 use Rattle.sd_hub.specs.Worlds.{BecomesWorld, machine_of}
 use Rattle.sd_world.specs.Matches.{Matches}

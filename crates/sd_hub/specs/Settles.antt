@@ -11,7 +11,7 @@ use Rattle.sd_drive.specs.View.{DriveIs}
 use Rattle.sd_journal.specs.Journal.{Entry, placements, placed_of, synced_of}
 use Rattle.sd_lane.specs.Queue.{pieces_of, AreOfLanes}
 use Rattle.sd_line.specs.Side.{LineIs, SideIs, KeepsSide}
-use Rattle.sd_part.specs.Ends.{EndIs, ToldSession, KeepsEnd}
+use Rattle.sd_line.specs.Ends.{EndIs, ToldSession, KeepsEnd}
 use Rattle.sd_ruled.specs.Seats.{LaneSeatIs, QueueIs, RuledView}
 use Rattle.sd_session.specs.declared.status.Status.TheVariants.{Closed}
 use Rattle.sd_hub.specs.declared.fault.SettleFault.{SettleFault}

@@ -1,7 +1,7 @@
 -- The numbers of the sessions of a line.
 use Rattle.std.specs.Prelude.{◌≡◌, ℕ, ◌≤◌, List, Some, slice_get}
 use Rattle.sd_base.specs.Limits.{most_number}
-use Rattle.sd_part.specs.Ends.{ToldSession}
+use Rattle.sd_line.specs.Ends.{ToldSession}
 use Rattle.sd_hub.specs.Settles.{SettledLaneIs}
 
 -- the numbers of these sessions are such as tickets have

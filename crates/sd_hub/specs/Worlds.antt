@@ -9,7 +9,7 @@ use Rattle.sd_journal.specs.Journal.{Entry, fails}
 use Rattle.sd_lane.specs.Queue.{LanesView}
 use Rattle.sd_line.specs.Side.{LineIs}
 use Rattle.sd_machine.specs.Machine.{Machine, MachineSession}
-use Rattle.sd_part.specs.Ends.{EndIs, ToldSession}
+use Rattle.sd_line.specs.Ends.{EndIs, ToldSession}
 use Rattle.sd_ruled.specs.Seats.{RuledView}
 use Rattle.sd_session.specs.Session.{FailsSession}
 use Rattle.sd_session.specs.declared.status.Status.{Status}

@@ -3,8 +3,7 @@ ghost use Rattle.std.specs.Prelude.{◌≡◌, ◌<◌, None, IfSome, IfNone, is
 ghost use Rattle.sd_hub.specs.Settles.{AllThere, IsMissing, StandsAt, end_at, is_end, sessions_at};
 
 use sd_base::DriveNo;
-use sd_line::Naming;
-use sd_part::{LaneEnd, Told};
+use sd_line::{LaneEnd, Naming, Told};
 use sd_spool::SpoolStore;
 
 /// Where the first end stands that is of this drive and of this lane.

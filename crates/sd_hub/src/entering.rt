@@ -6,8 +6,8 @@ ghost use Rattle.sd_hub.specs.Worlds.{SettlesEach, SettlesOne};
 use crate::numbers::only_drive;
 use sd_drive::Drive;
 use sd_driver::Driver;
-use sd_part::Told;
-use sd_parts::SessionEntry;
+use sd_events::SessionEntry;
+use sd_line::Told;
 use sd_spool::SpoolStore;
 
 /// Makes of each session one of the world, in their order. Takes no memory.

@@ -2,8 +2,7 @@
 use sd_base::SessionKey;
 use sd_drive::Receipt;
 use sd_driver::Driver;
-use sd_line::{Line, Naming};
-use sd_part::LaneEnd;
+use sd_line::{LaneEnd, Line, Naming};
 use sd_spool::SpoolStore;
 use std::sync::Wait;
 

@@ -3,8 +3,8 @@ ghost use Rattle.std.specs.Prelude.{◌≡◌, ◌≤◌, ◌<◌, List, [], len
 ghost use Rattle.std.specs.Vec.{vec_capacity};
 ghost use Rattle.sd_hub.specs.Claimed.{AreClaimed, ClaimsOwn};
 ghost use Rattle.sd_hub.specs.Tickets.{LanesHaveTickets};
-ghost use Rattle.sd_part.specs.Ends.{ToldSession};
-ghost use Rattle.sd_parts.specs.View.{world_of};
+ghost use Rattle.sd_line.specs.Ends.{ToldSession};
+ghost use Rattle.sd_events.specs.View.{world_of};
 ghost use Rattle.sd_hub.specs.Worlds.{BecomesWorld, lane_sessions};
 
 use crate::entering::enter_all;
@@ -13,7 +13,7 @@ use crate::numbers::{next_number, sorted};
 use crate::room::Room;
 use crate::settled::Settled;
 use sd_driver::Driver;
-use sd_parts::{Bay, Parts};
+use sd_events::{Bay, Parts};
 use sd_ruled::RuledLanes;
 use sd_spool::SpoolStore;
 use std::alloc::Global;

@@ -6,8 +6,8 @@ ghost use Rattle.sd_hub.specs.Worlds.{lane_sessions, lane_view};
 
 use crate::numbers::last_ticket;
 use crate::settled::SettledLane;
-use sd_part::Told;
-use sd_parts::LaneSlot;
+use sd_events::LaneSlot;
+use sd_line::Told;
 use sd_spool::SpoolStore;
 
 /// Takes the sessions out of the lanes, lane after lane, and makes a lane of the world of each. Takes no memory.

@@ -24,7 +24,6 @@ pub use checked::Checked;
 pub use checking::check;
 pub use fault::{NotSettled, SettleFault};
 pub use laws::settled_world;
-pub use sd_line::{DriveWorker, Gate, Line, Naming, Point};
-pub use sd_part::{LaneEnd, SessionPart};
+pub use sd_line::{DriveWorker, Gate, LaneEnd, Line, Naming, Point, SessionPart};
 pub use settled::{Settled, SettledLane};
 pub use settling::settle;

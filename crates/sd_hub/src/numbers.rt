@@ -5,7 +5,7 @@ ghost use Rattle.sd_hub.specs.Tickets.{HaveTickets};
 ghost use Rattle.sd_hub.specs.Worlds.{last_ticket, next_number};
 
 use sd_base::{DriveNo, Ticket};
-use sd_part::Told;
+use sd_line::Told;
 use sd_spool::SpoolStore;
 
 /// The number of the one drive.

@@ -1,7 +1,7 @@
 // A line that is settled.
 use sd_drive::Drive;
 use sd_driver::Driver;
-use sd_part::Told;
+use sd_line::Told;
 use sd_ruled::RuledLanes;
 use sd_spool::SpoolStore;
 use std::marker::Model;

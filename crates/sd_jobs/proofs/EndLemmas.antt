@@ -4,7 +4,7 @@ use Rattle.sd_drive.specs.Receipt.{ReceiptIs}
 use Rattle.sd_jobs.specs.Jobs.{JobIs, JobEndIs, GoesOn, IsReceiptOf, StopsShort, StopsBy, IsGivenUp, EndsJob}
 use Rattle.sd_jobs.specs.declared.job.Stop.{Stop}
 use Rattle.sd_jobs.specs.declared.job.Stop.TheVariants.{Done, OutOfTurns, Refused, NoThread}
-use Rattle.sd_part.specs.Parts.{PartIs, end_of}
+use Rattle.sd_line.specs.Parts.{PartIs, end_of}
 
 -- what a job comes to that leaves this part
 abbrev pub left_with : PartIs → ℕ → Option ReceiptIs → Stop → JobEndIs

@@ -8,10 +8,10 @@ use Rattle.sd_jobs.specs.Jobs.{GoesOn, IsGivenUp, sends_more}
 use Rattle.sd_journal.specs.Journal.{Entry}
 use Rattle.sd_lane.specs.declared.piece.Piece.{Piece}
 use Rattle.sd_line.specs.Side.{SeatIs}
-use Rattle.sd_part.specs.Closes.{Closes}
-use Rattle.sd_part.specs.Parts.{PartIs, SendsBy, with_session}
-use Rattle.sd_part.specs.declared.closing.Closing.{Closing}
-use Rattle.sd_part.specs.declared.closing.Closing.TheVariants.{Closed, NotYet}
+use Rattle.sd_line.specs.Closes.{Closes}
+use Rattle.sd_line.specs.Parts.{PartIs, SendsBy, with_session}
+use Rattle.sd_line.specs.declared.closing.Closing.{Closing}
+use Rattle.sd_line.specs.declared.closing.Closing.TheVariants.{Closed, NotYet}
 use Rattle.sd_session.specs.Session.{SessionView, FailsSession, EndsSession, CancelsSession, NotRunning}
 use Rattle.sd_session.specs.Sending.{DespoolRefused}
 use Rattle.sd_session.specs.Spooling.{Spools, SpoolRefused}

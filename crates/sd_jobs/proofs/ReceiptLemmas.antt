@@ -4,8 +4,8 @@ use Rattle.std.specs.Prelude.{Ok}
 use Rattle.sd_drive.specs.Receipt.{ReceiptIs}
 use Rattle.sd_jobs.specs.Jobs.{IsReceiptOf}
 use Rattle.sd_journal.specs.Journal.{Entry, placed_of, placements, synced_of}
-use Rattle.sd_part.specs.Closes.{Closes}
-use Rattle.sd_part.specs.declared.closing.Closing.TheVariants.{Closed}
+use Rattle.sd_line.specs.Closes.{Closes}
+use Rattle.sd_line.specs.declared.closing.Closing.TheVariants.{Closed}
 use Rattle.sd_session.specs.Session.{SessionView, parts_of}
 use Rattle.sd_span.specs.Spans.{spans_of}
 

@@ -7,7 +7,7 @@ use Rattle.sd_base.specs.declared.refusal.Refusal.TheVariants.{SpoolFault, Sessi
 use Rattle.sd_jobs.specs.Jobs.{StopsShort}
 use Rattle.sd_jobs.specs.declared.job.Stop.TheVariants.{Refused}
 use Rattle.sd_journal.specs.Journal.{Entry}
-use Rattle.sd_part.specs.Closes.{Closes}
+use Rattle.sd_line.specs.Closes.{Closes}
 use Rattle.sd_session.specs.Session.{SessionView, AppendRefused, EndRefused, FailsSession, status_refusal}
 use Rattle.sd_session.specs.Sending.{DespoolRefused}
 use Rattle.sd_session.specs.Spooling.{SpoolRefused}

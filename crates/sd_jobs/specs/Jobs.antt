@@ -9,8 +9,8 @@ use Rattle.sd_jobs.specs.declared.job.Stop.TheVariants.{Done, OutOfTurns, Refuse
 use Rattle.sd_journal.specs.Journal.{Entry, placed_of, placements, synced_of}
 use Rattle.sd_lane.specs.declared.piece.Piece.{Piece}
 use Rattle.sd_line.specs.Side.{LineIs, SeatIs}
-use Rattle.sd_part.specs.Ends.{EndIs}
-use Rattle.sd_part.specs.Parts.{PartIs, end_of}
+use Rattle.sd_line.specs.Ends.{EndIs}
+use Rattle.sd_line.specs.Parts.{PartIs, end_of}
 use Rattle.sd_session.specs.Session.{SessionView, IsRunning, CancelsSession, parts_of}
 use Rattle.sd_session.specs.declared.status.Status.TheVariants.{Closed, Failed}
 use Rattle.sd_span.specs.Spans.{spans_of}

@@ -1,8 +1,7 @@
 // What a thread is to do with the part of a session, and what it came to.
 use sd_base::{Rec, Refusal};
 use sd_drive::Receipt;
-use sd_line::Naming;
-use sd_part::{LaneEnd, SessionPart};
+use sd_line::{LaneEnd, Naming, SessionPart};
 use sd_spool::SpoolStore;
 use std::marker::Model;
 

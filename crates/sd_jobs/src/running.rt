@@ -1,15 +1,14 @@
 // A job from its first step to its last.
 ghost use Rattle.std.specs.Prelude.{◌≡◌};
 ghost use Rattle.sd_jobs.specs.Jobs.{EndsJob};
-ghost use Rattle.sd_part.specs.Parts.{end_of};
+ghost use Rattle.sd_line.specs.Parts.{end_of};
 
 use crate::adding::add_all;
 use crate::finishing::finish;
 use crate::job::{Job, JobEnd, Stop};
 use sd_drive::Receipt;
 use sd_driver::Driver;
-use sd_line::{Gate, Line, Naming};
-use sd_part::SessionPart;
+use sd_line::{Gate, Line, Naming, SessionPart};
 use sd_spool::SpoolStore;
 use std::sync::Wait;
 use std::time::Clock;

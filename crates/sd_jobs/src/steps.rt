@@ -4,8 +4,7 @@ ghost use Rattle.sd_jobs.specs.Jobs.{GoesOn, StopsShort};
 
 use crate::job::Stop;
 use sd_driver::Driver;
-use sd_line::{Gate, Line, Naming, Point};
-use sd_part::SessionPart;
+use sd_line::{Gate, Line, Naming, Point, SessionPart};
 use sd_session::{Despooled, Spooling};
 use sd_spool::SpoolStore;
 use std::sync::Wait;

@@ -13,7 +13,7 @@ use Rattle.sd_machine.specs.declared.event.Event.{Event}
 use Rattle.sd_machine.specs.declared.event.Event.TheVariants as events
 use Rattle.sd_machine.specs.declared.reply.Reply.{Reply}
 use Rattle.sd_machine.specs.declared.reply.Reply.TheVariants.{Refused, Opened, Taken, Ended, Closed, Cancelled}
-use Rattle.sd_part.specs.Parts.{PartIs, with_session}
+use Rattle.sd_line.specs.Parts.{PartIs, with_session}
 use Rattle.sd_span.specs.declared.span.Span.{Span}
 use Rattle.sd_lines.specs.Held.{AnswersEvent, AnswersOpen, AnswersOwn, Appends, Cancels, Ends, GivesUpAtMost, Shuts, told_in}
 use Rattle.sd_lines.specs.Taken.{taken_behind, taken_by, taken_last}

@@ -10,7 +10,7 @@ use Rattle.sd_machine.specs.declared.event.Event.{Event}
 use Rattle.sd_machine.specs.declared.event.Event.TheVariants as events
 use Rattle.sd_machine.specs.declared.reply.Reply.{Reply}
 use Rattle.sd_machine.specs.declared.reply.Reply.TheVariants.{Refused, Opened, Taken, Ended, Closed, Cancelled}
-use Rattle.sd_part.specs.Parts.{PartIs, with_session}
+use Rattle.sd_line.specs.Parts.{PartIs, with_session}
 use Rattle.sd_session.specs.Session.{CancelsSession, EndsSession, EndRefused, NotRunning}
 use Rattle.sd_session.specs.declared.status.Status.TheVariants as status
 

@@ -1,7 +1,7 @@
 -- What contracts see of the port of a talk, and what it keeps.
 use Rattle.std.specs.Prelude.{◌≡◌, ℤ, List, [], ◌∷◌, ◌++◌, Option, None}
 use Rattle.sd_append.specs.Port.{Exchange}
-use Rattle.sd_part.specs.Parts.{PartIs}
+use Rattle.sd_line.specs.Parts.{PartIs}
 use Rattle.sd_lines.specs.Held.{told_in}
 use Rattle.sd_lines.specs.Taken.{taken_last}
 

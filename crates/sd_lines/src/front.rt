@@ -1,13 +1,12 @@
 // What lies under the lock of the desk.
 ghost use Rattle.std.specs.Prelude.{◌≡◌, IfOk, IfErr, OnErr};
 ghost use Rattle.sd_board.specs.Opening.{OpensLane, OpensNone};
-ghost use Rattle.sd_part.specs.Ends.{LastIsOver};
+ghost use Rattle.sd_line.specs.Ends.{LastIsOver};
 
 use crate::standings::Standings;
 use sd_base::{DriveNo, MOST_DRIVES, MediaName, PoolName, Refusal, Ticket};
 use sd_board::{Board, DriveSeen, Opened};
-use sd_line::Naming;
-use sd_part::LaneEnd;
+use sd_line::{LaneEnd, Naming};
 use sd_session::Status;
 use sd_spool::SpoolStore;
 use std::array;

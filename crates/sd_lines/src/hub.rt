@@ -1,7 +1,7 @@
 // What all talks of a daemon share.
 ghost use Rattle.std.specs.Prelude.{◌≡◌, IfOk, IfSome};
 ghost use Rattle.sd_line.specs.Operates.{MayOperate};
-ghost use Rattle.sd_part.specs.Ends.{LastIsOver};
+ghost use Rattle.sd_line.specs.Ends.{LastIsOver};
 
 use crate::amount::AmountCounter;
 use crate::front::{DRIVES, Front};
@@ -11,9 +11,8 @@ use sd_board::{Opened, Sent};
 use sd_desk::ClaimFault;
 use sd_drive::Receipt;
 use sd_driver::Driver;
-use sd_line::Naming;
+use sd_line::{LaneEnd, Naming};
 use sd_machine::{Event, Reply};
-use sd_part::LaneEnd;
 use sd_session::Status;
 use sd_spool::SpoolStore;
 use sd_stations::Station;

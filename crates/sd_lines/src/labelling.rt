@@ -3,9 +3,9 @@ ghost use Rattle.std.specs.Prelude.{All, IfOk};
 ghost use Rattle.sd_append.specs.Port.{IsLine};
 
 use crate::hub::{Hub, Post};
-use sd_answers::one_line;
 use sd_base::{DriveNo, Items, MediaName, PoolName, Refusal, VolName};
 use sd_bnet::Payload;
+use sd_console::one_line;
 use sd_driver::Driver;
 use sd_line::Naming;
 use sd_machine::{Event, Reply};

@@ -6,8 +6,7 @@ use crate::hub::Hub;
 use sd_base::{Refusal, Ticket};
 use sd_board::Sent;
 use sd_driver::Driver;
-use sd_line::Naming;
-use sd_part::SessionPart;
+use sd_line::{Naming, SessionPart};
 use sd_session::Status;
 use sd_spool::SpoolStore;
 use sd_stations::Live;
@@ -27,7 +26,7 @@ pub(crate) struct Over<N: Naming, S: SpoolStore> {
 
 impl<N: Naming, S: SpoolStore> Model for Over<N, S> {
     ghost use Rattle.std.specs.Prelude.{◌≡◌};
-    ghost use Rattle.sd_part.specs.Parts.{PartIs};
+    ghost use Rattle.sd_line.specs.Parts.{PartIs};
     ghost use Rattle.sd_session.specs.Session.{NotRunning};
 
     ghost Value = { PartIs };

@@ -3,9 +3,9 @@ ghost use Rattle.std.specs.Prelude.{◌≡◌, ◌++◌};
 
 use crate::counted::Counted;
 use crate::hub::Hub;
-use sd_answers::{Before, WatchedSink};
 use sd_append::Shown;
 use sd_base::{DriveNo, Rec, Refusal, SessionKey};
+use sd_console::{Before, WatchedSink};
 use sd_driver::Driver;
 use sd_line::Naming;
 use sd_readback::{ReadEnd, Sink, read_session};

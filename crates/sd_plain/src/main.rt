@@ -8,8 +8,9 @@ mod talks;
 mod world;
 
 use sd_base::Refusal;
+use sd_core::Syncing;
 use sd_lane::PlainLanes;
-use sd_port::{Syncing, WorldPort};
+use sd_port::WorldPort;
 use sd_tool::{memory_drives, read_settings, run_lines};
 use std::io::{BufReader, BufWriter};
 use std::process::ExitCode;

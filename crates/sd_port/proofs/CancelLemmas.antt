@@ -13,8 +13,8 @@ use Rattle.sd_world.specs.World.{HasTicket, WorldSession, WorldView, session_at}
 use Rattle.sd_session.specs.Session.{IsRunning, SessionView}
 use Rattle.sd_session.specs.declared.status.Status.{Status}
 use Rattle.sd_session.specs.declared.status.Status.TheVariants as status
-use Rattle.sd_port.specs.Tries.{Answers, GivesAgain, Try}
-use Rattle.sd_port.specs.declared.syncing.Syncing.{Syncing}
+use Rattle.sd_core.specs.Tries.{Answers, GivesAgain, Try}
+use Rattle.sd_core.specs.declared.syncing.Syncing.{Syncing}
 
 pub cancelled_ends : {D : Type 0} (meaning : D → Meaning) (a b : WorldView D) (ticket : ℕ) (reply : Reply) → Moves meaning a (Cancel ticket) reply b
     → (e : WorldSession) → HasTicket b ticket e → IsRunning e.session.status → ⊥

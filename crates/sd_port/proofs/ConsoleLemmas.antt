@@ -5,7 +5,7 @@ use Rattle.std.specs.List.{flat_map}
 use Rattle.sd_base.specs.declared.number.SessionKey.{SessionKey}
 use Rattle.sd_base.specs.declared.refusal.Refusal.{Refusal}
 use Rattle.sd_base.specs.declared.refusal.Refusal.TheVariants.{BadCommand, BadName}
-use Rattle.sd_words.specs.Lines.{line}
+use Rattle.sd_text.specs.Lines.{line}
 use Rattle.sd_world.specs.Steps.{StepsAlong}
 use Rattle.sd_console.specs.Replies.{reply_line}
 use Rattle.sd_console.specs.Requests.{requests_lines}
@@ -20,11 +20,11 @@ use Rattle.sd_script.specs.declared.console.ConsoleCmd.{ConsoleCmd}
 use Rattle.sd_script.specs.declared.console.ConsoleCmd.TheVariants.{Label, Adopt, Mount, Unmount, Retire, Purge, Cancel, JobMedia, Status, Requests}
 use Rattle.sd_script.specs.Grammar.{AreNames, HasForm, HasShape}
 use Rattle.sd_script.specs.declared.line.ScriptLine.TheVariants.{Console}
-use Rattle.sd_answers.specs.Told.{Answer}
-use Rattle.sd_answers.proofs.AnswerLemmas.{AreLines, one_line, shown_lines, told_lines}
+use Rattle.sd_console.specs.Told.{Answer}
+use Rattle.sd_console.proofs.AnswerLemmas.{AreLines, one_line, shown_lines, told_lines}
 use Rattle.sd_port.specs.Console.{CommandDoes, GivesNone, GivesOne, LineDoes, Operates, told_adopted, told_done}
-use Rattle.sd_port.specs.declared.syncing.Syncing.{Syncing}
-use Rattle.sd_port.specs.declared.syncing.Syncing.TheVariants.{EachRound, AtRest}
+use Rattle.sd_core.specs.declared.syncing.Syncing.{Syncing}
+use Rattle.sd_core.specs.declared.syncing.Syncing.TheVariants.{EachRound, AtRest}
 
 -- The world moves along what it is given.
 

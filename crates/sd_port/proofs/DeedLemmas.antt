@@ -8,10 +8,10 @@ use Rattle.sd_driver.specs.Meaning.{Meaning}
 use Rattle.sd_machine.specs.declared.event.Event.{Event}
 use Rattle.sd_machine.specs.declared.reply.Reply.{Reply}
 use Rattle.sd_world.specs.World.{WorldView}
-use Rattle.sd_rounds.specs.declared.headway.Round.{Round}
-use Rattle.sd_rounds.specs.Rounds.{PlaysRound}
+use Rattle.sd_core.specs.declared.headway.Round.{Round}
+use Rattle.sd_core.specs.Rounds.{PlaysRound}
 use Rattle.sd_port.specs.Port.{PortDeed, Exchanged, Played, IsPortDeed, IsOver, PortLeadsTo, PortView, asked_in}
-use Rattle.sd_port.specs.declared.syncing.Syncing.{Syncing}
+use Rattle.sd_core.specs.declared.syncing.Syncing.{Syncing}
 
 leads_more : {D : Type 0} (meaning : D → Meaning) (syncing : Syncing) (rounds : ℕ) (a b c : WorldView D) (ds : List PortDeed) (d : PortDeed) → PortLeadsTo meaning syncing rounds a ds b
     → IsPortDeed meaning syncing rounds d b c → PortLeadsTo meaning syncing rounds a (ds ++ d ∷ []) c

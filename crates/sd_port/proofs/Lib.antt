@@ -2,4 +2,3 @@ pub mod CancelLemmas
 pub mod ConsoleLemmas
 pub mod DeedLemmas
 pub mod PortLemmas
-pub mod TryLemmas

@@ -6,9 +6,9 @@ use Rattle.sd_world.specs.Deeds.{LeadsTo}
 use Rattle.sd_world.proofs.DeedLemmas.{leads_join, steps_lead}
 use Rattle.sd_append.specs.Port.{Stepped, WasRead, Said}
 use Rattle.sd_port.specs.Port.{PortDeed, Exchanged, Played, IsPortDeed, PortLeadsTo, world_deeds, world_deeds_in}
-use Rattle.sd_port.specs.declared.syncing.Syncing.{Syncing}
+use Rattle.sd_core.specs.declared.syncing.Syncing.{Syncing}
 use Rattle.sd_port.proofs.ConsoleLemmas.{line_along}
-use Rattle.sd_port.proofs.TryLemmas.{answers_along}
+use Rattle.sd_core.proofs.TryLemmas.{answers_along}
 
 deed_leads : {D : Type 0} (meaning : D → Meaning) (syncing : Syncing) (rounds : ℕ) (d : PortDeed) (a b : WorldView D) → IsPortDeed meaning syncing rounds d a b
     → LeadsTo meaning a (world_deeds d) b

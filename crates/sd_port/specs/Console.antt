@@ -3,7 +3,7 @@ use Rattle.std.specs.Prelude.{◌≡◌, ◌⊎◌, ℕ, ℤ, if◌then◌else�
 use Rattle.std.specs.List.{flat_map}
 use Rattle.sd_base.specs.declared.refusal.Refusal.{Refusal}
 use Rattle.sd_base.specs.declared.refusal.Refusal.TheVariants.{BadCommand, BadName, NoSuchDrive, InUse, Memory}
-use Rattle.sd_words.specs.Lines.{line}
+use Rattle.sd_text.specs.Lines.{line}
 use Rattle.sd_driver.specs.Meaning.{Meaning}
 use Rattle.sd_machine.specs.declared.event.Event.{Event}
 use Rattle.sd_machine.specs.declared.event.Event.TheVariants as event
@@ -19,10 +19,10 @@ use Rattle.sd_script.specs.declared.line.ScriptLine.TheVariants.{Console}
 use Rattle.sd_console.specs.Replies.{reply_line}
 use Rattle.sd_console.specs.Requests.{requests_lines}
 use Rattle.sd_console.specs.Status.{status_lines}
-use Rattle.sd_answers.specs.Lines.{Shows}
-use Rattle.sd_answers.specs.Told.{Answer, TellsReply}
-use Rattle.sd_port.specs.declared.syncing.Syncing.{Syncing}
-use Rattle.sd_port.specs.declared.syncing.Syncing.TheVariants.{EachRound, AtRest}
+use Rattle.sd_console.specs.Lines.{Shows}
+use Rattle.sd_console.specs.Told.{Answer, TellsReply}
+use Rattle.sd_core.specs.declared.syncing.Syncing.{Syncing}
+use Rattle.sd_core.specs.declared.syncing.Syncing.TheVariants.{EachRound, AtRest}
 
 -- no event is given to the world, which stays
 abbrev pub GivesNone : {D : Type 0} → List Event → List Reply → WorldView D → WorldView D → Type 0

@@ -8,8 +8,8 @@ use Rattle.sd_world.specs.World.{HasTicket, WorldSession, WorldView}
 use Rattle.sd_world.specs.Deeds.{LeadsTo, answered}
 use Rattle.sd_session.specs.Session.{IsRunning}
 use Rattle.sd_port.specs.Port.{PortDeed, PortLeadsTo, world_deeds_in}
-use Rattle.sd_port.specs.Tries.{Answers}
-use Rattle.sd_port.specs.declared.syncing.Syncing.{Syncing}
+use Rattle.sd_core.specs.Tries.{Answers}
+use Rattle.sd_core.specs.declared.syncing.Syncing.{Syncing}
 
 -- However often an event is given, the world's deeds for it are that all its events are answered so: those of rounds among
 -- them.

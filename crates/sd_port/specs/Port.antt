@@ -8,8 +8,8 @@ use Rattle.sd_world.specs.Deeds.{Deed, ReadBack, IsRead, answered}
 use Rattle.sd_world.specs.Steps.{IsSound}
 use Rattle.sd_append.specs.Port.{Exchange, Stepped, WasRead, Said}
 use Rattle.sd_port.specs.Console.{LineDoes}
-use Rattle.sd_port.specs.Tries.{Answers, PlaysAs}
-use Rattle.sd_port.specs.declared.syncing.Syncing.{Syncing}
+use Rattle.sd_core.specs.Tries.{Answers, PlaysAs}
+use Rattle.sd_core.specs.declared.syncing.Syncing.{Syncing}
 
 -- a port: its world, the moment of what happens now, when the drives sync and how many rounds there are while an event
 -- waits, the world that the port was made with, and what it was asked since, with the answers

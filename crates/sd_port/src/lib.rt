@@ -7,10 +7,6 @@ mod laws;
 mod port;
 mod ports;
 mod reading;
-mod syncing;
-mod tries;
 
 pub use laws::{answers_lead, cancels_give_up, port_leads};
 pub use port::WorldPort;
-pub use syncing::Syncing;
-pub use tries::answer;

@@ -2,9 +2,9 @@
 ghost use Rattle.std.specs.Prelude.{◌≡◌, ◌++◌, []};
 ghost use Rattle.sd_world.specs.Deeds.{IsRead};
 
-use sd_answers::{Before, WatchedSink};
 use sd_append::Shown;
 use sd_base::{Rec, Refusal, SessionKey};
+use sd_console::{Before, WatchedSink};
 use sd_core::World;
 use sd_driver::Driver;
 use sd_lane::Lanes;

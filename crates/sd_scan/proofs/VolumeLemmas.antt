@@ -16,11 +16,11 @@ use Rattle.sd_scan.specs.Found.{Found as FoundBlock}
 use Rattle.sd_scan.specs.Sessions.{AreReports, Keeps, KeepsBy, Reports, ReportsEach, keys_in, sessions_in}
 use Rattle.sd_scan.specs.declared.report.Report.{Report}
 use Rattle.sd_scan.specs.declared.sessions.Sessions.{Sessions}
-use Rattle.sd_printer.proofs.SaysLemmas.{says_none, says_then}
-use Rattle.sd_printer.specs.Says.{SaidView, Says}
+use Rattle.sd_text.proofs.SaysLemmas.{says_none, says_then}
+use Rattle.sd_text.specs.Says.{SaidView, Says}
 use Rattle.sd_span.specs.JobMedia.{jobmedia_text}
 use Rattle.sd_span.specs.declared.placement.Placement.{Placement}
-use Rattle.sd_words.specs.Lines.{line}
+use Rattle.sd_text.specs.Lines.{line}
 use Rattle.sd_volume.specs.Adopt.{BlockStandsAt}
 use Rattle.sd_volume.specs.Image.{BeginsWithBlock, Block, images}
 use Rattle.sd_scan.specs.Lines.{all_ended, cut_lines, found_of, found_text, line_text, report_lines, reports_lines, whole_lines}

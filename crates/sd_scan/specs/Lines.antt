@@ -6,7 +6,7 @@ use Rattle.sd_base.specs.Refusal.{refusal_text}
 use Rattle.sd_scan.specs.declared.report.Report.{Report}
 use Rattle.sd_scan.specs.declared.report.Start.{Start}
 use Rattle.sd_span.specs.JobMedia.{jobmedia_text, session_text}
-use Rattle.sd_words.specs.Lines.{line}
+use Rattle.sd_text.specs.Lines.{line}
 use Rattle.sd_scan.specs.declared.kind.Kind.{Kind}
 use Rattle.sd_scan.specs.declared.kind.Kind.TheVariants as kinds
 use Rattle.sd_scan.specs.declared.line.Found.{Found}

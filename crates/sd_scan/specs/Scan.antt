@@ -4,7 +4,7 @@ use Rattle.sd_driver.specs.Shelf.{Shelf}
 use Rattle.sd_scan.specs.Found.{Found}
 use Rattle.sd_scan.specs.Sessions.{AreReports, keys_of}
 use Rattle.sd_scan.specs.declared.report.Report.{Report}
-use Rattle.sd_words.specs.Lines.{line}
+use Rattle.sd_text.specs.Lines.{line}
 use Rattle.sd_scan.specs.Lines.{all_ended, line_text, reports_lines}
 use Rattle.sd_scan.specs.Volume.{ScansVolume}
 use Rattle.sd_scan.specs.declared.line.ScanLine.TheVariants.{Done}

@@ -7,7 +7,7 @@ use Rattle.sd_scan.specs.declared.report.Report.{Report}
 use Rattle.sd_label.specs.declared.label.VolumeLabel.{VolumeLabel}
 use Rattle.sd_volume.specs.Adopt.{IsLabelled}
 use Rattle.sd_volume.specs.Image.{Block, WholeImage, label_block, volume_end}
-use Rattle.sd_words.specs.Lines.{line}
+use Rattle.sd_text.specs.Lines.{line}
 use Rattle.sd_scan.specs.Kind.{IsKind}
 use Rattle.sd_scan.specs.Lines.{line_text, reports_lines}
 use Rattle.sd_scan.specs.Run.{IsFirstWhole, NoneBetween, RunTo, found_from}

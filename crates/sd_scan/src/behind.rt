@@ -3,7 +3,7 @@ ghost use Rattle.std.specs.Prelude.{◌≡◌, ◌+◌, ◌<◌, ◌≤◌, ◌^
 ghost use Rattle.sd_base.specs.declared.number.SessionKey.{SessionKey as SpecKey};
 ghost use Rattle.sd_driver.specs.Meaning.{IsHonest};
 ghost use Rattle.sd_driver.specs.Shelf.{Held};
-ghost use Rattle.sd_printer.specs.Says.{Says, said_view};
+ghost use Rattle.sd_text.specs.Says.{Says, said_view};
 ghost use Rattle.sd_volume.specs.Device.{OnlyReads};
 ghost use Rattle.sd_volume.specs.Image.{BeginsWithBlock};
 ghost use Rattle.sd_volume.specs.Reader.{Shows};
@@ -18,7 +18,7 @@ use crate::search::{Whole, next_whole};
 use crate::sessions::Sessions;
 use sd_base::VolName;
 use sd_driver::Driver;
-use sd_printer::Printer;
+use sd_text::Printer;
 use sd_volume::VolumeReader;
 use std::alloc::Global;
 use std::io::Write;

@@ -3,14 +3,14 @@ ghost use Rattle.std.specs.Prelude.{◌≡◌, ◌&&◌, ℕ, List, IfOk, OnOk};
 ghost use Rattle.sd_scan.specs.Found.{Found as FoundBlock};
 ghost use Rattle.sd_scan.specs.Sessions.{AreReports, Keeps};
 ghost use Rattle.sd_scan.specs.declared.report.Report.{Report as SpecReport};
-ghost use Rattle.sd_printer.specs.Says.{Says, said_view};
+ghost use Rattle.sd_text.specs.Says.{Says, said_view};
 ghost use Rattle.sd_scan.specs.Lines.{all_ended, cut_lines, found_of, report_lines, reports_lines, whole_lines};
 
 use crate::line::{Found, ScanLine};
 use crate::report::Report;
 use crate::sessions::Sessions;
-use sd_printer::Printer;
 use sd_span::put_jobmedia;
+use sd_text::Printer;
 use std::alloc::{AllocError, Global};
 use std::io::Write;
 

@@ -2,15 +2,13 @@
 use crate::names::{KEY, Names};
 use crate::records::{are_all, make_again};
 use sd_base::{Items, Rec, Refusal, SessionKey, Ticket};
-use sd_core::{ReadEnd, Span, Status, World};
+use sd_core::{ReadEnd, Span, Status, World, drain, round};
 use sd_drive::Receipt;
 use sd_hub::{NotSettled, SettleFault, settle};
 use sd_jobs::{JobEnd, Stop};
-use sd_line::{Line, Naming};
+use sd_line::{LaneEnd, Line, Naming};
 use sd_machine::{Event, Reply};
 use sd_memdrive::MemDrive;
-use sd_part::LaneEnd;
-use sd_rounds::{drain, round};
 use sd_ruled::RuledLanes;
 use sd_spool::MemSpool;
 use std::alloc::Global;

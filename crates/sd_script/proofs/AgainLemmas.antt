@@ -22,13 +22,13 @@ use Rattle.sd_plan.specs.declared.fail.Fail as plan
 use Rattle.sd_script.specs.declared.line.Part.{Part}
 use Rattle.sd_script.specs.declared.line.Tail.{Tail}
 use Rattle.sd_script.specs.Command.{command_text, stands}
-use Rattle.sd_words.specs.Fields.{HasNoBlank, joined, Fields, fields_of}
+use Rattle.sd_text.specs.Fields.{HasNoBlank, joined, Fields, fields_of}
 use Rattle.sd_script.specs.Grammar.{IsWord, IsSpelled, IsWithin, AreWords, IsNumber, IsDrive, call_text, most_capacity, when_text}
-use Rattle.sd_words.specs.Reading.{word_at}
+use Rattle.sd_text.specs.Reading.{word_at}
 use Rattle.sd_script.specs.Reading.{most_moment, most_wide, shape, one_number, label_shape, adopt_shape, mount_shape, purge_shape, open_shape, rec_shape, fill_shape, host_shape, drive_shape, capacity_shape, fail_shape, again_shape, behind_shape, restart_shape}
-use Rattle.sd_words.proofs.NumberLemmas.{own}
-use Rattle.sd_words.proofs.FieldLemmas.{fields_of-joined, fields_of-behind, joined-fields_of}
-use Rattle.sd_words.proofs.ReadingLemmas.{number_at_again, word_at_again, word_at_takes, only_number_again}
+use Rattle.sd_text.proofs.NumberLemmas.{own}
+use Rattle.sd_text.proofs.FieldLemmas.{fields_of-joined, fields_of-behind, joined-fields_of}
+use Rattle.sd_text.proofs.ReadingLemmas.{number_at_again, word_at_again, word_at_takes, only_number_again}
 use Rattle.sd_script.proofs.ReadingLemmas.{one_number_again, call-plain, when-plain, call_at_again, when_at_again}
 use Rattle.sd_script.proofs.CommandLemmas.{kinds, line_kinds, command-plain}
 

@@ -12,7 +12,7 @@ use Rattle.sd_script.specs.declared.line.ScriptLine.{ScriptLine}
 use Rattle.sd_script.specs.declared.line.ScriptLine.TheVariants as line
 use Rattle.sd_script.specs.Command.{command_text, is_console, is_head, is_setting, is_spool, stands}
 use Rattle.sd_script.specs.Grammar.{StandsIn}
-use Rattle.sd_words.specs.Fields.{HasNoBlank}
+use Rattle.sd_text.specs.Fields.{HasNoBlank}
 
 -- the setting of a word, found by trying each, or another command
 abbrev setting_at : List ℕ → Option Command → Option Command

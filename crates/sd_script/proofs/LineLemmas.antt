@@ -18,9 +18,9 @@ use Rattle.sd_script.specs.declared.line.Part.{Part}
 use Rattle.sd_script.specs.declared.line.Part.TheVariants.{Head, Body}
 use Rattle.sd_script.specs.Command.{command_text, is_console, stands}
 use Rattle.sd_script.specs.Grammar.{IsSpelled, IsWord, AreNames, HasShape, HasForm, HaveOneForm, HaveOneShape, IsConsole, StandsIn, names}
-use Rattle.sd_words.specs.Fields.{Fields, fields_of}
+use Rattle.sd_text.specs.Fields.{Fields, fields_of}
 use Rattle.sd_script.specs.Reading.{Gives, shape}
-use Rattle.sd_words.proofs.ReadingLemmas.{some_is}
+use Rattle.sd_text.proofs.ReadingLemmas.{some_is}
 use Rattle.sd_script.proofs.TakesLemmas.{takes}
 use Rattle.sd_script.proofs.CommandLemmas.{command_one, command-some, command_stands, is_console_line, line_stands_there}
 use Rattle.sd_script.proofs.AgainLemmas.{parts_of}

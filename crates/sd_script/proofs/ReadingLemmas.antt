@@ -10,9 +10,9 @@ use Rattle.sd_memdrive.specs.declared.call.Call.{Call}
 use Rattle.sd_memdrive.specs.declared.call.Call.TheVariants as call
 use Rattle.sd_plan.specs.declared.fail.When.{When}
 use Rattle.sd_plan.specs.declared.fail.When.TheVariants as «when»
-use Rattle.sd_words.specs.Fields.{Fields, HasNoBlank}
-use Rattle.sd_words.specs.Reading.{◌>>=◌, only_number, word_at}
-use Rattle.sd_words.proofs.ReadingLemmas.{bind_some, some_is, TakesNumber, only_number_takes, only_number_again, word_at_takes, word_at_again}
+use Rattle.sd_text.specs.Fields.{Fields, HasNoBlank}
+use Rattle.sd_text.specs.Reading.{◌>>=◌, only_number, word_at}
+use Rattle.sd_text.proofs.ReadingLemmas.{bind_some, some_is, TakesNumber, only_number_takes, only_number_again, word_at_takes, word_at_again}
 use Rattle.sd_script.specs.declared.line.ScriptLine.{ScriptLine}
 use Rattle.sd_script.specs.Grammar.{call_text, when_text}
 use Rattle.sd_script.specs.Reading.{one_number, call_in, when_in, call_at, when_at}

@@ -15,14 +15,14 @@ use Rattle.sd_script.specs.declared.line.Setting.TheVariants as setting
 use Rattle.sd_script.specs.declared.line.ScriptLine.{ScriptLine}
 use Rattle.sd_script.specs.declared.line.ScriptLine.TheVariants as line
 use Rattle.sd_script.specs.Command.{command_text}
-use Rattle.sd_words.specs.Fields.{HasNoBlank, joined, Fields, fields_of}
+use Rattle.sd_text.specs.Fields.{HasNoBlank, joined, Fields, fields_of}
 use Rattle.sd_memdrive.specs.declared.call.Call.{Call}
 use Rattle.sd_plan.specs.declared.fail.When.{When}
 use Rattle.sd_script.specs.Grammar.{IsSpelled, IsWithin, IsNumber, AreWords, call_text, most_capacity, when_text}
-use Rattle.sd_words.specs.Reading.{◌>>=◌, number_at, word_at, all_read, only_number}
+use Rattle.sd_text.specs.Reading.{◌>>=◌, number_at, word_at, all_read, only_number}
 use Rattle.sd_script.specs.Reading.{most_moment, most_wide, shape, one_number, label_shape, adopt_shape, mount_shape, purge_shape, open_shape, rec_shape, fill_shape, host_shape, drive_shape, capacity_shape, call_at, when_at, fail_shape, again_shape, behind_shape, restart_behind, restart_shape}
-use Rattle.sd_words.proofs.FieldLemmas.{joined-fields_of, fields_of-plain}
-use Rattle.sd_words.proofs.ReadingLemmas.{bind_some, some_is, TakesNumber, number_at_takes, word_at_takes, all_read_takes, only_number_takes}
+use Rattle.sd_text.proofs.FieldLemmas.{joined-fields_of, fields_of-plain}
+use Rattle.sd_text.proofs.ReadingLemmas.{bind_some, some_is, TakesNumber, number_at_takes, word_at_takes, all_read_takes, only_number_takes}
 use Rattle.sd_script.proofs.ReadingLemmas.{one_number_takes, call_at_takes, when_at_takes}
 use Rattle.sd_script.proofs.CommandLemmas.{kinds, line_kinds}
 

@@ -7,7 +7,7 @@ use Rattle.sd_base.specs.Name.{IsName}
 use Rattle.sd_base.specs.Limits.{least_block_limit, most_block, most_data, most_drives, most_lanes, most_number, most_queue, most_volume}
 use Rattle.sd_base.specs.declared.refusal.Refusal as base
 use Rattle.sd_base.specs.declared.refusal.Refusal.TheVariants as refusals
-use Rattle.sd_words.specs.Fields.{HasNoBlank, joined}
+use Rattle.sd_text.specs.Fields.{HasNoBlank, joined}
 use Rattle.sd_memdrive.specs.declared.call.Call.{Call}
 use Rattle.sd_memdrive.specs.declared.call.Call.TheVariants as call
 use Rattle.sd_plan.specs.declared.fail.When.{When}

@@ -15,8 +15,8 @@ use Rattle.sd_script.specs.declared.line.LineFault.TheVariants.{BadCommand, BadN
 use Rattle.sd_script.specs.declared.command.Command.{Command}
 use Rattle.sd_script.specs.declared.command.Command.TheVariants.{Block, Volume, SpoolLimit, Queue, Time, Host, Drive, Capacity, Fail, At, Label, Adopt, Mount, Unmount, Seek, Retire, Purge, Open, Rec, Fill, End, Cancel, Spool, Despool, Take, Place, Sync, Close, JobMedia, Read, Again, Drain, Status, Requests, Restart}
 use Rattle.sd_script.specs.Grammar.{AreNames, call_text, most_capacity, when_text}
-use Rattle.sd_words.specs.Fields.{Fields, joined}
-use Rattle.sd_words.specs.Reading.{◌>>=◌, number_at, word_at, all_read, only_number}
+use Rattle.sd_text.specs.Fields.{Fields, joined}
+use Rattle.sd_text.specs.Reading.{◌>>=◌, number_at, word_at, all_read, only_number}
 
 -- the last moment, in microseconds
 abbrev pub most_moment : ℕ

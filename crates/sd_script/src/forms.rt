@@ -7,7 +7,7 @@ ghost use Rattle.sd_script.specs.declared.command.Command.TheVariants as command
 use crate::console::ConsoleCmd;
 use crate::line::{LineFault, MOST_MOMENT, ScriptLine, Tail, Text};
 use sd_base::{MOST_DATA, MOST_NUMBER, Name, SessionKey};
-use sd_words::Words;
+use sd_text::Words;
 
 /// The greatest FileIndex, Stream and VolSessionId, as a number of the width that fields are read in.
 const MOST: u64 = MOST_NUMBER as u64;

@@ -8,7 +8,7 @@ use sd_base::{
     BadName, DriveNo, HostName, JobId, MediaName, PoolName, Refusal, SessionKey, Ticket, VolName,
 };
 use sd_memdrive::Fail;
-use sd_words::BadField;
+use sd_text::BadField;
 use std::marker::Model;
 
 /// The last moment, in microseconds.

@@ -16,7 +16,7 @@ use crate::forms::{
 };
 use crate::line::{LineFault, Part, ScriptLine};
 use crate::settings::{block, capacity, drive, fail, host, queue, spool_limit, time, volume};
-use sd_words::Words;
+use sd_text::Words;
 use std::str;
 
 /// The line that `bytes` spell in that part of a script, without the newline behind it.

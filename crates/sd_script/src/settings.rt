@@ -1,6 +1,6 @@
 // The lines that set what the world is made with.
 ghost use Rattle.std.specs.Prelude.{◌≡◌};
-ghost use Rattle.sd_words.specs.Reading.{ReadsFirst};
+ghost use Rattle.sd_text.specs.Reading.{ReadsFirst};
 ghost use Rattle.sd_script.specs.Reading.{Gives, call_at, shape, when_at};
 ghost use Rattle.sd_script.specs.declared.command.Command.TheVariants as commands;
 
@@ -9,7 +9,7 @@ use sd_base::{
     LEAST_BLOCK_LIMIT, MOST_BLOCK, MOST_LANES, MOST_NUMBER, MOST_QUEUE, MOST_VOLUME, Name,
 };
 use sd_memdrive::{Call, Fail, When};
-use sd_words::{BadField, Words};
+use sd_text::{BadField, Words};
 
 /// The most bytes that a volume of a drive in memory may have room for.
 const MOST_CAPACITY: u64 = 67_108_864;

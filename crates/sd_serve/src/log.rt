@@ -2,7 +2,7 @@
 use crate::clock::since_1970;
 use crate::log_line::{Dated, LogLine};
 use jiff::Timestamp;
-use sd_printer::Printer;
+use sd_text::Printer;
 use std::io::Write;
 use std::sync::{Mutex, Wait};
 use std::time::Clock;

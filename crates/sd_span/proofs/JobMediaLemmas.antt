@@ -11,7 +11,7 @@ use Rattle.std.proofs.lemmas.List.Elements.{recursion_from_All}
 use Rattle.sd_base.specs.Name.{IsName, is_name_char}
 use Rattle.sd_base.specs.declared.number.SessionKey.{SessionKey}
 use Rattle.sd_span.specs.declared.span.Span.{Span}
-use Rattle.sd_words.specs.Lines.{line}
+use Rattle.sd_text.specs.Lines.{line}
 use Rattle.sd_span.specs.JobMedia.{session_text, span_text, KeyFits, SpanFits, JobMediaTextsApart}
 
 -- the byte isn't in the text

@@ -6,11 +6,11 @@ use Rattle.std.proofs.lemmas.List.{append_assoc}
 use Rattle.std.proofs.lemmas.List.Elements.{All-from_recursion}
 use Rattle.sd_base.specs.Name.{IsName}
 use Rattle.sd_base.specs.declared.number.SessionKey.{SessionKey}
-use Rattle.sd_words.specs.Fields.{HasNoBlank, Fields, fields_of, joined}
-use Rattle.sd_words.specs.declared.words.BadField.{BadField}
-use Rattle.sd_words.specs.Reading.{◌>>=◌, number_at, word_at, only_number, ReadsAll}
-use Rattle.sd_words.proofs.FieldLemmas.{fields_of-joined, joined-fields_of}
-use Rattle.sd_words.proofs.ReadingLemmas.{bind_some, some_is, number_at_again, number_at_takes, word_at_again, word_at_takes, only_number_again, only_number_takes}
+use Rattle.sd_text.specs.Fields.{HasNoBlank, Fields, fields_of, joined}
+use Rattle.sd_text.specs.declared.words.BadField.{BadField}
+use Rattle.sd_text.specs.Reading.{◌>>=◌, number_at, word_at, only_number, ReadsAll}
+use Rattle.sd_text.proofs.FieldLemmas.{fields_of-joined, joined-fields_of}
+use Rattle.sd_text.proofs.ReadingLemmas.{bind_some, some_is, number_at_again, number_at_takes, word_at_again, word_at_takes, only_number_again, only_number_takes}
 use Rattle.sd_span.specs.declared.span.Span.{Span}
 use Rattle.sd_span.specs.JobMedia.{session_text, span_text, KeyFits, SpanFits}
 use Rattle.sd_span.specs.Reading.{most_u32, most_u64, key_shape, span_shape, GivesSpan}

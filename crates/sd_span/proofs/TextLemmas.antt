@@ -7,9 +7,9 @@ use Rattle.std.specs.Fmt.{decimal}
 use Rattle.std.proofs.lemmas.List.{append_assoc, append-nil, map-append}
 use Rattle.std.proofs.lemmas.List.Elements.{All-from_recursion, recursion_from_All}
 use Rattle.sd_base.specs.declared.number.SessionKey.{SessionKey}
-use Rattle.sd_words.specs.Fields.{Fields, joined}
-use Rattle.sd_words.specs.Lines.{line, lines_of}
-use Rattle.sd_words.proofs.LineLemmas.{HasNoNewline, lines_of-all, lines_of-unended, lines-make}
+use Rattle.sd_text.specs.Fields.{Fields, joined}
+use Rattle.sd_text.specs.Lines.{line, lines_of}
+use Rattle.sd_text.proofs.LineLemmas.{HasNoNewline, lines_of-all, lines_of-unended, lines-make}
 use Rattle.sd_span.specs.declared.span.Span.{Span}
 use Rattle.sd_span.specs.declared.jobmedia.SessionSpans.{SessionSpans}
 use Rattle.sd_span.specs.declared.jobmedia.JobMediaFault.{JobMediaFault}

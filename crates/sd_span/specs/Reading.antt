@@ -2,9 +2,9 @@
 use Rattle.std.specs.Prelude.{◌≡◌, ℕ, Option, Some, None, Result, IfOk, MatchResult}
 use Rattle.sd_base.specs.Name.{IsName}
 use Rattle.sd_base.specs.declared.number.SessionKey.{SessionKey}
-use Rattle.sd_words.specs.declared.words.BadField.{BadField}
-use Rattle.sd_words.specs.Fields.{Fields}
-use Rattle.sd_words.specs.Reading.{◌>>=◌, number_at, word_at, only_number}
+use Rattle.sd_text.specs.declared.words.BadField.{BadField}
+use Rattle.sd_text.specs.Fields.{Fields}
+use Rattle.sd_text.specs.Reading.{◌>>=◌, number_at, word_at, only_number}
 use Rattle.sd_span.specs.declared.span.Span.{Span}
 
 -- the greatest number of 32 bits

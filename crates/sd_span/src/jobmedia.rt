@@ -1,7 +1,7 @@
 // The JobMedia text read back: what is read is written so, and what is written so is read.
 ghost use Rattle.std.specs.Prelude.{◌≡◌, ◌⊎◌, ◌↔◌, List, [], ◌∷◌, ◌++◌, Some, None, Ok, Err, IfOk, MatchOption, MatchResult};
 ghost use Rattle.sd_base.specs.declared.number.SessionKey.{SessionKey as SpecKey};
-ghost use Rattle.sd_words.specs.Reading.{ReadsAll};
+ghost use Rattle.sd_text.specs.Reading.{ReadsAll};
 ghost use Rattle.sd_span.specs.JobMedia.{IsJobMedia, KeyFits, SpanFits, jobmedia_refusal, session_text, span_text};
 ghost use Rattle.sd_span.specs.Reading.{GivesSpan, key_shape, span_shape};
 ghost use Rattle.sd_span.specs.declared.span.Span.{Span as SpecSpan};
@@ -9,7 +9,7 @@ ghost use Rattle.sd_span.specs.declared.jobmedia.JobMediaFault.TheVariants.{BadS
 
 use crate::span::Span;
 use sd_base::{Items, Name, Refusal, SessionKey};
-use sd_words::{BadField, Lines, Words};
+use sd_text::{BadField, Lines, Words};
 use std::alloc::Global;
 
 /// The greatest number of 32 bits, in the width that fields are read in.

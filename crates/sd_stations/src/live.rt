@@ -2,7 +2,7 @@
 ghost use Rattle.std.specs.Prelude.{◌≡◌, ◌↔◌, [], ◌∷◌, IfErr, IfOk, IsTrue, OnErr, OnOk};
 ghost use Rattle.sd_jobs.specs.Jobs.{GoesOn, StopsShort, IsReceiptOf};
 ghost use Rattle.sd_jobs.specs.declared.job.Stop.TheVariants.{Refused};
-ghost use Rattle.sd_part.specs.Parts.{end_of, with_session};
+ghost use Rattle.sd_line.specs.Parts.{end_of, with_session};
 ghost use Rattle.sd_session.specs.Session.{CancelsSession, EndsSession, EndRefused, NotRunning};
 
 use crate::closing::{Shut, try_close};
@@ -12,9 +12,8 @@ use crate::station::Station;
 use crate::watch::Moves;
 use sd_base::{Rec, Refusal, Ticket};
 use sd_driver::Driver;
-use sd_line::Naming;
+use sd_line::{LaneEnd, Naming, SessionPart};
 use sd_machine::Event;
-use sd_part::{LaneEnd, SessionPart};
 use sd_session::Status;
 use sd_spool::SpoolStore;
 use std::marker::Model;
@@ -30,7 +29,7 @@ pub struct Live<'h, D: Driver, N: Naming, R: Wait + Drop, S: SpoolStore> {
 
 impl<'h, D: Driver, N: Naming, R: Wait + Drop, S: SpoolStore> Model for Live<'h, D, N, R, S> {
     ghost use Rattle.std.specs.Prelude.{◌≡◌};
-    ghost use Rattle.sd_part.specs.Parts.{PartIs};
+    ghost use Rattle.sd_line.specs.Parts.{PartIs};
 
     ghost Value = { PartIs };
 

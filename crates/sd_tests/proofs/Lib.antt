@@ -1,0 +1,2 @@
+mod Drives
+pub mod RefLemmas

@@ -8,7 +8,7 @@ use Rattle.sd_drive.specs.View.{DriveIs}
 use Rattle.sd_journal.specs.Journal.{placements}
 use Rattle.sd_line.specs.Side.{LineIs}
 use Rattle.sd_machine.specs.Machine.{Machine, MachineSession, session_of}
-use Rattle.sd_part.specs.Ends.{EndIs}
+use Rattle.sd_line.specs.Ends.{EndIs}
 use Rattle.sd_session.specs.declared.status.Status.TheVariants.{Closed}
 use Rattle.sd_hub.specs.Settles.{IsGiven}
 use Rattle.sd_hub.specs.Worlds.{IsSettledFrom, bay_of, machine_of}

@@ -26,7 +26,7 @@ use Rattle.sd_span.specs.JobMedia.{jobmedia_text}
 use Rattle.sd_span.specs.Spans.{numbered_from, spans_of, stretches}
 use Rattle.sd_span.specs.declared.placement.Placement.{Placement}
 use Rattle.sd_span.specs.declared.span.Span.{Span}
-use Rattle.sd_words.specs.Lines.{line}
+use Rattle.sd_text.specs.Lines.{line}
 use Rattle.sd_theorem.specs.Closed.{PrintsSpans, ended_with}
 
 -- ---- keys

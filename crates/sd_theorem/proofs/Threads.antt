@@ -7,7 +7,7 @@ use Rattle.sd_driver.specs.Meaning.{Meaning}
 use Rattle.sd_drive.specs.Receipt.{ReceiptIs}
 use Rattle.sd_drive.specs.View.{DriveIs}
 use Rattle.sd_line.specs.Side.{LineIs}
-use Rattle.sd_part.specs.Ends.{EndIs, ToldSession}
+use Rattle.sd_line.specs.Ends.{EndIs, ToldSession}
 use Rattle.sd_hub.specs.Settles.{LaneSettles, sessions_to}
 use Rattle.sd_hub.specs.Worlds.{IsSettledFrom, lane_sessions, machine_of}
 use Rattle.sd_hub.proofs.Entries.{distinct_moved}

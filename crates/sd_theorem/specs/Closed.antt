@@ -26,7 +26,7 @@ use Rattle.sd_theorem.specs.Start.{IsMadeOf, Meanings, Start, StartsHonest}
 use Rattle.sd_theorem.specs.Told.{WereToldClosed}
 use Rattle.sd_volume.specs.Image.{AreImages, Block, images}
 use Rattle.sd_volume.specs.Volume.{VolumeView}
-use Rattle.sd_words.specs.Lines.{line}
+use Rattle.sd_text.specs.Lines.{line}
 use Rattle.sd_world.specs.Deeds.{Deed, LeadsTo, events_in, replies_in}
 use Rattle.sd_world.specs.Kept.{IsClosedAt}
 use Rattle.sd_world.specs.Matches.{IsHonestAt, Matches}

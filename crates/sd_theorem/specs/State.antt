@@ -7,7 +7,7 @@ use Rattle.sd_drive.specs.Shelf.{blocks}
 use Rattle.sd_drive.specs.View.{items}
 use Rattle.sd_lane.specs.Queue.{AreOfLanes}
 use Rattle.sd_line.specs.Side.{LineIs, blocks_taken, items_taken}
-use Rattle.sd_part.specs.Ends.{EndIs, ToldSession}
+use Rattle.sd_line.specs.Ends.{EndIs, ToldSession}
 use Rattle.sd_session.specs.declared.status.Status.TheVariants.{Closed}
 use Rattle.sd_hub.specs.Settles.{AreDistinct, IsGiven, LaneSettles, SettledIs, SettledLaneIs, sessions_to}
 use Rattle.sd_hub.specs.Worlds.{bay_of, machine_of}

@@ -10,7 +10,7 @@ use Rattle.sd_machine.specs.Machine.{Machine}
 use Rattle.sd_machine.specs.Step.{Run}
 use Rattle.sd_machine.specs.declared.event.Event.TheVariants.{Close}
 use Rattle.sd_machine.specs.declared.reply.Reply.TheVariants.{Closed}
-use Rattle.sd_part.specs.Ends.{EndIs}
+use Rattle.sd_line.specs.Ends.{EndIs}
 use Rattle.sd_session.specs.declared.status.Status.TheVariants as status
 use Rattle.sd_hub.specs.Worlds.{IsSettledFrom, machine_of}
 use Rattle.sd_span.specs.declared.span.Span.{Span}

@@ -4,7 +4,7 @@ use Rattle.atomic_table.specs.Seated.{TableId}
 use Rattle.sd_driver.specs.Meaning.{Meaning}
 use Rattle.sd_drive.specs.Receipt.{ReceiptIs}
 use Rattle.sd_line.specs.Side.{LineIs}
-use Rattle.sd_part.specs.Ends.{EndIs}
+use Rattle.sd_line.specs.Ends.{EndIs}
 use Rattle.sd_hub.specs.Worlds.{IsSettledFrom, machine_of}
 use Rattle.sd_theorem.specs.Since.{IsOfListsSince}
 use Rattle.sd_theorem.specs.State.{GivesReceipts, HasPieces, HasState}

@@ -1,14 +1,21 @@
-//! The theorems, as laws without code. The session theorem and the stop theorem: what the daemon acknowledged comes back, once
-//! and in order, however many sessions shared a drive and whenever it was stopped; their premises are what a world was made of
-//! and what it did since. The same for running threads, whose premises are what settling hands out; what a scan of volumes
-//! finds of it; and that what is packed comes back.
+//! The theorems, as laws without code, and as a caller has them, through public calls alone. The session theorem and the
+//! stop theorem: what the daemon acknowledged comes back, once and in order, however many sessions shared a drive and
+//! whenever it was stopped; their premises are what a world was made of and what it did since. The same for running
+//! threads, whose premises are what settling hands out; what a scan of volumes finds of it; and that what is packed
+//! comes back. The callers are a world over devices in memory, any world behind a port, and a session that was closed
+//! before a stop.
 #![tactic(auto)]
 
+mod behind;
+mod given;
 mod laws;
 mod round_trip;
 mod running;
 mod scanned;
+mod stopped;
 
+pub use behind::know_lists;
+pub use given::{Told, run_and_read};
 pub use laws::{headline, stop_theorem};
 pub use round_trip::packed_comes_back;
 pub use running::{thread_stop_theorem, thread_theorem};
@@ -16,3 +23,4 @@ pub use scanned::{
     placed_blocks_are_found, placements_say, scan_tells_closed, scan_tells_session,
     scan_tells_spans, scan_tells_told,
 };
+pub use stopped::{leave, read_again};

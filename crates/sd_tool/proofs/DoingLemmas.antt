@@ -7,14 +7,14 @@ use Rattle.sd_driver.specs.Meaning.{Meaning}
 use Rattle.sd_machine.specs.declared.event.Event.{Event}
 use Rattle.sd_machine.specs.declared.reply.Reply.{Reply}
 use Rattle.sd_machine.specs.declared.reply.Reply.TheVariants.{Media}
-use Rattle.sd_printer.specs.Says.{SaidView, Says}
-use Rattle.sd_printer.proofs.SaysLemmas.{says_none, says_then_nothing}
+use Rattle.sd_text.specs.Says.{SaidView, Says}
+use Rattle.sd_text.proofs.SaysLemmas.{says_none, says_then_nothing}
 use Rattle.sd_script.specs.declared.console.ConsoleCmd.{ConsoleCmd}
 use Rattle.sd_script.specs.declared.console.ConsoleCmd.TheVariants as console
 use Rattle.sd_script.specs.declared.line.ScriptLine.{ScriptLine}
 use Rattle.sd_script.specs.declared.line.ScriptLine.TheVariants as line
 use Rattle.sd_span.specs.declared.span.Span.{Span}
-use Rattle.sd_words.specs.Lines.{line as as_line}
+use Rattle.sd_text.specs.Lines.{line as as_line}
 use Rattle.sd_tool.specs.Doing.{Acts, ConsoleDoes, Gives, GivesSome, LineDoes, ReadsReply, ReadsUnless, console_event, plain_words}
 use Rattle.sd_tool.specs.Script.{Prints, ScriptView}
 

@@ -3,7 +3,7 @@ use Rattle.std.proofs.Common.{◌≡◌, ℕ, ◌≤◌, refl, List, [], ◌∷�
 use Rattle.sd_base.specs.Limits.{most_number}
 use Rattle.sd_base.specs.declared.refusal.Refusal.{Refusal}
 use Rattle.sd_driver.specs.Meaning.{Meaning}
-use Rattle.sd_printer.specs.Says.{Says}
+use Rattle.sd_text.specs.Says.{Says}
 use Rattle.sd_script.specs.Grammar.{AreNames, HasForm, HasShape, IsWithin, StandsIn}
 use Rattle.sd_script.specs.declared.line.ScriptLine.{ScriptLine}
 use Rattle.sd_script.specs.declared.line.ScriptLine.TheVariants as line
@@ -13,7 +13,7 @@ use Rattle.sd_script.specs.declared.line.Part.{Part}
 use Rattle.sd_script.specs.declared.line.Part.TheVariants.{Body}
 use Rattle.sd_script.specs.declared.line.Tail.{Tail}
 use Rattle.sd_tool.specs.Doing.{LineDoes}
-use Rattle.sd_words.specs.Lines.{line as as_line}
+use Rattle.sd_text.specs.Lines.{line as as_line}
 use Rattle.sd_tool.specs.Restart.{RestartsAs}
 use Rattle.sd_tool.specs.Run.{Comes, IsNoLine, LineCame, LineComes, ObeysNext, Reaches, RestartComes, Shown}
 use Rattle.sd_tool.specs.Script.{ScriptView, script_view}

@@ -15,9 +15,9 @@ use Rattle.sd_machine.specs.declared.reply.Reply.TheVariants.{Retired}
 use Rattle.sd_world.specs.Moves.{Moves}
 use Rattle.sd_world.specs.World.{WorldView, BayView}
 use Rattle.sd_world.proofs.MoveLeaves.{leaves}
-use Rattle.sd_rounds.proofs.Online.{DrivesStay, drives_same, moves_stay, online_still}
-use Rattle.sd_rounds.proofs.RoundParts.{rounds_stay}
-use Rattle.sd_rounds.specs.Rounds.{Drains, PlaysMoving, online_flags}
+use Rattle.sd_core.proofs.Online.{DrivesStay, drives_same, moves_stay, online_still}
+use Rattle.sd_core.proofs.RoundParts.{rounds_stay}
+use Rattle.sd_core.specs.Rounds.{Drains, PlaysMoving, online_flags}
 use Rattle.sd_script.specs.declared.line.Tail.{Tail}
 use Rattle.sd_spool.specs.Meaning.{Meaning as StoreMeaning}
 use Rattle.sd_core.specs.Fresh.{AreNewDrives, new_bays}

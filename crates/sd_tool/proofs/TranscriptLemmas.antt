@@ -9,11 +9,11 @@ use Rattle.sd_base.specs.declared.number.SessionKey.{SessionKey}
 use Rattle.sd_console.specs.Replies.{reply_line}
 use Rattle.sd_machine.specs.declared.reply.Reply.{Reply}
 use Rattle.sd_machine.specs.declared.reply.Reply.TheVariants.{Closed, Media, Mounted}
-use Rattle.sd_printer.specs.Says.{SaidView, Says}
-use Rattle.sd_printer.proofs.SaysLemmas.{says_then}
+use Rattle.sd_text.specs.Says.{SaidView, Says}
+use Rattle.sd_text.proofs.SaysLemmas.{says_then}
 use Rattle.sd_span.specs.JobMedia.{jobmedia_text, session_text, span_text}
 use Rattle.sd_span.specs.declared.span.Span.{Span}
-use Rattle.sd_words.specs.Lines.{line}
+use Rattle.sd_text.specs.Lines.{line}
 use Rattle.sd_tool.specs.ReplyLines.{closed_words, media_words, mounted_words, record_lines, shown_text}
 
 -- Replies.

@@ -12,16 +12,16 @@ use Rattle.sd_machine.specs.declared.event.Event.{Event}
 use Rattle.sd_machine.specs.declared.event.Event.TheVariants as event
 use Rattle.sd_machine.specs.declared.reply.Reply.{Reply}
 use Rattle.sd_machine.specs.declared.reply.Reply.TheVariants as reply
-use Rattle.sd_printer.specs.Says.{SaidView, Says}
+use Rattle.sd_text.specs.Says.{SaidView, Says}
 use Rattle.sd_readback.specs.declared.read.ReadEnd.{ReadEnd}
-use Rattle.sd_rounds.specs.Rounds.{Drains, PlaysMoving}
+use Rattle.sd_core.specs.Rounds.{Drains, PlaysMoving}
 use Rattle.sd_script.specs.declared.console.ConsoleCmd.{ConsoleCmd}
 use Rattle.sd_script.specs.declared.console.ConsoleCmd.TheVariants as console
 use Rattle.sd_script.specs.declared.line.ScriptLine.{ScriptLine}
 use Rattle.sd_script.specs.declared.line.ScriptLine.TheVariants as line
 use Rattle.sd_span.specs.declared.span.Span.{Span}
 use Rattle.sd_tool.specs.ReplyLines.{closed_words, media_words, mounted_words, read_text, records_lines, refused_line, requests_text, status_text}
-use Rattle.sd_words.specs.Lines.{line as as_line}
+use Rattle.sd_text.specs.Lines.{line as as_line}
 use Rattle.sd_tool.specs.Printed.{last_printed}
 use Rattle.sd_tool.specs.Refused.{unheld_refusal, unread_refusal}
 use Rattle.sd_tool.specs.Script.{KeepsRest, Prints, ScriptView}

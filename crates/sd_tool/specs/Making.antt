@@ -4,7 +4,7 @@ use Rattle.sd_lane.specs.Queue.{LanesView}
 use Rattle.sd_driver.specs.Meaning.{Meaning}
 use Rattle.sd_drive.specs.View.{DriveIs}
 use Rattle.sd_world.specs.World.{BayView, WorldView}
-use Rattle.sd_rounds.specs.Rounds.{online_flags}
+use Rattle.sd_core.specs.Rounds.{online_flags}
 use Rattle.sd_core.specs.Conf.{IsConf, AreQueues, AreStores}
 use Rattle.sd_core.specs.Fresh.{AreNewDrives}
 use Rattle.sd_tool.specs.declared.making.Room.{Room}

@@ -14,10 +14,10 @@ use Rattle.sd_desk.specs.declared.request.Request.{Request}
 use Rattle.sd_machine.specs.declared.reply.Reply.{Reply}
 use Rattle.sd_machine.specs.declared.reply.Reply.TheVariants.{Closed, Media, Mounted}
 use Rattle.sd_readback.specs.declared.read.ReadEnd.{ReadEnd}
-use Rattle.sd_records.specs.End.{end_text}
+use Rattle.sd_files.specs.End.{end_text}
 use Rattle.sd_span.specs.JobMedia.{jobmedia_text}
 use Rattle.sd_core.specs.declared.view.View.{View}
-use Rattle.sd_words.specs.Lines.{line}
+use Rattle.sd_text.specs.Lines.{line}
 
 -- the line of a refusal
 abbrev pub refused_line : Refusal → List ℕ

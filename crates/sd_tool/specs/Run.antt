@@ -3,7 +3,7 @@ use Rattle.std.specs.Prelude.{◌≡◌, ◌⊎◌, ℕ, pos, ◌-◌, ◌^◌, 
 use Rattle.sd_base.specs.declared.refusal.Refusal.{Refusal}
 use Rattle.sd_base.specs.declared.refusal.Refusal.TheVariants as refusal
 use Rattle.sd_driver.specs.Meaning.{Meaning}
-use Rattle.sd_printer.specs.Says.{SaidView, Says, said_view}
+use Rattle.sd_text.specs.Says.{SaidView, Says, said_view}
 use Rattle.sd_script.specs.Grammar.{AreNames, HasForm, HasShape, StandsIn, line_refusal}
 use Rattle.sd_script.specs.declared.line.ScriptLine.{ScriptLine}
 use Rattle.sd_script.specs.declared.line.ScriptLine.TheVariants as line
@@ -13,7 +13,7 @@ use Rattle.sd_script.specs.declared.line.Part.{Part}
 use Rattle.sd_script.specs.declared.line.Part.TheVariants.{Body, Head}
 use Rattle.sd_script.specs.declared.line.Tail.{Tail}
 use Rattle.sd_tool.specs.ReplyLines.{refused_line}
-use Rattle.sd_words.specs.Lines.{line as as_line}
+use Rattle.sd_text.specs.Lines.{line as as_line}
 use Rattle.sd_tool.specs.Doing.{LineDoes}
 use Rattle.sd_tool.specs.Restart.{BeginsAs, RestartsAs}
 use Rattle.sd_tool.specs.Script.{KeepsRest, Prints, ScriptView, script_view}

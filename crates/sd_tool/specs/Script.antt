@@ -1,6 +1,6 @@
 -- A script that is run.
 use Rattle.std.specs.Prelude.{◌≡◌, ℕ, ℤ, Option, List}
-use Rattle.sd_printer.specs.Says.{SaidView, Says, said_view}
+use Rattle.sd_text.specs.Says.{SaidView, Says, said_view}
 use Rattle.sd_tool.specs.ScriptStage.{StageView}
 use Rattle.sd_tool.specs.declared.printed.Closed.{Closed}
 use Rattle.sd_tool.specs.declared.run.Script.{Script}

@@ -6,7 +6,7 @@ use Rattle.sd_machine.specs.declared.reply.Reply.{Reply}
 use Rattle.sd_machine.specs.declared.reply.Reply.TheVariants.{Retired}
 use Rattle.sd_world.specs.World.{WorldView}
 use Rattle.sd_world.specs.Steps.{IsStep}
-use Rattle.sd_rounds.specs.Rounds.{online_flags}
+use Rattle.sd_core.specs.Rounds.{online_flags}
 use Rattle.sd_tool.specs.Settings.{ValuesView, drive_count, misfit_of}
 
 -- a world, the settings that it was made of, and whether a drive of it was retired

@@ -13,8 +13,8 @@ use crate::told::Told;
 use sd_base::Refusal;
 use sd_driver::Driver;
 use sd_lane::Lanes;
-use sd_printer::Printer;
 use sd_script::{Part, ScriptLine, read_line};
+use sd_text::Printer;
 use std::io::Write;
 
 impl<D: Driver + Drop, Q: Lanes + Drop, W: Write + Drop> Script<D, Q, W> {

@@ -2,7 +2,7 @@
 ghost use Rattle.std.specs.Prelude.{◌≡◌};
 ghost use Rattle.std.specs.Option.{option_copied};
 ghost use Rattle.sd_core.specs.View.{status_at};
-ghost use Rattle.sd_printer.specs.Says.{said_view};
+ghost use Rattle.sd_text.specs.Says.{said_view};
 ghost use Rattle.sd_tool.specs.Doing.{ReadsBack, ReadsOn, ReadsOut, ReadsPrinted, ReadsPrintedOn, ReadsUnless, plain_words};
 ghost use Rattle.sd_tool.specs.Refused.{unread_refusal};
 ghost use Rattle.sd_tool.specs.Script.{Prints, script_view};
@@ -14,13 +14,13 @@ use crate::run::Script;
 use crate::stage::ScriptStage;
 use sd_base::{Refusal, SessionKey, Ticket};
 use sd_driver::Driver;
+use sd_files::Before;
 use sd_lane::Lanes;
 use sd_machine::{Event, Reply};
-use sd_printer::Printer;
 use sd_readback::ReadEnd;
-use sd_records::Before;
 use sd_session::Status;
 use sd_span::Span;
+use sd_text::Printer;
 use std::io::Write;
 use std::marker::Brand;
 

@@ -1,16 +1,16 @@
 // The line of a record that is read back.
 ghost use Rattle.std.specs.Fmt.{decimal};
-ghost use Rattle.sd_printer.specs.Says.{Says, said_view};
+ghost use Rattle.sd_text.specs.Says.{Says, said_view};
 ghost use Rattle.sd_tool.specs.ReplyLines.{record_lines, shown_text};
 
 use itoa::Buffer;
 use sd_base::Rec;
-use sd_printer::Printer;
-use sd_records::PrintRecord;
+use sd_files::PrintRecord;
+use sd_text::Printer;
 use std::io::Write;
 
 /// Prints the line of each record as it comes, and lets the record go. In a contract it is a `SinkIs`.
-pub(crate) type RecordPrinter<K, W> = sd_records::RecordPrinter<K, FirstBytes, W>;
+pub(crate) type RecordPrinter<K, W> = sd_files::RecordPrinter<K, FirstBytes, W>;
 
 /// Prints of each record its line, with the first of its bytes.
 #[derive(Clone, Copy)]

@@ -2,21 +2,21 @@
 ghost use Rattle.std.specs.Prelude.{◌⊎◌};
 ghost use Rattle.sd_base.specs.declared.refusal.Refusal.TheVariants.{Memory};
 ghost use Rattle.sd_console.specs.Replies.{reply_line};
-ghost use Rattle.sd_printer.specs.Says.{Says, said_view};
+ghost use Rattle.sd_text.specs.Says.{Says, said_view};
 ghost use Rattle.sd_span.specs.JobMedia.{jobmedia_text};
 ghost use Rattle.sd_tool.specs.ReplyLines.{closed_words, media_words, mounted_words, read_text, refused_line, requests_text, status_text};
-ghost use Rattle.sd_words.specs.Lines.{line};
+ghost use Rattle.sd_text.specs.Lines.{line};
 
 use crate::line::SessionLine;
 use sd_base::{Refusal, SessionKey};
 use sd_console::{ReplyLine, requests_text, status_text};
 use sd_core::View;
 use sd_desk::Request;
+use sd_files::EndLine;
 use sd_machine::Reply;
-use sd_printer::Printer;
 use sd_readback::ReadEnd;
-use sd_records::EndLine;
 use sd_span::Span;
+use sd_text::Printer;
 use std::alloc::Global;
 use std::io::Write;
 

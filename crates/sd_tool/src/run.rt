@@ -1,10 +1,10 @@
 // Running the lines of a script over a world.
 ghost use Rattle.std.specs.Prelude.{◌≡◌, false, length, IfSome};
-ghost use Rattle.sd_printer.specs.Says.{Says, said_view};
+ghost use Rattle.sd_text.specs.Says.{Says, said_view};
 ghost use Rattle.sd_tool.specs.Run.{RunsFrom, RunsScript};
 ghost use Rattle.sd_tool.specs.Script.{script_view};
 ghost use Rattle.sd_tool.specs.Settings.{drives_due};
-ghost use Rattle.sd_words.specs.Lines.{line};
+ghost use Rattle.sd_text.specs.Lines.{line};
 
 use crate::lines::{Lines, Next};
 use crate::printed::Printed;
@@ -14,8 +14,8 @@ use crate::told::Told;
 use sd_base::Refusal;
 use sd_driver::Driver;
 use sd_lane::Lanes;
-use sd_printer::Printer;
 use sd_script::Part;
+use sd_text::Printer;
 use std::alloc::Global;
 use std::fmt::Display;
 use std::io::{BufRead, Write};

@@ -1,6 +1,6 @@
 // The world of a script.
 ghost use Rattle.std.specs.Prelude.{◌≡◌, None, IfOk, OnErr, length};
-ghost use Rattle.sd_rounds.specs.Rounds.{Drains, PlaysMoving};
+ghost use Rattle.sd_core.specs.Rounds.{Drains, PlaysMoving};
 ghost use Rattle.sd_world.specs.Deeds.{IsRead};
 ghost use Rattle.sd_core.specs.View.{status_at, view_of};
 ghost use Rattle.sd_tool.specs.Restart.{BeginsAs};
@@ -10,13 +10,12 @@ ghost use Rattle.sd_tool.specs.ScriptStage.{KeepsStage, StageMoves};
 use crate::making::{Room, ScriptWorld};
 use crate::values::Values;
 use sd_base::{Refusal, SessionKey, Ticket};
-use sd_core::View;
+use sd_core::{View, drain};
 use sd_desk::Request;
 use sd_driver::Driver;
 use sd_lane::Lanes;
 use sd_machine::{Event, Reply};
 use sd_readback::{ReadEnd, Sink};
-use sd_rounds::drain;
 use sd_session::Status;
 use sd_span::Span;
 use std::alloc::{AllocError, Global};

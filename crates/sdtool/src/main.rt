@@ -5,12 +5,11 @@
 
 use sd_arguments::{ToolTask, status_of, tool_task};
 use sd_base::Refusal;
-use sd_files::{Extracted, list_volume, read_back};
+use sd_files::{Extracted, ShownProgress, list_volume, read_back};
 use sd_lane::Lanes;
-use sd_printer::Printer;
-use sd_progress::ShownProgress;
 use sd_ruled::RuledLanes;
 use sd_scan::{Told, scan_folder, scan_named};
+use sd_text::Printer;
 use sd_tool::{memory_drives, read_settings, run_lines};
 use std::io::{BufReader, BufWriter};
 use std::process::ExitCode;
@@ -30,17 +29,17 @@ fn main(rt: HostRuntime) -> ExitCode {
             Ok(queue) => run_script(&rt, queue),
             Err(_) => without_memory(&rt),
         },
-        ToolTask::List { volume, progress } => list(&rt, volume, progress),
+        ToolTask::List { volume, progress } => list(&rt, volume, ShownProgress::asked(progress)),
         ToolTask::Read {
             spans,
             folder,
             progress,
-        } => read(&rt, spans, folder, progress),
+        } => read(&rt, spans, folder, ShownProgress::asked(progress)),
         ToolTask::Scan {
             folder,
             volumes,
             progress,
-        } => scan(&rt, folder, &volumes, progress),
+        } => scan(&rt, folder, &volumes, ShownProgress::asked(progress)),
         ToolTask::Verify { folder } => verify(&rt, folder),
         ToolTask::Print(told) => match told.print(&rt) {
             Ok(()) => ExitCode::from(status_of(&told)),

@@ -1,5 +1,5 @@
 use Rattle.std.proofs.Common.{sym, ap, ◌∙◌, arith}
-use Rattle.sd_words.specs.Reading.{only_number}
+use Rattle.sd_text.specs.Reading.{only_number}
 use Rattle.sd_append.proofs.TextLemmas.{only_number-fields_of}
 use Rattle.sd_append.proofs.number.number_of.Goals as goal
 

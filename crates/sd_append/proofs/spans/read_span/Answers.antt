@@ -1,5 +1,5 @@
 use Rattle.std.proofs.Common.{◌≡◌, ◌∷◌, [], ◌++◌, List, ℕ, Err, sym, ap, subst, ◌∙◌}
-use Rattle.sd_words.specs.Lines.{line}
+use Rattle.sd_text.specs.Lines.{line}
 use Rattle.sd_span.specs.JobMedia.{IsJobMedia, session_text}
 use Rattle.sd_span.specs.declared.jobmedia.JobMediaFault.TheVariants.{BadSpan}
 use Rattle.sd_append.proofs.SpanLemmas.{line_alone, span_alone, some_key, some_fits}

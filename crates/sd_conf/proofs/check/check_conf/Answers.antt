@@ -1,6 +1,6 @@
 use Rattle.std.proofs.Common.{ap, ◌∙◌}
-use Rattle.sd_printer.specs.Says.{said_view}
-use Rattle.sd_printer.proofs.SaysLemmas.{says_then_nothing}
+use Rattle.sd_text.specs.Says.{said_view}
+use Rattle.sd_text.proofs.SaysLemmas.{says_then_nothing}
 use Rattle.sd_conf.specs.Check.{status_of}
 use Rattle.sd_conf.proofs.check.check_conf.Goals as goal
 

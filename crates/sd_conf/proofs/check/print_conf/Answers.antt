@@ -1,4 +1,4 @@
-use Rattle.sd_printer.specs.Says.{said_view}
+use Rattle.sd_text.specs.Says.{said_view}
 use Rattle.sd_conf.proofs.CheckLemmas.{says_conf}
 use Rattle.sd_conf.proofs.check.print_conf.Goals as goal
 

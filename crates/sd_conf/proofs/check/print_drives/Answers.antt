@@ -1,5 +1,5 @@
 use Rattle.std.proofs.Common.{◌+◌, ap, arith}
-use Rattle.sd_printer.specs.Says.{said_view}
+use Rattle.sd_text.specs.Says.{said_view}
 use Rattle.sd_conf.proofs.CheckLemmas.{says_drive}
 use Rattle.sd_conf.proofs.check.print_drives.Goals as goal
 

@@ -1,5 +1,5 @@
 use Rattle.std.proofs.Common.{◌≡◌, take}
-use Rattle.sd_printer.specs.Says.{Says, said_view}
+use Rattle.sd_text.specs.Says.{Says, said_view}
 use Rattle.sd_conf.specs.Check.{drive_lines}
 use Rattle.sd_conf.proofs.check.print_drives.Given as goal
 

@@ -3,8 +3,8 @@ use Rattle.std.specs.Prelude.{IsSome, is_some}
 use Rattle.sd_world.specs.World.{WorldSession, session_at}
 use Rattle.sd_world.proofs.Lookups.{session_id}
 use Rattle.sd_world.proofs.Pairs.{is_numbered}
-use Rattle.sd_parts.proofs.Found.{read_found}
-use Rattle.sd_parts.proofs.Found.{found_within}
+use Rattle.sd_events.proofs.Found.{read_found}
+use Rattle.sd_events.proofs.Found.{found_within}
 use Rattle.sd_core.proofs.knowing.know_counts.Goals as goal
 
 -- each session has a ticket

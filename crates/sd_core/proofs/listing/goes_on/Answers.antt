@@ -1,7 +1,7 @@
 use Rattle.std.proofs.Common.{false, true, refl, sym, inl, inr, ◌∙◌}
 use Rattle.sd_session.specs.declared.status.Status.TheVariants.{Active, Ended, Closed, Cancelled, Failed, Purged}
 use Rattle.sd_world.specs.World.{WorldSession}
-use Rattle.sd_parts.proofs.Found.{read_found}
+use Rattle.sd_events.proofs.Found.{read_found}
 use Rattle.sd_core.proofs.Tickets.{goes_told}
 use Rattle.sd_core.proofs.listing.goes_on.Goals as goal
 

@@ -2,7 +2,7 @@ use Rattle.std.proofs.Common.{◌&&◌, sym, ap, ◌∙◌, arith}
 use Rattle.sd_world.specs.Drives.{was_purged}
 use Rattle.sd_world.specs.World.{WorldSession, session_at}
 use Rattle.sd_base.specs.Key.{is_key}
-use Rattle.sd_parts.proofs.Found.{found_within}
+use Rattle.sd_events.proofs.Found.{found_within}
 use Rattle.sd_core.proofs.Gone.{no_ticket, none_of_key, told_by}
 use Rattle.sd_core.proofs.reading.is_purged_session.Goals as goal
 

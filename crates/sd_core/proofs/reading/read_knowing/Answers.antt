@@ -2,7 +2,7 @@ use Rattle.std.proofs.Common.{List, sym, subst}
 use Rattle.sd_world.specs.World.{WorldSession, BayView}
 use Rattle.sd_world.specs.Deeds.{CountsFit}
 use Rattle.sd_world.specs.Steps.{DrivesKeep}
-use Rattle.sd_parts.specs.View.{world_of}
+use Rattle.sd_events.specs.View.{world_of}
 use Rattle.sd_core.specs.Numbers.{NumbersAreTickets}
 use Rattle.sd_core.proofs.Gone.{are_tickets}
 use Rattle.sd_core.proofs.reading.read_knowing.Goals as goal

@@ -1,4 +1,4 @@
-use Rattle.sd_printer.specs.Says.{said_view}
+use Rattle.sd_text.specs.Says.{said_view}
 use Rattle.sd_daemon.proofs.ServeLemmas.{says_settle}
 use Rattle.sd_daemon.proofs.conf_file.+print_unsettled.Goals as goal
 

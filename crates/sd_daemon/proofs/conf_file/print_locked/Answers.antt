@@ -1,5 +1,5 @@
 use Rattle.std.proofs.Common.{◌∙◌}
-use Rattle.sd_printer.specs.Says.{said_view}
+use Rattle.sd_text.specs.Says.{said_view}
 use Rattle.sd_daemon.proofs.ServeLemmas.{says_folder_line}
 use Rattle.sd_daemon.proofs.conf_file.print_locked.Goals as goal
 

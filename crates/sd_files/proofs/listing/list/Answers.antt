@@ -2,14 +2,14 @@ use Rattle.std.proofs.Common.{◌≡◌, ◌-◌, [], ◌++◌, ℕ, ap, sym, �
 use Rattle.std.specs.Prelude.{IsTrue}
 use Rattle.std.proofs.lemmas.List.{append_assoc}
 use Rattle.std.proofs.lemmas.Result.{err_from_is_err_and}
-use Rattle.sd_words.specs.Lines.{line}
+use Rattle.sd_text.specs.Lines.{line}
 use Rattle.sd_volume.proofs.DeviceLemmas.{OnlyReads-trans, OnlyReads-as, only_reads_call}
 use Rattle.sd_volume.proofs.ImageLemmas.{label_block-least}
 use Rattle.sd_volume.specs.Adopt.{IsLabelled}
 use Rattle.sd_volume.specs.declared.survey.Labelled.{Labelled}
 use Rattle.sd_files.specs.Listing.{label_text, tail_text}
-use Rattle.sd_printer.specs.Says.{said_view}
-use Rattle.sd_printer.proofs.SaysLemmas.{says_none, says_then}
+use Rattle.sd_text.specs.Says.{said_view}
+use Rattle.sd_text.proofs.SaysLemmas.{says_none, says_then}
 use Rattle.sd_files.proofs.ListingLemmas.{fault_is, form_front, form_given_up, form_none, OnlyReads-listing, lists_none, lists_given_up, lists_front, lists_whole, there_and_gone}
 use Rattle.sd_files.proofs.listing.list.Goals as goal
 

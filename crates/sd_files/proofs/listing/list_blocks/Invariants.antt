@@ -7,7 +7,7 @@ use Rattle.sd_volume.specs.Device.{OnlyReads}
 use Rattle.sd_volume.specs.Image.{label_block}
 use Rattle.sd_volume.specs.Reader.{Shows}
 use Rattle.sd_files.specs.Listing.{ListsUpTo}
-use Rattle.sd_printer.specs.Says.{Says, said_view}
+use Rattle.sd_text.specs.Says.{Says, said_view}
 use Rattle.sd_files.proofs.ListingLemmas.{LinesUpTo}
 use Rattle.sd_files.proofs.listing.list_blocks.Given as goal
 

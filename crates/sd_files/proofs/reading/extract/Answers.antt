@@ -1,8 +1,8 @@
 use Rattle.std.proofs.Common.{List, ◌++◌, ap, inl, inr, refl, subst, ◌∙◌}
-use Rattle.sd_printer.specs.Says.{said_view}
-use Rattle.sd_printer.proofs.SaysLemmas.{says_then, says_then_nothing}
+use Rattle.sd_text.specs.Says.{said_view}
+use Rattle.sd_text.proofs.SaysLemmas.{says_then, says_then_nothing}
 use Rattle.sd_span.specs.declared.span.Span.{Span}
-use Rattle.sd_words.specs.Lines.{line}
+use Rattle.sd_text.specs.Lines.{line}
 use Rattle.sd_files.specs.Extract.{ReadsSession, status_of}
 use Rattle.sd_files.specs.Lines.{ending_text, records_lines}
 use Rattle.sd_files.proofs.reading.extract.Goals as goal

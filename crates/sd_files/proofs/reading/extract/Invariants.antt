@@ -1,4 +1,4 @@
-use Rattle.sd_printer.specs.Says.{said_view}
+use Rattle.sd_text.specs.Says.{said_view}
 use Rattle.sd_files.proofs.reading.extract.Given as goal
 
 abbrev pub ghosts-read_out : goal.ghosts-read_out

@@ -1,5 +1,5 @@
-use Rattle.sd_printer.specs.Says.{said_view}
-use Rattle.sd_printer.proofs.SaysLemmas.{says_then_nothing}
+use Rattle.sd_text.specs.Says.{said_view}
+use Rattle.sd_text.proofs.SaysLemmas.{says_then_nothing}
 use Rattle.sd_files.proofs.reading.given_up.Goals as goal
 
 pub returns-clause-says : goal.returns-clause-says

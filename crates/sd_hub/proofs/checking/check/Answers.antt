@@ -1,7 +1,7 @@
 use Rattle.std.proofs.Common.{refl, sym, ap, subst, ◌∙◌, List}
 use Rattle.sd_drive.specs.Receipt.{ReceiptIs}
 use Rattle.sd_line.specs.Side.{LineIs}
-use Rattle.sd_part.specs.Ends.{EndIs}
+use Rattle.sd_line.specs.Ends.{EndIs}
 use Rattle.sd_hub.specs.Settles.{FaultOf, Passes, checked_of, line_of}
 use Rattle.sd_hub.proofs.checking.check.Goals as goal
 

@@ -2,7 +2,7 @@ use Rattle.std.proofs.Common.{◌≡◌, ◌<◌, refl, ap, ◌∙◌, arith, le
 use Rattle.std.proofs.lemmas.Option.{slice_get_read}
 use Rattle.sd_base.specs.declared.number.SessionKey.{SessionKey}
 use Rattle.sd_base.proofs.ChoiceLemmas.{none_all, none_more}
-use Rattle.sd_part.specs.Ends.{ToldSession}
+use Rattle.sd_line.specs.Ends.{ToldSession}
 use Rattle.sd_hub.specs.Settles.{sessions_to, times_of}
 use Rattle.sd_hub.proofs.checks.double_in.Goals as goal
 

@@ -1,5 +1,5 @@
 use Rattle.std.proofs.Common.{◌<◌, arith}
-use Rattle.sd_part.specs.Ends.{ToldSession}
+use Rattle.sd_line.specs.Ends.{ToldSession}
 use Rattle.sd_hub.specs.Settles.{sessions_to, times_of}
 use Rattle.sd_hub.proofs.LaneLemmas.{distinct, none_to, none_to_more}
 use Rattle.sd_hub.proofs.checks.double_key.Goals as goal

@@ -3,7 +3,7 @@ use Rattle.std.specs.Prelude.{◌↔◌, IsTrue}
 use Rattle.sd_base.specs.Seen.{seen_of}
 use Rattle.sd_base.specs.declared.number.SessionKey.{SessionKey}
 use Rattle.sd_journal.specs.Journal.{progress_of}
-use Rattle.sd_part.specs.Ends.{ToldSession}
+use Rattle.sd_line.specs.Ends.{ToldSession}
 use Rattle.sd_span.specs.declared.progress.Progress.{Progress}
 use Rattle.sd_hub.specs.Settles.{IsUnsettled}
 use Rattle.sd_hub.proofs.CheckLemmas.{closed_unsettled}

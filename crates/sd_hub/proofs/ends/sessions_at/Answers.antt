@@ -1,7 +1,7 @@
 use Rattle.std.proofs.Common.{◌≡◌, refl, sym, ap, ◌∙◌, length}
 use Rattle.std.proofs.lemmas.Option.{slice_get_read}
 use Rattle.sd_base.proofs.ChoiceLemmas.{same_some}
-use Rattle.sd_part.specs.Ends.{EndIs}
+use Rattle.sd_line.specs.Ends.{EndIs}
 use Rattle.sd_hub.specs.Settles.{sessions_in}
 use Rattle.sd_hub.proofs.ends.sessions_at.Goals as goal
 

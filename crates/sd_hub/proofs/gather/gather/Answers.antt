@@ -1,6 +1,6 @@
 use Rattle.std.proofs.Common.{◌≡◌, ◌≢◌, ◌+◌, refl, sym, ap, subst, ◌∙◌, arith, rules}
 use Rattle.std.specs.Prelude.{IsSome}
-use Rattle.sd_part.specs.Ends.{EndIs}
+use Rattle.sd_line.specs.Ends.{EndIs}
 use Rattle.sd_ruled.specs.Seats.{LaneSeatIs}
 use Rattle.sd_hub.specs.Settles.{lane_of}
 use Rattle.sd_hub.proofs.EndLemmas.{found_is, no_is}

@@ -1,6 +1,6 @@
 use Rattle.std.proofs.Common.{sym, subst, arith}
 use Rattle.sd_drive.specs.Shelf.{Kept}
-use Rattle.sd_parts.specs.View.{world_of}
+use Rattle.sd_events.specs.View.{world_of}
 use Rattle.sd_hub.specs.Settles.{SettledIs}
 use Rattle.sd_world.specs.World.{WorldView}
 use Rattle.sd_hub.specs.Claimed.{ClaimsOwn}

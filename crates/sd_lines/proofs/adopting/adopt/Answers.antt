@@ -1,6 +1,6 @@
 use Rattle.sd_console.specs.Replies.{reply_line}
 use Rattle.sd_machine.specs.declared.reply.Reply.TheVariants.{Adopted}
-use Rattle.sd_answers.proofs.AnswerLemmas.{one_line}
+use Rattle.sd_console.proofs.AnswerLemmas.{one_line}
 use Rattle.sd_lines.proofs.adopting.adopt.Goals as goal
 
 pub returns-in-Adopted : goal.returns-in-Adopted

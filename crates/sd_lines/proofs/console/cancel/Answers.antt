@@ -1,5 +1,5 @@
 use Rattle.std.proofs.Common.{codes}
-use Rattle.sd_answers.proofs.AnswerLemmas.{one_line}
+use Rattle.sd_console.proofs.AnswerLemmas.{one_line}
 use Rattle.sd_lines.proofs.HeldLemmas.{cancelled_own}
 use Rattle.sd_lines.specs.Held.{last_of}
 use Rattle.sd_lines.proofs.console.cancel.Goals as goal

@@ -1,4 +1,4 @@
-use Rattle.sd_answers.proofs.AnswerLemmas.{shown_lines}
+use Rattle.sd_console.proofs.AnswerLemmas.{shown_lines}
 use Rattle.sd_lines.proofs.console.tell_requests.Goals as goal
 
 pub returns-in-Ok : goal.returns-in-Ok

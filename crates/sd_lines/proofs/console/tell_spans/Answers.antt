@@ -1,5 +1,5 @@
 use Rattle.sd_machine.specs.declared.reply.Reply.TheVariants.{Media}
-use Rattle.sd_answers.proofs.AnswerLemmas.{told_lines}
+use Rattle.sd_console.proofs.AnswerLemmas.{told_lines}
 use Rattle.sd_lines.proofs.console.tell_spans.Goals as goal
 
 pub returns-in-Ok : goal.returns-in-Ok

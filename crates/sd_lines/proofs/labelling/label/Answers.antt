@@ -1,5 +1,5 @@
 use Rattle.std.proofs.Common.{codes}
-use Rattle.sd_answers.proofs.AnswerLemmas.{one_line}
+use Rattle.sd_console.proofs.AnswerLemmas.{one_line}
 use Rattle.sd_lines.proofs.labelling.label.Goals as goal
 
 pub returns-in-Labelled : goal.returns-in-Labelled

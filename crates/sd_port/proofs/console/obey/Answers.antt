@@ -5,9 +5,9 @@ use Rattle.sd_console.specs.Requests.{requests_lines}
 use Rattle.sd_desk.specs.declared.request.Request.{Request}
 use Rattle.sd_script.specs.declared.console.ConsoleCmd.{ConsoleCmd}
 use Rattle.sd_script.specs.declared.console.ConsoleCmd.TheVariants.{Label}
-use Rattle.sd_words.specs.Lines.{line}
+use Rattle.sd_text.specs.Lines.{line}
 use Rattle.sd_port.proofs.ConsoleLemmas.{CommandDone, purge_any_moment}
-use Rattle.sd_answers.specs.Lines.{Shows}
+use Rattle.sd_console.specs.Lines.{Shows}
 use Rattle.sd_port.proofs.console.obey.Goals as goal
 
 -- the moment is 64 bits wide

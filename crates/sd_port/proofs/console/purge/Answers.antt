@@ -2,7 +2,7 @@ use Rattle.std.proofs.Common.{refl, sym, ap, ◌∙◌, subst, []}
 use Rattle.std.specs.Prelude.{Err, ℕ, pos}
 use Rattle.sd_script.specs.declared.console.ConsoleCmd.TheVariants.{Purge}
 use Rattle.sd_port.specs.Console.{purge_refusal}
-use Rattle.sd_port.specs.declared.syncing.Syncing.{Syncing}
+use Rattle.sd_core.specs.declared.syncing.Syncing.{Syncing}
 use Rattle.sd_port.proofs.ConsoleLemmas.{CommandDone}
 use Rattle.sd_port.proofs.console.purge.Goals as goal
 

@@ -1,5 +1,5 @@
 use Rattle.sd_world.proofs.DeedLemmas.{steps_lead}
-use Rattle.sd_port.proofs.TryLemmas.{answers_along}
+use Rattle.sd_core.proofs.TryLemmas.{answers_along}
 use Rattle.sd_port.proofs.laws.answers_lead.Goals as goal
 
 pub returns : goal.returns

@@ -2,7 +2,7 @@ use Rattle.std.proofs.Common.{◌≡◌, ◌-◌, ℕ, List, length}
 use Rattle.std.specs.Prelude.{Some}
 use Rattle.sd_driver.specs.Meaning.{IsHonest}
 use Rattle.sd_driver.specs.Shelf.{Held}
-use Rattle.sd_printer.specs.Says.{Says, said_view}
+use Rattle.sd_text.specs.Says.{Says, said_view}
 use Rattle.sd_volume.specs.Device.{OnlyReads}
 use Rattle.sd_volume.specs.Reader.{Shows}
 use Rattle.sd_scan.proofs.VolumeLemmas.{GoesOn}

@@ -1,5 +1,5 @@
 use Rattle.sd_scan.proofs.VolumeLemmas.{prints_cut, prints_ended}
-use Rattle.sd_printer.specs.Says.{said_view}
+use Rattle.sd_text.specs.Says.{said_view}
 use Rattle.sd_scan.proofs.print.print_cut.Goals as goal
 
 pub returns-then-report : goal.returns-then-report

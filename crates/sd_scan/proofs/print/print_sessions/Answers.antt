@@ -1,8 +1,8 @@
 use Rattle.std.proofs.Common.{◌++◌, [], arith}
 use Rattle.std.proofs.lemmas.Result.{err_from_is_err_and}
 use Rattle.sd_scan.specs.Sessions.{keys_in}
-use Rattle.sd_printer.specs.Says.{said_view}
-use Rattle.sd_printer.proofs.SaysLemmas.{says_none, says_then}
+use Rattle.sd_text.specs.Says.{said_view}
+use Rattle.sd_text.proofs.SaysLemmas.{says_none, says_then}
 use Rattle.sd_scan.proofs.VolumeLemmas.{prints_all, prints_more, prints_none}
 use Rattle.sd_scan.proofs.print.print_sessions.Goals as goal
 

@@ -1,7 +1,7 @@
 use Rattle.std.proofs.Common.{ℕ, List}
 use Rattle.sd_scan.specs.Found.{Found}
 use Rattle.sd_scan.specs.Sessions.{KeepsBy, keys_in, sessions_in}
-use Rattle.sd_printer.specs.Says.{Says, said_view}
+use Rattle.sd_text.specs.Says.{Says, said_view}
 use Rattle.sd_span.specs.declared.placement.Placement.{Placement}
 use Rattle.sd_scan.proofs.VolumeLemmas.{PrintsFirst}
 use Rattle.sd_scan.proofs.print.print_sessions.Given as goal

@@ -1,7 +1,7 @@
 use Rattle.std.proofs.Common.{[], ◌++◌, ap, refl, ◌∙◌}
 use Rattle.std.proofs.lemmas.Result.{err_from_is_err_and}
-use Rattle.sd_printer.specs.Says.{said_view}
-use Rattle.sd_printer.proofs.SaysLemmas.{says_none}
+use Rattle.sd_text.specs.Says.{said_view}
+use Rattle.sd_text.proofs.SaysLemmas.{says_none}
 use Rattle.sd_span.specs.JobMedia.{jobmedia_text}
 use Rattle.sd_scan.specs.Lines.{whole_lines}
 use Rattle.sd_scan.proofs.VolumeLemmas.{prints_whole}

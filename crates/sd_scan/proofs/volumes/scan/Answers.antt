@@ -1,8 +1,8 @@
 use Rattle.std.proofs.Common.{◌++◌, [], length}
 use Rattle.std.proofs.lemmas.Result.{err_from_is_err_and}
-use Rattle.sd_printer.specs.Says.{said_view}
-use Rattle.sd_printer.proofs.SaysLemmas.{says_then}
-use Rattle.sd_words.specs.Lines.{line}
+use Rattle.sd_text.specs.Says.{said_view}
+use Rattle.sd_text.proofs.SaysLemmas.{says_then}
+use Rattle.sd_text.specs.Lines.{line}
 use Rattle.sd_scan.specs.Lines.{line_text}
 use Rattle.sd_scan.specs.declared.line.ScanLine.TheVariants.{Done}
 use Rattle.sd_scan.proofs.VolumeLemmas.{scans_all}

@@ -2,8 +2,8 @@ use Rattle.std.proofs.Common.{◌++◌, [], ℕ, List, length, take, rules, refl
 use Rattle.std.specs.Prelude.{IsTrue}
 use Rattle.std.proofs.lemmas.Option.{slice_get_read}
 use Rattle.std.proofs.lemmas.Result.{err_from_is_err_and}
-use Rattle.sd_printer.specs.Says.{said_view}
-use Rattle.sd_printer.proofs.SaysLemmas.{says_none, says_then}
+use Rattle.sd_text.specs.Says.{said_view}
+use Rattle.sd_text.proofs.SaysLemmas.{says_none, says_then}
 use Rattle.sd_volume.proofs.DeviceLemmas.{OnlyReads-trans, OnlyReads-as}
 use Rattle.sd_scan.specs.Scan.{ScansVolumes}
 use Rattle.sd_scan.proofs.RunLemmas.{keeps_none}

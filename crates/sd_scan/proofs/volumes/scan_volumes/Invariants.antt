@@ -2,7 +2,7 @@ use Rattle.std.proofs.Common.{ℕ, List, ◌++◌, take}
 use Rattle.sd_driver.specs.Meaning.{IsHonest}
 use Rattle.sd_scan.specs.Found.{Found}
 use Rattle.sd_scan.specs.Sessions.{Keeps}
-use Rattle.sd_printer.specs.Says.{Says, said_view}
+use Rattle.sd_text.specs.Says.{Says, said_view}
 use Rattle.sd_volume.specs.Device.{OnlyReads}
 use Rattle.sd_scan.specs.Scan.{ScansVolumes}
 use Rattle.sd_scan.proofs.volumes.scan_volumes.Given as goal

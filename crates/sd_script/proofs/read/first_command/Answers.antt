@@ -1,4 +1,4 @@
-use Rattle.sd_words.proofs.ReadingLemmas.{no_word}
+use Rattle.sd_text.proofs.ReadingLemmas.{no_word}
 use Rattle.sd_script.proofs.AgainLemmas.{command_read, no_command}
 use Rattle.sd_script.proofs.CommandLemmas.{command-some}
 use Rattle.sd_script.specs.Command.{command_text}

@@ -1,4 +1,4 @@
-use Rattle.sd_printer.specs.Says.{said_view}
+use Rattle.sd_text.specs.Says.{said_view}
 use Rattle.sd_tool.proofs.reading.read_back.Goals as goal
 
 pub returns : goal.returns

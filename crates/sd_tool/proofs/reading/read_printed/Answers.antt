@@ -1,6 +1,6 @@
 use Rattle.std.proofs.Common.{Bor, List, Option, sym, subst}
 use Rattle.std.specs.Option.{option_copied}
-use Rattle.sd_printer.specs.Says.{said_view}
+use Rattle.sd_text.specs.Says.{said_view}
 use Rattle.sd_span.specs.declared.span.Span.{Span}
 use Rattle.sd_tool.specs.Doing.{ReadsOn, ReadsPrintedOn}
 use Rattle.sd_tool.specs.declared.printed.Closed.{Closed}

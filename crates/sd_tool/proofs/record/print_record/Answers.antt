@@ -1,6 +1,6 @@
 use Rattle.std.proofs.Common.{ap, ◌∙◌}
 use Rattle.sd_base.specs.Record.{Record}
-use Rattle.sd_printer.specs.Says.{said_view}
+use Rattle.sd_text.specs.Says.{said_view}
 use Rattle.sd_tool.proofs.TranscriptLemmas.{says_record}
 use Rattle.sd_tool.proofs.record.print_record.Goals as goal
 

@@ -2,11 +2,11 @@ use Rattle.std.proofs.Common.{ℕ, List, sym, subst}
 use Rattle.sd_console.specs.Replies.{reply_line}
 use Rattle.sd_machine.specs.declared.reply.Reply.{Reply}
 use Rattle.sd_machine.specs.declared.reply.Reply.TheVariants.{Closed}
-use Rattle.sd_printer.specs.Says.{Says, said_view}
-use Rattle.sd_printer.proofs.SaysLemmas.{says_then}
+use Rattle.sd_text.specs.Says.{Says, said_view}
+use Rattle.sd_text.proofs.SaysLemmas.{says_then}
 use Rattle.sd_span.specs.JobMedia.{jobmedia_text}
 use Rattle.sd_span.specs.declared.span.Span.{Span}
-use Rattle.sd_words.specs.Lines.{line}
+use Rattle.sd_text.specs.Lines.{line}
 use Rattle.sd_tool.specs.ReplyLines.{closed_words}
 use Rattle.sd_tool.proofs.TranscriptLemmas.{closed_other}
 use Rattle.sd_tool.proofs.replies.print_closed.Goals as goal

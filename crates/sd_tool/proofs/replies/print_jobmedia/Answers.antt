@@ -1,4 +1,4 @@
-use Rattle.sd_printer.specs.Says.{said_view}
+use Rattle.sd_text.specs.Says.{said_view}
 use Rattle.sd_tool.proofs.TranscriptLemmas.{one_span_more}
 use Rattle.sd_tool.proofs.replies.print_jobmedia.Goals as goal
 

@@ -1,5 +1,5 @@
 use Rattle.std.proofs.Common.{take}
-use Rattle.sd_printer.specs.Says.{Says, said_view}
+use Rattle.sd_text.specs.Says.{Says, said_view}
 use Rattle.sd_span.specs.JobMedia.{jobmedia_text}
 use Rattle.sd_tool.proofs.replies.print_jobmedia.Given as goal
 

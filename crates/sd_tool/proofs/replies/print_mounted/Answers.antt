@@ -1,5 +1,5 @@
 use Rattle.std.proofs.Common.{ℕ, List, subst}
-use Rattle.sd_printer.specs.Says.{Says, said_view}
+use Rattle.sd_text.specs.Says.{Says, said_view}
 use Rattle.sd_tool.proofs.TranscriptLemmas.{mounted_other}
 use Rattle.sd_tool.proofs.replies.print_mounted.Goals as goal
 

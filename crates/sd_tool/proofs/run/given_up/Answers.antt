@@ -1,4 +1,4 @@
-use Rattle.sd_printer.specs.Says.{said_view}
+use Rattle.sd_text.specs.Says.{said_view}
 use Rattle.sd_tool.proofs.DoingLemmas.{line_shown}
 use Rattle.sd_tool.proofs.run.given_up.Goals as goal
 

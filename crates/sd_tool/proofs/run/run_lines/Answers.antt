@@ -1,5 +1,5 @@
 use Rattle.std.proofs.Common.{◌≡◌, ap₂, refl, false, subst}
-use Rattle.sd_printer.specs.Says.{SaidView, said_view}
+use Rattle.sd_text.specs.Says.{SaidView, said_view}
 use Rattle.sd_tool.specs.Run.{RunsScript}
 use Rattle.sd_tool.proofs.run.run_lines.Goals as goal
 

@@ -1,6 +1,6 @@
 use Rattle.std.proofs.Common.{◌≡◌, List, ℕ, sym, subst, ◌∙◌}
 use Rattle.std.specs.Prelude.{IfSome}
-use Rattle.sd_words.specs.Lines.{line}
+use Rattle.sd_text.specs.Lines.{line}
 use Rattle.sd_append.specs.Out.{out_view}
 use Rattle.sd_append.proofs.OutLemmas.{puts_said}
 use Rattle.sd_append.proofs.outbox.Outbox.line.Goals as goal

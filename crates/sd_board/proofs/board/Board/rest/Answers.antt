@@ -1,7 +1,7 @@
 use Rattle.std.proofs.Common.{◌≡◌, ap, subst, ◌∙◌, List}
 use Rattle.std.specs.Prelude.{IfErr, OnOk}
 use Rattle.std.proofs.lemmas.Result.{on_err_weaker}
-use Rattle.sd_part.specs.Ends.{EndIs}
+use Rattle.sd_line.specs.Ends.{EndIs}
 use Rattle.sd_board.specs.Board.{BoardIs, MayRest, Rests}
 use Rattle.sd_board.specs.Slots.{DriveLanesIs}
 use Rattle.sd_board.proofs.BoardLemmas.{keeps_either}

@@ -1,6 +1,6 @@
 use Rattle.std.proofs.Common.{ap, arith}
 use Rattle.sd_world.specs.World.{WorldView}
-use Rattle.sd_parts.proofs.Found.{found_within}
+use Rattle.sd_events.proofs.Found.{found_within}
 use Rattle.sd_core.proofs.Told.{status_read}
 use Rattle.sd_core.proofs.world.World.status.Goals as goal
 

@@ -1,6 +1,6 @@
 use Rattle.std.proofs.Common.{subst}
 use Rattle.sd_driver.specs.Meaning.{Meaning}
-use Rattle.sd_parts.specs.View.{world_of}
+use Rattle.sd_events.specs.View.{world_of}
 use Rattle.sd_world.specs.Moves.{Moves}
 use Rattle.sd_world.specs.World.{WorldView}
 use Rattle.sd_world.proofs.Moves.{moves_keep_rules}

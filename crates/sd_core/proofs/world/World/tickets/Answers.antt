@@ -1,7 +1,7 @@
 use Rattle.std.proofs.Common.{◌≡◌, List, sym, ap, ◌∙◌, subst}
 use Rattle.std.specs.Prelude.{IfOk}
 use Rattle.sd_world.specs.World.{WorldView, WorldSession, BayView}
-use Rattle.sd_parts.specs.View.{world_of}
+use Rattle.sd_events.specs.View.{world_of}
 use Rattle.sd_core.specs.Listing.{KeepLanes}
 use Rattle.sd_core.specs.View.{running_tickets}
 use Rattle.sd_core.proofs.Tickets.{keep_lanes}

@@ -1,6 +1,6 @@
 use Rattle.std.proofs.Common.{ap, ◌∙◌}
 use Rattle.sd_base.specs.Record.{Record}
-use Rattle.sd_printer.specs.Says.{said_view}
+use Rattle.sd_text.specs.Says.{said_view}
 use Rattle.sd_files.proofs.ExtractLemmas.{record_says}
 use Rattle.sd_files.proofs.record.WholeRecordsPrintRecord.print.Goals as goal
 

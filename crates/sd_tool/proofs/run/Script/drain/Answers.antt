@@ -1,5 +1,5 @@
 use Rattle.std.proofs.Common.{inr, ap, sym, subst, ◌∙◌}
-use Rattle.sd_rounds.specs.Rounds.{PlaysMoving}
+use Rattle.sd_core.specs.Rounds.{PlaysMoving}
 use Rattle.sd_tool.specs.ScriptStage.{StageView}
 use Rattle.sd_tool.proofs.run.Script.drain.Goals as goal
 

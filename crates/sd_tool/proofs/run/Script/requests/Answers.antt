@@ -1,6 +1,6 @@
 use Rattle.std.proofs.Common.{List, refl, inl, inr, subst}
 use Rattle.sd_desk.specs.declared.request.Request.{Request}
-use Rattle.sd_printer.specs.Says.{Says, said_view}
+use Rattle.sd_text.specs.Says.{Says, said_view}
 use Rattle.sd_tool.specs.ReplyLines.{requests_text}
 use Rattle.sd_tool.proofs.run.Script.requests.Goals as goal
 

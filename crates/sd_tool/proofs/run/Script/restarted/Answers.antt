@@ -1,8 +1,8 @@
 use Rattle.std.proofs.Common.{rules, Option, refl, sym, subst}
 use Rattle.sd_base.specs.declared.refusal.Refusal.{Refusal}
-use Rattle.sd_printer.specs.Says.{Says, said_view}
-use Rattle.sd_printer.specs.declared.printer.Printer.{Printer}
-use Rattle.sd_words.specs.Lines.{line}
+use Rattle.sd_text.specs.Says.{Says, said_view}
+use Rattle.sd_text.specs.declared.printer.Printer.{Printer}
+use Rattle.sd_text.specs.Lines.{line}
 use Rattle.sd_tool.specs.Script.{script_view}
 use Rattle.sd_tool.specs.Told.{restarted_text}
 use Rattle.sd_tool.proofs.RunLemmas.{restart_done}

@@ -1,6 +1,6 @@
 use Rattle.std.proofs.Common.{ap, subst, ◌∙◌}
 use Rattle.std.specs.Prelude.{IfOk, OnErr}
-use Rattle.sd_rounds.specs.Rounds.{Drains, PlaysMoving}
+use Rattle.sd_core.specs.Rounds.{Drains, PlaysMoving}
 use Rattle.sd_drive.specs.declared.limits.Limits.{Limits}
 use Rattle.sd_tool.specs.ScriptStage.{StageView}
 use Rattle.sd_tool.proofs.StageLemmas.{drain_stays}

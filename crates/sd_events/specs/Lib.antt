@@ -1,0 +1,6 @@
+pub mod AtStations
+pub mod Found
+pub mod Losing
+pub mod Opening
+pub mod Purging
+pub mod View

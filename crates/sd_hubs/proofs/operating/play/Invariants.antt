@@ -1,5 +1,0 @@
-use Rattle.sd_hubs.proofs.operating.play.Given as goal
-
--- the queue that was just made, and the time of the run, for each number
-abbrev pub ghosts-both : goal.ghosts-both
-ghosts-both g a = record { table = λ no. a.lanes.table; time = λ no. a.drive.limits.time }

@@ -1,0 +1,132 @@
+-- What becomes of an end at which a session is opened, or isn't.
+use Rattle.std.proofs.Common.{◌≡◌, ℕ, ◌-◌, ◌≤◌, refl, sym, ap, subst, subst₂, ◌∙◌, inl, inr, false, Option, Some, None, List, [], ◌∷◌, ◌++◌}
+use Rattle.std.specs.Prelude.{is_some, IsSome, IfSome, IfNone}
+use Rattle.std.specs.Option.{option_map, option_or}
+use Rattle.sd_base.specs.Limits.{block_header, most_number}
+use Rattle.sd_base.specs.declared.refusal.Refusal.{Refusal}
+use Rattle.sd_base.specs.declared.refusal.Refusal.TheVariants.{Memory}
+use Rattle.sd_drive.specs.declared.limits.Limits.{Limits}
+use Rattle.sd_session.specs.Session.{SessionView, StartRefused, StartsSession, KeepsStore, store_of}
+use Rattle.sd_session.specs.declared.opening.Opening.{Opening}
+use Rattle.sd_spool.specs.Job.{StoreState, state_of}
+use Rattle.sd_spool.specs.Meaning.{Meaning}
+use Rattle.sd_line.specs.Ends.{ToldSession, EndIs, KeepsEnd, LastIsOver, LastGivesBack, BringsStore, last_store}
+use Rattle.sd_line.specs.Parts.{PartIs, KeepsPart, OpensAt, OpensNotAt}
+use Rattle.sd_session.proofs.PartLemmas.{cleared_fails}
+use Rattle.sd_line.proofs.Keeps.{begins, state_keeps, starts_stored}
+use Rattle.sd_line.proofs.Sequences.{last_is_over, last_store_push}
+
+-- what is there under a map is there
+pub some_mapped : {A B : Type 0} (f : A → B) (o : Option A) → IsSome (option_map f o) → IsSome o
+some_mapped f None h = h
+some_mapped f (Some x) h = h
+
+pub mapped_some : {A B : Type 0} (f : A → B) (o : Option A) → IsSome o → IsSome (option_map f o)
+mapped_some f None h = h
+mapped_some f (Some x) h = h
+
+-- A session at an end that was taken apart: `e` is the end, `f` its parts, and `before` its sessions where room was made for one more.
+
+pub begun : (time : ℕ → ℕ) (e f : EndIs) (before : List ToldSession) (m : Meaning) (opening : Opening) (room limit : ℕ) (s : SessionView)
+    → KeepsEnd time f → f ≡ e → before ≡ f.sessions → f.store ≡ Some (state_of m) → LastIsOver e.sessions → opening.key.time ≡ time e.seat.no
+    → (1 ≤ opening.key.id) × (opening.key.id ≤ most_number) → opening.lane ≡ e.seat.seat.lane → StartsSession opening room limit (state_of m) s
+    → KeepsPart time (record { seat = f.seat; before = before; session = s; told = [] })
+begun time e f before m opening room limit s h is same stored over run id lane starts =
+    subst (λ ss. KeepsPart time (record { seat = f.seat; before = ss; session = s; told = [] })) (sym same)
+    (begins time f (state_of m) opening room limit s h (subst (λ (x : EndIs). LastIsOver x.sessions) (sym is) over) stored
+    (run ∙ ap (λ (x : EndIs). time x.seat.no) (sym is)) id.0 id.1 (lane ∙ ap (λ (x : EndIs). x.seat.seat.lane) (sym is)) starts)
+
+pub opened : (limits : Limits) (e f : EndIs) (before : List ToldSession) (m : Meaning) (opening : Opening) (s : SessionView)
+    → f ≡ e → before ≡ f.sessions → f.store ≡ Some (state_of m) → StartsSession opening (limits.block - block_header) limits.spool (state_of m) s
+    → OpensAt limits opening e (record { seat = f.seat; before = before; session = s; told = [] })
+opened limits e f before m opening s is same stored starts =
+    subst (λ x. OpensAt limits opening x (record { seat = f.seat; before = before; session = s; told = [] })) is
+    (record {
+      store = state_of m;
+      store_is = stored;
+      starts = starts;
+      is = ap (λ ss. let p : PartIs = record { seat = f.seat; before = ss; session = s; told = [] } in p) same;
+    })
+
+-- the end, put together again with its store in this state
+abbrev pub end_with : EndIs → List ToldSession → StoreState → EndIs
+end_with f before store = record { seat = f.seat; store = Some store; sessions = before }
+
+pub kept_end : (time : ℕ → ℕ) (f : EndIs) (before : List ToldSession) (store store' : StoreState) → KeepsEnd time f → before ≡ f.sessions → f.store ≡ Some store
+    → store'.honest ≡ store.honest → KeepsEnd time (end_with f before store')
+kept_end time f before store store' h same stored honest =
+    subst (λ ss. KeepsEnd time (end_with f ss store')) (sym same) (state_keeps time f store store' stored honest h)
+
+-- no session was started
+pub not_opened : (limits : Limits) (e f : EndIs) (before : List ToldSession) (store store' : Meaning) (why : Refusal)
+    → f ≡ e → before ≡ f.sessions → f.store ≡ Some (state_of store) → StartRefused limits.spool store why store'
+    → OpensNotAt limits e why (end_with f before (state_of store'))
+not_opened limits e f before store store' why is same stored r =
+    subst (λ x. OpensNotAt limits x why (end_with f before (state_of store'))) is
+    (record {
+      store = state_of store;
+      store' = state_of store';
+      store_is = stored;
+      is = ap (λ ss. end_with f ss (state_of store')) same;
+      cause = elim r [
+        | inl m ↦ inl (m.0, ap state_of m.1)
+        | inr x ↦ inr (x.0, x.1, cleared_fails store store' x.2)
+      ];
+    })
+
+-- or memory was wanted, and the store is as it was
+pub wanting : (limits : Limits) (e f : EndIs) (before : List ToldSession) (store store' : StoreState) → f ≡ e → before ≡ f.sessions → f.store ≡ Some store
+    → store' ≡ store → OpensNotAt limits e Memory (end_with f before store')
+wanting limits e f before store store' is same stored kept =
+    subst (λ x. OpensNotAt limits x Memory (end_with f before store')) is
+    (record {
+      store = store;
+      store' = store';
+      store_is = stored;
+      is = ap (λ ss. end_with f ss store') same;
+      cause = inl (refl, kept);
+    })
+
+pub answered : (limits : Limits) (e : EndIs) (why why' : Refusal) (back back' : EndIs) → OpensNotAt limits e why back → why' ≡ why → back' ≡ back
+    → OpensNotAt limits e why' back'
+answered limits e why why' back back' h is same = subst₂ (OpensNotAt limits e) (sym is) (sym same) h
+
+-- the store that a new session gave back is the one that it was given
+pub given_back : (opening : Opening) (room limit : ℕ) (m : Meaning) (s : SessionView) (store : StoreState) → StartsSession opening room limit (state_of m) s
+    → store_of s ≡ Some store → store ≡ state_of m
+given_back opening room limit m s store starts is =
+    let e : Some store ≡ Some (state_of m) = sym is ∙ starts_stored opening room limit (state_of m) s starts in cc (e)
+
+-- The last session, which is over and has the store, gives it back.
+pub gave : {A : Type 0} (option : Option A) (all earlier : List ToldSession) (last : ToldSession) (v : SessionView) → all ≡ earlier ++ last ∷ [] → LastIsOver all
+    → IsSome (last_store all) → IfNone option (KeepsStore last.session v) → IsSome option
+gave (Some x) all earlier last v is over stored none = refl
+gave None all earlier last v is over stored none = absurd (elim none.0 [
+  | inl runs ↦ last_is_over earlier last (subst LastIsOver is over) runs
+  | inr gone ↦ (let e : IsSome {T = StoreState} None = subst IsSome (ap last_store is ∙ last_store_push earlier last ∙ gone) stored in cc (e))
+])
+
+-- The lane's store, where it lies in the end.
+
+pub stored_here : (e : EndIs) (option : Option StoreState) → e.store ≡ option → IsSome option → BringsStore e e
+stored_here e None is some = absurd (cc some)
+stored_here e (Some store) is some = record {
+  store = store;
+  sessions = e.sessions;
+  takes = inl (is, refl);
+  is = ap (λ o. let x : EndIs = record e { store = o } in x) is;
+}
+
+pub brought : {A : Type 0} (f : A → StoreState) (option : Option A) (e : EndIs) (sessions : List ToldSession) → e.store ≡ None → IsSome option
+    → IfSome option (λ x. LastGivesBack e.sessions (f x) sessions) → BringsStore e (record { seat = e.seat; store = option_map f option; sessions = sessions })
+brought f None e sessions none some gives = absurd (cc some)
+brought f (Some x) e sessions none some gives = record { store = f x; sessions = sessions; takes = inr (none, gives); is = refl }
+
+-- What isn't in the end lies at the session that used the lane last.
+
+pub none_mapped : {A B : Type 0} (f : A → B) (o : Option A) → false ≡ is_some o → option_map f o ≡ None
+none_mapped f None not = refl
+none_mapped f (Some x) not = absurd (cc not)
+
+pub at_last : (here last : Option StoreState) → here ≡ None → IsSome (option_or here last) → IsSome last
+at_last here last none some = subst (λ o. IsSome (option_or o last)) none some

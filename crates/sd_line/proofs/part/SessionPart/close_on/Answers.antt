@@ -1,0 +1,11 @@
+use Rattle.sd_base.specs.Seen.{seen_of}
+use Rattle.sd_line.proofs.PartLemmas.{closes_keep}
+use Rattle.sd_line.proofs.part.SessionPart.close_on.Goals as goal
+
+pub invariant_of-self : goal.invariant_of-self
+invariant_of-self g c =
+    let p = c.self.inside in
+    record {
+      keeps = closes_keep g.N.Naming.time p.seat p.before.items p.session c.close.new.session (seen_of p.told) _ c.close.result c.close.ensures c.self.invariant.keeps;
+      room = c.self.invariant.room;
+    }

@@ -1,0 +1,34 @@
+-- What a close of a session's part answers, by the journal of its drive.
+use Rattle.std.specs.Prelude.{◌≡◌, ◌≢◌, ◌⊎◌, false, IsTrue, List, [], Result, Ok, Err}
+use Rattle.sd_base.specs.declared.refusal.Refusal.{Refusal}
+use Rattle.sd_base.specs.declared.refusal.Refusal.TheVariants.{SessionFailed, Memory}
+use Rattle.sd_journal.specs.Journal.{Entry, placements, placed_of, fails, progress_of}
+use Rattle.sd_line.specs.declared.closing.Closing.{Closing}
+use Rattle.sd_line.specs.declared.closing.Closing.TheVariants.{Closed, NotYet}
+use Rattle.sd_session.specs.Session.{SessionView, MayClose, ClosesSession, FailsSession, parts_of, status_refusal}
+use Rattle.sd_session.specs.declared.status.Status.TheVariants.{Ended as IsEnded}
+use Rattle.sd_span.specs.Spans.{spans_of}
+use Rattle.sd_span.specs.declared.progress.Progress.{Progress}
+
+-- how far the blocks of a session are
+abbrev pub progress_in : List Entry → SessionView → Progress
+progress_in journal s = progress_of s.key journal
+
+-- something of the session is on its way: a body that it has itself, or one that it sent and that isn't synced; or the drive placed
+-- another number of blocks with its key than it sent, which only a second session of that key can bring about
+abbrev pub IsOnItsWay : List Entry → SessionView → Type 0
+IsOnItsWay journal s = (parts_of s ≢ []) ⊎ ((progress_in journal s).synced ≢ s.sent) ⊎ (placed_of s.key journal ≢ s.sent)
+
+-- What a close comes to, by the drive's journal. Closed, with a receipt for all that was sent: where the session is ended and
+-- didn't fail, and nothing of it is on its way. Not yet: where something is. Else it is refused, for its status, or since
+-- the drive lost a block of it, by which it fails; or for want of memory, where it would be closed.
+abbrev pub Closes : List Entry → SessionView → Result Closing Refusal → SessionView → Type 0
+Closes journal s (Ok (Closed receipt)) new =
+    ClosesSession s (progress_in journal s) new × (placed_of s.key journal ≡ s.sent)
+    × (receipt ≡ record { key = s.key; spans = spans_of s.key (placements journal); blocks = s.sent })
+Closes journal s (Ok NotYet) new =
+    (s.status ≡ IsEnded) × (fails s.key journal ≡ false) × IsOnItsWay journal s × (new ≡ s)
+Closes journal s (Err why) new =
+    ((s.status ≢ IsEnded) × (why ≡ status_refusal s.status) × (new ≡ s))
+    ⊎ ((s.status ≡ IsEnded) × IsTrue (fails s.key journal) × (why ≡ SessionFailed) × FailsSession s new)
+    ⊎ (MayClose s (progress_in journal s) × (placed_of s.key journal ≡ s.sent) × (why ≡ Memory) × (new ≡ s))

@@ -1,0 +1,125 @@
+-- What contracts see of a session's part, what it keeps, and what its calls do.
+use Rattle.std.specs.Prelude.{◌≡◌, ◌≢◌, ◌⊎◌, ℕ, ◌+◌, ◌-◌, ℤ, List, [], ◌∷◌, ◌++◌, ◌==◌, if◌then◌else◌, Some, None, IsSome, false}
+use Rattle.std.specs.List.{AllByRecursion}
+use Rattle.sd_base.specs.Limits.{block_header}
+use Rattle.sd_base.specs.Record.{Record}
+use Rattle.sd_base.specs.declared.refusal.Refusal.{Refusal}
+use Rattle.sd_base.specs.declared.refusal.Refusal.TheVariants.{SpoolFault, Memory}
+use Rattle.sd_lane.specs.declared.piece.Piece.{Piece}
+use Rattle.sd_lane.specs.declared.piece.Queued.{Queued}
+use Rattle.sd_lane.specs.Queue.{queued}
+use Rattle.sd_line.specs.Side.{LineIs, SeatIs, sends_one}
+use Rattle.sd_pack.specs.Body.{PackedBody, empty_body}
+use Rattle.sd_line.specs.Ends.{ToldSession, EndIs, IsOfLane, IsOver, TellsAll, SentBy, BringsStore, pieces_from}
+use Rattle.sd_drive.specs.declared.limits.Limits.{Limits}
+use Rattle.sd_session.specs.Session.{SessionView, StartsSession, store_of}
+use Rattle.sd_session.specs.Sending.{QueueView, queue_view, SendsBody, Despools}
+use Rattle.sd_session.specs.declared.answer.Despooled.{Despooled}
+use Rattle.sd_session.specs.declared.answer.Despooled.TheVariants.{Sent, LaneFull, Nothing, NotDue}
+use Rattle.sd_session.specs.declared.opening.Opening.{Opening}
+use Rattle.sd_spool.specs.Job.{StoreState}
+use Rattle.sd_world.specs.Honest.{StoreIsTrue}
+use Rattle.sd_session.specs.Spooling.{HasFailed}
+
+-- A session's part: the seat of its lane, the sessions that used the lane before, the session, and the records that it took.
+pub record PartIs : Type 0 where
+  pub seat : SeatIs
+  pub before : List ToldSession
+  pub session : SessionView
+  pub told : List Record
+
+-- the session of a part, and what it took
+abbrev pub told_of : PartIs → ToldSession
+told_of p = record { session = p.session; told = p.told }
+
+-- the lane's end that a part leaves
+abbrev pub end_of : PartIs → EndIs
+end_of p = record { seat = p.seat; store = None; sessions = p.before ++ told_of p ∷ [] }
+
+-- the part with another session in the place of its own, which took the same records
+abbrev pub with_session : PartIs → SessionView → PartIs
+with_session p s = record p { session = s }
+
+-- What a part keeps. The seat sent what the sessions before sent, and behind that these bodies of the part's own session;
+-- where the lane's store is honest, what that session took is the whole of those bodies and of what it still has.
+pub record KeepsPart (time : ℕ → ℕ) (p : PartIs) : Type 0 where
+  pub of_lane : IsOfLane (time p.seat.no) p.seat.seat.lane (told_of p)
+  pub before_of_lane : AllByRecursion (IsOfLane (time p.seat.no) p.seat.seat.lane) p.before
+  pub before_over : AllByRecursion IsOver p.before
+  pub sent_before : List Piece
+  pub sent : List PackedBody
+  pub sent_are : p.seat.seat.sent ≡ sent_before ++ pieces_from p.session.key 1 sent
+  pub before_tell : SentBy (StoreIsTrue (store_of p.session)) p.before sent_before
+  pub tells : TellsAll (StoreIsTrue (store_of p.session)) (told_of p) sent
+  pub stored : IsSome (store_of p.session)
+
+-- Opening.
+
+-- what a session begins with that is opened at this end of a lane of this line
+abbrev pub opening_at : LineIs → ℕ → ℕ → ℕ → List ℕ → ℤ → Opening
+opening_at line lane id job pool moment = record {
+  key = record { time = line.limits.time; id = id };
+  lane = lane;
+  job = job;
+  pool = pool;
+  media = line.media;
+  moment = moment;
+}
+
+-- A session begins so at the end of a lane, on the store that lies there. It took no record yet.
+pub record OpensAt (limits : Limits) (opening : Opening) (e : EndIs) (p : PartIs) : Type 0 where
+  pub store : StoreState
+  pub store_is : e.store ≡ Some store
+  pub starts : StartsSession opening (limits.block - block_header) limits.spool store p.session
+  pub is : p ≡ record { seat = e.seat; before = e.sessions; session = p.session; told = [] }
+
+-- none begins: for want of memory, or the store could not be cleared, which lies in the end still
+pub record OpensNotAt (limits : Limits) (e : EndIs) (why : Refusal) (e' : EndIs) : Type 0 where
+  pub store : StoreState
+  pub store' : StoreState
+  pub store_is : e.store ≡ Some store
+  pub is : e' ≡ record e { store = Some store' }
+  pub cause : ((why ≡ Memory) × (store' ≡ store)) ⊎ ((limits.spool ≢ 0) × (why ≡ SpoolFault) × HasFailed store store')
+
+-- a session of this number begins at the end of a lane of this line, on the lane's store, wherever that lay
+pub record OpensPart (line : LineIs) (id job : ℕ) (pool : List ℕ) (moment : ℤ) (e : EndIs) (p : PartIs) : Type 0 where
+  pub between : EndIs
+  pub brings : BringsStore e between
+  pub opens : OpensAt line.limits (opening_at line e.seat.seat.lane id job pool moment) between p
+
+-- none begins; the end comes back, and the lane's store lies in it
+pub record OpensNoPart (line : LineIs) (e : EndIs) (why : Refusal) (e' : EndIs) : Type 0 where
+  pub between : EndIs
+  pub brings : BringsStore e between
+  pub opens_not : OpensNotAt line.limits between why e'
+
+-- Sending.
+
+-- what the lane of a seat sent; of the other lanes nothing is known
+abbrev pub sent_by_seat : SeatIs → ℕ → List Piece
+sent_by_seat s lane = if s.seat.lane == lane then s.seat.sent else []
+
+-- the queue of so many pieces as a seat knows it that others push beside
+abbrev pub queue_at : ℕ → SeatIs → QueueView
+queue_at capacity s = queue_view (sent_by_seat s) false [] capacity
+
+-- the next body of the session, as a piece
+abbrev pub next_piece : SessionView → PackedBody → Piece
+next_piece s body = record { key = s.key; seq = s.sent + 1; body = body }
+
+-- What one step of sending did to the session and to the seat of its lane. Where a body was sent, the seat sent that one piece
+-- more; else it sent nothing.
+abbrev pub SendsBy : Despooled → ℕ → SeatIs → SessionView → SeatIs → SessionView → Type 0
+SendsBy Sent capacity seat s seat' s' =
+    (sends : SendsBody s (queue_at capacity seat) s' (queue_at capacity seat'))
+    × (seat' ≡ sends_one (next_piece s sends.body) seat)
+SendsBy LaneFull capacity seat s seat' s' =
+    Despools LaneFull s (queue_at capacity seat) s' (queue_at capacity seat') × (seat' ≡ seat)
+SendsBy Nothing capacity seat s seat' s' =
+    Despools Nothing s (queue_at capacity seat) s' (queue_at capacity seat') × (seat' ≡ seat)
+SendsBy NotDue capacity seat s seat' s' =
+    Despools NotDue s (queue_at capacity seat) s' (queue_at capacity seat') × (seat' ≡ seat)
+
+-- a list that tells this number: what keeps the list keeps the number
+abbrev pub number_kept : ℕ → List Queued
+number_kept n = queued n (record { key = record { time = 0; id = 0 }; seq = 0; body = empty_body }) ∷ []

@@ -1,0 +1,207 @@
+// The part of a session: what its thread has of it.
+ghost use Rattle.std.specs.Prelude.{◌≡◌, ◌++◌, ◌∷◌, List, [], Ok, IfOk, IfErr, OnOk, OnErr};
+ghost use Rattle.sd_journal.specs.Journal.{Entry};
+ghost use Rattle.sd_lane.specs.Queue.{WasFull};
+ghost use Rattle.sd_session.specs.Session.{TakesRecord, AppendRefused, EndsSession, EndRefused, CancelsSession, NotRunning};
+ghost use Rattle.sd_session.specs.Sending.{DespoolRefused};
+ghost use Rattle.sd_session.specs.Spooling.{Spools, SpoolRefused};
+ghost use Rattle.sd_line.specs.Closes.{Closes};
+ghost use Rattle.sd_line.specs.Parts.{KeepsPart, SendsBy, with_session, end_of};
+
+use crate::closing::{self, Closing};
+use crate::lane_end::LaneEnd;
+use crate::line::Line;
+use crate::naming::Naming;
+use crate::pushing;
+use crate::seat::Seat;
+use crate::side::DriveSide;
+use crate::told::Told;
+use sd_base::{DriveNo, Rec, Refusal, Seen};
+use sd_driver::Driver;
+use sd_session::{Despooled, Session, Spooling};
+use sd_spool::SpoolStore;
+use std::marker::Model;
+use std::sync::Wait;
+
+/// A session, with its spool and the seat of its lane: what one thread has to itself. In a contract it is a `PartIs`.
+///
+/// Its type keeps what `KeepsPart` says: while the lane's store is honest, the records that the session took are the whole
+/// of what the seat sent for it and of what it still has.
+#[derive(Drop)]
+pub struct SessionPart<N: Naming, S: SpoolStore> {
+    pub(crate) seat: Seat<N>,
+    // The sessions that used the lane before; with room for one more, so that to leave takes no memory.
+    pub(crate) before: Vec<Told<S>>,
+    pub(crate) session: Session<S>,
+    // The records that the session took, of which nothing is held.
+    pub(crate) told: Option<Seen<Rec>>,
+}
+
+impl<N: Naming, S: SpoolStore> Model for SessionPart<N, S> {
+    ghost use Rattle.std.specs.Prelude.{◌<◌, length};
+    ghost use Rattle.std.specs.Vec.{vec_capacity};
+    ghost use Rattle.sd_base.specs.Seen.{seen_of};
+    ghost use Rattle.sd_line.specs.Parts.{PartIs, KeepsPart};
+
+    ghost Value = { PartIs };
+
+    ghost view = { λ p. record {
+      seat = p.seat;
+      before = p.before.items;
+      session = p.session;
+      told = seen_of p.told;
+    } };
+
+    ghost invariant = { λ p. record {
+      keeps : KeepsPart N.time (record {
+        seat = p.seat;
+        before = p.before.items;
+        session = p.session;
+        told = seen_of p.told;
+      });
+      room : length p.before.items < vec_capacity p.before;
+    } };
+}
+
+impl<N: Naming, S: SpoolStore + Drop> SessionPart<N, S> {
+    /// What its type keeps. Does nothing.
+    pub fn know(&self)
+        ensures { KeepsPart N.time self.now }
+    {
+        let _ = &self.told;
+    }
+
+    /// The number of the line's drive.
+    pub fn no(&self) -> DriveNo
+        ensures { result ≡ self.now.seat.no }
+    {
+        self.seat.no()
+    }
+
+    /// The session itself.
+    pub fn session(&self) -> &Session<S>
+        ensures { result.now ≡ self.now.session }
+    {
+        &self.session
+    }
+
+    /// Adds a record to an active session, and says how many it has then: as `Session::append`.
+    pub fn append(&mut self, rec: &Rec) -> Result<u64, Refusal>
+        ensures ok { IfOk result (λ n. TakesRecord self.old.session rec.now n self.new.session) }
+        ensures told { OnOk result (self.new ≡ record self.old {
+          session = self.new.session;
+          told = self.old.told ++ rec.now ∷ [];
+        }) }
+        ensures why { IfErr result (λ why. AppendRefused self.old.session rec.now why) }
+        ensures err { OnErr result (self.new ≡ self.old) }
+    {
+        let count = self.session.append(rec)?;
+        self.told = Some(Seen::with(&self.told, rec));
+        Ok(count)
+    }
+
+    /// Adds the end label to an active session, and closes its last body: as `Session::end`.
+    pub fn end(&mut self, moment: i64) -> Result<(), Refusal>
+        ensures ok { OnOk result (EndsSession self.old.session moment self.new.session) }
+        ensures why { IfErr result (λ why. EndRefused self.old.session why) }
+        ensures same { self.new ≡ with_session self.old self.new.session }
+        ensures err { OnErr result (self.new ≡ self.old) }
+    {
+        self.session.end(moment)
+    }
+
+    /// Gives up a session that goes on: as `Session::cancel`. Takes no memory.
+    pub fn cancel(&mut self) -> Result<(), Refusal>
+        ensures ok { OnOk result (CancelsSession self.old.session self.new.session) }
+        ensures why { IfErr result (λ why. NotRunning self.old.session why) }
+        ensures same { self.new ≡ with_session self.old self.new.session }
+        ensures err { OnErr result (self.new ≡ self.old) }
+    {
+        self.session.cancel()
+    }
+
+    /// One step of spooling: as `Session::spool_step`.
+    pub fn spool(&mut self) -> Result<Spooling, Refusal>
+        ensures ok { IfOk result (λ answer. Spools answer self.old.session self.new.session) }
+        ensures err { IfErr result (λ why. SpoolRefused self.old.session why self.new.session) }
+        ensures same { self.new ≡ with_session self.old self.new.session }
+    {
+        self.session.spool_step()
+    }
+
+    /// One step of sending: as `Session::despool_step`, by the seat of the session's lane. Without the line's lock.
+    pub fn push<D: Driver, R: Wait + Drop>(
+        &mut self,
+        line: &Line<D, N, R>,
+    ) -> Result<Despooled, Refusal>
+        requires { self.old.seat.no ≡ line.now.no }
+        ensures ok { IfOk result (λ answer. SendsBy answer line.now.queue.capacity
+            self.old.seat self.old.session self.new.seat self.new.session) }
+        ensures err { IfErr result
+            (λ why. DespoolRefused self.old.session why self.new.session) }
+        ensures refused { OnErr result (self.new.seat ≡ self.old.seat) }
+        ensures was_full { result ≡ Ok Despooled.LaneFull → WasFull self.old.seat.seat.lanes
+            line.now.queue.capacity self.old.seat.seat.lane self.old.seat.seat.sent }
+        ensures same { self.new ≡ record self.old {
+          seat = self.new.seat;
+          session = self.new.session;
+        } }
+    {
+        pushing::push(line.queue(), &mut self.seat, &mut self.session)
+    }
+
+    /// Closes the session, by what lies under the lock of its line: exactly where it is ended, its drive lost no block of
+    /// it, it has sent all that it has, and each block that it sent is placed and synced. Where one was lost it fails.
+    /// A receipt takes memory; where that is wanted, all stays as it was.
+    pub fn close_on<D: Driver>(&mut self, side: &DriveSide<D, N>) -> Result<Closing, Refusal>
+        requires { self.old.seat.no ≡ side.now.no }
+        ensures closes { Closes side.now.drive.journal self.old.session result self.new.session }
+        ensures same { self.new ≡ with_session self.old self.new.session }
+    {
+        closing::close(side.drive(), &mut self.session)
+    }
+
+    /// The same, with the line's lock held.
+    pub fn close<D: Driver, R: Wait + Drop>(
+        &mut self,
+        line: &Line<D, N, R>,
+    ) -> Result<Closing, Refusal>
+        requires { self.old.seat.no ≡ line.now.no }
+        ensures closes { (journal : List Entry)
+            × Closes journal self.old.session result self.new.session }
+        ensures same { self.new ≡ with_session self.old self.new.session }
+    {
+        let Some(side) = line.lock() else {
+            return self.close_nowhere();
+        };
+        let side: &DriveSide<D, N> = &side;
+        self.close_on(side)
+    }
+
+    // The same at a drive that placed no block of the session.
+    fn close_nowhere(&mut self) -> Result<Closing, Refusal>
+        ensures closes { Closes [] self.old.session result self.new.session }
+        ensures same { self.new ≡ with_session self.old self.new.session }
+    {
+        closing::close_nowhere(&mut self.session)
+    }
+
+    /// The end of the lane, with the session as it stands behind those before it. Takes no memory.
+    pub fn leave(self) -> LaneEnd<N, S>
+        ensures { result ≡ end_of self }
+    {
+        let SessionPart {
+            seat,
+            before,
+            session,
+            told,
+        } = self;
+        let mut sessions = before;
+        sessions.push_reserved(Told { session, told });
+        LaneEnd {
+            seat,
+            store: None,
+            sessions,
+        }
+    }
+}

@@ -1,3 +1,0 @@
-pub mod AtStations
-pub mod Losing
-pub mod Purging

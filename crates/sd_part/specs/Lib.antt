@@ -1,3 +1,0 @@
-pub mod Closes
-pub mod Ends
-pub mod Parts

@@ -1,4 +1,0 @@
-use Rattle.sd_printer.proofs.printer.Printer.bytes.Goals as goal
-
-pub returns-in-Err-clause-cut : goal.returns-in-Err-clause-cut
-returns-in-Err-clause-cut g c = rw c.if-self.false c.in-Err.ensures.err

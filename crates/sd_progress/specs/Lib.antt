@@ -1,2 +1,0 @@
-pub mod ShownProgress
-pub mod Host

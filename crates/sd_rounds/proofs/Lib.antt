@@ -1,3 +1,0 @@
-pub mod Online
-pub mod Played
-pub mod RoundParts

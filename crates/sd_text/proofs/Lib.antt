@@ -1,0 +1,5 @@
+pub mod FieldLemmas
+pub mod LineLemmas
+pub mod NumberLemmas
+pub mod ReadingLemmas
+pub mod SaysLemmas

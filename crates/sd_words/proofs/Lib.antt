@@ -1,4 +1,0 @@
-pub mod FieldLemmas
-pub mod LineLemmas
-pub mod NumberLemmas
-pub mod ReadingLemmas
