@@ -36,7 +36,7 @@ abbrev pub MayTell : ℤ → Known → Exchange → Type 0
 MayTell moment known (Stepped event reply) = MayAsk moment known event
 MayTell moment known exchange = Unit {0}
 
--- so is each of these, by what is known from those before it, and this is known behind them
+-- so is each of these, by what is known from those before it, and this is known after them
 abbrev pub Tells : ℤ → Known → List Exchange → Known → Type 0
 Tells moment known [] new = new ≡ known
 Tells moment known (exchange ∷ asked) new = MayTell moment known exchange × Tells moment (known_by known exchange) asked new

@@ -20,7 +20,7 @@ use Rattle.sd_append.specs.Text.{trimmed}
 use Rattle.sd_append.specs.Command.{head_text, kind_of, IsNumber, HasBody, HasShape, SpellsCommand, AreNames}
 use Rattle.sd_append.specs.Reading.{behind, keyed_at, keyed_number_at, open_shape, read_shape, Gives, Tells}
 
--- What stands behind a key.
+-- What comes after a key.
 
 pub behind-again : (key value : List ℕ) → behind key (key ++ value) ≡ Some value
 behind-again [] value = refl
@@ -71,7 +71,7 @@ keyed_takes key fs p e =
 keyed_again : (key value : List ℕ) (rest : Fields) → 0 < length (key ++ value) → keyed_at key ((key ++ value) ∷ rest) ≡ Some (value, rest)
 keyed_again key value rest some_there = keyed_some key ((key ++ value) ∷ rest) (key ++ value) value rest (word_at_again (key ++ value) rest some_there) refl
 
--- the same of a number
+-- a field of this key, whose value is a number from 1 to `most`
 record TakesNumber (key : List ℕ) (most : ℕ) (fs : Fields) (n : ℕ) (rest : Fields) : Type 0 where
   fields_are : fs ≡ (key ++ decimal n) ∷ rest
   least_is : 1 ≤ n

@@ -37,7 +37,7 @@ converses-more moment old (p ∷ ps) packet a b x y mid new (between, first, mor
   ap (λ (l : List Packet). l ++ y) says_is ∙ append_assoc says later y,
 )
 
--- packets behind others
+-- packets after others
 converses-append : (moment : ℤ) (old : TalkStage) (ps qs : List Packet) (a b : List Exchange) (x y : List Packet) (mid new : TalkStage) → Converses moment old ps a x mid → Converses moment mid qs b y new
     → Converses moment old (ps ++ qs) (a ++ b) (x ++ y) new
 converses-append moment old [] qs a b x y mid new (asked, says, stands) more =
@@ -60,7 +60,7 @@ converses-append moment old (p ∷ ps) qs a b x y mid new (between, first, more,
 pub converses_none : (moment : ℤ) (stage : TalkStage) (asked : List Exchange) (v : OutView) → Does (λ more out. Converses moment stage [] more out stage) asked asked v v
 converses_none moment stage asked v = record { asked = []; out = []; outcome_is = (refl, refl, refl); after_is = sym (append-nil asked); puts = puts_none v }
 
--- a packet behind others
+-- a packet after others
 pub converses_then : (moment : ℤ) (old mid new : TalkStage) (packets : List Packet) (packet : Packet) (before between after : List Exchange) (a b c : OutView)
     → Does (λ asked out. Converses moment old packets asked out mid) before between a b → Does (λ asked out. Takes moment mid packet asked out new) between after b c
     → Does (λ asked out. Converses moment old (packets ++ packet ∷ []) asked out new) before after a c
@@ -72,7 +72,7 @@ converses_then moment old mid new packets packet before between after a b c firs
   puts = says_then a b c first.out next.out first.puts next.puts;
 }
 
--- packets behind others
+-- packets after others
 pub does_then : (moment : ℤ) (old mid new : TalkStage) (ps qs : List Packet) (before between after : List Exchange) (a b c : OutView)
     → Does (λ asked out. Converses moment old ps asked out mid) before between a b → Does (λ asked out. Converses moment mid qs asked out new) between after b c
     → Does (λ asked out. Converses moment old (ps ++ qs) asked out new) before after a c

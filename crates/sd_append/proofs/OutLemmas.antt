@@ -52,13 +52,13 @@ puts_nothing_then a b c y p q = puts_then a b c [] y p q
 pub puts_then_nothing : (a b c : OutView) (x : List ℕ) → PutsOut a b x → PutsOut b c [] → PutsOut a c x
 puts_then_nothing a b c x p q = rw append-nil at (puts_then a b c x [] p q)
 
--- where it fails, nothing of what was to come is written
+-- if it fails, nothing of what was to come is written
 pub puts_dropped : (written : Option (List ℕ)) (failed : Bool) (waiting waits bytes : List ℕ) → PutsBy written written failed true waiting waits bytes
 puts_dropped None failed waiting waits bytes = tt
 puts_dropped (Some xs) false waiting waits bytes = ([], waiting ++ bytes, sym (append-nil xs), refl)
 puts_dropped (Some xs) true waiting waits bytes = refl
 
--- Where nothing waited at first and nothing waits at last.
+-- If nothing waited at first and nothing waits at last.
 
 -- all of it was written
 pub puts_all : (a b : Option (List ℕ)) (bytes : List ℕ) → PutsBy a b false false [] [] bytes → Appends a b bytes
@@ -72,7 +72,7 @@ puts_front None b bytes p = (bytes, ([], refl, tt))
 puts_front (Some xs) None bytes p = absurd p
 puts_front (Some xs) (Some ys) bytes (sent, rest, more, same) = (rest, (sent, same, more))
 
--- What a text is written to, where it holds nothing yet.
+-- What a text is written to, if it holds nothing yet.
 
 pub text_written : {S : Type 0} (took : S → List ℕ → S → Type 0) (contents : S → List ℕ) → ((w : S) (bs : List ℕ) (v : S) → took w bs v → contents v ≡ contents w ++ bs)
     → (w v : S) (o : Option (List ℕ)) → contents w ≡ [] → WritesText took w o v → IfSome o (λ said. contents v ≡ said)

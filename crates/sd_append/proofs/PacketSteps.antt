@@ -1,4 +1,4 @@
--- A packet more, before those that come behind it.
+-- A packet more, before those that come after it.
 use Rattle.std.proofs.Common.{◌≡◌, ℕ, ℤ, refl, sym, ap, subst, ◌∙◌, inl, inr, Bool, true, false, List, [], ◌∷◌, ◌++◌, Option, Some, Result, Ok, append_assoc}
 use Rattle.sd_base.specs.declared.number.SessionKey.{SessionKey}
 use Rattle.sd_base.specs.declared.refusal.Refusal.{Refusal}
@@ -86,7 +86,7 @@ answered_then moment place own bytes packets more later next asked out new is st
     (subst (λ (k : Known). IsOfTurns moment place k packets more later) (sym (known ∙ ap (λ (s : TalkStage). known_in (own_of s)) stands))
     (subst (λ (s : TalkStage). GoesOn moment place s packets more later) stands rest))
 
--- a data phase behind its command
+-- a data phase after its command
 data_then : (moment : ℤ) (place : Place) (known : Known) (own : Own) (bytes : List ℕ) (packets : List Packet) (more : List Exchange) (later : List Packet) → known ≡ known_in (Some own)
     → SpellsCommand bytes (commands.Data (Some own.ticket)) → Phase moment place known (HeaderLeft own) packets more later
     → IsOfTurns moment place known (Bytes bytes ∷ packets) more (said lines.Data ∷ later)
@@ -141,7 +141,7 @@ data_then moment place known own bytes packets more later is spells (inr s) =
       }));
     }))
 
--- a read behind its command
+-- a read after its command
 read_then : (moment : ℤ) (place : Place) (known : Known) (key : SessionKey) (bytes : List ℕ) (packets : List Packet) (more : List Exchange) (later : List Packet)
     → SpellsCommand bytes (commands.Read key) → Read moment place known (SpansLeft (line (session_text key))) packets more later
     → IsOfTurns moment place known (Bytes bytes ∷ packets) more later
@@ -182,7 +182,7 @@ read_then moment place known key bytes packets more later spells (inr s) =
 
 module _ (moment : ℤ) (place : Place) (own : Option Own) (bytes : List ℕ) (packets : List Packet) (more : List Exchange) (later : List Packet) (asked : List Exchange) (out : List Packet) (new : TalkStage)
     (known : known_behind (known_in own) asked ≡ known_in (own_of new)) (rest : GoesOn moment place new packets more later) where
-  -- the turns that a packet and those behind it are
+  -- the turns that a packet and those after it are
   abbrev Follows : Type 0
   Follows = IsOfTurns moment place (known_in own) (Bytes bytes ∷ packets) (asked ++ more) (out ++ later)
 

@@ -109,7 +109,7 @@ none_read : (groups : List Group) → AskFor groups [] groups
 none_read [] = (refl, refl)
 none_read (group ∷ groups) = inr (refl, refl)
 
--- nothing is asked behind these
+-- nothing is asked after these
 asks_none : (a b : List Exchange) → b ≡ [] → a ++ b ≡ a
 asks_none a b none = ap (λ (l : List Exchange). a ++ l) none ∙ append-nil a
 
@@ -241,7 +241,7 @@ header_dropped refusal bytes hears asked answer l =
 
 -- Packets of a phase.
 
--- the phase comes to its end, and turns stand behind it
+-- the phase comes to its end, and turns follow it
 pub record PhaseEnds (moment : ℤ) (place : Place) (known : Known) (Left : List Packet → List Exchange → ReplyLine → Type 0) (packets : List Packet) (asked : List Exchange) (out : List Packet) : Type 0 where
   pub phase : List Packet
   pub behind : List Packet

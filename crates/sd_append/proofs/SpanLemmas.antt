@@ -23,9 +23,9 @@ use Rattle.sd_append.specs.declared.stage.TalkStage.{TalkStage}
 use Rattle.sd_append.specs.declared.stage.TalkStage.TheVariants.{Spans, BadSpans}
 use Rattle.sd_append.specs.Talk.{IsSpanLine, TakesSpan, is_one_line}
 
--- A line behind that of a session.
+-- A line after that of a session.
 
--- no newline stands in one line
+-- there is no newline in one line
 one_line-plain : (text : List ℕ) → is_one_line text ≡ true → HasNoNewline text
 one_line-plain [] e = tt
 one_line-plain (c ∷ text) e =
@@ -49,7 +49,7 @@ lines_alone key more fits plain =
     lines_of-ended (session_text key) (line more) (session_plain key fits)
     ∙ ap (λ (ls : List (List ℕ)). session_text key ∷ ls) (ap lines_of (sym (append-nil (line more))) ∙ lines_of-ended more [] plain)
 
--- where it says a span, the two are a text
+-- if it says a span, the two are a text
 pub span_alone : (key : SessionKey) (more : List ℕ) (s : Span) → KeyFits key → SpanFits s → more ≡ span_text s → IsJobMedia (line (session_text key) ++ line more) key (s ∷ [])
 span_alone key more s fits span_fits e = record {
   key_fits = fits;
@@ -57,7 +57,7 @@ span_alone key more s fits span_fits e = record {
   written = inl (ap (λ (l : List ℕ). line (session_text key) ++ l) (ap line e ∙ sym (append-nil (line (span_text s)))));
 }
 
--- where it says none, they are no text
+-- if it says none, they are no text
 none_alone : (key other : SessionKey) (more : List ℕ) (spans : List Span) → KeyFits key → is_one_line more ≡ true
     → ((s : Span) → SpanFits s → more ≡ span_text s → ⊥) → IsJobMedia (line (session_text key) ++ line more) other spans → ⊥
 none_alone key other more spans fits one none is =
@@ -71,7 +71,7 @@ spans_alone : (key other : SessionKey) (more : List ℕ) (spans : List Span) (s 
 spans_alone key other more spans s fits span_fits e is =
     (jobmedia_is_one (line (session_text key) ++ line more) key other (s ∷ []) spans (span_alone key more s fits span_fits e) is).1
 
--- so where the two are a text, the line says a span
+-- so if the two are a text, the line says a span
 pub line_alone : (key other : SessionKey) (more : List ℕ) (spans : List Span) → KeyFits key → is_one_line more ≡ true
     → IsJobMedia (line (session_text key) ++ line more) other spans → IsSpanLine more
 line_alone key other more [] fits one is =
@@ -86,7 +86,7 @@ line_alone key other more (s ∷ []) fits one is =
 line_alone key other more (s ∷ t ∷ spans) fits one is =
     absurd (none_alone key other more (s ∷ t ∷ spans) fits one (λ u u_fits e. cc (spans_alone key other more (s ∷ t ∷ spans) u fits u_fits e is)) is)
 
--- the session behind whose line one is read by itself
+-- the session after whose line one is read by itself
 abbrev pub some_key : SessionKey
 some_key = record { time = 1; id = 1 }
 

@@ -29,7 +29,7 @@ use Rattle.sd_append.proofs.TurnLists.{LeavesOut}
 
 -- What is left of a read: the payloads until its end, what is asked, and what goes out.
 
--- of a session, behind these spans
+-- of a session, after these spans
 abbrev pub ReadsFrom : SessionKey → List Span → List (List ℕ) → List Exchange → List Packet → Type 0
 ReadsFrom key done texts asked says =
     ((spans : List Span) × (records : List Record) × (answer : Result ReadEnd Refusal) × SayEach texts spans
@@ -42,7 +42,7 @@ abbrev pub SpansLeft : List ℕ → List (List ℕ) → List Exchange → List P
 SpansLeft text payloads asked says =
     (key : SessionKey) (done : List Span) → KeyFits key → All SpanFits done → text ≡ jobmedia_text key done → ReadsFrom key done (map trimmed payloads) asked says
 
--- where one said none, or memory was wanted
+-- if one said none, or it was out of memory
 abbrev pub RefusalLeft : Refusal → List (List ℕ) → List Exchange → List Packet → Type 0
 RefusalLeft refusal payloads asked says = (asked ≡ []) × (says ≡ end_of_data ∷ refused refusal ∷ [])
 
@@ -53,7 +53,7 @@ lines_more (s ∷ done) span =
     ap (λ (l : List ℕ). line (span_text s) ++ l) (lines_more done span)
     ∙ sym (append_assoc (line (span_text s)) (flat_map (λ (x : Span). line (span_text x)) done) (line (span_text span)))
 
--- a span more is its line behind the text
+-- a span more is its line after the text
 text_more : (key : SessionKey) (done : List Span) (span : Span) → jobmedia_text key (done ++ span ∷ []) ≡ jobmedia_text key done ++ line (span_text span)
 text_more key done span =
     ap (λ (l : List ℕ). line (session_text key) ++ l) (lines_more done span)
@@ -88,7 +88,7 @@ pub span_bad : (text bytes : List ℕ) (payloads : List (List ℕ)) (asked : Lis
 span_bad text bytes payloads asked says none left key done key_fits done_fit text_is =
     inr (inl (left.0, left.1, ([], trimmed bytes, map trimmed payloads, refl, none)))
 
--- memory is wanted for one
+-- there is no memory for one
 pub span_memory : (text bytes : List ℕ) (payloads : List (List ℕ)) (asked : List Exchange) (says : List Packet) → RefusalLeft Memory payloads asked says
     → SpansLeft text (bytes ∷ payloads) asked says
 span_memory text bytes payloads asked says left key done key_fits done_fit text_is = inr (inr left)
@@ -125,7 +125,7 @@ read_back key bytes payloads asked says spells left =
 
 -- Packets of a read.
 
--- the read comes to its end, and turns stand behind it
+-- the read comes to its end, and turns follow it
 pub record ReadEnds (moment : ℤ) (place : Place) (known : Known) (Left : List (List ℕ) → List Exchange → List Packet → Type 0) (packets : List Packet) (asked : List Exchange) (out : List Packet) : Type 0 where
   pub phase : List Packet
   pub payloads : List (List ℕ)

@@ -46,17 +46,17 @@ consumes_nothing_more a b c x p q = subst (Consumes a c) (append-nil x) (consume
 
 -- What a feeder keeps.
 
--- some bytes stand behind its packets
+-- some bytes come after its packets
 parts : (state : FeederState) (bytes : List ℕ) (packets : List Packet) → Fits state bytes packets → (rest : List ℕ) × Packets bytes packets rest
 parts (Waiting begun) bytes packets fits = (begun, fits.0)
 parts Failed bytes packets fits = (fits.0, fits.1)
 
--- where it hasn't failed, they are nothing or the front of a packet
+-- if it hasn't failed, they are nothing or the front of a packet
 waits : (state : FeederState) (bytes : List ℕ) (packets : List Packet) → state ≢ Failed → Fits state bytes packets → (rest : List ℕ) × Packets bytes packets rest × IsUnfinished rest
 waits (Waiting begun) bytes packets well fits = (begun, fits.0, fits.1)
 waits Failed bytes packets well fits = absurd (well refl)
 
--- the front of a packet where one has begun
+-- the front of a packet if one has begun
 waits_midway : (state : FeederState) (bytes : List ℕ) (packets : List Packet) → state ≢ Failed → IsMidway state → Fits state bytes packets
     → (rest : List ℕ) × Packets bytes packets rest × IsUnfinished rest × IsFront rest
 waits_midway (Waiting begun) bytes packets well midway fits = (begun, fits.0, fits.1, midway)
@@ -66,7 +66,7 @@ nothing_of : (begun : List ℕ) → (IsFront begun → ⊥) → IsUnfinished beg
 nothing_of begun none (inl e) = e
 nothing_of begun none (inr front) = absurd (none front)
 
--- nothing where none has begun
+-- nothing if none has begun
 waits_between : (state : FeederState) (bytes : List ℕ) (packets : List Packet) → state ≢ Failed → (IsMidway state → ⊥) → Fits state bytes packets → Packets bytes packets []
 waits_between (Waiting begun) bytes packets well none fits = subst (Packets bytes packets) (nothing_of begun none fits.1) fits.0
 waits_between Failed bytes packets well none fits = absurd (well refl)

@@ -35,7 +35,7 @@ stream-append (p ∷ ps) qs =
 pub says_one : (a b : OutView) (p : Packet) → PutsOut a b (packet_bytes p) → PutsOut a b (stream_of (p ∷ []))
 says_one a b p puts = subst (PutsOut a b) (sym (append-nil (packet_bytes p))) puts
 
--- packets, and others behind them
+-- packets, and others after them
 pub says_then : (a b c : OutView) (ps qs : List Packet) → PutsOut a b (stream_of ps) → PutsOut b c (stream_of qs) → PutsOut a c (stream_of (ps ++ qs))
 says_then a b c ps qs x y = subst (PutsOut a c) (sym (stream-append ps qs)) (puts_then a b c (stream_of ps) (stream_of qs) x y)
 

@@ -27,7 +27,7 @@ use Rattle.sd_append.proofs.TurnLists.{signal_then}
 
 -- The end of data.
 
--- a read at its end, behind which a command is due
+-- a read at its end, after which a command is due
 read_over : (moment : ℤ) (place : Place) (own : Option Own) (Left : List (List ℕ) → List Exchange → List Packet → Type 0) (packets : List Packet) (more : List Exchange) (later : List Packet)
     (asked : List Exchange) (out : List Packet) (new : TalkStage) → known_behind (known_in own) asked ≡ known_in (own_of new) → GoesOn moment place new packets more later
     → Left [] asked out → new ≡ Command own → Read moment place (known_in own) Left (end_of_data ∷ packets) (asked ++ more) (out ++ later)
@@ -74,7 +74,7 @@ none_said : (polls : Bool) → (if polls then none_out else none_out) ≡ none_o
 none_said true = refl
 none_said false = refl
 
--- one that means nothing here, or is answered where a command is due
+-- one that means nothing here, or is answered if a command is due
 minor_passes : (moment : ℤ) (place : Place) (stage : TalkStage) (number : ℤ) (polls : Bool) (meaning : Meaning) (packets : List Packet) (more : List Exchange) (later : List Packet) → IsMinor number polls meaning
     → (says : List Packet) → says ≡ (if polls then poll_said stage else []) → GoesOn moment place stage packets more later
     → GoesOn moment place stage (Signal number ∷ packets) more (says ++ later)

@@ -30,7 +30,7 @@ written_by None held holds bytes end puts = inl (refl, puts_all held holds bytes
 written_by (Some faults.Write) held holds bytes end puts = inr (tt, puts_front held holds bytes puts)
 written_by (Some faults.Memory) held holds bytes end puts = inr (tt, puts_front held holds bytes puts)
 
--- the same of an outbox in which nothing waits, at first and at last
+-- what was written from an outbox in which nothing waits, at first and at last, by whether writing failed
 written_of : (fault : Option OutFault) (old new : OutView) (bytes : List ℕ) (end : Result TalkEnd AllocError) → old.waiting ≡ [] → old.failed ≡ false → new.waiting ≡ []
     → new.failed ≡ is_some fault → PutsOut old new bytes → AreWritten old.written new.written bytes end (written_end fault end)
 written_of fault old new bytes end first well last fails puts =
@@ -70,7 +70,7 @@ talk_ended moment fault start left asked after old said new stage end bytes firs
       (puts_then_nothing start.out said new (stream_of (h.takes.out ++ end_says end)) (says_then start.out old said h.takes.out (end_says end) h.takes.puts says) ending);
 }
 
--- the same, by what was answered on the way
+-- a talk that has come to its end is given up, and what waits is written out, by what was answered on the way
 pub talk_done : (moment : ℤ) (fault given : Option OutFault) (start : Around) (left : Option (List ℕ)) (asked after : List Exchange) (old said new : OutView) (stage : TalkStage) (own : Option Own)
     (end ended : Result TalkEnd AllocError) (holds : Option (List ℕ)) (bytes : List ℕ)
     → given ≡ fault → own ≡ own_of stage → ended ≡ written_end given end → holds ≡ new.written
@@ -132,7 +132,7 @@ within_all turns i end bytes least most_turns each most = record { most = omega 
 
 -- Turns, one after another.
 
--- a turn behind which the talk goes on
+-- a turn after which the talk goes on
 pub turn_goes_on : (moment : ℤ) (end : Option (Result TalkEnd AllocError)) (start now : Around) (state : FeederState) (stage : TalkStage) (bytes : List ℕ) (room i : ℕ) → end ≡ None → TurnComes moment end start now state stage bytes room
     → room ≡ 65536 → i ≤ length bytes → length bytes ≤ i * 65536
     → (all : List ℕ) × Stands moment start now state stage all × (i + 1 ≤ length all) × (length all ≤ (i + 1) * 65536)
@@ -142,7 +142,7 @@ turn_goes_on moment end start now state stage bytes room i is comes wide each mo
     let fits : length t.0 ≤ room = t.1 in
     (bytes ++ t.0, t.3, omega (arith, length-append bytes t.0), omega (arith, length-append bytes t.0))
 
--- a turn behind which it has ended
+-- a turn after which it has ended
 pub turn_ended : (moment : ℤ) (end : Option (Result TalkEnd AllocError)) (due : Result TalkEnd AllocError) (start now : Around) (state : FeederState) (stage : TalkStage) (bytes : List ℕ) (room : ℕ) → end ≡ Some due
     → TurnComes moment end start now state stage bytes room → TurnComes moment (Some due) start now state stage bytes room
 turn_ended moment end due start now state stage bytes room is comes =

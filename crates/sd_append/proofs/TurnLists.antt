@@ -24,7 +24,7 @@ lies_within place packets left_out some (inr (is, more)) = subst (λ (p : Place)
 
 -- Lists of turns.
 
--- the same lists
+-- lists that are equal to those of turns are of these turns too
 pub of_turns_at : (moment : ℤ) (place : Place) (known : Known) (ps qs : List Packet) (xs ys : List Exchange) (out says : List Packet) → ps ≡ qs → xs ≡ ys → out ≡ says
     → IsOfTurns moment place known qs ys says → IsOfTurns moment place known ps xs out
 of_turns_at moment place known ps qs xs ys out says packets asked said t = record {

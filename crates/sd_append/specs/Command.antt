@@ -41,7 +41,7 @@ IsNumber n = (1 ≤ n) × (n ≤ most_number)
 abbrev pub IsTicket : List ℕ → Option ℕ → Type 0
 IsTicket text ticket = IsDecimal text × (ticket ≡ number_in 1 most_number text)
 
--- the text has the fields that stand behind the first words of the command; what a console's line says is its own
+-- the text has the fields that come after the first words of the command; what a console's line says is its own
 abbrev pub HasBody : List ℕ → Command → Type 0
 HasBody text (Open job pool media) =
     (fields_of text ≡ (codes "JobId=" ++ decimal job) ∷ (codes "Pool=" ++ pool) ∷ (codes "Media=" ++ media) ∷ []) × IsNumber job
@@ -52,7 +52,7 @@ HasBody text (Read key) =
     (fields_of text ≡ (codes "Time=" ++ decimal key.time) ∷ (codes "Id=" ++ decimal key.id) ∷ []) × IsNumber key.time × IsNumber key.id
 HasBody text (Console line) = text ≡ line
 
--- what stands in the place of a command's names are names
+-- what a command has in the places of names are names
 abbrev pub AreNames : Command → Type 0
 AreNames (Open job pool media) = IsName pool × IsName media
 AreNames command = Unit {0}

@@ -13,7 +13,7 @@ use Rattle.sd_append.specs.Port.{Exchange}
 use Rattle.sd_append.specs.TalkStage.{own_of}
 use Rattle.sd_append.specs.Talk.{GivesUp, Takes, refused}
 
--- packets one after another, all at this moment, and where the talk stands behind them
+-- packets one after another, all at this moment, and where the talk stands after them
 abbrev pub Converses : ℤ → TalkStage → List Packet → List Exchange → List Packet → TalkStage → Type 0
 Converses moment old [] asked out new = (asked ≡ []) × (out ≡ []) × (new ≡ old)
 Converses moment old (packet ∷ packets) asked out new =
@@ -31,7 +31,7 @@ abbrev pub IsCommandDue : TalkStage → Type 0
 IsCommandDue (Command own) = Unit {0}
 IsCommandDue stage = ⊥
 
--- At the end the talk's session is given up, where it goes on.
+-- At the end the talk's session is given up, if it goes on.
 abbrev pub GivesUpLast : Option Own → List Exchange → Type 0
 GivesUpLast None asked = asked ≡ []
 GivesUpLast (Some own) asked = (left : Own) × GivesUp own asked left
@@ -41,10 +41,10 @@ abbrev pub end_says : Result TalkEnd AllocError → List Packet
 end_says (Ok TooLong) = refused PacketTooLong ∷ []
 end_says end = []
 
--- How a talk that stands so may end, with these bytes behind its last packet, and where the input may have ended behind
--- them: finished by the client, or where the input ended between two commands; cut off where it ended elsewhere, within
--- a packet or where no command was due; by a length above the limit; or, before any of these, by a fault of the reader
--- or by its last turn; or, at any place, by a fault of the writer or for want of memory.
+-- How a talk at this stage may end, with these bytes after its last packet, and with the input perhaps ended after
+-- them: finished by the client, or if the input ended between two commands; cut off if it ended elsewhere, within a
+-- packet or where no command was due; by a length above the limit; or, before any of these, by a fault of the reader or
+-- by its last turn; or, at any place, by a fault of the writer or if out of memory.
 abbrev pub MayEnd : Result TalkEnd AllocError → TalkStage → List ℕ → Type 0 → Type 0
 MayEnd (Ok Finished) stage rest ended = IsEndedByClient stage ⊎ (IsCommandDue stage × (rest ≡ []) × ended)
 MayEnd (Ok Truncated) stage rest ended =
@@ -55,7 +55,7 @@ MayEnd (Ok OutOfTurns) stage rest ended = (IsEndedByClient stage → ⊥) × IsU
 MayEnd (Ok WriteFault) stage rest ended = Unit {0}
 MayEnd (Err e) stage rest ended = Unit {0}
 
--- A conversation: packets came, with these bytes behind them, and there the input may have ended; the port was asked
+-- A conversation: packets came, with these bytes after them, and there the input may have ended; the port was asked
 -- this and answered so, where each open, each end and each line of a console bears this moment; these packets went out;
 -- and the talk ended so.
 pub record Conversation (moment : ℤ) (packets : List Packet) (rest : List ℕ) (ended : Type 0) (asked : List Exchange) (out : List Packet) (end : Result TalkEnd AllocError) : Type 0 where

@@ -18,10 +18,10 @@ abbrev pub SessionsAreOver : Type 0 → Type 0
 SessionsAreOver E = (moment : ℤ) (packets : List Packet) (rest : List ℕ) (asked : List Exchange) (out : List Packet) (end : Result TalkEnd AllocError)
     → Conversation moment packets rest E asked out end → AreOver moment asked
 
--- How a talk may end that is here behind its last packet, with these bytes behind that, and where the input may have ended behind
--- them. It is finished where the client has ended it, or where the input ends between two turns and no packet has begun; truncated
--- where the input ends elsewhere. A length that is too great, a fault of the reader or the last read ends it too, unless the client
--- has. A fault of the writer or want of memory may end it anywhere.
+-- How a talk may end that is here after its last packet, with these bytes after that packet, and with the input perhaps
+-- ended after them. It is finished if the client has ended it, or if the input ends between two turns and no packet has
+-- begun; truncated if the input ends elsewhere. A length that is too great, a fault of the reader or the last read ends
+-- it too, unless the client has. A fault of the writer, or being out of memory, may end it anywhere.
 abbrev pub EndsAt : Result TalkEnd AllocError → Place → List ℕ → Type 0 → Type 0
 EndsAt (Ok Finished) place rest ended = (place ≡ Ended) ⊎ ((place ≡ Between) × (rest ≡ []) × ended)
 EndsAt (Ok Truncated) place rest ended = (place ≢ Ended) × IsUnfinished rest × ((place ≡ Within) ⊎ IsFront rest) × ended
@@ -31,8 +31,8 @@ EndsAt (Ok OutOfTurns) place rest ended = (place ≢ Ended) × IsUnfinished rest
 EndsAt (Ok WriteFault) place rest ended = Unit {0}
 EndsAt (Err e) place rest ended = Unit {0}
 
--- A talk is of turns, and ends by where it is behind them. Its session is then given up, where it goes on, and only a packet that is
--- too long is answered.
+-- A talk is of turns, and ends by where it is after them. Its session is then given up, if it goes on, and only a
+-- packet that is too long is answered.
 pub record IsAnsweredByTurns (moment : ℤ) (packets : List Packet) (rest : List ℕ) (ended : Type 0) (asked : List Exchange) (out : List Packet) (end : Result TalkEnd AllocError) : Type 0 where
   pub place : Place
   pub before : List Exchange
@@ -49,7 +49,7 @@ abbrev pub RepliesAnswerTurns : Type 0 → Type 0
 RepliesAnswerTurns E = (moment : ℤ) (packets : List Packet) (rest : List ℕ) (asked : List Exchange) (out : List Packet) (end : Result TalkEnd AllocError)
     → Conversation moment packets rest E asked out end → IsAnsweredByTurns moment packets rest E asked out end
 
--- where `3000 OK append data` goes out for a data phase, the header of every group was read, and every record was taken
+-- if `3000 OK append data` goes out for a data phase, the header of every group was read, and every record was taken
 abbrev pub AppendedIsTaken : Type 0
 AppendedIsTaken = (known : Known) (turn : Turn) (phase : IsDataPhase known turn) → turn.says ≡ said lines.Data ∷ said lines.Appended ∷ []
     → AskFor phase.groups phase.records [] × AreTaken phase.ticket phase.records turn.asked

@@ -1,4 +1,4 @@
--- What stands between a command and its reply: the groups of a data phase, and the span packets of a read.
+-- What comes between a command and its reply: the groups of a data phase, and the span packets of a read.
 use Rattle.std.specs.Prelude.{◌≡◌, ◌⊎◌, ℕ, ℤ, pos, negsuc, ◌==◌, ◌||◌, Bool, false, if◌then◌else◌, List, [], ◌∷◌, ◌++◌, map, Result}
 use Rattle.std.specs.List.{flat_map}
 use Rattle.sd_base.specs.Record.{Record}
@@ -28,7 +28,7 @@ abbrev pub is_heard : ℤ → Bool
 is_heard (pos n) = false
 is_heard (negsuc n) = n == 0 || n == 3
 
--- the payloads and those signals; any other may stand anywhere, and means nothing
+-- the payloads and those signals; any other may come anywhere, and means nothing
 abbrev pub heard : List Packet → List Packet
 heard [] = []
 heard (Bytes bytes ∷ packets) = Bytes bytes ∷ heard packets
@@ -36,7 +36,7 @@ heard (Signal number ∷ packets) = if is_heard number then Signal number ∷ he
 
 -- Data phases.
 
--- a packet that stands where a header is due, and the payloads under it
+-- a packet where a header is due, and the payloads under it
 pub record Group : Type 0 where
   pub header : List ℕ
   pub payloads : List (List ℕ)
@@ -115,7 +115,7 @@ OneSaysNoSpan texts =
     (before : List (List ℕ)) × (text : List ℕ) × (behind : List (List ℕ)) × (texts ≡ before ++ text ∷ behind) × SaysNoSpan text
 
 -- The texts say spans, by which the session of the command was read back: its records go out, and what the read came to. Or nothing
--- is asked: one of them says none, or memory is wanted for them; then a refusal goes out.
+-- is asked: one of them says none, or there is no memory for them; then a refusal goes out.
 abbrev pub ReadsBy : SessionKey → List (List ℕ) → List Exchange → List Packet → Type 0
 ReadsBy key texts asked says =
     ((spans : List Span) × (records : List Record) × (answer : Result ReadEnd Refusal) × SayEach texts spans

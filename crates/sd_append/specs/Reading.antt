@@ -10,7 +10,7 @@ use Rattle.sd_append.specs.declared.command.CommandFault.TheVariants.{BadCommand
 use Rattle.sd_append.specs.declared.command.Kind.{Kind}
 use Rattle.sd_append.specs.Command.{AreNames, HasBody, kind_of}
 
--- what stands behind these characters in a text that begins with them
+-- what comes after these characters in a text that begins with them
 abbrev pub behind : List ℕ → List ℕ → Option (List ℕ)
 behind [] text = Some text
 behind (k ∷ key) [] = None
@@ -23,7 +23,7 @@ keyed_at key fs = do
   value ← behind key word.0
   Some (value, word.1)
 
--- the same, where the value is a number
+-- the value of the next field, which has this key, if the value is a number
 unfoldable pub keyed_number_at : List ℕ → ℕ → Fields → Option (ℕ × Fields)
 keyed_number_at key most fs = do
   value ← keyed_at key fs
@@ -45,14 +45,14 @@ read_shape fs = do
   id ← keyed_number_at (codes "Id=") most_number time.1
   all_read (Read (record { time = time.0; id = id.0 })) id.1
 
--- the command whose shape was read, where its names are names
+-- the command whose shape was read, if its names are names
 abbrev pub Gives : Result Command CommandFault → Option Command → Type 0
 Gives result None = result ≡ Err BadCommand
 Gives result (Some command) =
     MatchResult result (λ found. (found ≡ command) × AreNames command)
     (λ e. (e ≡ BadName) × (AreNames command → ⊥))
 
--- The command of this kind that a text behind its first words spells; or one but for its names; or that it
+-- The command of this kind that a text after its first words spells; or one but for its names; or that it
 -- spells none.
 abbrev pub Tells : Kind → List ℕ → Result Command CommandFault → Type 0
 Tells kind text (Ok command) = (kind_of command ≡ kind) × HasBody text command × AreNames command

@@ -15,11 +15,11 @@ is_over (replies.Refused refusals.SessionFailed) = true
 is_over (replies.Refused refusals.SessionCancelled) = true
 is_over reply = false
 
--- whether a session that went on so far goes on behind one more reply to an event of its own
+-- whether a session that went on so far goes on after one more reply to an event of its own
 abbrev pub goes_on_by : Bool → Reply → Bool
 goes_on_by goes_on reply = if is_over reply then false else goes_on
 
--- what is known of the session that a talk opened last: its ticket, where it opened one, and whether it goes on
+-- what is known of the session that a talk opened last: its ticket, if it opened one, and whether it goes on
 pub record Known : Type 0 where
   pub ticket : Option ℕ
   pub goes_on : Bool
@@ -43,7 +43,7 @@ abbrev pub known_by : Known → Exchange → Known
 known_by known (Stepped event reply) = known_by_event known event reply
 known_by known exchange = known
 
--- by these exchanges, one behind the other
+-- by these exchanges, one after the other
 abbrev pub known_behind : Known → List Exchange → Known
 known_behind known [] = known
 known_behind known (exchange ∷ asked) = known_behind (known_by known exchange) asked
@@ -56,8 +56,8 @@ IsOf moment ticket (events.Close of) = of ≡ ticket
 IsOf moment ticket (events.Cancel of) = of ≡ ticket
 IsOf moment ticket event = ⊥
 
--- What a talk may ask at this moment, by what is known of its session: that one be opened, with this moment, where none goes
--- on; or an event of the session that it opened last. Nothing else.
+-- What a talk may ask at this moment, by what is known of its session: that one be opened, with this moment, if none
+-- goes on; or an event of the session that it opened last. Nothing else.
 abbrev pub MayAsk : ℤ → Known → Event → Type 0
 MayAsk moment known (events.Open job pool media at) = (at ≡ moment) × (known.goes_on ≡ false)
 MayAsk moment known event = (ticket : ℕ) × (known.ticket ≡ Some ticket) × IsOf moment ticket event
@@ -72,8 +72,8 @@ abbrev pub AskNoOpen : List Exchange → Type 0
 AskNoOpen [] = Unit {0}
 AskNoOpen (exchange ∷ asked) = (AsksOpen exchange → ⊥) × AskNoOpen asked
 
--- The session of this ticket is over by what was asked behind its opening. Before any other was asked to be opened, an event of it
--- was answered that it is over; or it was cancelled, whatever the answer, and nothing was asked any more.
+-- The session of this ticket is over by what was asked after its opening. Before any other was asked to be opened, an
+-- event of it was answered that it is over; or it was cancelled, whatever the answer, and nothing was asked any more.
 pub record IsSessionOver (moment : ℤ) (ticket : ℕ) (behind : List Exchange) : Type 0 where
   pub meanwhile : List Exchange
   pub event : Event
@@ -89,12 +89,13 @@ abbrev pub IsGivenUp : Bool → ℕ → List Exchange → Type 0
 IsGivenUp true ticket asked = (reply : Reply) × (asked ≡ Stepped (events.Cancel ticket) reply ∷ [])
 IsGivenUp false ticket asked = asked ≡ []
 
--- so it is with the session that the talk opened last, where it opened one
+-- so it is with the session that the talk opened last, if it opened one
 abbrev pub LastIsGivenUp : Known → List Exchange → Type 0
 LastIsGivenUp known asked =
     ((known.ticket ≡ None) × (asked ≡ [])) ⊎ ((ticket : ℕ) × (known.ticket ≡ Some ticket) × IsGivenUp known.goes_on ticket asked)
 
--- Each session that the talk opened is over by what was asked behind its opening, and each event was one that it might ask then.
+-- Each session that the talk opened is over by what was asked after its opening, and each event was one that it might
+-- ask then.
 pub record AreOver (moment : ℤ) (asked : List Exchange) : Type 0 where
   pub each_over : (before behind : List Exchange) (job : ℕ) (pool media : List ℕ) (at : ℤ) (ticket drive : ℕ)
       → asked ≡ before ++ Stepped (events.Open job pool media at) (replies.Opened ticket drive) ∷ behind → IsSessionOver moment ticket behind

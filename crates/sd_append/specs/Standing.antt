@@ -17,13 +17,13 @@ use Rattle.sd_append.specs.Does.{Does}
 use Rattle.sd_append.specs.Out.{OutView}
 use Rattle.sd_append.specs.Port.{Exchange}
 
--- around a talk: the bytes that its reader has left, where they are known; what its port was asked; what it has put out
+-- around a talk: the bytes that its reader has left, if they are known; what its port was asked; what it has put out
 pub record Around : Type 0 where
   pub left : Option (List ℕ)
   pub asked : List Exchange
   pub out : OutView
 
--- the same, its parts given
+-- what is around a talk, its parts given
 abbrev pub around : Option (List ℕ) → List Exchange → OutView → Around
 around left asked out = record { left = left; asked = asked; out = out }
 
@@ -39,7 +39,7 @@ pub record Stands (moment : ℤ) (start now : Around) (state : FeederState) (sta
   pub takes : Does (λ asked out. Converses moment (Command None) packets asked out stage) start.asked now.asked start.out now.out
   pub goes_on : GoesOn state stage
 
--- The packets of what was read, and what stands behind them. Where memory was wanted for those of the last piece, they
+-- The packets of what was read, and what comes after them. If there was no memory for those of the last piece, they
 -- are those of what was read before it.
 abbrev pub AreRead : Result TalkEnd AllocError → List ℕ → List Packet → List ℕ → Type 0
 AreRead (Ok end) bytes packets rest = Packets bytes packets rest
@@ -59,14 +59,15 @@ abbrev pub Comes : ℤ → Option (Result TalkEnd AllocError) → Around → Aro
 Comes moment None start now state stage bytes = Stands moment start now state stage bytes
 Comes moment (Some end) start now state stage bytes = Halts moment start now stage end bytes × (end ≢ Ok OutOfTurns)
 
--- how a talk ends that stands so behind a piece of its input, and whether the piece left its feeder failed; if it ends
+-- how a talk ends that is at this stage after a piece of its input, and whether the piece left its feeder failed; if it
+-- ends
 abbrev pub EndsBehind : Option (Result TalkEnd AllocError) → Bool → TalkStage → Type 0
 EndsBehind None failed stage = (IsEndedByClient stage → ⊥) × (IsTrue failed → ⊥)
 EndsBehind (Some (Ok Finished)) failed stage = IsEndedByClient stage
 EndsBehind (Some (Ok TooLong)) failed stage = (IsEndedByClient stage → ⊥) × IsTrue failed
 EndsBehind (Some end) failed stage = ⊥
 
--- how a talk ends that stands so where its input ends
+-- how a talk ends that is in this state where its input ends
 abbrev pub EndsInput : TalkEnd → FeederState → TalkStage → Type 0
 EndsInput Finished state stage = IsCommandDue stage × (IsMidway state → ⊥)
 EndsInput Truncated state stage = (IsCommandDue stage → ⊥) ⊎ IsMidway state
@@ -77,7 +78,7 @@ abbrev pub fault_end : OutFault → Result TalkEnd AllocError
 fault_end faults.Write = Ok WriteFault
 fault_end faults.Memory = Err alloc_error
 
--- the end of a talk whose writing may have failed, where this is its end otherwise
+-- the end of a talk whose writing may have failed, if this is its end otherwise
 abbrev pub written_end : Option OutFault → Result TalkEnd AllocError → Result TalkEnd AllocError
 written_end None end = end
 written_end (Some fault) end = fault_end fault

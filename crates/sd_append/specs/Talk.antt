@@ -62,7 +62,7 @@ abbrev pub end_said : Reply → List Packet
 end_said replies.Ended = said lines.Ended ∷ []
 end_said reply = refused (refusal_in reply) ∷ []
 
--- the reply to a close: where it is closed, the session and its spans too
+-- the reply to a close: if it is closed, the session and its spans too
 abbrev pub close_said : Reply → List Packet
 close_said (replies.Closed key spans) = said lines.Closed ∷ said (lines.Session key) ∷ (map span_said spans ++ end_of_data ∷ [])
 close_said reply = refused (refusal_in reply) ∷ []
@@ -82,17 +82,17 @@ abbrev pub read_end_said : Result ReadEnd Refusal → Packet
 read_end_said (Ok end) = said (lines.Read end)
 read_end_said (Err refusal) = refused refusal
 
--- the port is asked nothing, this goes out, and the talk stands so
+-- the port is asked nothing, this goes out, and the talk is then at this stage
 abbrev pub Only : List Packet → TalkStage → List Exchange → List Packet → TalkStage → Type 0
 Only says next asked out new = (asked ≡ []) × (out ≡ says) × (new ≡ next)
 
--- The session is given up, where it goes on: with these exchanges, and this is then known of it.
+-- The session is given up, if it goes on: with these exchanges, and this is then known of it.
 abbrev pub GivesUpIf : Bool → Own → List Exchange → Own → Type 0
 GivesUpIf true own asked new =
     (reply : Reply) × (asked ≡ Stepped (events.Cancel own.ticket) reply ∷ []) × (new ≡ by_reply own reply)
 GivesUpIf false own asked new = (asked ≡ []) × (new ≡ own)
 
--- the same
+-- The session is given up, if by the replies so far it goes on: with these exchanges, and this is then known of it.
 abbrev pub GivesUp : Own → List Exchange → Own → Type 0
 GivesUp own asked new = GivesUpIf own.runs own asked new
 
@@ -183,7 +183,7 @@ pub record TakesRecordPacket (own : Own) (header : HeaderParts) (bytes : List �
 abbrev pub is_one_line : List ℕ → Bool
 is_one_line text = list_all (λ c. nat_lt c 128 && not (c == 10)) text
 
--- The session is read back by the spans that the JobMedia text says; or that says none; or memory is wanted for them.
+-- The session is read back by the spans that the JobMedia text says; or that says none; or there is no memory for them.
 abbrev pub ReadsBack : Option Own → List ℕ → List Exchange → List Packet → TalkStage → Type 0
 ReadsBack own text asked out new =
     ((key : SessionKey) × (spans : List Span) × (records : List Record) × (answer : Result ReadEnd Refusal)
@@ -198,7 +198,7 @@ abbrev pub IsSpanLine : List ℕ → Type 0
 IsSpanLine text = (span : Span) × SpanFits span × (text ≡ span_text span)
 
 -- what a span's packet comes to: its line is added to the text; or it says no span, and from then on nothing of the spans
--- is kept; or memory is wanted for it
+-- is kept; or there is no memory for it
 abbrev pub TakesSpan : Bool → Option Own → List ℕ → List ℕ → List Exchange → List Packet → TalkStage → Type 0
 TakesSpan true own text more asked out new =
     (IsSpanLine more × Only [] (Spans own (text ++ line more)) asked out new)
@@ -230,7 +230,7 @@ TakesEnd (Spans own text) asked out new = ReadsBack own text asked out new
 TakesEnd (BadSpans own refusal) asked out new = Only (end_of_data ∷ refused refusal ∷ []) (Command own) asked out new
 TakesEnd (Over own) asked out new = Only [] (Over own) asked out new
 
--- what goes out for a poll or a heartbeat: an answer where a command is due
+-- what goes out for a poll or a heartbeat: an answer if a command is due
 abbrev pub poll_said : TalkStage → List Packet
 poll_said (Command own) = heartbeat_response ∷ []
 poll_said stage = []

@@ -58,7 +58,7 @@ abbrev pub is_running : Option Own → Bool
 is_running None = false
 is_running (Some own) = own.runs
 
--- the session that the talk opened last, where this is its ticket; or whichever it opened last
+-- the session that the talk opened last, if this is its ticket; or whichever it opened last
 abbrev pub own_with : Option Own → Option ℕ → Result Own (Option Own)
 own_with None ticket = Err None
 own_with (Some own) None = Err (Some own)

@@ -11,7 +11,7 @@ use Rattle.sd_append.specs.Conversation.{Conversation}
 use Rattle.sd_append.specs.Port.{Exchange}
 use Rattle.sd_append.specs.Standing.{AreRead}
 
--- writing failed, or memory was wanted
+-- writing failed, or it was out of memory
 abbrev pub IsCutOff : Result TalkEnd AllocError → Type 0
 IsCutOff (Ok WriteFault) = Unit {0}
 IsCutOff (Err e) = Unit {0}
@@ -23,9 +23,9 @@ abbrev pub AreWritten : Option (List ℕ) → Option (List ℕ) → List ℕ →
 AreWritten old new bytes due end =
     ((end ≡ due) × Appends old new bytes) ⊎ (IsCutOff end × ((rest : List ℕ) × SendsUpTo old new bytes rest))
 
--- These bytes were read of what a reader has left, exchanges joined those of a port, and bytes were written behind what
--- a writer held; and they are a conversation at this moment: its packets in are those of what was read, its packets out
--- what was written, or, where the talk was cut off, what a front of was.
+-- These bytes were read of what a reader has left, exchanges joined those of a port, and bytes were written after what
+-- a writer held; and they are a conversation at this moment: its packets in are those of what was read, and its packets
+-- out are what was written, or, if the talk was cut off, what was written is a front of them.
 pub record Talks (moment : ℤ) (left remains : Option (List ℕ)) (before after : List Exchange) (held holds : Option (List ℕ)) (end : Result TalkEnd AllocError) (bytes : List ℕ) : Type 0 where
   pub packets : List Packet
   pub rest : List ℕ
@@ -38,7 +38,7 @@ pub record Talks (moment : ℤ) (left remains : Option (List ℕ)) (before after
   pub asked_is : after ≡ before ++ asked
   pub written : AreWritten held holds (stream_of out) due end
 
--- at most 64 KiB were read a turn; and where the turns ran out, a byte or more in each
+-- at most 64 KiB were read a turn; and if the turns ran out, a byte or more in each
 pub record IsWithin (turns : ℕ) (end : Result TalkEnd AllocError) (bytes : List ℕ) : Type 0 where
   pub most : length bytes ≤ turns * 65536
   pub all_taken : end ≡ Ok OutOfTurns → turns ≤ length bytes

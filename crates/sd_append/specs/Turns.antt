@@ -59,7 +59,7 @@ OfOwn known named comes refuses =
 
 -- What a command is answered at this moment, by what is known of the talk's session. An open is refused while that goes on. An
 -- open, an end and a close are asked of the port, and its reply is the answer; so is a console's line, said at this moment. Data is answered at once
--- only where its session is not the talk's; else, as for a read, there is more to come.
+-- only if its session is not the talk's; else, as for a read, there is more to come.
 abbrev pub Answers : ℤ → Known → Command → List Exchange → List Packet → Type 0
 Answers moment known (commands.Open job pool media) asked says =
     ((known.goes_on ≡ true) × IsRefused BadCommand asked says)
@@ -158,14 +158,14 @@ pub record IsReadBegun (packets : List Packet) (asked : List Exchange) (says : L
   pub asked_is : asked ≡ []
   pub says_is : says ≡ []
 
--- where a talk is behind its last packet: between two turns, within one, or ended by the client
+-- where a talk is after its last packet: between two turns, within one, or ended by the client
 pub data Place : Type 0 where
   Between : Place
   Within : Place
   Ended : Place
 
 -- So it is by the packets of the last turn, and by those that aren't heard any more: nothing came; or a turn has begun; or the
--- signal came that ends the talk, -4, and whatever stands behind it.
+-- signal came that ends the talk, -4, and whatever comes after it.
 abbrev pub LiesAt : Place → List Packet → List Packet → Type 0
 LiesAt Between packets left_out = (packets ≡ []) × (left_out ≡ [])
 LiesAt Within packets left_out = (packets ≢ []) × (left_out ≡ [])
@@ -182,7 +182,7 @@ pub record IsLast (place : Place) (known : Known) (turn : Turn) : Type 0 where
 
 -- Talks.
 
--- turns one behind the other, each by what is known from those before it, and a last one
+-- turns one after the other, each by what is known from those before it, and a last one
 abbrev pub AreTurns : ℤ → Place → Known → List Turn → Turn → Type 0
 AreTurns moment place known [] last = IsLast place known last
 AreTurns moment place known (turn ∷ turns) last = IsTurn moment known turn × AreTurns moment place (known_behind known turn.asked) turns last

@@ -7,7 +7,7 @@ use sd_base::{BadName, JobId, MediaName, PoolName, Refusal, SessionKey, Ticket};
 use sd_script::Text;
 use sd_text::BadField;
 
-/// A command of a client. A ticket is `None` where the command names a number that no session has.
+/// A command of a client. A ticket is `None` if the command names a number that no session has.
 #[derive(Drop)]
 pub enum Command<'a> {
     /// `append open session`: a session is opened.
@@ -33,7 +33,7 @@ pub enum Command<'a> {
 pub enum CommandFault {
     /// It has no form of a command, or a number is out of its range.
     BadCommand,
-    /// It has a form, but what stands in the place of a name is no name.
+    /// It has a form, but what is in the place of a name is no name.
     BadName,
 }
 

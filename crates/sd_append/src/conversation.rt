@@ -28,7 +28,7 @@ pub const READ_BYTES: usize = 64 * 1024;
 /// How a talk ended, and its writer.
 #[derive(Drop)]
 pub struct Talked<W> {
-    /// How it ended. `Err` is want of memory: what was read, done and written until then stays.
+    /// How it ended. `Err` is out of memory: what was read, done and written until then stays.
     pub end: Result<TalkEnd, AllocError>,
     pub writer: W,
 }
@@ -57,8 +57,8 @@ impl Buffers {
 /// before each read and at the end; the writer isn't flushed. An `Err` of a read or of a write ends the
 /// talk, whatever its kind.
 ///
-/// However a talk ends, its session, where by the replies so far it is active or ended, is cancelled. Its opens, its
-/// ends and its lines of a console bear the moment that the port is set to, which stays.
+/// However a talk ends, its session is cancelled if by the replies so far it is active or ended. Its opens, its ends
+/// and its lines of a console bear the moment that the port is set to, which stays.
 pub fn talk<R: Read, W: Write, P: SessionPort>(
     alloc: Global,
     reader: &mut R,
@@ -122,7 +122,7 @@ fn take_turns<R: Read, W: Write, P: SessionPort>(
     finish(standing, Ok(TalkEnd::OutOfTurns), port)
 }
 
-/// Writes out what waits, reads at most once, and takes what was read. Nothing is read where something still waits.
+/// Writes out what waits, reads at most once, and takes what was read. Nothing is read if something still waits.
 fn turn<R: Read, W: Write, P: SessionPort>(
     alloc: Global,
     granted: &mut GrantedReader<'_, R>,
@@ -217,7 +217,7 @@ fn take_piece<W: Write, P: SessionPort>(
     }
 }
 
-/// Gives up the talk's session where it goes on, says what is to be said at this end, and writes out what
+/// Gives up the talk's session if it goes on, says what is to be said at this end, and writes out what
 /// waits.
 fn finish<W: Write, P: SessionPort>(
     standing: Standing<W>,
@@ -249,7 +249,7 @@ fn finish<W: Write, P: SessionPort>(
     }
 }
 
-/// Gives up the session that a talk opened last, where it goes on.
+/// Gives up the session that a talk opened last, if it goes on.
 fn give_up_last<P: SessionPort>(own: Option<Own>, port: &mut P)
     ensures asked { (asked : List Exchange) × GivesUpLast own asked
         × (P.asked port.new ≡ P.asked port.old ++ asked) }

@@ -60,7 +60,7 @@ impl Header {
     }
 }
 
-/// The header of a packet, or `None` where the packet is none, or a number is out of its range.
+/// The header of a packet, or `None` if the packet is none, or a number is out of its range.
 pub fn read_header(packet: &[u8]) -> Option<Header>
     ensures found { (header : HeaderParts) → HasHeaderForm packet.now header
         → result ≡ Some header }

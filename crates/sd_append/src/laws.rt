@@ -8,16 +8,16 @@ pub fn sessions_are_over<E>()
     ensures { SessionsAreOver E }
 {}
 
-/// The packets of a talk part into turns, one behind the other: a signal, a command with its one reply, a data phase, or a read.
-/// What the port was asked and what went out is, turn by turn, what each of these asks and says, in order, and nothing else. Where
-/// a data phase is accepted, the port has taken the record of each of its payloads under its header, in order; where it is refused, a
-/// front of those. And the talk ends by where it is behind its last turn.
+/// The packets of a talk part into turns, one after the other: a signal, a command with its one reply, a data phase, or
+/// a read. What the port was asked and what went out is, turn by turn, what each of these asks and says, in order, and
+/// nothing else. If a data phase is accepted, the port has taken the record of each of its payloads under its header,
+/// in order; if it is refused, a front of those. And the talk ends by where it is after its last turn.
 pub fn replies_answer_turns<E>()
     ensures { RepliesAnswerTurns E }
 {}
 
-/// Where `3000 OK append data` goes out for a data phase, the port was asked to append the record of each of its payloads under its
-/// header, in order and nothing else, and took each.
+/// If `3000 OK append data` goes out for a data phase, the port was asked to append the record of each of its payloads
+/// under its header, in order and nothing else, and took each.
 pub fn appended_is_taken()
     ensures { AppendedIsTaken }
 {}

@@ -147,7 +147,7 @@ pub(crate) fn console<W: Write, P: SessionPort>(
     TalkStage::Command(own)
 }
 
-/// Gives the session up, where it goes on.
+/// Gives the session up, if it goes on.
 pub(crate) fn give_up<P: SessionPort>(own: Own, port: &mut P) -> Own
     ensures asked { (asked : List Exchange) × GivesUp own asked result
         × (P.asked port.new ≡ P.asked port.old ++ asked) }

@@ -167,7 +167,7 @@ impl<W: Write> Outbox<W> {
         rest
     }
 
-    /// How many bytes fit, at least one: where none do, what waits is written out first.
+    /// How many bytes fit, at least one: if none do, what waits is written out first.
     fn room(&mut self) -> usize
         ensures least { 0 < result }
         ensures puts { PutsOut (out_view W.contents self.old) (out_view W.contents self.new) [] }
@@ -201,7 +201,7 @@ impl<W: Write> Outbox<W> {
     }
 }
 
-/// The bytes of a text, where there is room for them.
+/// The bytes of a text, if there is room for them.
 fn text_of<D: Display + Drop>(text: D) -> Option<ArrayString<LINE_BYTES>>
     ensures { IfSome result (λ said. IfSome (D.output text) (λ bytes. said.bytes ≡ bytes)) }
 {

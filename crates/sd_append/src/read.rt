@@ -37,7 +37,7 @@ pub fn read_command(packet: &[u8]) -> Result<Command<'_>, CommandFault>
     command_of(kind, rest)
 }
 
-/// What command a line begins as, and what stands behind that.
+/// What command a line begins as, and what comes after that.
 fn kind_of(line: &str) -> Option<(Kind, &str)>
     ensures found { IfSome result (λ split. line.now ≡ head_text split.0 ++ split.1.now) }
     ensures none { IfNone result ((kind : SpecKind) (rest : List ℕ)
@@ -64,7 +64,7 @@ fn kind_of(line: &str) -> Option<(Kind, &str)>
     }
 }
 
-/// The command of a kind and what stands behind it.
+/// The command of a kind and of what comes after it.
 fn command_of(kind: Kind, rest: &str) -> Result<Command<'_>, CommandFault>
     ensures { Tells kind rest.now result }
 {

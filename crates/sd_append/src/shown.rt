@@ -34,7 +34,7 @@ impl<T> Shown<T> {
         }
     }
 
-    /// A list as it stands in memory.
+    /// A list as it is in memory.
     pub fn of(xs: &[T]) -> Self
         ensures { result ≡ xs.now }
     {

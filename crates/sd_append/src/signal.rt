@@ -11,7 +11,7 @@ pub(crate) enum Meaning {
     EndOfData,
     /// -4: the talk ends here.
     Terminate,
-    /// -5, a poll, or -6, a heartbeat: where a command is due, it is answered.
+    /// -5, a poll, or -6, a heartbeat: if a command is due, it is answered.
     Poll,
     /// Nothing.
     Other,

@@ -40,7 +40,7 @@ impl SpanText {
         }
     }
 
-    /// The text with one line more. Without memory it is gone.
+    /// The text with one line more. If out of memory, it is gone.
     pub(crate) fn with(self, more: &str) -> Result<Self, AllocError>
         ensures { IfOk result (λ text. text ≡ self ++ line more.now) }
     {
@@ -64,7 +64,7 @@ impl SpanText {
     }
 }
 
-/// Reads a line by itself: whether it says a span. It is read as a text, behind the line of some session.
+/// Reads a line by itself: whether it says a span. It is read as a text, after the line of some session.
 pub(crate) fn read_span(alloc: Global, more: &str) -> Result<(), JobMediaFault>
     requires { is_one_line more.now ≡ true }
     ensures ok { OnOk result (IsSpanLine more.now) }

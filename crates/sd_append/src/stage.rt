@@ -29,7 +29,7 @@ pub(crate) enum TalkStage {
     Dropped(Own, Refusal),
     /// Spans of a session that is to be read, or their end.
     Spans(Option<Own>, SpanText),
-    /// The same, once they can't be read any more; for this they will be refused.
+    /// Spans of a session, or their end, once the spans can't be read any more; for this they will be refused.
     BadSpans(Option<Own>, Refusal),
     /// Nothing: the client has ended the talk.
     Over(Option<Own>),
@@ -114,7 +114,7 @@ pub(crate) fn is_running(own: &Option<Own>) -> bool
     }
 }
 
-/// The session that a talk opened last, where this is its ticket; or whichever it opened last.
+/// The session that a talk opened last, if this is its ticket; or whichever it opened last.
 pub(crate) fn own_with(own: Option<Own>, ticket: Option<Ticket>) -> Result<Own, Option<Own>>
     ensures { result ≡ own_with own ticket }
 {

@@ -17,7 +17,7 @@ pub(crate) struct Standing<W> {
     pub(crate) outbox: Outbox<W>,
 }
 
-/// Where a talk stands behind a read, and how it ended, if it did.
+/// Where a talk stands after a read, and how it ended, if it did.
 #[derive(Drop)]
 pub(crate) struct Turned<W> {
     pub(crate) standing: Standing<W>,
@@ -38,7 +38,7 @@ fn is_command_due(stage: &TalkStage) -> bool
     matches!(stage, TalkStage::Command(_))
 }
 
-/// How a talk ends behind a piece of its input, if it does: the client has ended it, or a length was too
+/// How a talk ends after a piece of its input, if it does: the client has ended it, or a length was too
 /// great, which is what `failed` says.
 pub(crate) fn end_behind(stage: &TalkStage, failed: bool) -> Option<Result<TalkEnd, AllocError>>
     ensures { EndsBehind result failed stage.now }
@@ -72,7 +72,7 @@ pub(crate) fn fault_end(fault: OutFault) -> Result<TalkEnd, AllocError>
     }
 }
 
-/// The end of a talk, where it would be this if its writing hadn't failed.
+/// The end of a talk whose end would be this if its writing hadn't failed.
 pub(crate) fn written_end(
     fault: Option<OutFault>,
     end: Result<TalkEnd, AllocError>,

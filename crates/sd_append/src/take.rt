@@ -67,7 +67,7 @@ fn obey<W: Write, P: SessionPort>(
     }
 }
 
-/// Takes a packet where a span is due. Behind one that is none nothing is kept of those that came or come.
+/// Takes a packet where a span is due. After one that is none, nothing is kept of those that came or come.
 fn take_span(alloc: Global, own: Option<Own>, text: SpanText, bytes: &[u8]) -> TalkStage
     ensures { TakesSpan (is_one_line (trimmed bytes.now)) own text (trimmed bytes.now)
         [] [] result }
@@ -92,7 +92,7 @@ fn add_span(own: Option<Own>, text: SpanText, more: &str) -> TalkStage
     }
 }
 
-/// The bytes as a text, where they are one line of ASCII.
+/// The bytes as a text, if they are one line of ASCII.
 fn one_line(bytes: &[u8]) -> Option<&str>
     ensures found { IfSome result (λ text.
         (text.now ≡ bytes.now) × (is_one_line bytes.now ≡ true)) }

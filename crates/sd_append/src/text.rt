@@ -26,7 +26,7 @@ fn ends_text(byte: u8) -> bool
     byte == b'\n' || byte == 0
 }
 
-/// The bytes as a text, where they are ASCII.
+/// The bytes as a text, if they are ASCII.
 pub(crate) fn ascii_text(bytes: &[u8]) -> Option<&str>
     ensures found { IfSome result (λ text.
         (text.now ≡ bytes.now) × All (λ byte. byte < 128) bytes.now) }

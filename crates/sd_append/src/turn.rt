@@ -21,7 +21,7 @@ use std::alloc::Global;
 use std::io::Write;
 use std::marker::Brand;
 
-/// Where the talk stands behind a packet, and its outbox.
+/// Where the talk stands after a packet, and its outbox.
 #[derive(Drop)]
 pub(crate) struct TalkTurn<W> {
     pub(crate) stage: TalkStage,
@@ -77,7 +77,7 @@ fn take_signal<W: Write, P: SessionPort>(
     }
 }
 
-/// Answers a poll or a heartbeat, where a command is due.
+/// Answers a poll or a heartbeat, if a command is due.
 fn answer_poll<W: Write>(stage: &TalkStage, outbox: &mut Outbox<W>)
     ensures { PutsOut (out_view W.contents outbox.old) (out_view W.contents outbox.new)
         (stream_of (poll_said stage.now)) }

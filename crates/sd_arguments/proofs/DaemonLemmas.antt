@@ -42,7 +42,7 @@ conf_in s (inr (inl e)) named rest rows walked given = given_word (codes "CONF")
 conf_in s (inr (inr (inl e))) named rest rows walked given = absurd (true≢false (ap (bytes_eq (codes "help")) (sym (ap (λ x. x.name) e) ∙ named)))
 conf_in s (inr (inr (inr other))) named rest rows walked given = elim other [ ]
 
--- where clients are to be served, there is a path
+-- if clients are to be served, there is a path
 pub conf_is_given : (words : List Text) (m : ArgMatches) (n : Named daemon_line words m) (given : List Row)
     → subcommand_name_of m ≡ Some (codes "serve") → option_map (λ p. p.1) (subcommand_rows_of m) ≡ Some given → IsGiven (codes "CONF") given
 conf_is_given words m n given named rows =

@@ -1,4 +1,4 @@
--- Where nothing is wrong with the words of a subcommand, each positional that it requires has a word.
+-- If nothing is wrong with the words of a subcommand, each positional that it requires has a word.
 use Rattle.std.proofs.Common.{◌≡◌, ◌∙◌, ◌&&◌, ◌||◌, ◌+◌, min, ℕ, zero, suc, Bool, cond, true, false, not, refl, sym, ap, subst, true≢false, List, [], ◌∷◌, ◌++◌, Option, Some, None, is_some, if◌then◌else◌, find, fold, bytes_eq, chars, slice_get, drop, length, encode_utf8, option_and_then}
 use Rattle.std.specs.List.{list_all}
 use Rattle.std.specs.Option.{option_map_or}

@@ -1,4 +1,4 @@
--- The subcommand that the words name, where nothing is wrong with them.
+-- The subcommand that the words name, if nothing is wrong with them.
 use Rattle.std.proofs.Common.{◌≡◌, ◌∙◌, ◌⊎◌, ◌&&◌, ◌||◌, Bool, cond, true, false, not, refl, sym, ap, subst, inl, inr, true≢false, Result, Ok, Err, IsErrAnd, IfErr, List, [], ◌∷◌, Option, Some, None, is_some, option_map, if◌then◌else◌, find, fold, bytes_eq, codes}
 use Rattle.std.specs.List.{list_any}
 use Rattle.std.specs.Option.{option_map_or, unwrap_or}
@@ -226,7 +226,7 @@ pub record IsProgram (line : App) : Type 0 where
   pub wants : (built line).top.subcommand_required ≡ true
   pub one : HaveOneName (built line).subs
 
--- what is known where a subcommand is entered by a stop
+-- what is known if a subcommand is entered by a stop
 record Enters (a : App) (stop : Option (Text × List Text)) (given : Text × List Row) : Type 0 where
   pub shape : Shape
   pub known : IsOneOf shape a.subs

@@ -15,7 +15,7 @@ pub text_is : (f : Found) (id : Text) (o : Option (Bor Text)) (r : Bor Text) →
     → first_of id (rows_of f) ≡ Some r.now
 text_is f id o r value is = sym (first_value-rows f id) ∙ (sym value ∙ ap (option_map (λ s. s.now)) is)
 
--- the text for an argument, where there may be none
+-- the text for an argument, of which there may be none
 pub word_is : (f : Found) (id : Text) (o : Option (Bor Text)) → option_map (λ s. s.now) o ≡ first_value f id → option_map (λ s. s.now) o ≡ first_of id (rows_of f)
 word_is f id o value = value ∙ first_value-rows f id
 

@@ -8,7 +8,7 @@ use Rattle.sd_arguments.specs.declared.daemon.DaemonTask.{DaemonTask}
 use Rattle.sd_arguments.specs.declared.daemon.DaemonTask.TheVariants.{Check, Serve, Print, NoMemory}
 use Rattle.sd_arguments.specs.declared.daemon.Serving.{Serving}
 
--- `--name VALUE`: a number of 32 bits, which is 0 where it isn't given
+-- `--name VALUE`: a number of 32 bits, which is 0 if it isn't given
 abbrev pub count_rule : Text → Rule
 count_rule name = record (new_rule name) {
   long = Some name;
@@ -22,7 +22,7 @@ count_rule name = record (new_rule name) {
 abbrev pub talks_rule : Rule
 talks_rule = count_rule (codes "talks")
 
--- the same of `--wait SECONDS`
+-- `--wait SECONDS`
 abbrev pub wait_rule : Rule
 wait_rule = count_rule (codes "wait")
 
@@ -54,7 +54,7 @@ IsDaemonTask name given (Serve asked) = (name ≡ codes "serve") × IsServing gi
 IsDaemonTask name given (Print told) = ⊥
 IsDaemonTask name given NoMemory = ⊥
 
--- What the words ask for: where nothing is wrong with them, the task of the subcommand that they name; else one of the
+-- What the words ask for: if nothing is wrong with them, the task of the subcommand that they name; else one of the
 -- causes that they give is told. There may be no memory to read any words.
 abbrev pub AsksDaemon : List Text → DaemonTask → Type 0
 AsksDaemon words (Print told) = IsAmong (kind_of told) (fault_of daemon_line words)

@@ -17,7 +17,7 @@ flag_rule name = record (new_rule name) { long = Some name; action = Some SetTru
 abbrev pub command_shape : Text → List Rule → Shape
 command_shape name arguments = record (new_shape name) { rules = arguments }
 
--- A program with these subcommands. One of them has to be named; where no word is given, help is told.
+-- A program with these subcommands. One of them has to be named; if no word is given, help is told.
 abbrev pub program_line : Text → List Shape → App
 program_line name commands = record {
   top = record (new_shape name) {
@@ -43,13 +43,13 @@ abbrev pub SpellsCount : Text → Type 0
 SpellsCount text =
     IsNumeral 10 (without_leading_plus text) × (digits_value 10 (without_leading_plus text) < 2 ^ 32)
 
--- the number that the text spells, and 0 where there is no text or it spells none
+-- the number that the text spells, and 0 if there is no text or it spells none
 abbrev pub IsCountOf : Option Text → ℕ → Type 0
 IsCountOf None count = count ≡ 0
 IsCountOf (Some text) count =
     (SpellsCount text → count ≡ digits_value 10 (without_leading_plus text)) × (¬ SpellsCount text → count ≡ 0)
 
--- whether a flag is given: its text is `true` where it is, and `false` where it isn't
+-- whether a flag is given: its text is `true` if it is, and `false` if it isn't
 abbrev pub IsFlagOf : Option Text → Bool → Type 0
 IsFlagOf None is_given = is_given ≡ false
 IsFlagOf (Some text) is_given =

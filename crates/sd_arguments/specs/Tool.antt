@@ -72,7 +72,7 @@ IsToolTask name given (asks.Verify folder) = (name ≡ codes "verify") × (first
 IsToolTask name given (asks.Print told) = ⊥
 IsToolTask name given asks.NoMemory = ⊥
 
--- What the words ask for: where nothing is wrong with them, the task of the subcommand that they name; else one of the
+-- What the words ask for: if nothing is wrong with them, the task of the subcommand that they name; else one of the
 -- causes that they give is told. There may be no memory to read any words.
 abbrev pub AsksTool : List Text → ToolTask → Type 0
 AsksTool words (asks.Print told) = IsAmong (kind_of told) (fault_of tool_line words)

@@ -27,7 +27,7 @@ pub enum DaemonTask<'a> {
 pub struct Serving<'a> {
     /// The path of the configuration.
     pub path: &'a str,
-    /// After how many talks the daemon ends; 0 where it goes on.
+    /// After how many talks the daemon ends; 0 if it goes on.
     pub talks: u32,
     /// How many seconds a record and a close wait for a volume that their drive needs.
     pub wait: u32,
@@ -48,7 +48,7 @@ pub fn daemon_task(alloc: Global, words: &[String]) -> DaemonTask<'_>
     }
 }
 
-// What the words ask for, where there is something.
+// What the words ask for, if that is anything.
 fn parse(alloc: Global, words: &[String]) -> Result<DaemonTask<'_>, Error>
     ensures ok { IfOk result (AsksDaemon (map string_bytes words.entry.now)) }
     ensures err { IfErr result (HasKind (fault_of daemon_line (map string_bytes words.entry.now))) }

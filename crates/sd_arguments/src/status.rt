@@ -8,7 +8,7 @@ use clap::error::ErrorKind;
 /// The status of a run whose command line was wrong.
 const USAGE: u8 = 2;
 
-/// The status of a run that only prints this: 0 for help and the version, 2 where the command line was wrong.
+/// The status of a run that only prints this: 0 for help and the version, 2 if the command line was wrong.
 pub fn status_of(told: &Error) -> u8
     ensures shown { (kind_of told.now ≡ ErrorKind.DisplayHelp)
         ⊎ (kind_of told.now ≡ ErrorKind.DisplayVersion) → result ≡ 0 }

@@ -26,7 +26,7 @@ pub enum ToolTask<'a> {
         folder: &'a str,
         progress: bool,
     },
-    /// To find the sessions on the volumes of these names in `folder`; of all volumes there where none is named.
+    /// To find the sessions on the volumes of these names in `folder`; of all volumes there if none is named.
     Scan {
         folder: &'a str,
         volumes: Vec<&'a str>,

@@ -49,7 +49,7 @@ u64_bytes-read xs eight bytes =
     let same : big_number 8 xs ≡ from_be_bytes w64 xs = omega arith in
     be_bytes_8 xs (big_number 8 xs) eight bytes same
 
--- two lists whose fronts are equally long agree in front and behind
+-- two lists whose fronts are equally long agree in the front and after it
 pub append_apart : {X : Type 0} (a b xs ys : List X) → length a ≡ length b → a ++ xs ≡ b ++ ys → (a ≡ b) × (xs ≡ ys)
 append_apart a b xs ys long e = (
   sym (take_at a xs (length a) refl) ∙ ap (take (length a)) e ∙ take_at b ys (length a) (sym long),
@@ -67,7 +67,7 @@ unfolding u64_bytes
 u64_bytes-injective x y xs ys hx hy e =
     sym (big_number-reads_back 8 x xs hx) ∙ ap (big_number 8) e ∙ big_number-reads_back 8 y ys hy
 
--- so two lists that begin with a field agree in the field and behind it
+-- so two lists that begin with a field agree in the field and after it
 pub u32_apart : (x y : ℕ) (xs ys : List ℕ) → x < 2 ^ 32 → y < 2 ^ 32 → u32_bytes x ++ xs ≡ u32_bytes y ++ ys → (x ≡ y) × (xs ≡ ys)
 u32_apart x y xs ys hx hy e =
     let same = append_apart (u32_bytes x) (u32_bytes y) xs ys (length-u32_bytes x ∙ sym (length-u32_bytes y)) e in
@@ -116,7 +116,7 @@ u64_field xs at value bytes there read =
     let eight : length (take 8 (drop at xs)) ≡ 8 = length-take-le 8 (drop at xs) (omega (arith, length-drop at xs)) in
     sym (u64_bytes-read (take 8 (drop at xs)) eight (AreBytes-take 8 (drop at xs) (AreBytes-drop at xs bytes))) ∙ ap u64_bytes (sym read)
 
--- a field written behind a front that is done
+-- a field written after a front that is done
 pub put_next : (front field rest : List ℕ) (at n : ℕ) → length front ≡ at
     → take at (front ++ rest) ++ field ++ drop (at + n) (front ++ rest) ≡ (front ++ field) ++ drop n rest
 put_next front field rest at n long =

@@ -1,16 +1,16 @@
 -- How a count of failures tells of them. It stays at the greatest value of 64 bits.
 use Rattle.std.specs.Prelude.{◌≡◌, ◌↔◌, ℕ, ◌+◌, ◌<◌, ◌≤◌, ◌-◌, ◌^◌, ◌⊎◌, min}
 
--- a count rose, or stands at the greatest value of 64 bits
+-- a count rose, or is at the greatest value of 64 bits
 abbrev pub Rose : ℕ → ℕ → Type 0
 Rose old new = (old < new) ⊎ (new ≡ 2 ^ 64 - 1)
 
--- the count doesn't fall; a call failed exactly where a failure was counted, or where the count can't rise any more
+-- the count doesn't fall; a call failed exactly if a failure was counted, or if the count can't rise any more
 pub record CountsUp (failed : Type 0) (old new : ℕ) : Type 0 where
   pub later : old ≤ new
   pub rose : failed ↔ Rose old new
 
--- where a call failed the count rose by one, and where it didn't it is as it was
+-- if a call failed, the count rose by one, and if it didn't, the count is as it was
 pub record CountsOnce (failed : Type 0) (old new : ℕ) : Type 0 where
   pub rose : failed → new ≡ min (old + 1) (2 ^ 64 - 1)
   pub stayed : ¬ failed → new ≡ old

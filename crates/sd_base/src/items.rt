@@ -1,5 +1,5 @@
 // A list on the heap as a value: contracts see its elements and nothing of its memory, so two values
-// are equal exactly where their lists are.
+// are equal exactly if their lists are.
 ghost use Rattle.std.specs.Prelude.{◌≡◌, ◌↔◌, [], length, IfOk, IsTrue};
 
 use std::alloc::{AllocError, Global};

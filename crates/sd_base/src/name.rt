@@ -58,7 +58,7 @@ impl<K> Model for Name<K> {
 }
 
 impl<K> Name<K> {
-    /// The name that `text` spells, or `BadName` where it breaks the rule.
+    /// The name that `text` spells, or `BadName` if it breaks the rule.
     pub fn parse(text: &str) -> Result<Self, BadName>
         ensures accepted { IsOk result ↔ IsName text.now }
         ensures spelled { IfOk result (λ name. name ≡ text.now) }
@@ -81,7 +81,7 @@ impl<K> Name<K> {
         self.text.as_str()
     }
 
-    /// The same name; takes no memory.
+    /// A copy of the name; takes no memory.
     pub fn copy(&self) -> Self
         ensures { result ≡ self.now }
     {
@@ -93,7 +93,7 @@ impl<K> Name<K> {
         }
     }
 
-    /// The same name, if there is one; takes no memory.
+    /// A copy of the name, if there is one; takes no memory.
     pub fn copy_of(name: &Option<Self>) -> Option<Self>
         ensures { result ≡ name.now }
     {

@@ -57,7 +57,7 @@ impl<K, const MOST: u32> Model for Number<K, MOST> {
 }
 
 impl<K, const MOST: u32> Number<K, MOST> {
-    /// The number `value`, or `None` where it is outside 1 to `MOST`.
+    /// The number `value`, or `None` if it is outside 1 to `MOST`.
     pub fn new(value: u32) -> Option<Self>
         ensures within { IsSome result ↔ ((1 ≤ value) × (value ≤ MOST)) }
         ensures value { IfSome result (λ number. number ≡ value) }

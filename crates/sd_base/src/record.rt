@@ -31,7 +31,7 @@ impl Model for Rec {
 }
 
 impl Rec {
-    /// The record of these parts, or `None` where one of them is past its limit.
+    /// The record of these parts, or `None` if one of them is past its limit.
     pub fn new(index: u32, stream: u32, bytes: Bytes) -> Option<Self>
         ensures within { IsSome result
             ↔ IsRecord (record { index = index; stream = stream; bytes = bytes }) }

@@ -111,7 +111,7 @@ fn print_unpacks(
     tell(rt, "records of", label, "come back", all)
 }
 
-// How many records the bodies give; 0 where one is damaged.
+// How many records the bodies give; 0 if one is damaged.
 fn unpacked(alloc: Global, bodies: &[Body]) -> usize {
     let mut unpacker = Unpacker::new(alloc);
     let mut all = true;

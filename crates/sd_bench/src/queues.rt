@@ -142,7 +142,7 @@ fn take_one<T: Takes>(end: &mut T) -> Option<Piece> {
     None
 }
 
-// Whether a piece comes behind the last one of its lane, which it is then.
+// Whether a piece comes after the last one of its lane, which it is then.
 fn is_next(last: &mut [u64; 32], piece: &Piece) -> bool {
     let Some(lane) = LaneNo::new(piece.key.id) else {
         return false;
@@ -281,7 +281,7 @@ fn lock_jobs<'a, R: Wait + Copy>(
     Some(jobs)
 }
 
-/// Runs each capacity both ways, and prints whether all pieces came in order, and the times where they are wanted.
+/// Runs each capacity both ways, and prints whether all pieces came in order, and the times if they are wanted.
 pub fn run<R: Threads + Wait + Clock + Print + Sync + Copy + Drop>(
     rt: &R,
     alloc: Global,

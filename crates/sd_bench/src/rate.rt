@@ -12,7 +12,7 @@ pub enum Length {
 }
 
 impl Length {
-    /// How often to go over a buffer of so many bytes: some 400 MB in all where it is timed.
+    /// How often to go over a buffer of so many bytes: some 400 MB in all if it is timed.
     pub fn rounds(self, bytes: usize) -> usize {
         match self {
             Length::Once => 1,
@@ -21,8 +21,8 @@ impl Length {
     }
 }
 
-/// Prints the rate of a job that went over so many bytes so many times since `start`, where it was timed, and
-/// gives it in GB/s; 0 where it wasn't, or the clock failed.
+/// Prints the rate of a job that went over so many bytes so many times since `start`, if it was timed, and
+/// gives it in GB/s; 0 if it wasn't, or the clock failed.
 pub fn print_rate(
     rt: HostRuntime,
     length: Length,

@@ -62,7 +62,7 @@ fn print_session<D: Driver>(
     }
 }
 
-// Where the session stands, on a volume that is made for it.
+// Where the session is, on a volume that is made for it.
 fn stored<D: Driver>(
     alloc: Global,
     drive: &mut D,
@@ -184,7 +184,7 @@ trait Target: Sink + Drop {
     fn count(&self) -> u64;
 }
 
-// Reads the session so many times, each time into a sink of its own. What the last of them counted; 0 where one
+// Reads the session so many times, each time into a sink of its own. What the last of them counted; 0 if one
 // isn't read.
 fn read_again<S: Target, D: Driver>(
     alloc: Global,

@@ -13,10 +13,10 @@ use std::snapshot::Snapshot;
 use std::time::Instant;
 use std::{io, num};
 
-/// How many bytes of records one talk appends where it is timed.
+/// How many bytes of records one talk appends if it is timed.
 const TALK_BYTES: usize = 16_000_000;
 
-/// What a client sends before its records, all of which stand under one header.
+/// What a client sends before its records, all of which are under one header.
 static BEGINNING: [&[u8]; 3] = [
     b"append open session JobId=7 Pool=Default Media=File",
     b"append data 1",

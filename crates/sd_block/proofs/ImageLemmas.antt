@@ -11,7 +11,7 @@ use Rattle.sd_block.specs.Fault.{HasSum}
 use Rattle.sd_block.specs.declared.head.Head.{Head}
 use Rattle.sd_block.proofs.HeaderLemmas.{SaysFields-same}
 
--- a field that stands first, and one behind another
+-- a field that comes first, and one that comes after another
 field_first : (field rest : List ℕ) → length field ≡ 4 → field_at 0 (field ++ rest) ≡ field
 field_first field rest four = take_at field rest 4 four
 
@@ -21,7 +21,7 @@ drop_field at field rest four = sym (drop-drop at 4 (field ++ rest)) ∙ ap (dro
 field_behind : (at : ℕ) (field rest : List ℕ) → length field ≡ 4 → field_at (4 + at) (field ++ rest) ≡ field_at at rest
 field_behind at field rest four = ap (take 4) (drop_field at field rest four)
 
--- what stands from a place on is the field there and what stands behind it
+-- the bytes from a place on are the field there and what comes after it
 split_field : (at : ℕ) (bytes : List ℕ) → drop at bytes ≡ field_at at bytes ++ drop (at + 4) bytes
 split_field at bytes = sym (take-append-drop 4 (drop at bytes)) ∙ ap (λ rest. field_at at bytes ++ rest) (drop-drop 4 at bytes)
 
@@ -34,7 +34,7 @@ field_within at bytes other within same =
     let shorter : take (at + 4) bytes ≡ take (at + 4) other = sym (take-take (at + 4) 24 bytes within) ∙ ap (take (at + 4)) same ∙ take-take (at + 4) 24 other within in
     sym (take_within 4 at bytes) ∙ ap (λ front. take 4 (drop at front)) shorter ∙ take_within 4 at other
 
--- six fields one after another, and what stands behind them
+-- six fields one after another, and what comes after them
 pub record SixFields (bytes a b c d e f rest : List ℕ) : Type 0 where
   pub at_0 : field_at 0 bytes ≡ a
   pub at_4 : field_at 4 bytes ≡ b
@@ -107,7 +107,7 @@ IsHeadOf-image max image bytes key number body is same =
       most = is.most;
     })
 
--- a field, and what stands behind it
+-- a field, and what comes after it
 next_field : (at : ℕ) (bytes field rest : List ℕ) → field_at at bytes ≡ field → drop (at + 4) bytes ≡ rest → drop at bytes ≡ field ++ rest
 next_field at bytes field rest here behind = split_field at bytes ∙ ap₂ (λ (f r : List ℕ). f ++ r) here behind
 
@@ -132,7 +132,7 @@ pub HasSum-image : (key : SessionKey) (number : ℕ) (body : List ℕ) → HasSu
 unfolding block_image
 HasSum-image key number body = HasSum-front (summed_bytes key number body)
 
--- the body stands behind the header
+-- the body comes after the header
 pub body_of_image : (max : ℕ) (image : List ℕ) (key : SessionKey) (number : ℕ) (body : List ℕ) → IsBlockImage max image key number body → drop 24 image ≡ body
 body_of_image max image key number body is = ap (drop 24) is.image_is ∙ (image_fields key number body).behind
 
@@ -147,7 +147,7 @@ one_block max max' image key key' number number' body body' is is' =
     let body_is' = body_of_image max' image key' number' body' is' in
     (ap (λ (h : Head). h.key) same, ap (λ (h : Head). h.number) same, sym body_is ∙ body_is')
 
--- the head of an image is there too where more stands behind it
+-- the head of an image is there too if more comes after it
 head_with_more : (max : ℕ) (image behind : List ℕ) (is : IsImage max image)
     → IsHeadOf max (image ++ behind) (record { key = is.key; number = is.number; size = length image })
 head_with_more max image behind is =

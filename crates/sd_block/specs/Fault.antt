@@ -35,7 +35,7 @@ abbrev pub HasRightSize : ℕ → List ℕ → Type 0
 HasRightSize max bytes =
     SaysSize bytes (length bytes) × (least_block ≤ length bytes) × (length bytes ≤ max)
 
--- the checksum is that of the bytes behind it
+-- the checksum is that of the bytes after it
 abbrev pub HasSum : List ℕ → Type 0
 HasSum bytes = field_at 0 bytes ≡ u32_bytes (crc32_of (drop 4 bytes))
 

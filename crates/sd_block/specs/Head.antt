@@ -17,7 +17,7 @@ HasHeader bytes = block_header ≤ length bytes
 abbrev pub HasId : List ℕ → Type 0
 HasId bytes = field_at 12 bytes ≡ codes "BB02"
 
--- these numbers stand in the fields of the header
+-- these numbers are in the fields of the header
 pub record SaysFields (bytes : List ℕ) (head : Head) : Type 0 where
   pub fits : FitsHeader head.key head.number head.size
   pub size : field_at 4 bytes ≡ u32_bytes head.size

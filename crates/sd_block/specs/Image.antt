@@ -1,4 +1,4 @@
--- The image of a block: the bytes that stand on a volume for one body of a session.
+-- The image of a block: the bytes that are on a volume for one body of a session.
 use Rattle.std.specs.Prelude.{◌≡◌, ℕ, ◌+◌, ◌^◌, ◌<◌, ◌≤◌, List, ◌++◌, length, codes}
 use Rattle.sd_base.specs.Field.{u32_bytes}
 use Rattle.sd_base.specs.Limits.{block_header, least_body}
@@ -10,7 +10,7 @@ unfoldable pub header_fields : SessionKey → ℕ → ℕ → List ℕ
 header_fields key number size =
     u32_bytes size ++ u32_bytes number ++ codes "BB02" ++ u32_bytes key.id ++ u32_bytes key.time
 
--- all of a block that stands behind the checksum, whose size counts the whole header
+-- all of a block that comes after the checksum, whose size counts the whole header
 abbrev pub summed_bytes : SessionKey → ℕ → List ℕ → List ℕ
 summed_bytes key number body = header_fields key number (block_header + length body) ++ body
 

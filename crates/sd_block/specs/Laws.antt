@@ -1,4 +1,4 @@
--- A block has one image, and an image is of one block, also where more bytes stand behind it.
+-- A block has one image, and an image is of one block, also if more bytes come after it.
 use Rattle.std.specs.Prelude.{◌≡◌, ℕ, ◌+◌, List, ◌++◌, length, take}
 use Rattle.sd_base.specs.Limits.{block_header}
 use Rattle.sd_base.specs.declared.number.SessionKey.{SessionKey}
@@ -20,7 +20,7 @@ OneBlockOfAnImage =
     → IsBlockImage max' image key' number' body'
     → (key ≡ key') × (number ≡ number') × (body ≡ body')
 
--- two images that begin the same bytes are one image, and what stands behind them is the same
+-- two images that begin the same bytes are one image, and what comes after them is the same
 abbrev pub OneImageAtAPlace : Type 0
 OneImageAtAPlace =
     (max max' : ℕ) (image image' behind behind' : List ℕ)

@@ -5,9 +5,9 @@ pub enum BlockFault {
     Short,
     /// The header names another form than `BB02`.
     BadId,
-    /// BlockSize is below the least block or above what the caller takes, or, where the bytes should be
+    /// BlockSize is below the least block or above what the caller takes, or, if the bytes should be
     /// the whole block, not their number.
     BadSize,
-    /// CheckSum is not that of the bytes behind it.
+    /// CheckSum is not that of the bytes after it.
     BadSum,
 }

@@ -82,7 +82,7 @@ impl FramedBody {
         &self.frame
     }
 
-    /// The same bytes as a `Vec`; takes no memory.
+    /// The room and the body as a `Vec`; takes no memory.
     pub fn into_block(self) -> Vec<u8>
         ensures { result.items ≡ self.room ++ self.bytes }
     {

@@ -16,7 +16,7 @@ pub struct Head {
     pub size: usize,
 }
 
-/// The header at the front of `bytes`, of a block of at most `max` bytes. What stands behind the header
+/// The header at the front of `bytes`, of a block of at most `max` bytes. What comes after the header
 /// is not looked at: the block may go on past `bytes`, or end before they do.
 pub fn read_head(bytes: &[u8], max: usize) -> Result<Head, BlockFault>
     ensures head { IfOk result (IsHeadOf max bytes.now) }

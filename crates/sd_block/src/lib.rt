@@ -5,7 +5,7 @@
 //! |---|---|---|
 //! | 0 | CheckSum | the CRC-32 of the block from byte 4 to its end |
 //! | 4 | BlockSize | the bytes of the block, the header included |
-//! | 8 | BlockNumber | where on the volume the block stands |
+//! | 8 | BlockNumber | where on the volume the block lies |
 //! | 12 | Id | the form of the block, `BB02` |
 //! | 16 | VolSessionId | the session's number |
 //! | 20 | VolSessionTime | the time of the run that the session was in |

@@ -19,7 +19,7 @@ pub struct Opened<'a> {
     pub body: &'a [u8],
 }
 
-/// The block that `bytes` are, all of them, where they are at most `max`.
+/// The block that `bytes` are, all of them, if they are at most `max`.
 pub fn open_block(bytes: &[u8], max: usize) -> Result<Opened<'_>, BlockFault>
     ensures block { IfOk result
         (λ block. IsBlockImage max bytes.now block.key block.number block.body.now) }

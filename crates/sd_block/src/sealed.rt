@@ -23,7 +23,7 @@ pub fn seal(alloc: Global, key: SessionKey, number: u32, body: &[u8]) -> Result<
     Ok(block.into_block())
 }
 
-/// Makes a block of the body that stands in `block` behind the room for its header, whatever that room holds.
+/// Makes a block of the body that lies in `block` after the room for its header, whatever that room holds.
 pub(crate) fn seal_in_place(block: &mut [u8], key: SessionKey, number: u32)
     requires least { block_header + least_body ≤ length block.old }
     requires most { length block.old ≤ most_block }

@@ -1,4 +1,4 @@
--- Each list of bytes is a stream of packets with something behind them.
+-- Each list of bytes is a stream of packets with something after them.
 use Rattle.std.proofs.Common.{◌≡◌, ℕ, ◌^◌, ◌<◌, ◌≤◌, zero, suc, refl, sym, ap, ◌∙◌, arith, List, [], ◌∷◌, ◌++◌, length, take, drop, get_or, ℤ, pos, negsuc, inl, inr}
 use Rattle.std.specs.Prelude.{FitsSigned, All}
 use Rattle.std.specs.Int.{w32, cast_signed}
@@ -26,7 +26,7 @@ behind_packet p bytes after proper e h =
     let joined = e ∙ ap (λ own. own ++ after) (sym (append-nil (packet_bytes p))) in
     (p ∷ h.0, h.1, packets_behind bytes after h.1 (p ∷ []) h.0 (proper, tt) joined h.2)
 
--- behind a length stand its payload, a part of that, or anything where it is too great
+-- after a length come its payload, a part of that, or anything if it is too great
 behind_length : (n : ℕ) (z : ℤ) (bytes after : List ℕ) → FitsSigned w32 z → bytes ≡ i32_bytes z ++ after → length after ≤ n → AreBytes after
     → ((xs : List ℕ) → length xs ≤ n → AreBytes xs → HasPackets xs) → HasPackets bytes
 behind_length n (negsuc m) bytes after fits e short are rest =

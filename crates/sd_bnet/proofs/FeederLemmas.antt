@@ -13,13 +13,13 @@ use Rattle.sd_base.specs.Limits.{most_data}
 use Rattle.sd_bnet.proofs.PacketLemmas.{long_enough}
 use Rattle.sd_bnet.proofs.StreamLemmas.{packets_behind, joined_with}
 
--- what is kept of the bytes behind packets is what is kept behind these packets and its own
+-- what is kept of the bytes after packets is what is kept after these packets and its own
 pub fits_behind : (state : FeederState) (stream bytes : List ℕ) (before found : List Packet) → AllByRecursion IsPacket before → stream ≡ stream_of before ++ bytes
     → Fits state bytes found → Fits state stream (before ++ found)
 fits_behind (Waiting next) stream bytes before found proper e h = (packets_behind stream bytes next before found proper e h.0, h.1)
 fits_behind Failed stream bytes before found proper e h = (h.0, packets_behind stream bytes h.0 before found proper e h.1, h.2)
 
--- the packets of what was kept and of the next piece come behind the earlier ones
+-- the packets of what was kept and of the next piece come after the earlier ones
 pub fits_more : (state : FeederState) (begun bytes piece : List ℕ) (before found : List Packet) → Fits (Waiting begun) bytes before → Fits state (begun ++ piece) found
     → Fits state (bytes ++ piece) (before ++ found)
 fits_more state begun bytes piece before found h fed =
@@ -33,13 +33,13 @@ shorter_behind bytes after p e =
     let same : length (packet_bytes p ++ []) ≡ length (packet_bytes p) = ap length (append-nil (packet_bytes p)) in
     omega (arith, length-append (packet_bytes p) after)
 
--- what stands behind too great a length changes nothing
+-- what comes after too great a length changes nothing
 pub failed_more : (bytes piece : List ℕ) (packets : List Packet) → Fits Failed bytes packets → Fits Failed (bytes ++ piece) (packets ++ [])
 failed_more bytes piece packets h =
     let long : IsTooLong (h.0 ++ piece) = (h.2.0, h.2.1 ++ piece, h.2.2, h.2.3, ap (λ front. front ++ piece) h.2.4 ∙ append_assoc (i32_bytes (pos h.2.0)) h.2.1 piece) in
     fits_behind Failed (bytes ++ piece) (h.0 ++ piece) packets [] h.1.each (joined_with bytes piece h.0 packets h.1) (h.0 ++ piece, record { joined = refl; each = tt; rest = inr long }, long)
 
--- a payload that the next piece completes is a packet, and the others come behind it
+-- a payload that the next piece completes is a packet, and the others come after it
 pub whole_payload : (state : FeederState) (size missing : ℕ) (begun piece : List ℕ) (found : List Packet)
     → length begun + missing ≡ size → missing ≤ length piece → size ≤ most_data
     → Fits state (drop missing piece) found → Fits state (i32_bytes (pos size) ++ begun ++ piece) (Bytes (begun ++ take missing piece) ∷ found)

@@ -48,7 +48,7 @@ unique bytes remainder other_remainder packets others h other =
     let none = none_left found.0 remainder other_remainder found.3 other.rest found.2 in
     (found.1 ∙ ap (λ after. others ++ after) none ∙ append-nil others, sym (found.2 ∙ ap (λ after. stream_of after ++ remainder) none))
 
--- the packets of what stands behind other packets
+-- the packets of what comes after other packets
 pub packets_behind : (stream bytes rest : List ℕ) (before found : List Packet) → AllByRecursion IsPacket before → stream ≡ stream_of before ++ bytes → Packets bytes found rest
     → Packets stream (before ++ found) rest
 packets_behind stream bytes rest before found proper e h = record {
@@ -57,7 +57,7 @@ packets_behind stream bytes rest before found proper e h = record {
   rest = h.rest;
 }
 
--- a front that has these packets, with more behind it
+-- a front that has these packets, with more after it
 pub joined_with : (bytes more remainder : List ℕ) (packets : List Packet) → Packets bytes packets remainder → bytes ++ more ≡ stream_of packets ++ (remainder ++ more)
 joined_with bytes more remainder packets h = ap (λ front. front ++ more) h.joined ∙ append_assoc (stream_of packets) remainder more
 

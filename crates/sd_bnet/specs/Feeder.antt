@@ -3,7 +3,7 @@ use Rattle.std.specs.Prelude.{ℕ, List}
 use Rattle.sd_bnet.specs.Stream.{IsFront, IsUnfinished, IsTooLong, Packets}
 use Rattle.sd_bnet.specs.declared.packet.Packet.{Packet}
 
--- the bytes that have come of the packet that is due, or that a length above the limit stood in its
+-- the bytes that have come of the packet that is due, or that a length above the limit was in its
 -- place
 pub data FeederState : Type 0 where
   Waiting : List ℕ → FeederState

@@ -1,4 +1,4 @@
--- What a length and the bytes behind it are.
+-- What a length and the bytes after it are.
 use Rattle.std.specs.Prelude.{◌≡◌, ℕ, List, [], ◌++◌}
 use Rattle.sd_bnet.specs.Due.{state_of, IsStillDue}
 use Rattle.sd_bnet.specs.Feeder.{Fits}

@@ -1,4 +1,4 @@
--- The packets of a stream: the whole ones that begin it, and what remains behind them.
+-- The packets of a stream: the whole ones that begin it, and what remains after them.
 use Rattle.std.specs.Prelude.{◌≡◌, ◌≢◌, ℕ, pos, ◌^◌, ◌<◌, ◌≤◌, ◌⊎◌, List, [], ◌++◌, length}
 use Rattle.std.specs.List.{flat_map, AllByRecursion}
 use Rattle.sd_base.specs.Field.{i32_bytes}
@@ -28,8 +28,8 @@ IsTooLong bytes =
     (size : ℕ) × (after : List ℕ) × (most_data < size) × (size < 2 ^ 31)
     × (bytes ≡ i32_bytes (pos size) ++ after)
 
--- The bytes are these packets, and behind them stands no whole packet: nothing, the front of one, or
--- a length that is too great.
+-- The bytes are these packets, and what comes after them is no whole packet: nothing, the front of
+-- one, or a length that is too great.
 pub record Packets (bytes : List ℕ) (packets : List Packet) (remainder : List ℕ) : Type 0 where
   pub joined : bytes ≡ stream_of packets ++ remainder
   pub each : AllByRecursion IsPacket packets

@@ -15,7 +15,7 @@ pub(crate) enum Due {
     Length(LengthBytes),
     /// The rest of a payload.
     Payload(Pending),
-    /// A length above `MOST_DATA` stood here, and nothing is taken any more.
+    /// A length above `MOST_DATA` was here, and nothing is taken any more.
     TooLong,
 }
 
@@ -59,7 +59,7 @@ impl Pending {
         self.bytes.extend_from_slice(part)
     }
 
-    /// Makes room for `come` bytes, and where that takes memory, for some of those that are to come
+    /// Makes room for `come` bytes, and, if that takes memory, for some of those that are to come
     /// after them, so that few growths move what is there.
     fn make_room(&mut self, come: usize) -> Result<(), AllocError>
         requires { vec_len self.old.bytes + come ≤ self.old.size }

@@ -17,7 +17,7 @@ use std::marker::Model;
 #[derive(Debug, Drop)]
 pub struct Fed {
     pub packets: Items<Packet>,
-    /// A length above `MOST_DATA` stands behind the packets, and nothing more comes of this stream.
+    /// A length above `MOST_DATA` follows the packets, and nothing more comes of this stream.
     pub failed: bool,
 }
 
@@ -70,7 +70,7 @@ impl Feeder {
             → Fits self.old bytes packets
             → Fits self.new (bytes ++ piece.now) (packets ++ fed.packets)) }
 
-        // A failed feeder fits only a stream with too great a length behind its packets.
+        // A failed feeder fits only a stream with too great a length after its packets.
         ensures failed { IfOk result (λ fed. IsTrue fed.failed ↔ (self.new ≡ Failed)) }
         ensures failed_before { self.old ≡ Failed
             → IsOkAnd result (λ fed. (fed.packets ≡ []) × IsTrue fed.failed) }

@@ -6,13 +6,13 @@ ghost use Rattle.sd_bnet.specs.Packet.{packet_bytes, IsPacket};
 ghost use Rattle.sd_bnet.specs.Stream.{stream_of, IsUnfinished, Packets};
 ghost use Rattle.sd_bnet.specs.declared.packet.Packet.{Packet};
 
-/// Each stream of bytes has packets, if only none, and something behind them, if only nothing.
+/// Each stream of bytes has packets, if only none, and something after them, if only nothing.
 pub fn every_stream_has_packets()
     ensures { (bytes : List ℕ) → All (λ byte. byte < 256) bytes
         → (packets : List Packet) × (remainder : List ℕ) × Packets bytes packets remainder }
 {}
 
-/// The bytes of a stream determine its packets and what remains behind them.
+/// The bytes of a stream determine its packets and what remains after them.
 pub fn packets_are_unique()
     ensures { (bytes remainder remains : List ℕ) (packets others : List Packet)
         → Packets bytes packets remainder → Packets bytes others remains
@@ -27,7 +27,7 @@ pub fn packets_are_longest()
         → (later : List Packet) × (packets ≡ others ++ later) }
 {}
 
-/// Where a stream is cut doesn't matter: behind the packets of its front come those of what remained
+/// Where a stream is cut doesn't matter: after the packets of its front come those of what remained
 /// there with what comes after it.
 pub fn packets_keep_at_cuts()
     ensures together { (bytes more remainder rest : List ℕ) (packets later : List Packet)
@@ -46,7 +46,7 @@ pub fn packets_are_apart()
         → (packet ≡ other) × (after ≡ rest) }
 {}
 
-/// Of a packet that is cut off stands nothing or its front.
+/// Of a packet that is cut off, there is nothing or its front.
 pub fn cut_packets_are_unfinished()
     ensures { (packet : Packet) (front more : List ℕ) → IsPacket packet
         → packet_bytes packet ≡ front ++ more → more ≢ [] → IsUnfinished front }

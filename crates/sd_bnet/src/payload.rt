@@ -23,7 +23,7 @@ impl Model for Payload {
 }
 
 impl Payload {
-    /// The payload of these bytes, or `None` where they are more than `MOST_DATA`; takes no memory.
+    /// The payload of these bytes, or `None` if they are more than `MOST_DATA`; takes no memory.
     pub fn new(bytes: Bytes) -> Option<Self>
         ensures within { IsSome result ↔ (length bytes ≤ most_data) }
         ensures bytes { IfSome result (λ payload. payload ≡ bytes) }

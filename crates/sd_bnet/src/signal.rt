@@ -23,7 +23,7 @@ impl Model for SignalNo {
 }
 
 impl SignalNo {
-    /// The signal of this number, or `None` where it isn't negative.
+    /// The signal of this number, or `None` if it isn't negative.
     pub fn new(number: i32) -> Option<Self>
         ensures negative { IsSome result ↔ (number <ℤ pos 0) }
         ensures number { IfSome result (λ signal. signal ≡ number) }

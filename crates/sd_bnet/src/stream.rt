@@ -15,16 +15,16 @@ use sd_base::{Bytes, MOST_DATA, Short, get_i32};
 use std::alloc::{AllocError, Global};
 use std::mem;
 
-/// What a length and the bytes behind it are.
+/// What a length and the bytes after it are.
 #[derive(Drop)]
 pub(crate) enum Step<'a> {
     /// A packet, and what follows it.
     Whole(Packet, &'a [u8]),
-    /// What is due, where they are no whole packet.
+    /// What is due, if they are no whole packet.
     Part(Due),
 }
 
-/// The packets of a piece, and what is due behind them.
+/// The packets of a piece, and what is due after them.
 #[derive(Drop)]
 pub(crate) struct TakenPackets {
     pub(crate) packets: Vec<Packet>,
@@ -54,7 +54,7 @@ pub(crate) fn take_packets(
     }
 }
 
-/// Completes a payload, and takes the packets behind it.
+/// Completes a payload, and takes the packets after it.
 pub(crate) fn take_whole(
     alloc: Global,
     pending: &mut Pending,

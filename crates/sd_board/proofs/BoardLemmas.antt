@@ -30,7 +30,7 @@ numbered_set ds at d new h there same k x stands = elim (get_set-tells ds at k n
   | inr p ↦ h k x p.1
 ]
 
--- the next one behind them
+-- the next one after them
 pub numbered_push : (ds : List DriveLanesIs) (new : DriveLanesIs) → AreNumbered ds → new.no ≡ length ds + 1 → AreNumbered (ds ++ new ∷ [])
 numbered_push ds new h is k x stands = elim (get_more ds new k x stands) [
   | inl there ↦ h k x there

@@ -61,7 +61,7 @@ never_fall least last ps h i j d below within =
           omega arith
     ]
 
--- A place at which the tickets below this one end; what stands there, if anything does, isn't of the ticket: no line is.
+-- A place at which the tickets below this one end; what is there, if anything is, isn't of the ticket: no line is.
 pub missing : (last ticket : ℕ) (ps : List Posted) (place : ℕ) → TicketsRise 1 last ps
     → IsPartitionPoint (λ p. ltb (ticket_of p) ticket ≡ true) (λ p. ltb (ticket_of p) ticket ≡ false) ps place
     → ((length ps ≤ place) ⊎ ((p : Posted) × (slice_get ps place ≡ Some p) × (p.ticket ≢ ticket)))
@@ -92,7 +92,7 @@ missing last ticket ps place h point here at p there same =
 
 -- The line of a ticket.
 
--- what stands at a place is the line of its ticket
+-- what is at a place is the line of its ticket
 pub found : (least last : ℕ) (ps : List Posted) (at : ℕ) (p : Posted) → TicketsRise least last ps → slice_get ps at ≡ Some p → line_of p.ticket ps ≡ Some p
 found least last [] at p h there = absurd (cc there)
 found least last (x ∷ ps) zero p h there =
@@ -111,7 +111,7 @@ found_read last ticket lines ps at read h stands same is =
     let one : stands.0 ≡ read = sym (is ∙ get_or_from_slice_get ps at stands.0 read there) in
     sym (found 1 last ps at read h (there ∙ ap Some one)) ∙ ap (λ (n : ℕ). line_of n ps) (ap ticket_of (sym one) ∙ stands.2)
 
--- where no line is of a ticket, none is found
+-- if no line is of a ticket, none is found
 pub none_found : (ticket : ℕ) (ps : List Posted) → NoneOf (HasTicket ticket) ps → line_of ticket ps ≡ None
 none_found ticket [] none = refl
 none_found ticket (x ∷ ps) none =
@@ -138,14 +138,14 @@ module _ (ticket : ℕ) (status : Status) (records : ℕ) where
       chosen (λ (q : Posted). q.ticket ≡ p.ticket) p.ticket ticket (record p { status = status; records = records }) p
       (λ e. refl) (λ other. refl)
 
-  -- where no line is of the ticket, all stay
+  -- if no line is of the ticket, all stay
   pub all_stay : (ps : List Posted) → NoneOf (HasTicket ticket) ps → map (posted_as ticket status records) ps ≡ ps
   all_stay [] none = refl
   all_stay (x ∷ ps) none =
       ap (λ (y : Posted). y ∷ map (posted_as ticket status records) ps) (stays x (λ same. none 0 x refl same))
       ∙ ap (λ (l : List Posted). x ∷ l) (all_stay ps (λ at p there. none (suc at) p there))
 
-  -- where one is, that one changes
+  -- if one is, that one changes
   pub posted : (least last : ℕ) (ps : List Posted) (at : ℕ) (p : Posted) → TicketsRise least last ps → slice_get ps at ≡ Some p → p.ticket ≡ ticket
       → slice_set ps at (record p { status = status; records = records }) ≡ map (posted_as ticket status records) ps
   posted least last [] at p h there same = absurd (cc there)
@@ -181,7 +181,7 @@ module _ (ticket : ℕ) (status : Status) (records : ℕ) where
         subst (λ (n : ℕ). TicketsRise (n + 1) last (map (posted_as ticket status records) ps)) (sym same) (posted_rise (x.ticket + 1) last ps h.2),
       )
 
--- A line comes behind the others.
+-- A line comes after the others.
 
 -- all are below a number above the last
 pub all_below : (least last ticket : ℕ) (ps : List Posted) → last < ticket → TicketsRise least last ps → AllByRecursion (IsBelow ticket) ps
@@ -217,7 +217,7 @@ others_rise ticket least last (p ∷ ps) h =
     (λ same. rise_wider least (p.ticket + 1) last last (without ticket ps) (omega (arith, from)) (omega arith) rest)
     (λ apart. (h.0, h.1, rest))
 
--- and where the last one went, up to the one before it
+-- and if the last one went, up to the one before it
 one_less : (ticket least last : ℕ) (ps : List Posted) → ticket ≡ last → TicketsRise least last ps → TicketsRise least (last - 1) (without ticket ps)
 one_less ticket least last [] is h = tt
 one_less ticket least last (p ∷ ps) is h =

@@ -1,4 +1,4 @@
--- That a board may go to another thread where its lanes may.
+-- That a board may go to another thread if its lanes may.
 use denote.Param.Send.{IsSend, recorded_send, sendable, struct_send, view_send}
 use denote.RattleType.{RattleType}
 use denote.Struct.Declared.{shape}

@@ -21,7 +21,7 @@ use Rattle.sd_board.specs.declared.sent.Sent.{Sent}
 pub free_end : (s : SlotIs) → IsFree s → IsSome s.end
 free_end s free = (and_parts (is_some s.end) (not (is_some s.on_its_way)) free).0
 
--- where no lane is free, each is counted
+-- if no lane is free, each is counted
 pub none_free : (ss : List SlotIs) → NoneOf IsFree ss → count_by is_busy ss ≡ length ss
 none_free [] none = refl
 none_free (s ∷ ss) none =
@@ -31,12 +31,12 @@ none_free (s ∷ ss) none =
     let rest = none_free ss (λ k x there free. none (suc k) x there free) in
     omega (arith, more, one, rest)
 
--- where not each is busy, one is the lowest that is free
+-- if not each is busy, one is the lowest that is free
 pub some_lowest : (ss : List SlotIs) (lowest : Option ℕ) → count_by is_busy ss < length ss → IfNone lowest (NoneOf IsFree ss) → IsSome lowest
 some_lowest ss (Some at) few none = refl
 some_lowest ss None few none = let all = none_free ss none in absurd (omega (arith, all, few))
 
--- the one behind others that aren't free is the lowest
+-- the one after others that aren't free is the lowest
 pub first_free : (ss : List SlotIs) (at : ℕ) (s : SlotIs) → NoneBelow IsFree ss at → slice_get ss at ≡ Some s → IsFree s → FirstOf IsFree (λ _ _. ⊥) ss at
 first_free ss at s none there free = record {
   first = s;
@@ -46,7 +46,7 @@ first_free ss at s none there free = record {
   behind = λ other x later stands is precedes. precedes;
 }
 
--- what was read where the lowest stands
+-- what was read at the place of the lowest
 pub lowest_read : (ss : List SlotIs) (at : ℕ) (read : SlotIs) → FirstOf IsFree (λ _ _. ⊥) ss at → read ≡ get_or ss at read
     → (slice_get ss at ≡ Some read) × IsFree read
 lowest_read ss at read f is =
@@ -142,15 +142,15 @@ pub mapped_more : {A B : Type 0} (f : A → B) (xs : List A) (n : ℕ) (x : A) (
 mapped_more f xs n x old new y are read within more is =
     mapped_push f (take n xs) x old new y are more is ∙ ap (map f) (ap (λ z. take n xs ++ z ∷ []) read ∙ sym (take_more xs n x within))
 
--- What stands at a place changes.
+-- What is at a place changes.
 
--- where something stands, that changes
+-- if something is there, that changes
 pub set_changes : {A : Type 0} (f : A → A) (at : ℕ) (xs : List A) (x y : A) → slice_get xs at ≡ Some x → y ≡ f x → slice_set xs at y ≡ change_at f at xs
 set_changes f at [] x y there is = absurd (cc there)
 set_changes f zero (z ∷ xs) x y there is = ap (λ w. w ∷ xs) (is ∙ ap f (sym (same_some there)))
 set_changes f (suc at) (z ∷ xs) x y there is = ap (λ l. z ∷ l) (set_changes f at xs x y there is)
 
--- where nothing stands, nothing does
+-- if nothing is there, nothing changes
 pub none_changes : {A : Type 0} (f : A → A) (at : ℕ) (xs : List A) → length xs ≤ at → change_at f at xs ≡ xs
 none_changes f at [] past = refl
 none_changes f zero (z ∷ xs) past = absurd (omega (arith, past))
@@ -164,7 +164,7 @@ keeps_none d ss is =
     subst (λ (xs : List SlotIs). KeepsLanes (record d { slots = xs })) (sym is)
     (record { most = omega arith; ends = λ at slot e there lies. absurd (cc there) })
 
--- one slot behind others
+-- one slot after others
 pub ends_push : (ss : List SlotIs) (s : SlotIs) (old new : List EndIs) → old ≡ ends_in ss → new ≡ old ++ option_to_list s.end → new ≡ ends_in (ss ++ s ∷ [])
 ends_push ss s old new are more = more ∙ ap (λ (es : List EndIs). es ++ option_to_list s.end) are ∙ sym (behind ss)
   where

@@ -16,7 +16,7 @@ use Rattle.sd_board.specs.declared.seen.DriveSeen.{DriveSeen}
 
 -- Views as they are made.
 
--- the first of a list, where each is what decides of its drive
+-- the first of a list, if each is what decides of its drive
 pub are_views : (ds : List DriveLanesIs) (seen : List DriveSeen) (ys : List DriveView) → length ds ≤ length ys
     → ((k : ℕ) (d : DriveLanesIs) → slice_get ds k ≡ Some d → slice_get ys k ≡ Some (view_of d (slice_get seen k))) → take (length ds) ys ≡ views_of ds seen
 are_views [] seen ys long each = refl

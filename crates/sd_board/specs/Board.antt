@@ -8,7 +8,7 @@ use Rattle.sd_board.specs.Slots.{DriveLanesIs, MayLie, lies_in}
 use Rattle.sd_board.specs.declared.posted.Posted.{Posted}
 use Rattle.sd_board.specs.declared.sent.Sent.{Sent}
 
--- A board: the desk; the lanes of the drives 1, 2 and on; the number that was given last, 0 where none was; and a line for
+-- A board: the desk; the lanes of the drives 1, 2 and on; the number that was given last, 0 if none was; and a line for
 -- each session, in the order in which they were opened.
 pub record BoardIs : Type 0 where
   pub desk : DeskView

@@ -1,4 +1,4 @@
--- The lines of the board: of each session where it stands, and how many records it took.
+-- The lines of the board: of each session its status, and how many records it took.
 use Rattle.std.specs.Prelude.{◌≡◌, ℕ, ◌+◌, ◌-◌, ◌≤◌, ◌<◌, ◌==◌, not, if◌then◌else◌, Option, Some, None, List, [], ◌∷◌, filter, slice_get}
 use Rattle.sd_session.specs.declared.status.Status.{Status}
 use Rattle.sd_session.specs.declared.status.Status.TheVariants.{Active}
@@ -18,7 +18,7 @@ HasTicket ticket p = p.ticket ≡ ticket
 abbrev pub IsBelow : ℕ → Posted → Type 0
 IsBelow ticket p = p.ticket < ticket
 
--- the ticket's line stands at this place
+-- the ticket's line is at this place
 abbrev pub StandsAt : ℕ → List Posted → ℕ → Type 0
 StandsAt ticket ps at = (p : Posted) × (slice_get ps at ≡ Some p) × HasTicket ticket p
 
@@ -31,7 +31,7 @@ line_of ticket (p ∷ ps) = if p.ticket == ticket then Some p else line_of ticke
 abbrev pub new_line : ℕ → ℕ → ℕ → Posted
 new_line ticket drive lane = record { ticket = ticket; drive = drive; lane = lane; status = Active; records = 0 }
 
--- the line, which says this where it is the ticket's
+-- the line, which says this if it is the ticket's
 abbrev pub posted_as : ℕ → Status → ℕ → Posted → Posted
 posted_as ticket status records p = if p.ticket == ticket then record p { status = status; records = records } else p
 
@@ -39,7 +39,7 @@ posted_as ticket status records p = if p.ticket == ticket then record p { status
 abbrev pub without : ℕ → List Posted → List Posted
 without ticket ps = filter (λ (p : Posted). not (p.ticket == ticket)) ps
 
--- the number that was given last, once this one is taken back: it is given again where it was the last
+-- the number that was given last, once this one is taken back: it is given again if it was the last
 abbrev pub last_without : ℕ → ℕ → ℕ
 last_without ticket last = if last == ticket then last - 1 else last
 

@@ -34,7 +34,7 @@ view_of d seen = record {
   lanes = length d.slots;
 }
 
--- the same of each drive; of one that wasn't looked at no pool is known
+-- what decides for each drive whether it takes a session; of one that wasn't looked at no pool is known
 abbrev pub views_of : List DriveLanesIs → List DriveSeen → List DriveView
 views_of [] seen = []
 views_of (d ∷ ds) [] = view_of d None ∷ views_of ds []
@@ -50,8 +50,8 @@ NoneTakes views pool media why =
     (NoneOf (TakesMedia media) views × (why ≡ NoDriveOfMedia))
     ⊎ ((NoneOf (TakesMedia media) views → ⊥) × NoneOf (IsCandidate pool media) views × (why ≡ NoFreeLane))
 
--- A session is opened: its ticket is the number behind the last one, its drive the first that may take it, its lane the lowest
--- of that drive that is free. The end of the lane leaves its slot, and the session has a line behind the others.
+-- A session is opened: its ticket is the number after the last one, its drive the first that may take it, its lane the
+-- lowest of that drive that is free. The end of the lane leaves its slot, and the session has a line after the others.
 pub record OpensLane (b : BoardIs) (seen : List DriveSeen) (pool media : List ℕ) (ticket drive : ℕ) (e : EndIs) (b' : BoardIs) : Type 0 where
   pub ticket_is : ticket ≡ b.last + 1
   pub place : ℕ

@@ -85,7 +85,7 @@ pub record MayLie (d : DriveLanesIs) (e : EndIs) : Type 0 where
 abbrev pub lies_in : EndIs → Option Sent → DriveLanesIs → DriveLanesIs
 lies_in e way d = record d { slots = slice_set d.slots (e.seat.seat.lane - 1) (slot_with e way) }
 
--- the list with what stands at this place changed so, if anything stands there
+-- the list with what is at this place changed so, if anything is there
 abbrev pub change_at : {A : Type 0} → (A → A) → ℕ → List A → List A
 change_at f at [] = []
 change_at f zero (x ∷ xs) = f x ∷ xs

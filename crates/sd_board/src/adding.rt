@@ -10,7 +10,7 @@ use sd_line::{LaneEnd, Naming};
 use sd_spool::SpoolStore;
 use std::alloc::AllocError;
 
-/// A drive's media and the ends of its lanes, which did not come to the board for want of memory.
+/// A drive's media and the ends of its lanes, which did not come to the board because there was no memory.
 #[derive(Drop)]
 pub struct NotAdded<N: Naming, S: SpoolStore> {
     pub media: MediaName,
@@ -18,8 +18,8 @@ pub struct NotAdded<N: Naming, S: SpoolStore> {
 }
 
 impl<N: Naming, S: SpoolStore + Drop> Board<N, S> {
-    /// The next drive comes to the board, with the ends of its lanes 1, 2 and on, which no session used. Where memory is wanted
-    /// all that was handed in comes back.
+    /// The next drive comes to the board, with the ends of its lanes 1, 2 and on, which no session used. If out of
+    /// memory, all that was handed in comes back.
     pub fn add_drive(
         &mut self,
         media: MediaName,
@@ -86,7 +86,7 @@ fn is_new<N: Naming, S: SpoolStore + Drop>(no: DriveNo, at: usize, end: &LaneEnd
     end.sessions().is_empty()
 }
 
-// The number of the drive behind these.
+// The number of the drive after these.
 fn next_number<N: Naming, S: SpoolStore>(drives: &[DriveLanes<N, S>]) -> DriveNo
     requires { length drives.now < most_drives }
     ensures { result ≡ length drives.now + 1 }

@@ -20,7 +20,7 @@ pub struct Board<N: Naming, S: SpoolStore> {
     pub(crate) alloc: Global,
     pub(crate) desk: Desk,
     pub(crate) drives: Vec<DriveLanes<N, S>>,
-    // The number that was given last; 0 where none was.
+    // The number that was given last; 0 if none was.
     pub(crate) last: u32,
     // By rising tickets.
     pub(crate) sessions: Vec<Posted>,

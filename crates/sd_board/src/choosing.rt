@@ -34,8 +34,8 @@ pub(crate) fn choose<N: Naming, S: SpoolStore + Drop>(
     }
 }
 
-// What decides of each drive whether it takes a session, and behind them others that take none, up to the most that there
-// may be.
+// What decides of each drive whether it takes a session, and after them others that take none, up to the most that
+// there may be.
 fn views<N: Naming, S: SpoolStore + Drop>(
     drives: &[DriveLanes<N, S>],
     seen: &[DriveSeen],

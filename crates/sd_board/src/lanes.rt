@@ -97,7 +97,7 @@ impl<N: Naming, S: SpoolStore + Drop> DriveLanes<N, S> {
         slot.take_end()
     }
 
-    /// The end lies in its slot from now on: exactly where that is there and empty, and its last session goes on no more.
+    /// The end lies in its slot from now on: exactly if that is there and empty, and its last session goes on no more.
     /// Else it comes back. Takes no memory.
     pub(crate) fn rest(
         &mut self,

@@ -14,7 +14,7 @@ use std::alloc::AllocError;
 
 impl<N: Naming, S: SpoolStore + Drop> Board<N, S> {
     /// The lanes of a drive leave the board: the ends that lie there are handed out, by the numbers of their lanes. What may be
-    /// on its way is not told any more. Where memory is wanted all stay.
+    /// on its way is not reported any more. If out of memory, all stay.
     pub fn take_ends(&mut self, drive: DriveNo) -> Result<Vec<LaneEnd<N, S>>, AllocError>
         ensures ok { IfOk result (λ ends. ends.items
             ≡ ends_of (slice_get self.old.drives (drive - 1))) }

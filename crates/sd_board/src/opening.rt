@@ -27,10 +27,10 @@ pub struct Opened<N: Naming, S: SpoolStore> {
 }
 
 impl<N: Naming, S: SpoolStore + Drop> Board<N, S> {
-    /// A new session of this pool and media gets the number behind the last one, and the lowest free lane of the drive that
-    /// takes it, by what was seen of each drive; a line for it stands behind the others. The refusals, in this order: no
-    /// session number is left; no drive of the media; no free lane; want of memory. A refused session uses up no number and
-    /// no lane.
+    /// A new session of this pool and media gets the number after the last one, and the lowest free lane of the drive
+    /// that takes it, by what was seen of each drive; a line for it comes after the others. The refusals, in this
+    /// order: no session number is left; no drive of the media; no free lane; out of memory. A refused session uses up
+    /// no number and no lane.
     pub fn open(
         &mut self,
         seen: &[DriveSeen],
@@ -71,7 +71,7 @@ impl<N: Naming, S: SpoolStore + Drop> Board<N, S> {
     }
 
     /// Takes the number and the lane of a session back that was refused after all. The end lies in its slot again, with nothing
-    /// on its way; the session's line goes; and its number, where it is the last, is given again. Where the slot isn't there
+    /// on its way; the session's line goes; and its number, if it is the last, is given again. If the slot isn't there
     /// and empty, or the lane's last session goes on, the end comes back, and nothing changes. Takes no memory.
     pub fn take_back(&mut self, ticket: Ticket, end: LaneEnd<N, S>) -> Result<(), LaneEnd<N, S>>
         ensures rests { OnOk result (Rests self.old.drives end None self.new.drives) }

@@ -1,4 +1,4 @@
-// Where a drive stands among the drives, and a lane among its drive's lanes: both are numbered from 1.
+// The place of a drive among the drives, and of a lane among its drive's lanes: both are numbered from 1.
 ghost use Rattle.std.specs.Prelude.{◌≡◌, ◌+◌, ◌-◌};
 
 use sd_base::{DriveNo, LaneNo};

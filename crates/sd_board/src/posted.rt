@@ -7,7 +7,8 @@ use sd_base::{DriveNo, LaneNo, Ticket};
 use sd_core::SessionLine;
 use sd_session::Status;
 
-/// What the board tells of a session: the lane of the drive to which it sends, where it stands, and how many records it took.
+/// What the board tells of a session: the lane of the drive to which it sends, its status, and how many records it
+/// took.
 #[derive(Clone, Copy, Debug, PartialEq, Eq)]
 pub struct Posted {
     pub ticket: Ticket,

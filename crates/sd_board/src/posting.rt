@@ -12,8 +12,8 @@ use sd_spool::SpoolStore;
 use std::alloc::{AllocError, Global};
 
 impl<N: Naming, S: SpoolStore + Drop> Board<N, S> {
-    /// The session's line says from now on that it stands so and took so many records. A ticket without a line changes nothing.
-    /// Takes no memory.
+    /// The session's line says from now on that it has this status and took so many records. A ticket without a line
+    /// changes nothing. Takes no memory.
     pub fn post(&mut self, ticket: Ticket, status: Status, records: u64)
         ensures { self.new ≡ record self.old {
           sessions = map (posted_as ticket status records) self.old.sessions;

@@ -13,8 +13,8 @@ use sd_line::{LaneEnd, Naming};
 use sd_spool::SpoolStore;
 
 impl<N: Naming, S: SpoolStore + Drop> Board<N, S> {
-    /// The end of a lane lies in its slot from now on, and what its last session sent may be on its way: exactly where that slot
-    /// is there and empty, and the session goes on no more. Else the end comes back. Takes no memory.
+    /// The end of a lane lies in its slot from now on, and what its last session sent may be on its way: exactly if
+    /// that slot is there and empty, and the session goes on no more. Else the end comes back. Takes no memory.
     pub fn rest(
         &mut self,
         end: LaneEnd<N, S>,

@@ -11,7 +11,7 @@ use Rattle.sd_conf.specs.declared.conf.DriveConf.{DriveConf}
 use Rattle.sd_conf.specs.declared.fault.ConfFault.{ConfFault}
 use Rattle.sd_conf.specs.declared.fault.ConfFault.TheVariants.{Text, Key, Memory}
 
--- a fault that a test finds is the first of all, where all tests before it find none
+-- a fault that a test finds is the first of all, if all tests before it find none
 pub first_fails : {A B : Type 0} (Test All : Option Fault → Type 0) (value : A) (other : B) (fault : ConfFault)
     → ((found : Fault) → Test (Some found) → All (Some found)) → Tells Test value (Err fault) → Tells All other (Err fault)
 first_fails Test All value other (Key key wrong) first told = first (key, wrong) told

@@ -18,7 +18,7 @@ use Rattle.sd_conf.specs.declared.fault.FaultKind.TheVariants.{Missing, Kind, Ra
 
 -- The tables, one after another.
 
--- the next of a list, and those behind it
+-- the next of a list, and those after it
 pub next_of : {A B : Type 0} (f : A → B) (xs : List A) (i : ℕ) (x : A) → x ≡ get_or xs i x → i < length xs
     → map f (drop i xs) ≡ f x ∷ map f (drop (i + 1) xs)
 next_of f xs i x is within = ap (map f) (drop_more xs i x within) ∙ ap (λ y. f y ∷ map f (drop (i + 1) xs)) (sym is)

@@ -35,12 +35,12 @@ there_behind Less d rest h = h
 there_behind Equal d rest h = refl
 there_behind Greater d rest h = h
 
--- a key that is there is the first one or stands behind it
+-- a key that is there is the first one or comes after it
 is_first_or_behind : (key : List ℕ) (e : Entry) (es : List Entry) → IsSome (get_member key (members_view (e ∷ es)))
     → (slice_cmp nat_cmp key (string_bytes e.0) ≡ Equal) ⊎ IsSome (get_member key (members_view es))
 is_first_or_behind key e es is = in_either (slice_cmp nat_cmp key (string_bytes e.0)) (view e.1) (get_member key (members_view es)) is
 
--- what stands behind a key is greater
+-- what comes after a key is greater
 above : (k : String Global) (es : List Entry) → AllByRecursion (λ y. string_cmp k y ≡ Less) (keys_of es) → (key : List ℕ)
     → IsSome (get_member key (members_view es)) → slice_cmp nat_cmp key (string_bytes k) ≡ Greater
 above k [] h key is = absurd (false≢true is)

@@ -14,12 +14,12 @@ use Rattle.sd_conf.specs.Values.{required, optional, is_within, is_spool_limit, 
 use Rattle.sd_conf.specs.declared.fault.FaultKind.{FaultKind}
 use Rattle.sd_conf.specs.declared.keys.Level.TheVariants.{Daemon, Drive}
 
--- where the test of a key finds nothing, nothing is wrong
+-- if the test of a key finds nothing, nothing is wrong
 good : (key : List ℕ) (wrong : Option FaultKind) → At key wrong None → wrong ≡ None
 good key None is = refl
 good key (Some wrong) is = absurd cc
 
--- two tests one after another find nothing where neither does
+-- if two tests one after another find nothing, neither of them does
 passes : (First Others : Option Fault → Type 0) → (First then Others) None → First None × Others None
 passes First Others (inl (fault, bad, is)) = absurd cc
 passes First Others (inr (none, others)) = (none, others)

@@ -19,7 +19,7 @@ first_tells seen see First Others value other (Key key wrong) told = inl ((key, 
 first_tells seen see First Others value other Memory told = tt
 first_tells seen see First Others value other Text told = absurd told
 
--- where the first test finds nothing, both come to what the others come to
+-- if the first test finds nothing, both come to what the others come to
 pub others_tell : {A B : Type 0} (seen : B → A) (First Others : Option Fault → Type 0) (value : A) (result : Result B ConfFault)
     → First None → TellsAs seen Others value result → TellsAs seen (First then Others) value result
 others_tell seen First Others value (Ok told) none (found, same) = (inr (none, found), same)

@@ -75,7 +75,7 @@ name_read key t text e name = subst (λ q. NameTest key q None × (t ≡ unwrap_
 pub name_refused : (key t : List ℕ) (text : Option (List ℕ)) → Some t ≡ text → (IsName t → ⊥) → NameTest key text (Some (key, Range))
 name_refused key t text e never = subst (λ q. NameTest key q (Some (key, Range))) e (inr (never, refl))
 
--- a text that was read as a name is there, so what stands for it where it lacks is the same to it
+-- a text that was read as a name is there, so what stands for it if it is missing is the same to it
 name_or : (key : List ℕ) (text : Option (List ℕ)) (default : List ℕ) (result : Result (List ℕ) ConfFault)
     → Tells (NameTest key text) (unwrap_or text []) result → Tells (NameTest key text) (unwrap_or text default) result
 name_or key None default (Ok told) (none, says) = absurd (cc none)

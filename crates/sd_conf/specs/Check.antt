@@ -71,8 +71,8 @@ checked_lines (Ok conf) = conf_lines conf
 checked_lines (Err NoInput) = line (codes "fault input")
 checked_lines (Err (Bad fault)) = fault_line fault
 
--- The text holds this configuration; or this fault comes first in it; or it is no TOML document, also where it is no
--- UTF-8. Memory may lack, and the input fail, at any text.
+-- The text holds this configuration; or this fault comes first in it; or it is no TOML document, also if it is no
+-- UTF-8. Memory may run out, and the input fail, at any text.
 abbrev pub Input : List ℕ → Result Conf CheckFault → Type 0
 Input text (Ok conf) = IsConfText text conf
 Input text (Err NoInput) = Unit {0}
@@ -80,7 +80,7 @@ Input text (Err (Bad Text)) = ¬ IsUtf8 text ⊎ (parse_document text ≡ None)
 Input text (Err (Bad (Key key kind))) = HasFirstFault text key kind
 Input text (Err (Bad NoMemory)) = Unit {0}
 
--- the same of an input, where its bytes are known
+-- an input comes to what its text does, if its bytes are known
 abbrev pub ReadsConf : Option (List ℕ) → Result Conf CheckFault → Type 0
 ReadsConf input result = IfSome input (λ text. Input text result)
 
@@ -89,13 +89,13 @@ abbrev pub IsOfText : CheckFault → Type 0
 IsOfText NoInput = ⊥
 IsOfText (Bad fault) = Unit {0}
 
--- the status: 0 where a configuration was read and all of it could be written
+-- the status: 0 if a configuration was read and all of it could be written
 abbrev pub status_of : Result Conf CheckFault → Bool → ℕ
 status_of (Ok conf) false = 0
 status_of (Ok conf) true = 1
 status_of (Err fault) failed = 1
 
--- An input was checked: what was read of it was printed, or, where the writer failed, a front of that.
+-- An input was checked: what was read of it was printed, or, if the writer failed, a front of that.
 pub record PrintsCheck (input : Option (List ℕ)) (said says : SaidView) (status : ℕ) : Type 0 where
   pub checked : Result Conf CheckFault
   pub reads : ReadsConf input checked

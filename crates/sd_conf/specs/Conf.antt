@@ -19,7 +19,7 @@ drive_of table = record {
   lanes = number_or default_lanes (get_member (codes "lanes") table);
 }
 
--- what a table says as a configuration, where it has no fault
+-- what a table says as a configuration, if it has no fault
 abbrev pub conf_of : Members → Conf
 conf_of table = record {
   block = block_of table;

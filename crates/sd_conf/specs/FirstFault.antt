@@ -16,8 +16,8 @@ abbrev pub Fault : Type 0
 Fault = List ℕ × FaultKind
 
 infixr 10 ◌then◌
--- Tests one after another come to the fault that the first finds, or, where it finds none, to what
--- the others come to.
+-- Tests one after another come to the fault that the first finds, or, if it finds none, to what the
+-- others come to.
 abbrev pub ◌then◌ : (Option Fault → Type 0) → (Option Fault → Type 0) → Option Fault → Type 0
 (First then Others) found =
     ((fault : Fault) × First (Some fault) × (found ≡ Some fault)) ⊎ (First None × Others found)
@@ -36,7 +36,7 @@ abbrev pub UnknownKey : Level → Members → Option Fault → Type 0
 UnknownKey level table None = AllKnown level table
 UnknownKey level table (Some (key, wrong)) = IsFirstUnknown level table key × (wrong ≡ Unknown)
 
--- the test of a number that may lack comes to what is wrong with it beside these limits
+-- the test of a number that may be missing comes to what is wrong with it beside these limits
 abbrev pub NumberTest : List ℕ → ℕ → ℕ → Members → Option Fault → Type 0
 NumberTest key least most table =
     At key (optional (number_fault (is_within least most)) (get_member key table))
@@ -58,7 +58,7 @@ MediaTest (Some value) found = NameTest (codes "media") (as_str value) found
 abbrev pub FolderTest : Members → Option Fault → Type 0
 FolderTest table = At (codes "folder") (required text_fault (get_member (codes "folder") table))
 
--- the lanes may lack
+-- the lanes may be missing
 abbrev pub LanesTest : Members → Option Fault → Type 0
 LanesTest table =
     NumberTest (codes "lanes") 1 most_lanes table
@@ -112,7 +112,7 @@ abbrev pub PortTest : Members → Option Fault → Type 0
 PortTest table =
     NumberTest (codes "port") 1 most_port table
 
--- the host may lack; else it is a name
+-- the host may be missing; else it is a name
 abbrev pub HostTest : Option Data → Option Fault → Type 0
 HostTest None found = found ≡ None
 HostTest (Some value) found = NameTest (codes "host") (as_str value) found
@@ -129,7 +129,7 @@ abbrev pub DriveTest : Members → Option Fault → Type 0
 DriveTest table = At (codes "drive") (required drives_fault (get_member (codes "drive") table))
 
 -- The first fault of a configuration, or none. The keys that aren't known come first, then the others
--- in this order, then what stands in the tables of the drives.
+-- in this order, then what is in the tables of the drives.
 abbrev pub FirstFault : Members → Option Fault → Type 0
 FirstFault table =
     UnknownKey Daemon table

@@ -5,12 +5,12 @@ use Rattle.sd_base.specs.Limits.{most_volume, most_drives}
 use Rattle.sd_conf.specs.declared.fault.FaultKind.{FaultKind}
 use Rattle.sd_conf.specs.declared.fault.FaultKind.TheVariants.{Missing, Kind, Range}
 
--- what is wrong at a key that is required: it lacks, or what is wrong with its value
+-- what is wrong at a key that is required: it is missing, or what is wrong with its value
 abbrev pub required : (Data → Option FaultKind) → Option Data → Option FaultKind
 required wrong None = Some Missing
 required wrong (Some value) = wrong value
 
--- what is wrong at a key that may lack
+-- what is wrong at a key that may be missing
 abbrev pub optional : (Data → Option FaultKind) → Option Data → Option FaultKind
 optional wrong None = None
 optional wrong (Some value) = wrong value
@@ -40,13 +40,13 @@ abbrev pub natural_or : ℕ → Option ℤ → ℕ
 natural_or default (Some (pos n)) = n
 natural_or default _ = default
 
--- the number at a key, or this one where the key lacks
+-- the number at a key, or this one if the key is missing
 abbrev pub number_or : ℕ → Option Data → ℕ
 number_or default value = natural_or default (option_and_then as_integer value)
 
 -- Texts.
 
--- nothing is wrong where there is a text
+-- nothing is wrong if there is a text
 abbrev pub kind_unless : Option (List ℕ) → Option FaultKind
 kind_unless None = Some Kind
 kind_unless (Some text) = None
@@ -55,20 +55,20 @@ kind_unless (Some text) = None
 abbrev pub text_fault : Data → Option FaultKind
 text_fault value = kind_unless (as_str value)
 
--- the text at a key, where it has one
+-- the text at a key, if it has one
 abbrev pub text_at : Option Data → Option (List ℕ)
 text_at value = option_and_then as_str value
 
 -- The tables of drives.
 
--- the tables that the items are, where each is one
+-- the tables that the items are, if each is one
 abbrev pub tables_of : Items → Option (List Members)
 tables_of no_items = Some []
 tables_of (item value more) =
     option_and_then (λ table. option_map (λ others. table ∷ others) (tables_of more))
     (as_table value)
 
--- the tables of a value, where it is an array of such
+-- the tables of a value, if it is an array of such
 abbrev pub tables_in : Data → Option (List Members)
 tables_in value = option_and_then tables_of (as_array value)
 

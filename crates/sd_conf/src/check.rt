@@ -34,7 +34,7 @@ pub enum CheckFault {
 }
 
 /// Reads a configuration, up to the end of the input, and prints its values, a line each, or what is wrong with it.
-/// Answers the status: 0 where a configuration was printed, and else 1.
+/// Answers the status: 0 if a configuration was printed, and else 1.
 pub fn check_conf<R: Read, W: Write>(alloc: Global, reader: &mut R, out: &mut Printer<W>) -> u8
     ensures { PrintsCheck (R.remaining reader.old)
         (said_view W.contents out.old) (said_view W.contents out.new) result }

@@ -17,7 +17,7 @@ pub struct Conf {
     pub port: u16,
     /// The host that the labels of new volumes say.
     pub host: HostName,
-    /// The folder of the spools: there with spooling, else it may lack.
+    /// The folder of the spools: there with spooling, else it may be missing.
     pub spool_folder: Option<Text>,
     /// The drives 1, 2 and so on, 1 to 8 of them.
     pub drives: Items<DriveConf>,

@@ -17,7 +17,7 @@ use std::alloc::{AllocError, Global};
 use toml::Table;
 use toml::value::Array;
 
-/// The lanes of a drive where none are given.
+/// The lanes of a drive if none are given.
 const DEFAULT_LANES: u64 = 4;
 
 /// The drives of the configuration, in the order of their tables.
@@ -57,7 +57,7 @@ fn tables(alloc: Global, table: &Table) -> Result<Vec<&Table>, ConfFault>
     Ok(tables)
 }
 
-// The tables that the values are, or `None` where one is none.
+// The tables that the values are, or `None` if one is none.
 fn tables_of(alloc: Global, array: &Array) -> Result<Option<Vec<&Table>>, AllocError>
     ensures { IfOk result (λ tables. option_map (λ ts. map (λ t. table_view t.now) ts.items) tables
         ≡ tables_of (array_view array.now)) }

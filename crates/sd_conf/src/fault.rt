@@ -9,7 +9,7 @@ use thiserror::Error;
 pub enum FaultKind {
     /// No key of this name is known there.
     Unknown,
-    /// The key is required, and lacks.
+    /// The key is required, and missing.
     Missing,
     /// Its value is of another type than the key asks for.
     Kind,
@@ -17,8 +17,8 @@ pub enum FaultKind {
     Range,
 }
 
-/// Why a configuration is not read. Each prints as what the program says of it behind `fault `, but
-/// want of memory as that refusal's line.
+/// Why a configuration is not read. Each prints as what the program says of it after `fault `, but
+/// out of memory as that refusal's line.
 #[derive(Debug, Drop, Error)]
 pub enum ConfFault {
     /// The text is no TOML document.

@@ -10,7 +10,7 @@ use crate::values::fault_at;
 use std::alloc::Global;
 use toml::Table;
 
-/// Where a key stands: in the configuration itself, or in the table of a drive.
+/// Where a key is: in the configuration itself, or in the table of a drive.
 #[derive(Clone, Copy, Debug, PartialEq, Eq)]
 pub enum Level {
     Daemon,

@@ -18,13 +18,13 @@ use sd_base::{LEAST_BLOCK_LIMIT, MOST_BLOCK, MOST_QUEUE, MOST_VOLUME};
 use std::alloc::Global;
 use toml::Table;
 
-/// The block limit where none is given.
+/// The block limit if none is given.
 const DEFAULT_BLOCK: u64 = 64_512;
 
-/// How many blocks wait before a drive where none are given.
+/// How many blocks wait before a drive if none are given.
 const DEFAULT_QUEUE: u64 = 8;
 
-/// The port where none is given.
+/// The port if none is given.
 const DEFAULT_PORT: u64 = 9103;
 
 /// The configuration that a TOML text is, or the first fault in it.
@@ -32,7 +32,7 @@ pub fn read_conf(alloc: Global, text: &str) -> Result<Conf, ConfFault>
     // What is read is the configuration that the text is, within the limits,
     ensures ok { IfOk result (IsConfText text.now) }
     ensures limits { IfOk result IsWithinLimits }
-    // and a configuration is read, where memory lasts.
+    // and a configuration is read, if memory lasts.
     ensures found { (conf : SpecConf) → IsConfText text.now conf
         → (result ≡ Ok conf) ⊎ (result ≡ Err Memory) }
     // A key that is refused is the first fault,
@@ -41,7 +41,7 @@ pub fn read_conf(alloc: Global, text: &str) -> Result<Conf, ConfFault>
     // and a first fault is refused.
     ensures fault { (key : List ℕ) (kind : SpecKind) → HasFirstFault text.now key kind
         → (result ≡ Err (Key key kind)) ⊎ (result ≡ Err Memory) }
-    // A text is refused as such where it is no TOML, and nowhere else.
+    // A text is refused as such if it is no TOML, and only then.
     ensures text { result ≡ Err Text → parse_document text.now ≡ None }
     ensures no_document { parse_document text.now ≡ None
         → (result ≡ Err Text) ⊎ (result ≡ Err Memory) }

@@ -14,10 +14,10 @@ use sd_base::{HostName, MOST_VOLUME, MediaName, Name};
 use std::alloc::Global;
 use toml::{Table, Value};
 
-/// The host where none is given.
+/// The host if none is given.
 const DEFAULT_HOST: &str = "localhost";
 
-/// The fault of a key, or `Memory` where none is left for its name.
+/// The fault of a key, or `Memory` if none is left for its name.
 pub fn fault_at(alloc: Global, key: &str, kind: FaultKind) -> ConfFault
     ensures { Names key.now kind result }
 {
@@ -27,7 +27,7 @@ pub fn fault_at(alloc: Global, key: &str, kind: FaultKind) -> ConfFault
     }
 }
 
-/// The number at a key, or the default where the key lacks.
+/// The number at a key, or the default if the key is missing.
 pub fn number_at(
     alloc: Global,
     table: &Table,
@@ -98,7 +98,7 @@ fn number(value: &Value, limits: (u64, u64)) -> Result<u64, FaultKind>
     Ok(number)
 }
 
-/// The text at a key that may lack.
+/// The text at a key that may be missing.
 pub fn text_at(alloc: Global, table: &Table, key: &str) -> Result<Option<Text>, ConfFault>
     ensures { let value = get_member key.now (table_view table.now) in
         Tells (At key.now (optional text_fault value)) (text_at value) result }
@@ -151,7 +151,7 @@ pub fn media(alloc: Global, table: &Table) -> Result<MediaName, ConfFault>
     name(alloc, "media", value)
 }
 
-/// The host, or the default where the key lacks.
+/// The host, or the default if the key is missing.
 pub fn host(alloc: Global, table: &Table) -> Result<HostName, ConfFault>
     ensures { let value = get_member (codes "host") (table_view table.now) in
         Tells (HostTest value) (unwrap_or (text_at value) default_host) result }

@@ -8,7 +8,7 @@ ghost use Rattle.sd_script.specs.declared.line.ScriptLine.TheVariants.{Console};
 use sd_base::Refusal;
 use sd_script::{ConsoleCmd, read_console};
 
-/// The command that a console's line spells, without the newline behind it: the lines `label`, `adopt`,
+/// The command that a console's line spells, without the newline after it: the lines `label`, `adopt`,
 /// `mount`, `unmount`, `retire`, `purge`, `cancel`, `jobmedia`, `status` and `requests` of a script,
 /// and no other.
 pub fn command(line: &[u8]) -> Result<ConsoleCmd, Refusal>

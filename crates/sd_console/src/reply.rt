@@ -10,7 +10,7 @@ use std::alloc::{AllocError, Global};
 use std::fmt;
 
 /// A reply, displayed as the line that a script prints for it, without the newline. Of a closed session that
-/// is the first of its lines, and `Media` has none: what stands there is its JobMedia text. A volume that is
+/// is the first of its lines, and `Media` has none: what comes there is its JobMedia text. A volume that is
 /// mounted is named, as a seek has it; a line `mount`, which names the volume itself, prints no name.
 /// Displaying takes no memory.
 #[derive(Clone, Copy)]
@@ -58,7 +58,7 @@ impl fmt::Display for ReplyLine<'_> {
     }
 }
 
-/// All lines that a console answers for a reply, each with a newline: behind the line of a closed session its
+/// All lines that a console answers for a reply, each with a newline: after the line of a closed session, its
 /// JobMedia text. The spans of `Media` are those of the session with this key; what stands for them is its
 /// JobMedia text. A console mounts by name only, so a volume that is mounted isn't named.
 pub fn reply_text(alloc: Global, key: SessionKey, reply: &Reply) -> Result<String, AllocError>

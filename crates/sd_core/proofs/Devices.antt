@@ -5,12 +5,12 @@ use Rattle.sd_drive.specs.View.{DriveIs}
 use Rattle.sd_world.specs.World.{BayView}
 use Rattle.sd_core.specs.View.{device_of, devices_of}
 
--- those of one bay more come behind the others
+-- those of one bay more come after the others
 pub devices_push : {D : Type 0} (bays : List (BayView D)) (bay : BayView D) → devices_of (bays ++ bay ∷ []) ≡ devices_of bays ++ device_of bay.drive
 devices_push [] bay = append-nil (device_of bay.drive)
 devices_push (b ∷ bs) bay = ap (λ l. device_of b.drive ++ l) (devices_push bs bay) ∙ sym (append_assoc (device_of b.drive) (devices_of bs) (device_of bay.drive))
 
--- where the last bay has a drive, or none
+-- if the last bay has a drive, or none
 pub devices_some : {D : Type 0} (bays front : List (BayView D)) (bay read : BayView D) (d : DriveIs D) (had : List D) → bays ≡ front ++ read ∷ []
     → bay ≡ read → bay.drive ≡ Some d → (had ++ devices_of front) ++ d.device ∷ [] ≡ had ++ devices_of bays
 devices_some bays front bay read d had is same drive =

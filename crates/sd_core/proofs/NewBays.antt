@@ -70,7 +70,7 @@ bays_push queue store drives ds queues qs spools ss d q s bays all bay drives_ar
     ∙ ap (λ l. new_bays queue store drives l (ss ++ s ∷ [])) (sym queues_are)
     ∙ ap (λ l. new_bays queue store drives queues l) (sym spools_are)
 
--- a bay with the media of its drive, and lanes where there were none
+-- a bay with the media of its drive, and lanes if there were none
 pub bay_made : {D S Z : Type 0} (store : S → StoreMeaning) (d : DriveIs D) (queue : LanesView) (stores : Vec S Z) (bay : BayView D)
     (media : List ℕ) (none lanes : List _) → bay ≡ record { media = media; drive = Some d; lanes = lanes; queue = queue }
     → media ≡ d.media → lanes ≡ none ++ (new_bay store d queue stores).lanes → none ≡ [] → bay ≡ new_bay store d queue stores
@@ -92,7 +92,7 @@ pub all_stay : {D : Type 0} (meaning : D → Meaning) (devices : List D) → All
 all_stay meaning [] = tt
 all_stay meaning (x ∷ xs) = (same_device meaning x, all_stay meaning xs)
 
--- what is so anyway is so where a call was refused
+-- what is so anyway is so if a call was refused
 pub where_refused : {A E : Type 0} (r : Result A E) (X : Type 0) → X → OnErr r X
 where_refused (Ok x) X h = tt
 where_refused (Err e) X h = h

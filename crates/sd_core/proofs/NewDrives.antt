@@ -55,7 +55,7 @@ made_stay meaning limits medias (x ∷ xs) [] made = absurd made
 made_stay meaning limits [] (x ∷ xs) (y ∷ ds) made = absurd made
 made_stay meaning limits (b ∷ ms) (x ∷ xs) (y ∷ ds) made = (made.0.stays, made_stay meaning limits ms xs ds made.1)
 
--- the last device comes behind those that are there again
+-- the last device comes after those that are there again
 pub again_push : {D : Type 0} (meaning : D → Meaning) (given front again all : List D) (x y : D)
     → given ≡ front ++ x ∷ [] → all ≡ again ++ y ∷ [] → AllZip (StaysDevice meaning) front again → y ≡ x
     → AllZip (StaysDevice meaning) given all

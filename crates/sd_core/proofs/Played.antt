@@ -1,4 +1,4 @@
--- Steps put behind one another: what they do to the world, and what came of them.
+-- Steps put one after the other: what they do to the world, and what came of them.
 use Rattle.std.proofs.Common.{◌≡◌, ℕ, ◌+◌, ◌||◌, List, [], ◌∷◌, ◌++◌, refl, subst, arith}
 use Rattle.std.proofs.lemmas.List.Sums.{sum_by-append}
 use Rattle.std.proofs.lemmas.List.Folds.{list_any-append}
@@ -31,7 +31,7 @@ tells_and x y r rs ss p q moved placed = record {
   placed = (let e = placed_in-append rs ss in let a = p.placed in let b = q.placed in let n = counted_sum (placed_in rs) (placed_in ss) in cc);
 }
 
--- steps of one kind, and steps of another behind them
+-- steps of one kind, and steps of another after them
 pub on_and : {D : Type 0} (meaning : D → Meaning) (J K L : List Event → List Reply → Type 0) (a b c : WorldView D) (x y r : Round)
     → PlaysOn meaning J a x b → PlaysOn meaning K b y c
     → r.moved ≡ (x.moved || y.moved) → r.placed ≡ counted (x.placed + y.placed)

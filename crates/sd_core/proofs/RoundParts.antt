@@ -136,12 +136,12 @@ turns-append kind (d ∷ ds) ds' es fs rs ss p q = (
 one_turn : (kind : ℕ → List Event → List Reply → Type 0) (drive : ℕ) (es : List Event) (rs : List Reply) → kind drive es rs → AreTurns kind (drive ∷ []) es rs
 one_turn kind drive es rs t = (es, rs, [], [], t, (refl, refl), sym (append-nil es), sym (append-nil rs))
 
--- a drive's turn is that of the drives that are online, where it is one
+-- a drive's turn is that of the drives that are online, if it is one
 pub turn_online : (kind : ℕ → List Event → List Reply → Type 0) (flags : List Bool) (drive : ℕ) (es : List Event) (rs : List Reply) → is_online flags drive ≡ true
     → kind drive es rs → AreTurns kind (online_one flags drive) es rs
 turn_online kind flags drive es rs on t = rw on (one_turn kind drive es rs t)
 
--- and where it is none, there is no turn
+-- and if it is none, there is no turn
 pub turn_offline : (kind : ℕ → List Event → List Reply → Type 0) (flags : List Bool) (drive : ℕ) → is_online flags drive ≡ false → AreTurns kind (online_one flags drive) [] []
 turn_offline kind flags drive off = rw off (refl, refl)
 

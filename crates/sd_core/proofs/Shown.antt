@@ -16,7 +16,7 @@ mapped_more f had so after xs n read y told is within one more =
     ∙ append_assoc had (map f (take n xs)) (f (get_or xs n read) ∷ [])
     ∙ ap (λ l. had ++ l) (sym (ap (map f) (take_more xs n read within) ∙ map-append f (take n xs) (get_or xs n read ∷ [])))
 
--- the line of a drive behind those of others
+-- the line of a drive after those of others
 lines_push : {D : Type 0} (es : List WorldSession) (from : ℕ) (bays : List (BayView D)) (bay : BayView D)
     → drive_lines es from (bays ++ bay ∷ []) ≡ drive_lines es from bays ++ drive_line es (from + length bays) bay ∷ []
 lines_push es from [] bay = let same : from ≡ from + 0 = omega arith in ap (λ n. drive_line es n bay ∷ []) same
@@ -34,7 +34,7 @@ drives_more es bays n at read line so after told is within place one more =
     ∙ ap (λ z. drive_lines es 0 first ++ z ∷ []) (one ∙ ap (λ k. drive_line es k read) long ∙ ap (drive_line es (0 + length first)) is)
     ∙ sym (ap (drive_lines es 0) (take_more bays n read within) ∙ lines_push es 0 first (get_or bays n read))
 
--- the lines of a drive's volumes behind those of others
+-- the lines of a drive's volumes after those of others
 volumes_push : {D : Type 0} (bays : List (BayView D)) (bay : BayView D) → volume_lines (bays ++ bay ∷ []) ≡ volume_lines bays ++ lines_of bay.drive
 volumes_push [] bay = append-nil (lines_of bay.drive)
 volumes_push (b ∷ bs) bay = ap (λ l. lines_of b.drive ++ l) (volumes_push bs bay) ∙ sym (append_assoc (lines_of b.drive) (volume_lines bs) (lines_of bay.drive))

@@ -182,7 +182,7 @@ later_rises least (t ∷ ts) zero (suc j) d rise below within =
     omega (arith, here, there, later)
 later_rises least (t ∷ ts) (suc i) (suc j) d rise below within = later_rises (t + 1) ts i j d rise.1 (omega (arith, below)) (omega (arith, within))
 
--- a ticket that stands at a place is listed
+-- a ticket that is at a place is listed
 pub stands_listed : (ts : List ℕ) (at t d : ℕ) → at < length ts → get_or ts at d ≡ t → IsListed t ts
 stands_listed ts at t d within is = subst (λ n. IsListed n ts) is (listed_at ts at d within)
 
@@ -198,7 +198,7 @@ listed_again ts t there x = (
 
 -- Results.
 
--- where the result is good, the two facts together
+-- if the result is good, the two facts together
 pub on_ok_both : {T E : Type 0} {P Q R : Type 0} (r : Result T E) → (P → Q → R) → OnOk r P → OnOk r Q → OnOk r R
 on_ok_both (Ok x) f p q = f p q
 on_ok_both (Err e) f p q = tt
@@ -260,7 +260,7 @@ bays_next {D} es bays n read ts ts' first stay is here at bay below there =
       | inr apart ↦ λ place lane stands t held goes. stay t (first at bay (omega (arith, below, apart)) there place lane stands t held goes)
     ]
 
--- those below a ticket end where it would go, if it doesn't stand there
+-- those below a ticket end where it would go, if it isn't there
 pub ends_below : (ts : List ℕ) (at t : ℕ) → TicketsRise 0 ts → at ≤ length ts → IsPartitionPoint (λ x. ltb x t ≡ true) (λ x. ltb x t ≡ false) ts at
     → ((d : ℕ) → at < length ts → get_or ts at d ≢ t) → EndsBelow ts t at
 ends_below ts at t rise most point other = record {

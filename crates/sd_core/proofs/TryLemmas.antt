@@ -69,7 +69,7 @@ rounds_more : {D : Type 0} (meaning : D → Meaning) (a b c : WorldView D) (roun
 rounds_more meaning a b c [] rs p q = (c, subst (λ w. PlaysOne meaning w rs c) p q, refl)
 rounds_more meaning a b c (round ∷ rounds) rs p q = (p.0, p.1, rounds_more meaning p.0 b c rounds rs p.2 q)
 
--- where nothing is asked the rounds are played, and something moves in each
+-- if nothing is asked, the rounds are played, and something moves in each
 rounds_play : {D : Type 0} (meaning : D → Meaning) (a b : WorldView D) (ts : List Try) → AsksAgain meaning EachRound None a ts b → PlaysRounds meaning a (rounds_in ts) b × AllMove (rounds_in ts)
 rounds_play meaning a b [] p = (p, All-nil Moved)
 rounds_play meaning a b (t ∷ ts) p =
@@ -111,12 +111,12 @@ abbrev pub AnswersSome : {D : Type 0} → (D → Meaning) → Syncing → ℕ �
 AnswersSome meaning syncing rounds old event reply new =
     (events : List Event) × (replies : List Reply) × Answers meaning syncing rounds old event reply events replies new
 
--- what comes where nothing moved, with some events and replies
+-- what comes if nothing moved, with some events and replies
 abbrev pub RestsSome : {D : Type 0} → (D → Meaning) → Syncing → Event → Reply → WorldView D → Reply → WorldView D → Type 0
 RestsSome meaning syncing event answer old reply new =
     (events : List Event) × (replies : List Reply) × Rests meaning syncing event answer old reply events replies new
 
--- what is given again where an event is asked
+-- what is given again if an event is asked
 gives_again : {D : Type 0} (meaning : D → Meaning) (syncing : Syncing) (event : Event) (a b : WorldView D) (ts : List Try) → AsksAgain meaning syncing (Some event) a ts b → GivesAgain meaning syncing event a ts b
 gives_again meaning syncing event a b [] p = p
 gives_again meaning syncing event a b (t ∷ ts) p = (p.0, p.1, p.2, p.3, p.4, p.5, gives_again meaning syncing event p.1 b ts p.6)

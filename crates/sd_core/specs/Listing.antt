@@ -23,7 +23,7 @@ abbrev pub IsListed : ℕ → List ℕ → Type 0
 IsListed ticket [] = ⊥
 IsListed ticket (t ∷ ts) = (t ≡ ticket) ⊎ IsListed ticket ts
 
--- those below the ticket end at this place, and behind it stand greater ones
+-- those below the ticket end at this place, and greater ones come after it
 pub record EndsBelow (tickets : List ℕ) (ticket at : ℕ) : Type 0 where
   pub within : at ≤ length tickets
   pub before : (k d : ℕ) → k < at → slice_index_or tickets k d < ticket

@@ -38,7 +38,7 @@ placed_in replies = count_by has_placed replies
 abbrev pub moved_in : List Reply → Bool
 moved_in replies = list_any has_moved replies
 
--- a count, or the greatest number of 64 bits where it is greater
+-- a count, or the greatest number of 64 bits if it is greater
 abbrev pub counted : ℕ → ℕ
 counted n = min n (2 ^ 64 - 1)
 
@@ -86,8 +86,8 @@ is_online flags drive = is_set (slice_get flags (drive - 1))
 abbrev pub drives_online : {D : Type 0} → WorldView D → List ℕ
 drives_online w = filter (is_online (online_flags w)) (range_with_len 1 most_drives)
 
--- The body in the hand is placed; where a volume is needed one is sought; and where that mounted one, the
--- body is placed again.
+-- The body in the hand is placed; if a volume is needed, one is sought; and if that mounted one, the body is
+-- placed again.
 abbrev pub placing : ℕ → List Reply → List Event
 placing drive (NeedVolume ∷ Mounted name ∷ replies) =
     Place drive ∷ Seek drive ∷ Place drive ∷ []

@@ -27,7 +27,7 @@ may_change event reply = false
 abbrev pub PlaysAs : {D : Type 0} → (D → Meaning) → WorldView D → List Event → List Reply → WorldView D → Type 0
 PlaysAs meaning old events replies new = IsRound old events replies × StepsAlong meaning old events replies new
 
--- the round that an event waits for: one in which the drives sync, or, where they sync at rest, one in which none does
+-- the round that an event waits for: one in which the drives sync, or, if they sync at rest, one in which none does
 abbrev pub IsWait : {D : Type 0} → Syncing → WorldView D → List Event → List Reply → Type 0
 IsWait EachRound w events replies = IsRound w events replies
 IsWait AtRest w events replies = IsCarry w events replies
@@ -42,7 +42,7 @@ pub record Try : Type 0 where
   pub events : List Event
   pub replies : List Reply
 
--- The event is given to the world again and again. Each answer may change, and something moves in the round behind it.
+-- The event is given to the world again and again. Each answer may change, and something moves in the round after it.
 abbrev pub GivesAgain : {D : Type 0} → (D → Meaning) → Syncing → Event → WorldView D → List Try → WorldView D → Type 0
 GivesAgain meaning syncing event old [] new = new ≡ old
 GivesAgain {D} meaning syncing event old (t ∷ tries) new =
@@ -89,14 +89,14 @@ pub record StaysWith {D : Type 0} (answer : Reply) (old : WorldView D) (reply : 
   pub events_are : events ≡ []
   pub replies_are : replies ≡ []
 
--- Nothing moved behind an answer that may change. Where the drives sync in each round, it is the answer. Where they sync at
+-- Nothing moved after an answer that may change. If the drives sync in each round, it is the answer. If they sync at
 -- rest, they do so now, and the event is given once more; or there is no memory for that.
 abbrev pub Rests : {D : Type 0} → (D → Meaning) → Syncing → Event → Reply → WorldView D → Reply → List Event → List Reply → WorldView D → Type 0
 Rests meaning EachRound event answer old reply events replies new = StaysWith answer old reply events replies new
 Rests meaning AtRest event answer old reply events replies new =
     SyncsAndGives meaning event old reply events replies new ⊎ StaysWith (Refused Memory) old reply events replies new
 
--- The event is given to the world; its answer may change, but in the round behind it nothing moves.
+-- The event is given to the world; its answer may change, but in the round after it nothing moves.
 pub record StandsStill {D : Type 0} (meaning : D → Meaning) (syncing : Syncing) (event : Event) (tried rounds : ℕ) (reply : Reply)
     (old : WorldView D) (events : List Event) (replies : List Reply) (new : WorldView D) : Type 0 where
   pub answer : Reply
@@ -134,7 +134,7 @@ Ends meaning syncing event tried rounds reply old events replies new =
     ⊎ LacksMemory meaning event tried rounds reply old events replies new
 
 -- An event is answered, in at most so many rounds: it is given to the world, and given again after each round in which
--- something moved, as long as the answer may change; and, where the drives sync at rest, once more behind their sync. These
+-- something moved, as long as the answer may change; and, if the drives sync at rest, once more after their sync. These
 -- are the world's events and its replies, the rounds' among them.
 pub record Answers {D : Type 0} (meaning : D → Meaning) (syncing : Syncing) (rounds : ℕ) (old : WorldView D) (event : Event) (reply : Reply)
     (events : List Event) (replies : List Reply) (new : WorldView D) : Type 0 where

@@ -37,7 +37,7 @@ devices_of bays = flat_map (λ b. device_of b.drive) bays
 abbrev pub loaded_in : {D : Type 0} → Option (DriveIs D) → Loaded
 loaded_in drive = option_map_or (λ d. option_map_or Volume (name_loaded d.volumes d.loaded) Nothing) drive Offline
 
--- the line of the drive in this bay, which stands at this place
+-- the line of the drive in this bay, which is at this place
 abbrev pub drive_line : {D : Type 0} → List WorldSession → ℕ → BayView D → DriveLine
 drive_line sessions at bay = record {
   drive = at + 1;
@@ -46,7 +46,7 @@ drive_line sessions at bay = record {
   sessions = busy_lanes sessions bay.drive bay.lanes;
 }
 
--- the lines of the drives, whose bays stand from this place on
+-- the lines of the drives, whose bays are from this place on
 abbrev pub drive_lines : {D : Type 0} → List WorldSession → ℕ → List (BayView D) → List DriveLine
 drive_lines sessions at [] = []
 drive_lines sessions at (b ∷ bs) = drive_line sessions at b ∷ drive_lines sessions (at + 1) bs

@@ -1,14 +1,14 @@
 // What a world is made with.
 use sd_base::{HostName, MediaName};
 
-/// The settings of a world. What each may be stands in `IsConf`.
+/// The settings of a world. `IsConf` says what each may be.
 #[derive(Drop)]
 pub struct WorldConf {
     /// The most bytes of a block, its header included: 1,024 to 1,048,576.
     pub block: usize,
     /// The most bytes of a volume: at least those of two blocks, at most 68,719,476,736.
     pub volume: u64,
-    /// The most bytes of a session's spool: 0 where there is none, else at least those of a block, and at most
+    /// The most bytes of a session's spool: 0 if there is none, else at least those of a block, and at most
     /// 68,719,476,736.
     pub spool: u64,
     /// How many pieces the queue before a drive has room for: 1 to 1,024.
@@ -19,7 +19,7 @@ pub struct WorldConf {
     pub host: Option<HostName>,
 }
 
-/// What no world was made of, for want of memory: the devices, queues and stores, each in their order.
+/// What was to become a world, but there was no memory: the devices, queues and stores, each in their order.
 #[derive(Drop)]
 pub struct NotMade<D, Q, S> {
     pub drivers: Vec<D>,

@@ -78,8 +78,8 @@ pub(crate) fn make_bays<D: Driver, Q: Lanes, S: SpoolStore + Drop>(
     });
 }
 
-/// Makes the bays of a world of its devices, queues and stores. For want of memory the queues and stores are as they
-/// were, and the devices are there again.
+/// Makes the bays of a world of its devices, queues and stores. If out of memory, the queues and stores are as
+/// they were, and the devices are there again.
 pub(crate) fn fill_bays<D: Driver + Drop, Q: Lanes + Drop, S: SpoolStore + Drop>(
     alloc: Global,
     limits: &Limits,

@@ -22,7 +22,7 @@ pub(crate) fn know_drives<D: Driver, Q: Lanes, S: SpoolStore>(bays: &[Bay<D, Q, 
     }
 }
 
-// The same of the drive in this bay.
+// What the drive in this bay keeps, if there is one.
 fn know_drive<D: Driver, Q: Lanes, S: SpoolStore>(bay: &Bay<D, Q, S>)
     ensures { IfSome bay.now.drive (λ d. Kept (D.meaning d.device) d.volumes d.loaded d.journal) }
 {

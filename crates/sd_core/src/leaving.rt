@@ -7,8 +7,8 @@ use sd_events::Bay;
 use sd_lane::Lanes;
 use sd_spool::SpoolStore;
 
-/// Moves the devices of the drives that are online behind the others, those of the first bays first. Calls itself for
-/// the bays before the last one, of which a world has `MOST_DRIVES` at most. Takes no memory.
+/// Adds the devices of the drives that are online to the others, those of the first bays first. Calls itself for the
+/// bays before the last one, of which a world has `MOST_DRIVES` at most. Takes no memory.
 pub(crate) fn take_devices<D: Driver + Drop, Q: Lanes + Drop, S: SpoolStore + Drop>(
     bays: &mut Vec<Bay<D, Q, S>>,
     devices: &mut Vec<D>,

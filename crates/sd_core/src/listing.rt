@@ -85,7 +85,7 @@ fn goes_on<S: SpoolStore + Drop>(sessions: &[SessionEntry<S>], ticket: Ticket) -
     }
 }
 
-// Lists a ticket behind all lower ones, unless it stands there.
+// Lists a ticket after all lower ones, unless it is there.
 fn list_ticket(ticket: Ticket, tickets: &mut Vec<Ticket>) -> Result<(), AllocError>
     requires rise { TicketsRise 0 tickets.old.items }
     ensures rise { OnOk result (TicketsRise 0 tickets.new.items) }
@@ -99,7 +99,7 @@ fn list_ticket(ticket: Ticket, tickets: &mut Vec<Ticket>) -> Result<(), AllocErr
     Ok(())
 }
 
-// Where a ticket goes, behind all lower ones; none where it is listed.
+// Where a ticket goes, after all lower ones; none if it is listed.
 fn place_for(ticket: Ticket, tickets: &[Ticket]) -> Option<usize>
     requires rise { TicketsRise 0 tickets.now }
     ensures at { IfSome result (EndsBelow tickets.now ticket) }

@@ -12,7 +12,7 @@ use sd_events::LaneSlot;
 use sd_spool::SpoolStore;
 use std::alloc::{AllocError, Global};
 
-/// Takes drives apart again: their devices go behind the others, in their order. Calls itself for the drives before the
+/// Takes drives apart again: their devices go after the others, in their order. Calls itself for the drives before the
 /// last one, of which a world has `MOST_DRIVES` at most. Takes no memory.
 pub(crate) fn unmake_drives<D: Driver>(drives: &mut Vec<Drive<D>>, drivers: &mut Vec<D>)
     requires room { vec_len drivers.old + vec_len drives.old ≤ vec_capacity drivers.old }
@@ -50,7 +50,7 @@ pub(crate) fn make_lanes<S: SpoolStore>(stores: &mut Vec<S>, lanes: &mut Vec<Lan
     });
 }
 
-/// Makes a drive of each driver, in their order, with the media at its place. For want of memory none is made, and the
+/// Makes a drive of each driver, in their order, with the media at its place. If out of memory, none is made, and the
 /// drivers are there again. Calls itself for the drivers before the last one.
 pub(crate) fn make_drives<D: Driver>(
     alloc: Global,

@@ -78,7 +78,7 @@ fn read_parts<D: Driver, Q: Lanes, S: SpoolStore + Drop, K: Sink>(
     read_drive(drive, key, spans, sink)
 }
 
-// Why nothing is read where the drive of the first volume isn't online: a volume of no drive is on no shelf.
+// Why nothing is read if the drive of the first volume isn't online: a volume of no drive is on no shelf.
 fn unread(why: Refusal) -> Refusal
     ensures nowhere { why ≡ NoSuchDrive → result ≡ VolumeNotOnShelf }
     ensures other { why ≢ NoSuchDrive → result ≡ why }

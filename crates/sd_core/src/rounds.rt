@@ -14,8 +14,8 @@ use sd_spool::SpoolStore;
 use std::alloc::AllocError;
 
 /// One round: each session that is active or ended spools and despools, by rising ticket; then each drive that is
-/// online takes, places and syncs, by rising number. Where a place needs a volume one is sought, and where that
-/// mounted one the body is placed again. What is refused in it is passed over. An `Err` comes before the first step.
+/// online takes, places and syncs, by rising number. If a place needs a volume, one is sought; if that mounted one,
+/// the body is placed again. What is refused in it is passed over. An `Err` comes before the first step.
 pub fn round<D: Driver + Drop, Q: Lanes, S: SpoolStore + Drop>(
     world: &mut World<D, Q, S>,
 ) -> Result<Round, AllocError>
@@ -50,7 +50,7 @@ fn play<D: Driver + Drop, Q: Lanes, S: SpoolStore + Drop>(
 }
 
 /// Plays rounds to the first in which nothing moves, and counts the blocks that were placed in them. An `Err` comes
-/// before a round; those before it stand.
+/// before a round; those before it were played.
 pub fn drain<D: Driver + Drop, Q: Lanes, S: SpoolStore + Drop>(
     world: &mut World<D, Q, S>,
 ) -> Result<u64, AllocError>

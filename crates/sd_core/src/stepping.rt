@@ -31,7 +31,7 @@ pub(crate) fn answer<D: Driver + Drop, Q: Lanes, S: SpoolStore + Drop>(
     reply
 }
 
-/// The same of the event `Append`, of a record that stays with the caller.
+/// Answers the event `Append`, of a record that stays with the caller; and what is known then of the drives.
 pub(crate) fn answer_append<D: Driver + Drop, Q: Lanes, S: SpoolStore + Drop>(
     parts: &mut Parts<D, Q, S>,
     ticket: Ticket,

@@ -16,7 +16,7 @@ use std::alloc::AllocError;
 pub enum Syncing {
     /// In each round. What was placed is synced at once, block by block.
     EachRound,
-    /// Where nothing moves any more: the rounds sync no drive, and behind the first in which nothing moved a whole round
+    /// When nothing moves any more: the rounds sync no drive, and after the first in which nothing moved a whole round
     /// is played. What was placed is synced at the latest before its session is closed.
     AtRest,
 }

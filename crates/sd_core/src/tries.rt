@@ -62,7 +62,7 @@ pub(crate) enum Stop {
 /// Gives what is asked, if anything is, and plays a round after it, again and again: to the first
 /// answer that doesn't change any more, to the first round in which nothing moves, or to the answer
 /// after as many rounds as there may be. Counts the blocks that were placed. An `Err` comes before a
-/// round; what was given and played before it stands.
+/// round; what was given and played before it stays so.
 pub(crate) fn repeat<D: Driver + Drop, Q: Lanes, S: SpoolStore + Drop>(
     world: &mut World<D, Q, S>,
     syncing: Syncing,
@@ -90,7 +90,7 @@ pub(crate) fn repeat<D: Driver + Drop, Q: Lanes, S: SpoolStore + Drop>(
 }
 
 /// Gives the event to the world, and again after each round in which something moved, as long as the answer may change;
-/// at most so many rounds. Where the drives sync at rest, it is given once more behind the sync. A round that there is no
+/// at most so many rounds. If the drives sync at rest, it is given once more after the sync. A round that there is no
 /// memory for is the answer `Memory`.
 pub fn answer<D: Driver + Drop, Q: Lanes, S: SpoolStore + Drop>(
     world: &mut World<D, Q, S>,

@@ -25,8 +25,8 @@ pub(crate) fn turn_all<D: Driver + Drop, Q: Lanes, S: SpoolStore + Drop>(
     turned
 }
 
-// A take and a place of the drive, and a sync where it is to sync; none where the drive isn't there or is offline, which
-// the take tells.
+// A take and a place of the drive, and a sync if it is to sync; none if the drive isn't there or is offline, which the
+// take tells.
 fn turn<D: Driver + Drop, Q: Lanes, S: SpoolStore + Drop>(
     world: &mut World<D, Q, S>,
     drive: DriveNo,
@@ -49,8 +49,8 @@ fn turn<D: Driver + Drop, Q: Lanes, S: SpoolStore + Drop>(
     passed.and(Round::of(&synced))
 }
 
-// Places the body in the drive's hand. Where a volume is needed one is sought, and where that mounted one the body is
-// placed again.
+// Places the body in the drive's hand. If a volume is needed, one is sought; if that mounted one, the body is placed
+// again.
 fn place<D: Driver + Drop, Q: Lanes, S: SpoolStore + Drop>(
     world: &mut World<D, Q, S>,
     drive: DriveNo,

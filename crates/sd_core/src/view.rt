@@ -40,7 +40,7 @@ pub struct VolumeLine {
     pub pool: PoolName,
     pub media: MediaName,
     pub status: VolumeStatus,
-    /// The byte behind its last block.
+    /// The byte after its last block.
     pub end: u64,
 }
 

@@ -58,7 +58,8 @@ impl<D: Driver, Q: Lanes, S: SpoolStore> Model for World<D, Q, S> {
 impl<D: Driver + Drop, Q: Lanes + Drop, S: SpoolStore + Drop> World<D, Q, S> {
     /// A world without sessions, whose drives have no volumes, for the run of this time in seconds. There are as many
     /// devices, queues and lists of stores as the settings have drives; each queue is empty, with its drive's lanes and
-    /// the settings' room; there is a store for each lane. Unloads the devices. For want of memory all of them come back.
+    /// the settings' room; there is a store for each lane. Unloads the devices. If out of memory, all of them come
+    /// back.
     pub fn new(
         alloc: Global,
         conf: WorldConf,
@@ -137,7 +138,7 @@ impl<D: Driver + Drop, Q: Lanes + Drop, S: SpoolStore + Drop> World<D, Q, S> {
         World { parts }
     }
 
-    /// The devices of the drives that are online, by rising number. For want of memory the world comes back as it was.
+    /// The devices of the drives that are online, by rising number. If out of memory, the world comes back as it was.
     pub fn into_drivers(self) -> Result<Vec<D>, World<D, Q, S>>
         ensures ok { IfOk result (λ drivers. drivers.items ≡ devices_of self.bays) }
         ensures err { IfErr result (λ world. world ≡ self) }

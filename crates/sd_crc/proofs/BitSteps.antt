@@ -42,7 +42,7 @@ bit_step-even x =
     let rest : x * 2 / 2 ≡ x = omega arith in
     rw (low, rest) refl
 
--- What stands n places up has moved down after n bits.
+-- What is n places up has moved down after n bits.
 pub bit_steps-high : (n x : ℕ) → bit_steps n (x * 2 ^ n) ≡ x
 bit_steps-high zero x = no_bits (x * 2 ^ zero) ∙ omega arith
 bit_steps-high (suc n) x =

@@ -90,7 +90,7 @@ sum_step h b s t rest len long sum small =
     (effect n (drop 155 t)) (effect n (drop 117 t)) (effect n (drop 89 t)) (effect n t) (effect n rest) same
     ∙ sym after
 
--- The same where the sums stand in a list from i on.
+-- One byte goes to the sums, if these lie in a list from i on.
 pub sum_step_at : (sums bytes rest : List ℕ) (i : ℕ) → i + 300 < length sums → i < length bytes → 300 ≤ length rest
     → bit_xor (bit_xor (bit_xor (bit_xor (get_or bytes i 0) (get_or sums i 0)) (get_or sums (i + 89) 0)) (get_or sums (i + 117) 0)) (get_or sums (i + 155) 0) < 256
     → register_after (take 300 (drop i sums)) (drop i bytes ++ rest)

@@ -2,7 +2,7 @@
 use Rattle.std.specs.Prelude.{ℕ, List, [], ◌∷◌, drop, fold, bit_xor}
 use Rattle.sd_crc.specs.Crc32.{byte_step}
 
--- Two lists of bytes added place by place, by exclusive or. Where one is longer, the rest of it stays.
+-- Two lists of bytes added place by place, by exclusive or. If one is longer, the rest of it stays.
 abbrev pub added : List ℕ → List ℕ → List ℕ
 added [] ys = ys
 added (x ∷ xs) [] = x ∷ xs

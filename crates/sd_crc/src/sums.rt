@@ -86,7 +86,7 @@ fn sum_at(sums: &[u8], at: usize) -> u8
     sums.get(at).copied().unwrap_or(0)
 }
 
-// The sums of `bytes`, behind the 300 that stand at the front.
+// The sums of `bytes`, after the 300 at the front.
 fn add_sums(sums: &mut [u8], bytes: &[u8])
     requires { WINDOW + length bytes.now ≤ length sums.old }
     ensures { (rest : List ℕ) → WINDOW ≤ length rest

@@ -1,4 +1,4 @@
--- The locks of drives, one behind the other, and the folder that a fault names.
+-- The locks of drives, one after the other, and the folder that a fault names.
 use Rattle.std.proofs.Common.{◌≡◌, sym, subst, List, [], ◌∷◌, ◌++◌, Result, Ok, Err, Vec}
 use Rattle.std.specs.Global.{Global}
 use Rattle.std.specs.Prelude.{Contains, IfErr, IfOk}

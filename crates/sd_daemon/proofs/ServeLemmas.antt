@@ -24,7 +24,7 @@ pub conf_of : (text : List ℕ) (result : Result Conf CheckFault) → Input text
 conf_of text (Ok conf) input = (text, input)
 conf_of text (Err fault) input = tt
 
--- memory may lack at any
+-- memory may run out at any
 pub no_memory : IsFaultOf (Bad NoMemory)
 no_memory = ([], tt)
 

@@ -14,7 +14,7 @@ pub zip_more : {A B : Type 0} (R : A → B → Type 0) (xs front : List A) (x : 
 zip_more R xs front x ys all y xs_are all_are h r =
     subst (λ l. AllZip R l all) (sym xs_are) (subst (λ l. AllZip R (front ++ x ∷ []) l) (sym all_are) (zip_push R front ys x y h r))
 
--- the path of a spool, where the folder is named and where it is not
+-- the path of a spool, if the folder is named and if it is not
 pub path_is : (folder path file : List ℕ) → (folder ≢ [] → path ≡ folder ++ file) → (folder ≡ [] → path ≡ codes "." ++ file) → path ≡ folder_named folder ++ file
 path_is [] path file there here = here refl
 path_is (c ∷ cs) path file there here = there (λ e. absurd (let clash = e in cc))

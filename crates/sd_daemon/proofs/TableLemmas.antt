@@ -1,4 +1,4 @@
--- The names of the lines of drives, one behind the other.
+-- The names of the lines of drives, one after the other.
 use Rattle.std.proofs.Common.{◌≡◌, ℕ, zero, suc, ◌+◌, refl, sym, ap, ◌∙◌, arith, List, [], ◌∷◌, ◌++◌, Some, length, slice_get}
 use Rattle.atomic_table.specs.Seated.{TableId}
 use Rattle.sd_line.specs.Side.{no_table}
@@ -19,7 +19,7 @@ pub first_named : (table : ℕ → TableId) (time : ℕ → ℕ) (all rest : Lis
     → AreNamed table time rest
 first_named table time all rest last are named at u is = named at u (ap (λ l. slice_get l at) are ∙ still_there rest (last ∷ []) at u is)
 
--- and so is the last one, by the number behind theirs
+-- and so is the last one, by the number after theirs
 pub last_named : (table : ℕ → TableId) (time : ℕ → ℕ) (all rest : List UnusedIs) (last : UnusedIs) (number : ℕ) → all ≡ rest ++ last ∷ [] → AreNamed table time all
     → number ≡ length rest + 1 → (last.table ≡ table number) × (last.limits.time ≡ time number)
 last_named table time all rest last number are named number_is =

@@ -1,4 +1,4 @@
--- That threads may share what holds the talks of a run, where they may share the run and its hub.
+-- That threads may share what holds the talks of a run, if they may share the run and its hub.
 use Prim.Native.Nat.{ℕ}
 use denote.Builtin.{One}
 use denote.Param.Send.{AllSync, Common, IsSync, recorded_sync, shr_sync, struct_sync}

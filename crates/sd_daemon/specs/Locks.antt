@@ -22,11 +22,11 @@ IsLockAt folder lock = string_bytes lock.path ≡ lock_path folder
 abbrev pub IsLockOf : DriveConf → FolderLock → Type 0
 IsLockOf d lock = IsLockAt d.folder lock
 
--- these locks, and behind them that of the drive's folder
+-- these locks, and after them that of the drive's folder
 abbrev pub AddsLock : DriveConf → List FolderLock → List FolderLock → Type 0
 AddsLock d locks all = (lock : FolderLock) × (all ≡ locks ++ lock ∷ []) × IsLockOf d lock
 
--- where sessions are spooled, the lock is there, and is that of the spools' folder
+-- if sessions are spooled, the lock is there, and is that of the spools' folder
 abbrev pub IsLockOfSpools : Conf → Option FolderLock → Type 0
 IsLockOfSpools conf spools = (folder : List ℕ) → conf.spool ≢ 0 → conf.spool_folder ≡ Some folder
     → IsSomeAnd spools (IsLockAt folder)
@@ -36,21 +36,21 @@ pub record AreLocksOf (conf : Conf) (locks : FolderLocks) : Type 0 where
   pub drives : AllZip IsLockOf conf.drives locks.drives.items
   pub spools : IsLockOfSpools conf locks.spools
 
--- where a folder is locked by another process, it is this one
+-- if a folder is locked by another process, it is this one
 abbrev pub IsFaultAt : List ℕ → ServeFault → Type 0
 IsFaultAt folder (serves.Folder other) = other ≡ folder
 IsFaultAt folder fault = Unit {0}
 
--- where a folder is locked by another process, it is that of one of these drives
+-- if a folder is locked by another process, it is that of one of these drives
 abbrev pub IsFaultAmong : List DriveConf → ServeFault → Type 0
 IsFaultAmong drives (serves.Folder folder) = (d : DriveConf) × Contains drives d × (folder ≡ d.folder)
 IsFaultAmong drives fault = Unit {0}
 
--- where a folder is locked by another process, it is that of the spools, in which sessions are spooled
+-- if a folder is locked by another process, it is that of the spools, in which sessions are spooled
 abbrev pub IsFaultOfSpools : Conf → ServeFault → Type 0
 IsFaultOfSpools conf (serves.Folder folder) = (conf.spool ≢ 0) × (conf.spool_folder ≡ Some folder)
 IsFaultOfSpools conf fault = Unit {0}
 
--- where a folder is locked by another process, it is one that the configuration names
+-- if a folder is locked by another process, it is one that the configuration names
 abbrev pub IsFaultIn : Conf → ServeFault → Type 0
 IsFaultIn conf fault = IsFaultAmong conf.drives fault ⊎ IsFaultOfSpools conf fault

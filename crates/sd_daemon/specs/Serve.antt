@@ -41,19 +41,19 @@ unserved_line serves.Memory = line (serve_text says.NoMemory)
 abbrev pub settle_lines : List ℕ → List ℕ
 settle_lines drives = flat_map (λ (drive : ℕ). line (serve_text (says.Unsettled drive))) drives
 
--- what is printed at this outcome: where clients were served, the lines of the drives that can't be settled; and else one line
+-- what is printed at this outcome: if clients were served, the lines of the drives that can't be settled; else one line
 abbrev pub outcome_lines : Outcome → List ℕ
 outcome_lines (Served unsettled) = settle_lines unsettled.items
 outcome_lines NoFile = line (serve_text says.NoFile)
 outcome_lines (NoConf fault) = fault_line fault
 outcome_lines (NotServed fault) = unserved_line fault
 
--- the status behind talks: 0 where each drive is settled
+-- the status after talks: 0 if each drive is settled
 abbrev pub status_behind : List ℕ → ℕ
 status_behind [] = 0
 status_behind (drive ∷ drives) = 1
 
--- the status: 0 where clients were served, and each drive is settled
+-- the status: 0 if clients were served and each drive is settled
 abbrev pub status_of : Outcome → Bool → ℕ
 status_of (Served unsettled) false = status_behind unsettled.items
 status_of outcome failed = 1
@@ -66,14 +66,14 @@ IsConfOf conf = (text : List ℕ) × Input text (Ok conf)
 abbrev pub IsFaultOf : CheckFault → Type 0
 IsFaultOf fault = (text : List ℕ) × Input text (Err fault)
 
--- A configuration that is refused is refused for what some text holds; where none is served there is one that some text is, and
--- a folder that another process has locked is one that it names.
+-- A configuration that is refused is refused for what some text holds; if none is served, there is one that some text
+-- is, and a folder that another process has locked is one that it names.
 abbrev pub IsOutcomeOf : Outcome → Type 0
 IsOutcomeOf (NoConf fault) = IsFaultOf (Bad fault)
 IsOutcomeOf (NotServed fault) = (conf : Conf) × IsConfOf conf × IsFaultIn conf fault
 IsOutcomeOf outcome = Unit {0}
 
--- A configuration was served, or could not be. What is wrong was printed, or, where the writer failed, a front of that;
+-- A configuration was served, or could not be. What is wrong was printed, or, if the writer failed, a front of that;
 -- nothing else was.
 pub record PrintsServe (said says : SaidView) (status : ℕ) : Type 0 where
   pub outcome : Outcome

@@ -26,7 +26,7 @@ pub record IsUnusedOf (conf : Conf) (time : ℕ) (d : DriveConf) (u : UnusedIs) 
 abbrev pub AreNamed : (ℕ → TableId) → (ℕ → ℕ) → List UnusedIs → Type 0
 AreNamed table time us = (at : ℕ) (u : UnusedIs) → slice_get us at ≡ Some u → (u.table ≡ table (at + 1)) × (u.limits.time ≡ time (at + 1))
 
--- the folder of the spools: the current one where none is named
+-- the folder of the spools: the current one if none is named
 abbrev pub spool_folder_of : Conf → List ℕ
 spool_folder_of conf = unwrap_or conf.spool_folder (codes ".")
 

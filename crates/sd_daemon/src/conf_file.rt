@@ -26,7 +26,7 @@ const FAILED: u8 = 1;
 /// What came of the file of a configuration.
 #[derive(Drop)]
 pub enum Outcome {
-    /// It was served, and these drives could not be settled behind that.
+    /// It was served, and these drives could not be settled after that.
     Served(Vec<DriveNo>),
     /// It can't be read.
     NoFile,
@@ -36,8 +36,9 @@ pub enum Outcome {
     NotServed(ServeFault),
 }
 
-/// Serves clients as the configuration in a file says, and prints a line for each drive that can't be settled behind that; or
-/// prints the line of what is wrong. Answers the status: 0 where clients were served and all drives settled, and else 1.
+/// Serves clients as the configuration in a file says, and prints a line for each drive that can't be settled after
+/// that; or prints the line of what is wrong. Answers the status: 0 if clients were served and all drives settled, and
+/// else 1.
 pub fn serve_file<R: Threads + Wait + Clock + Sync + Copy + Drop, W: Write, L: Write + Send + Drop>(
     rt: &HostRuntime,
     wait: R,

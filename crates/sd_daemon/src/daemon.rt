@@ -44,7 +44,7 @@ pub enum ServeFault {
 /// How long a daemon serves, how long its talks wait, and where its figures are written.
 #[derive(Clone, Copy)]
 pub struct Bounds<'b> {
-    /// After how many talks the daemon ends; 0 where it goes on.
+    /// After how many talks the daemon ends; 0 if it goes on.
     pub talks: u32,
     /// How many seconds a record and a close wait for a volume that their drive needs.
     pub wait: u32,
@@ -97,7 +97,7 @@ struct Run<'d, W, L> {
     log: &'d Log<L>,
 }
 
-// Serves clients over these drives. It is lent the locks of the folders, so that they are let go behind it.
+// Serves clients over these drives. It is lent the locks of the folders, so that they are let go after it.
 fn serve_drives<
     N: Naming + Send + Sync,
     W: Threads + Wait + Clock + Sync + Copy + Drop,

@@ -33,7 +33,7 @@ pub(crate) fn unused_drives<W: Wait + Copy + Drop>(
     unused_of(rt, wait, conf, time, conf.drives.as_slice())
 }
 
-// The same of these drives. Calls itself for those before the last one.
+// These drives for the run of this time, in their order. Calls itself for those before the last one.
 fn unused_of<W: Wait + Copy + Drop>(
     rt: &HostRuntime,
     wait: W,

@@ -119,7 +119,7 @@ impl fmt::Display for Faults<'_> {
     }
 }
 
-/// The same of a drive, without the heading.
+/// How often the device of a drive failed, for each volume, without the heading.
 #[derive(Clone, Copy)]
 struct FaultsOf<'a> {
     name: &'static str,

@@ -18,7 +18,7 @@ use std::time::Clock;
 /// What the talks and workers of a daemon share, whose volumes and spools are files.
 pub(crate) type FileHub<N, W> = Hub<FileDrive<HostRuntime>, N, W, FileSpool<HostRuntime>>;
 
-/// The folder of the spools where a configuration names none, which it may where nothing is spooled.
+/// The folder of the spools if a configuration names none, as it may if nothing is spooled.
 const HERE: &str = ".";
 
 /// What the talks and workers of a daemon share: these drives of its configuration, which are the drives 1, 2 and on, each lane
@@ -63,7 +63,7 @@ fn add_drives<N: Naming, W: Wait + Clock + Copy + Drop>(
     }
 }
 
-// The number of the drive behind so many.
+// The number of the drive after so many.
 fn number_behind(drives: usize) -> Option<DriveNo>
     ensures { IfSome result (λ no. no ≡ drives + 1) }
 {

@@ -15,7 +15,7 @@ use std::io::{self, ErrorKind};
 pub(crate) struct FolderLock {
     // The path of the file that is locked.
     path: String,
-    // The file. None where an earlier lock is the same, or where the folder takes none.
+    // The file. None if an earlier lock is the same, or if the folder takes none.
     file: Option<File>,
 }
 
@@ -24,12 +24,12 @@ pub(crate) struct FolderLock {
 pub(crate) struct FolderLocks {
     // Of the drives 1, 2 and on.
     drives: Vec<FolderLock>,
-    // Of the spools, where sessions are spooled.
+    // Of the spools, if sessions are spooled.
     spools: Option<FolderLock>,
 }
 
 impl FolderLock {
-    // Whether this is the lock at a path, also where that names the folder otherwise.
+    // Whether this is the lock at a path, also if that names the folder otherwise.
     fn is_at(&self, rt: &HostRuntime, path: &str) -> bool {
         if self.path.as_str() == path {
             return true;
@@ -45,7 +45,7 @@ impl FolderLock {
 #[derive(Clone, Copy)]
 struct InUse;
 
-/// Locks the folder of each drive, and that of the spools where sessions are spooled, so that no other daemon serves these
+/// Locks the folder of each drive, and that of the spools if sessions are spooled, so that no other daemon serves these
 /// volumes or writes over these spools. A folder that isn't there, or in which no file can be locked, goes without.
 pub(crate) fn lock_all(rt: &HostRuntime, conf: &Conf) -> Result<FolderLocks, ServeFault>
     ensures locks { IfOk result (AreLocksOf conf.now) }
@@ -137,7 +137,7 @@ fn in_use(alloc: Global, folder: &str) -> ServeFault
     }
 }
 
-// The path of the file that is locked in a folder. A `~` stands in its name, so it is no volume's.
+// The path of the file that is locked in a folder. There is a `~` in its name, so it is no volume's.
 fn path_in(alloc: Global, folder: &str) -> Result<String, AllocError>
     ensures { IfOk result (λ path. string_bytes path ≡ lock_path folder.now) }
 {
@@ -145,14 +145,14 @@ fn path_in(alloc: Global, folder: &str) -> Result<String, AllocError>
     format!(in alloc; "{place}/.lock~")
 }
 
-// A folder by its name, which the current one has too where the text is empty.
+// A folder by its name, which the current one has too if the text is empty.
 fn named(folder: &str) -> &str
     ensures { result.now ≡ folder_named folder.now }
 {
     if folder.is_empty() { "." } else { folder }
 }
 
-// The file at a path, locked, beside earlier locks. None where one of those is the same, or where no file can be had or
+// The file at a path, locked, beside earlier locks. None if one of those is the same, or if no file can be had or
 // locked there.
 fn lock_at(rt: &HostRuntime, path: &str, locks: &[FolderLock]) -> Result<Option<File>, InUse> {
     for lock in locks {
@@ -170,7 +170,7 @@ fn lock_at(rt: &HostRuntime, path: &str, locks: &[FolderLock]) -> Result<Option<
     }
 }
 
-// The file at a path, made where there is none.
+// The file at a path, made if there is none.
 fn open_at(rt: &HostRuntime, path: &str) -> io::Result<File> {
     match sd_file::make(rt, path) {
         Ok(file) => Ok(file),

@@ -62,7 +62,7 @@ pub(crate) trait FiguresWriter: Sync {
     fn end(&self);
 }
 
-/// Starts a thread for the figures, where they are asked for. Whether it could be made.
+/// Starts a thread for the figures, if they are asked for. Whether it could be made.
 pub(crate) fn start_writer<'s, E, K: FiguresWriter>(scope: &Scope<'s, E>, writer: &'s K) -> bool {
     if !writer.is_asked() {
         return true;
@@ -97,7 +97,8 @@ impl<N: Naming + Send + Sync, W: Wait + Clock + Sync + Copy + Drop, L: Write + S
 }
 
 impl<N: Naming, W: Wait + Clock + Copy + Drop, L: Write> FileTalks<'_, N, W, L> {
-    // Writes the figures as they are now. Where that can't be, and could be the last time, the log is told. Whether it could.
+    // Writes the figures as they are now. If that can't be, and could be the last time, the log is told. Whether it
+    // could.
     fn write_to(&self, file: &str, could: bool) -> bool {
         let can = self.try_write_to(file).is_ok();
         if could && !can {

@@ -46,7 +46,7 @@ impl<N: Naming + Send + Sync, W: Wait + Clock + Sync + Copy + Drop, L: Write + S
 }
 
 impl<N: Naming, W: Wait + Drop, L> FileTalks<'_, N, W, L> {
-    // A device for each drive. Where there is no memory for them, sessions are read by the drives themselves.
+    // A device for each drive. If there is no memory for them, sessions are read by the drives themselves.
     fn readers(&self) -> Vec<FileDrive<HostRuntime>> {
         match devices_of(self.rt, self.conf.drives.as_slice()) {
             Ok(devices) => devices,

@@ -8,9 +8,9 @@ use std::thread;
 use std::thread::Threads;
 use std::time::Clock;
 
-/// Holds so many talks, while a worker works for each drive, and a thread writes the figures where they are asked for. Ends once
-/// all talks have ended, all that could be placed is placed, and the last figures are written. Where no thread can be made for
-/// a worker or for the figures no talk is held, and the answer is no.
+/// Holds so many talks, while a worker works for each drive, and a thread writes the figures if they are asked for.
+/// Ends once all talks have ended, all that could be placed is placed, and the last figures are written. If no thread
+/// can be made for a worker or for the figures, no talk is held, and the answer is no.
 pub(crate) fn hold_talks<
     W: Threads + Wait + Clock + Sync,
     K: TalkHolder + DriveWorker + FiguresWriter,

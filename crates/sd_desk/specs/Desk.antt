@@ -22,7 +22,7 @@ claims_of entries = map (λ e. (string_bytes e.0, e.1)) entries
 abbrev pub claim_of : DeskView → List ℕ → Option Claim
 claim_of desk name = lookup (is_at (slice_cmp nat_cmp name)) desk.claims
 
--- the drive at which a name is, where it is claimed
+-- the drive at which a name is, if it is claimed
 abbrev pub claimed_by : DeskView → List ℕ → Option ℕ
 claimed_by desk name = option_map (λ (c : Claim). c.drive) (claim_of desk name)
 

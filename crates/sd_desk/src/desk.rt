@@ -44,7 +44,7 @@ impl Desk {
         }
     }
 
-    /// The drive at which the volume is, where its name is claimed.
+    /// The drive at which the volume is, if its name is claimed.
     pub fn drive_of(&self, name: &VolName) -> Option<DriveNo>
         ensures { result ≡ claimed_by self.now name.now }
     {
@@ -61,7 +61,7 @@ impl Desk {
         }
     }
 
-    /// Notes that the volume was purged, where its name is claimed; takes no memory.
+    /// Notes that the volume was purged, if its name is claimed; takes no memory.
     pub fn purged(&mut self, name: &VolName)
         ensures noted { claim_of self.new name.now ≡ option_map purged_claim
             (claim_of self.old name.now) }
@@ -152,6 +152,6 @@ impl Desk {
 pub enum ClaimFault {
     /// It is claimed.
     AlreadyLabelled,
-    /// Memory was wanted.
+    /// It was out of memory.
     Memory,
 }

@@ -49,7 +49,7 @@ cond_none : (b : Bool) (x : ℕ) → cond b (Some x) None ≡ None → b ≡ fal
 cond_none true x e = cc
 cond_none false x e = refl
 
--- where there is none, no volume has it
+-- if there is none, no volume has it
 pub place_none : (vs : List VolumeView) (name : List ℕ) → index_of vs name ≡ None → (at : ℕ) → slice_get (names vs) at ≢ Some name
 place_none vs name none at there =
     let p : VolumeView → Bool = λ v. bytes_eq v.name name in

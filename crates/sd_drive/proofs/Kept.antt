@@ -1,4 +1,4 @@
--- What a drive keeps where its volumes and its journal change.
+-- What a drive keeps when its volumes and its journal change.
 use Rattle.std.proofs.Common.{◌≡◌, inl, inr, ℕ, ◌≤◌, ◌<◌, List, [], ◌∷◌, ◌++◌, length, map, ap, sym, subst, Option, Some, None, ◌∙◌, arith, slice_get, slice_set}
 use Rattle.std.specs.Prelude.{IsTrue, IfSome}
 use Rattle.std.specs.List.{AllByRecursion}
@@ -18,7 +18,7 @@ use Rattle.sd_drive.proofs.Stays.{AllStand, laid_stand}
 pub still : (old new : Meaning) → new.honest ≡ old.honest → IsHonest new → IsHonest old
 still old new e h = subst IsTrue e h
 
--- each volume of a drive with an honest device stands on the shelf
+-- each volume of a drive with an honest device is on the shelf
 pub kept_stand : (device : Meaning) (vs : List VolumeView) (l : Option ℕ) (js : List Entry) → Kept device vs l js → IsHonest device → AllStand device.shelf vs
 kept_stand device vs l js k honest = laid_stand device.shelf (live js) vs (k.laid honest)
 

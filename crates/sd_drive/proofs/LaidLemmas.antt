@@ -1,4 +1,4 @@
--- How the blocks of volumes are laid out where volumes and placements change.
+-- How the blocks of volumes are laid out when volumes and placements change.
 use Rattle.std.proofs.Common.{◌≡◌, ◌≢◌, inl, inr, ℕ, ◌+◌, Bool, true, false, if◌then◌else◌, List, [], ◌∷◌, ◌++◌, length, map, take, drop, refl, ap, sym, subst, Some, ◌∙◌, arith, slice_get, slice_set}
 use Rattle.std.proofs.lemmas.List.{map-append, append_assoc, append-nil}
 use Rattle.std.specs.List.{AllByRecursion}
@@ -94,7 +94,7 @@ blocks_on_same old new name held there same (p ∷ ps) = from (bytes_eq p.volume
         ap (map (block_at new)) (on_if name p ps true is) ∙ ap (λ b. b ∷ blocks_on new name ps) h ∙ ap (λ l. block_at old p ∷ l) r ∙ sym (ap (map (block_at old)) (on_if name p ps true is))
     from false is r = ap (map (block_at new)) (on_if name p ps false is) ∙ r ∙ sym (ap (map (block_at old)) (on_if name p ps false is))
 
--- they stay where all blocks at placements do
+-- they stay if all blocks at placements do
 pub blocks_on_by : (f g : Placement → Block) (name : List ℕ) (ps : List Placement) → map f ps ≡ map g ps → map f (placements_on name ps) ≡ map g (placements_on name ps)
 blocks_on_by f g name [] same = refl
 blocks_on_by f g name (p ∷ ps) same =
@@ -176,7 +176,7 @@ laid_shut shelf ps v w status is shut s =
       lie = s.lie;
     })
 
--- its placements are the same of other ones
+-- its placements among other ones are the same
 pub laid_by : (shelf : Shelf) (ps qs : List Placement) (v : VolumeView) → placements_on v.name qs ≡ placements_on v.name ps → IsLaidOut shelf ps v → IsLaidOut shelf qs v
 laid_by shelf ps qs v same s =
     let P : List Placement → Type 0 = λ l. StandsOn v shelf s.label (s.earlier ++ map (block_at shelf) l) s.tail in

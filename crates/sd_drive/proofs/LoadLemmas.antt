@@ -37,7 +37,7 @@ is_not_there NoRoom e = cc
 is_not_there Device e = cc
 is_not_there Memory e = cc
 
--- a volume of the drive stands on the shelf
+-- a volume of the drive is on the shelf
 pub on_shelf : (shelf : Shelf) (vs : List VolumeView) (at : ℕ) (name : List ℕ) → AllStand shelf vs → (v : VolumeView) × (slice_get vs at ≡ Some v) × (v.name ≡ name) → shelf.volume name ≢ None
 on_shelf shelf vs at name stand there none =
     let s = stand at there.0 there.1 in

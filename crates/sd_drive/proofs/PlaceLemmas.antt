@@ -28,7 +28,7 @@ use Rattle.sd_drive.proofs.Kept.{still, kept_stand, all_more, all_as, lies_set, 
 
 -- ---- a block that was not placed
 
--- what stood before it on each volume stands
+-- what lay before it on each volume stays
 fronts_not_placed : (old new : Meaning) (vs : List VolumeView) (js : List Entry) (at : ℕ) (v w : VolumeView)
     → Kept old vs (Some at) js → slice_get vs at ≡ Some v → w.name ≡ v.name
     → (IsHonest old → KeepsBlocks v old.shelf w new.shelf)
@@ -79,7 +79,7 @@ placed_there old new v w piece p takes s adds name is =
     let body : drop 24 (image_at new q) ≡ piece.body.bytes = ap (drop 24) image ∙ body_of_image most_block _ piece.key (1 + length s.blocks) piece.body.bytes stands in
     ap (block_at new) is ∙ ap (λ (b : List ℕ). record { key = piece.key; body = b }) body
 
--- what stood before it on each volume stands
+-- what lay before it on each volume stays
 fronts_placed : (old new : Meaning) (vs : List VolumeView) (js : List Entry) (at : ℕ) (v w : VolumeView) (piece : Piece)
     → Kept old vs (Some at) js → slice_get vs at ≡ Some v → v.status ≡ status.Append → w.name ≡ v.name
     → (IsHonest old → AddsBlock (block_of_piece piece) v old.shelf w new.shelf)

@@ -39,7 +39,7 @@ get_front [] ys at x there = cc
 get_front (z ∷ zs) ys zero x there = there
 get_front (z ∷ zs) ys (suc at) x there = get_front zs ys at x there
 
--- what stands at a place of a list with one more at its end: one that stood there, or the one more
+-- what is at a place of a list with one more at its end: one that was there, or the one more
 pub record IsLast {A : Type 0} (xs : List A) (at : ℕ) (x y : A) : Type 0 where
   pub place : at ≡ length xs
   pub value : x ≡ y

@@ -81,7 +81,7 @@ purged_others name other (e ∷ es) apart =
         placements_on-append other (e.placement ∷ []) (live (purged name es)) ∙ ap (λ l. placements_on other (e.placement ∷ []) ++ l) r
         ∙ sym (placements_on-append other (e.placement ∷ []) (live es))
 
--- where all other volumes are as they were, so are the blocks that are left
+-- if all other volumes are as they were, so are the blocks that are left
 purged_blocks : (old new : Shelf) (name : List ℕ) (js : List Entry) → ((other : List ℕ) → other ≢ name → new.volume other ≡ old.volume other) → AllByRecursion (SameBlock old new) (purged name js)
 purged_blocks old new name [] others = tt
 purged_blocks old new name (e ∷ es) others = (
@@ -133,7 +133,7 @@ kept_purged old new vs l js js' at v w s k none there is journal honest loaded m
       safe = λ h. (let o = still old new honest h in purged_safe v.first old.shelf new.shelf v.name js (others o) moment below (k.safe o));
     })
 
--- the same where nothing was purged
+-- with none loaded, and nothing purged
 pub kept_unpurged : (old new : Meaning) (vs : List VolumeView) (l : Option ℕ) (js js' : List Entry) (at : ℕ) (v w : VolumeView)
     → Kept old vs l js → l ≡ None → slice_get vs at ≡ Some v → w ≡ v → js' ≡ js → new.honest ≡ old.honest → new.loaded ≡ None → old.shelf.moment ≤ new.shelf.moment
     → StillLasts old.shelf new.shelf → (IsHonest old → SameShelf old.shelf new.shelf) → Kept new (slice_set vs at w) l js'

@@ -1,4 +1,4 @@
--- Blocks at placements stay where the bytes before the end of their volumes' blocks do.
+-- Blocks at placements stay if the bytes before the end of their volumes' blocks do.
 use Rattle.std.proofs.Common.{◌≡◌, ◌≢◌, inl, inr, ℕ, zero, suc, ◌+◌, ◌≤◌, Bool, true, false, if◌then◌else◌, List, [], ◌∷◌, ◌++◌, length, take, drop, map, refl, ap, ap₂, sym, subst, Option, Some, None, ◌∙◌, arith, length-append, slice_get}
 use Rattle.std.proofs.lemmas.List.{length-take, append-nil}
 use Rattle.std.specs.List.{AllByRecursion}
@@ -15,7 +15,7 @@ use Rattle.sd_driver.proofs.Lasting.{BeginsWith-length}
 use Rattle.sd_drive.specs.Shelf.{bytes_at, image_at, block_at, block_of_entry, blocks_on, IsSafe, IsSafeIfSynced, LiesOn, AreLaidOut, NamesDiffer}
 use Rattle.sd_drive.proofs.Places.{some_is, place_cases, other_name}
 
--- ---- a part of a list that stands before a place
+-- ---- a part of a list that lies before a place
 
 pub part_before : {A : Type 0} (to start count : ℕ) (xs ys : List A) → start + count ≤ to → take to ys ≡ take to xs → take count (drop start ys) ≡ take count (drop start xs)
 part_before to zero zero xs ys le same = refl
@@ -44,7 +44,7 @@ part_before (suc to) (suc start) count (x ∷ xs) (y ∷ ys) le same = part_befo
 
 -- ---- a volume on a shelf
 
--- the volume stands on the shelf: its label block, its blocks, and a tail only where it takes no more
+-- the volume is on the shelf: its label block, its blocks, and a tail only if it takes no more
 pub record Stands (shelf : Shelf) (v : VolumeView) : Type 0 where
   pub label : VolumeLabel
   pub blocks : List Block
@@ -121,7 +121,7 @@ take_less (suc less) zero xs le = absurd (omega arith)
 take_less (suc less) (suc more) [] le = refl
 take_less (suc less) (suc more) (x ∷ xs) le = ap (λ l. x ∷ l) (take_less less more xs (omega arith))
 
--- a volume that stands there with the same blocks, or with more behind them
+-- a volume that is there with the same blocks, or with more after them
 front_behind : (old new : Shelf) (v w : VolumeView) (label : VolumeLabel) (blocks all : List Block) (more tail : List ℕ) → IsFront old v label blocks → StandsOn w new label all tail
     → w.name ≡ v.name → label_and_blocks label all ≡ label_and_blocks label blocks ++ more → KeepsFront old new v
 front_behind old new v w label blocks all more tail f s name parted =
@@ -160,7 +160,7 @@ AllKeepFronts old new vs = (at : ℕ) (v : VolumeView) → slice_get vs at ≡ S
 pub fronts_same : (old new : Shelf) (vs : List VolumeView) → AllStand old vs → ((at : ℕ) (v : VolumeView) → slice_get vs at ≡ Some v → SameBytes old new v.name) → AllKeepFronts old new vs
 fronts_same old new vs stand same = λ at v there. front_same old new v (same at v there) (stand at v there)
 
--- where all but one keep their bytes
+-- if all but one keep their bytes
 pub fronts_but : (old new : Shelf) (vs : List VolumeView) (at : ℕ) (v : VolumeView) → NamesDiffer vs → AllStand old vs → slice_get vs at ≡ Some v → KeepsFront old new v
     → ((other : List ℕ) → other ≢ v.name → SameBytes old new other) → AllKeepFronts old new vs
 fronts_but old new vs at v differ stand there own others = λ place x here. elim (place_cases place at) [

@@ -101,7 +101,7 @@ settled_none mark name (e ∷ es) quiet =
     second true b h = cc
     second false b h = h
 
--- where no entry awaits a sync of the loaded volume, none is unsynced
+-- if no entry awaits a sync of the loaded volume, none is unsynced
 pub none_unsynced : (loaded : Option (List ℕ)) (es : List Entry) → option_map_or (λ name. any_awaits_sync name es) loaded false ≡ false → AllByRecursion (IsOnLoaded loaded) es → AllByRecursion (λ e. e.mark ≢ mark.Unsynced) es
 none_unsynced None [] quiet on = on
 none_unsynced None (e ∷ es) quiet on = (λ u. absurd (cc (on.0 u)), none_unsynced None es refl on.1)
@@ -177,7 +177,7 @@ settled_is m vs l js at v is there = ap (λ o. settled_on m o js) (loaded_name_i
 pub awaits_is : (vs : List VolumeView) (l : Option ℕ) (js : List Entry) (at : ℕ) (v : VolumeView) → l ≡ Some at → slice_get vs at ≡ Some v → option_map_or (λ name. any_awaits_sync name js) (name_loaded vs l) false ≡ any_awaits_sync v.name js
 awaits_is vs l js at v is there = ap (λ o. option_map_or (λ name. any_awaits_sync name js) o false) (loaded_name_is vs l at v is there)
 
--- the loaded volume, which stands at its place
+-- the loaded volume, which is at its place
 pub loaded_read : (vs : List VolumeView) (l : Option ℕ) (at : ℕ) (v : VolumeView) → IfSome l (λ n. n < length vs) → l ≡ Some at → v ≡ get_or vs at v → slice_get vs at ≡ Some v
 loaded_read vs l at v within is read =
     let P : Option ℕ → Type 0 = λ o. IfSome o (λ n. n < length vs) in

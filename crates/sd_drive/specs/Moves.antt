@@ -64,7 +64,7 @@ next_placement piece volume = record {
   last = piece.body.last;
 }
 
--- a volume with this piece's block behind its blocks
+-- a volume with this piece's block after its blocks
 abbrev pub with_block : Piece → VolumeView → VolumeView
 with_block piece volume =
     record volume { end = volume.end + block_length piece; next_number = volume.next_number + 1 }
@@ -111,7 +111,7 @@ pub record PlacesPiece {D E : Type 0} (result : Result Placed E) (old new : Driv
     ready = new.ready;
   }
 
--- what a place does: it is idle exactly with an empty hand; else it needs a volume exactly where none is loaded that
+-- what a place does: it is idle exactly with an empty hand; else it needs a volume exactly if none is loaded that
 -- takes blocks of the drive's pool; else it places the piece, or not
 abbrev pub Places : {D E : Type 0} → Result Placed E → DriveIs D → DriveIs D → Type 0
 Places (Ok (At p)) old new = PlacesPiece {E = Unit {0}} (Ok (At p)) old new
@@ -139,7 +139,7 @@ awaits_sync d = option_map_or (λ name. any_awaits_sync name d.journal) (name_lo
 abbrev pub synced_journal : {D : Type 0} → DriveIs D → List Entry
 synced_journal d = settled_on mark.Synced (name_loaded d.volumes d.loaded) d.journal
 
--- how many syncs the drive's device is asked for to have no block await one: one where some does
+-- how many syncs the drive's device is asked for to have no block await one: one if some does
 abbrev pub sync_calls : {D : Type 0} → DriveIs D → ℕ
 sync_calls d = if awaits_sync d then 1 else 0
 
@@ -176,7 +176,7 @@ abbrev pub is_append : VolumeStatus → Bool
 is_append status.Append = true
 is_append status = false
 
--- the loaded volume stands at this place
+-- the loaded volume is at this place
 abbrev pub is_at : Option ℕ → ℕ → Bool
 is_at loaded at = option_map_or (λ place. place == at) loaded false
 
@@ -184,7 +184,7 @@ is_at loaded at = option_map_or (λ place. place == at) loaded false
 abbrev pub is_other_pool : Option (List ℕ) → List ℕ → Bool
 is_other_pool own pool = option_map_or (λ name. not (bytes_eq name pool)) own false
 
--- which refusal is due where this volume, at this place, is to be mounted, with that one loaded and of that pool
+-- which refusal is due if this volume, at this place, is to be mounted, with that one loaded and of that pool
 abbrev pub mount_due_at : Option ℕ → Option (List ℕ) → ℕ → VolumeView → Option Refusal
 mount_due_at loaded pool at v =
     if is_append v.status
@@ -200,7 +200,8 @@ mount_due d name = option_map_or
     (λ at. option_map_or (mount_due_at d.loaded d.pool at) (slice_get d.volumes at) (Some refusal.VolumeNotOnShelf))
     (index_of d.volumes name) (Some refusal.VolumeNotOnShelf)
 
--- the refusal that a device's answer to a load is; no load is answered that the name stands already, or that there is no room
+-- the refusal that a device's answer to a load is; no load is answered that the name is there already, or that there is
+-- no room
 abbrev pub load_refusal : DriverFault → Refusal
 load_refusal driver.NotThere = refusal.VolumeNotOnShelf
 load_refusal driver.Exists = refusal.DeviceFault
@@ -213,8 +214,8 @@ abbrev pub RefusesLoad : Refusal → Type 0
 RefusesLoad fault =
     (fault ≡ refusal.VolumeNotOnShelf) ⊎ (fault ≡ refusal.DeviceFault) ⊎ (fault ≡ refusal.Memory)
 
--- what a mount that isn't refused at once does: the loaded volume is synced and out, and the other is in. Where the sync
--- fails, so does the mount; where the other isn't loaded, none is.
+-- what a mount that isn't refused at once does: the loaded volume is synced and out, and the other is in. If the sync
+-- fails, so does the mount; if the other isn't loaded, none is.
 abbrev pub Mounts : {D T : Type 0} → ℕ → Result T Refusal → DriveIs D → DriveIs D → Type 0
 Mounts at (Ok done) old new =
     new ≡ record old { device = new.device; loaded = Some at; journal = synced_journal old }
@@ -251,7 +252,7 @@ AddsNone old new = new ≡ record old { device = new.device }
 abbrev pub label_of : Option (List ℕ) → List ℕ → List ℕ → List ℕ → ℤ → VolumeLabel
 label_of host name pool media moment = record { name = name; pool = pool; media = media; moment = moment; host = host }
 
--- What an adoption that isn't refused at once adds: a volume of that name and of the drive's media, which is full where it
+-- What an adoption that isn't refused at once adds: a volume of that name and of the drive's media, which is full if it
 -- ends at the limit or past it. With an honest device: the volume was there, and was cut where its blocks end.
 pub record AdoptsVolume {D : Type 0} (name : List ℕ) (answer : Adopted) (device device' : Meaning) (old new : DriveIs D) : Type 0 where
   pub volume : VolumeView
@@ -270,7 +271,7 @@ abbrev pub is_full : VolumeStatus → Bool
 is_full status.Full = true
 is_full status = false
 
--- which refusal is due where this volume is to be purged, with that one loaded
+-- which refusal is due if this volume is to be purged, with that one loaded
 abbrev pub purge_due_at : Option ℕ → VolumeView → Option Refusal
 purge_due_at loaded v =
     if is_full v.status then if is_some loaded then Some refusal.InUse else None else Some refusal.VolumeNotFull
@@ -279,7 +280,7 @@ purge_due_at loaded v =
 abbrev pub purge_due : {D : Type 0} → DriveIs D → List ℕ → Option Refusal
 purge_due d name = option_map_or (purge_due_at d.loaded) (option_and_then (slice_get d.volumes) (index_of d.volumes name)) (Some refusal.VolumeNotOnShelf)
 
--- the volume, which stands at this place, has no block and this status now, and the blocks of all entries on it are gone
+-- the volume, which is at this place, has no block and this status now, and the blocks of all entries on it are gone
 abbrev pub EmptiesVolume : {D : Type 0} → ℕ → VolumeView → VolumeStatus → DriveIs D → DriveIs D → Type 0
 EmptiesVolume at volume status old new = new ≡ record old {
   device = new.device;
@@ -287,17 +288,17 @@ EmptiesVolume at volume status old new = new ≡ record old {
   journal = purged volume.name old.journal;
 }
 
--- What a purge that isn't refused at once does to the volume at this place: it is emptied, and takes blocks again. Where the
--- device fails it is emptied too, and takes none; where it isn't loaded, or memory is wanted, nothing changes.
+-- What a purge that isn't refused at once does to the volume at this place: it is emptied, and takes blocks again. If
+-- the device fails, it is emptied too, and takes none; if it isn't loaded, or if out of memory, nothing changes.
 abbrev pub Purges : {D T : Type 0} → ℕ → VolumeView → Result T Refusal → DriveIs D → DriveIs D → Type 0
 Purges at volume (Ok done) old new = EmptiesVolume at volume status.Append old new
 Purges at volume (Err fault) old new =
     ((fault ≡ refusal.DeviceFault) × EmptiesVolume at volume status.Error old new)
     ⊎ (((fault ≡ refusal.VolumeNotOnShelf) ⊎ (fault ≡ refusal.Memory)) × AddsNone old new)
 
--- What such a purge of the volume of this name, which stands at this place, does: the volume is emptied, or not, by the
--- answer. What lasted of all other volumes still lasts, and so does its label block; and where the purge succeeds, an honest
--- device has cut it there.
+-- What such a purge of the volume of this name, which is at this place, does: the volume is emptied, or not, by the
+-- answer. What lasted of all other volumes still lasts, and so does its label block; and if the purge succeeds, an
+-- honest device has cut it there.
 pub record PurgesAt {D T : Type 0} (name : List ℕ) (at : ℕ) (result : Result T Refusal) (device device' : Meaning)
     (old new : DriveIs D) : Type 0 where
   pub volume : VolumeView
@@ -307,7 +308,7 @@ pub record PurgesAt {D T : Type 0} (name : List ℕ) (at : ℕ) (result : Result
   pub below : StillLastsBelow volume.first name device.shelf device'.shelf
   pub cuts : IsHonest device → OnOk result (CutsAt volume.first name device.shelf device'.shelf)
 
--- what a purge leaves of the pieces given: where it emptied the volume, by its answer, its blocks are gone
+-- what a purge leaves of the pieces given: if it emptied the volume, by its answer, its blocks are gone
 abbrev pub KeepsPurging : {T : Type 0} → Result T Refusal → (name : List ℕ) → (old new : Meaning)
     → List Entry → Option Piece → Type 0
 KeepsPurging (Ok done) name old new journal hand = KeepsPieces old new (purged name journal) (purged name journal) hand hand

@@ -8,7 +8,7 @@ use Rattle.sd_drive.specs.declared.place.Placed.{Placed}
 use Rattle.sd_drive.specs.declared.place.Placed.TheVariants.{At, NeedVolume, VolumeFull, VolumeError, Idle}
 use Rattle.sd_drive.specs.View.{block_of_piece}
 
--- where the piece was placed, its block stands behind the others; else the others stand as they did
+-- if the piece was placed, its block comes after the others; else the others are as they were
 abbrev pub PlacesAt : {E : Type 0} → Result Placed E → Piece → VolumeView → Shelf → VolumeView → Shelf → Type 0
 PlacesAt (Ok (At p)) piece v old after new = AddsBlock (block_of_piece piece) v old after new
 PlacesAt (Ok NeedVolume) piece v old after new = KeepsBlocks v old after new

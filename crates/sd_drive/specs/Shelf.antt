@@ -15,20 +15,20 @@ use Rattle.sd_volume.specs.Image.{Block, volume_end}
 use Rattle.sd_volume.specs.Volume.{VolumeView, StandsOn}
 use Rattle.sd_drive.specs.View.{names, name_loaded, items, block_of_piece}
 
--- the bytes of a volume at a place, none where there is no volume
+-- the bytes of a volume at a place, none if there is no volume
 abbrev pub bytes_at : Option Held → ℕ → ℕ → List ℕ
 bytes_at None start count = []
 bytes_at (Some held) start count = take count (drop start held.bytes)
 
--- the bytes that stand at a placement
+-- the bytes at a placement
 abbrev pub image_at : Shelf → Placement → List ℕ
 image_at shelf p = bytes_at (shelf.volume p.volume) p.start p.length
 
--- the block that stands at a placement: its body is read off the shelf
+-- the block at a placement: its body is read off the shelf
 abbrev pub block_at : Shelf → Placement → Block
 block_at shelf p = record { key = p.key; body = drop block_header (image_at shelf p) }
 
--- the block at the placement of an entry; none where it is gone
+-- the block at the placement of an entry; none if it is gone
 abbrev pub block_of_entry : Shelf → Entry → Option Block
 block_of_entry shelf e = if is_purged e.mark then None else Some (block_at shelf e.placement)
 
@@ -46,7 +46,7 @@ pub record IsSafe (shelf : Shelf) (p : Placement) : Type 0 where
   pub past : since ≤ shelf.moment
   pub lasts : Lasts since p.volume (take (p.start + p.length) held.bytes) shelf
 
--- where the entry's block is synced, it is safe
+-- if the entry's block is synced, it is safe
 abbrev pub IsSafeIfSynced : Shelf → Entry → Type 0
 IsSafeIfSynced shelf e = e.mark ≡ Synced → IsSafe shelf e.placement
 
@@ -90,7 +90,7 @@ pub record LiesOn (volumes : List VolumeView) (e : Entry) : Type 0 where
   pub name_is : e.placement.volume ≡ volume.name
   pub within : is_purged e.mark ≡ false → e.placement.start + e.placement.length ≤ volume.end
 
--- where the entry isn't synced yet, its volume is the loaded one
+-- if the entry isn't synced yet, its volume is the loaded one
 abbrev pub IsOnLoaded : Option (List ℕ) → Entry → Type 0
 IsOnLoaded loaded e = e.mark ≡ Unsynced → loaded ≡ Some e.placement.volume
 
@@ -101,7 +101,7 @@ NamesDiffer volumes = (at other : ℕ) (name : List ℕ)
 
 -- What a drive keeps, whatever its calls answer. Always: the device has that volume loaded which the drive says, one of
 -- its own; no two volumes have one name; every block of the journal that isn't gone lies on one of them, and those not
--- synced yet on the loaded one. While the device is honest: each volume stands on the shelf, and since it came to the
+-- synced yet on the loaded one. While the device is honest: each volume is on the shelf, and since it came to the
 -- drive, or was purged, the blocks of the journal alone were added there, in its order; and those that are synced last.
 pub record Kept (device : Meaning) (volumes : List VolumeView) (loaded : Option ℕ) (journal : List Entry) : Type 0 where
   pub tied : device.loaded ≡ name_loaded volumes loaded

@@ -26,7 +26,7 @@ pub struct Adopted {
 
 impl<D: Driver> Drive<D> {
     /// Takes over a volume that an earlier run left, which is not loaded then. The refusals, in this order: already
-    /// labelled, where the drive has a volume of that name; in use, while a volume is loaded. They change nothing. Then
+    /// labelled, if the drive has a volume of that name; in use, while a volume is loaded. They change nothing. Then
     /// as `sd_volume::adopt`. Takes the memory for its list of volumes before it calls the device.
     pub fn adopt(&mut self, name: &VolName) -> Result<Adopted, Refusal>
         ensures refused { (fault : SpecRefusal) → adopt_due self.old name.now ≡ Some fault
@@ -92,7 +92,7 @@ impl<D: Driver> Drive<D> {
         Ok(())
     }
 
-    // Adopts a volume, where none is loaded and none has its name.
+    // Adopts a volume, if none is loaded and none has its name.
     fn add_adopted(&mut self, name: &VolName) -> Result<Adopted, Refusal>
         requires loaded { self.old.loaded ≡ None }
         requires fresh { (at : ℕ) → slice_get (names self.old.volumes) at ≢ Some name.now }

@@ -40,7 +40,7 @@ pub struct Drive<D: Driver> {
     pub(crate) journal: Journal,
 }
 
-/// A device that no drive was made of, for want of memory.
+/// A device that no drive was made of, because it was out of memory.
 #[derive(Drop)]
 pub struct NotMade<D> {
     pub driver: D,
@@ -74,7 +74,7 @@ impl<D: Driver> Model for Drive<D> {
 
 impl<D: Driver> Drive<D> {
     /// A drive with no volume, which served no session yet. Unloads the device; what an honest one answers to that shows
-    /// that a stop before left what was stable. Where memory is wanted the device comes back.
+    /// that a stop before left what was stable. If out of memory, the device comes back.
     #[tactic(auto, using(crate::proofs::StableLemmas::shown_by_unload))]
     pub fn new(
         alloc: Global,
@@ -192,7 +192,7 @@ impl<D: Driver> Drive<D> {
         self.hand.as_ref()
     }
 
-    /// Makes room for a session's next placement early, so that memory is wanted where the session is opened.
+    /// Makes room for a session's next placement early, so that memory is needed when the session is opened.
     pub fn ready(&mut self, key: SessionKey) -> Result<(), AllocError>
         ensures ok { OnOk result (self.new ≡ record self.old {
           ready = with_key key self.old.ready;

@@ -20,8 +20,8 @@ use sd_volume::label_new;
 
 impl<D: Driver> Drive<D> {
     /// Labels a new volume, which is not loaded; its label says the drive's host, if there is one. The refusals, in this
-    /// order: other media than the drive's; in use, while a volume is loaded; already labelled, where the drive has a
-    /// volume of that name. They change nothing. Then as `label_new`: already labelled, where the name stands on the
+    /// order: other media than the drive's; in use, while a volume is loaded; already labelled, if the drive has a
+    /// volume of that name. They change nothing. Then as `label_new`: already labelled, if the name is on the
     /// shelf; no room; device fault. Takes the memory for its list of volumes before it calls the device.
     pub fn label(
         &mut self,
@@ -96,7 +96,7 @@ impl<D: Driver> Drive<D> {
         Ok(())
     }
 
-    // Labels a new volume, where none is loaded and none has its name.
+    // Labels a new volume, if none is loaded and none has its name.
     fn add_new(&mut self, label: &VolumeLabel) -> Result<(), Refusal>
         requires loaded { self.old.loaded ≡ None }
         requires fresh { (at : ℕ) → slice_get (names self.old.volumes) at ≢ Some label.now.name }

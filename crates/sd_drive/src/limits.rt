@@ -3,14 +3,14 @@ ghost use Rattle.std.specs.Prelude.{◌≡◌};
 
 use sd_base::HostName;
 
-/// The limits that hold for a drive, and the run that it is of. What each may be stands in `AreLimits`.
+/// The limits that hold for a drive, and the run that it is of. `AreLimits` says what each may be.
 #[derive(Drop)]
 pub struct Limits {
     /// The most bytes of a block, its header included: 1,024 to 1,048,576.
     pub block: usize,
     /// The most bytes of a volume: at least those of two blocks, at most `sd_base::MOST_VOLUME`.
     pub volume: u64,
-    /// The most bytes of a session's spool: 0 where there is none, else at least those of a block, and at most
+    /// The most bytes of a session's spool: 0 if there is none, else at least those of a block, and at most
     /// `sd_base::MOST_VOLUME`.
     pub spool: u64,
     /// The time of the run, in seconds: 1 to 2,147,483,647.
@@ -20,7 +20,7 @@ pub struct Limits {
 }
 
 impl Limits {
-    /// The same limits; takes no memory.
+    /// A copy of these limits; takes no memory.
     pub fn copy(&self) -> Limits
         ensures { result ≡ self.now }
     {

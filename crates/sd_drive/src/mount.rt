@@ -14,9 +14,9 @@ use sd_driver::{Driver, DriverFault};
 use sd_volume::{Volume, VolumeStatus};
 
 impl<D: Driver> Drive<D> {
-    /// Loads the volume of that name in place of the one that is loaded, whose blocks are made to last first. Where
-    /// that fails, the mount does. Where the load fails, no volume is loaded. The refusals, in this order: not on the
-    /// shelf, where the drive has no such volume; in use, where it is loaded and takes blocks; not appendable; other
+    /// Loads the volume of that name in place of the one that is loaded, whose blocks are made to last first. If
+    /// that fails, so does the mount. If the load fails, no volume is loaded. The refusals, in this order: not on the
+    /// shelf, if the drive has no such volume; in use, if it is loaded and takes blocks; not appendable; other
     /// pool than the drive's. They change nothing. Calls sync, if a block awaits it, unload and load, in this order.
     pub fn mount(&mut self, name: &VolName) -> Result<(), Refusal>
         ensures refused { (fault : SpecRefusal) → mount_due self.old name.now ≡ Some fault
@@ -44,7 +44,7 @@ impl<D: Driver> Drive<D> {
         self.load(at, name)
     }
 
-    // The place of the volume of that name, where it may be mounted.
+    // The place of the volume of that name, if it may be mounted.
     fn mountable(&self, name: &VolName) -> Result<usize, Refusal>
         ensures due { IfErr result (λ fault. mount_due self.now name.now ≡ Some fault) }
         ensures none { OnOk result (mount_due self.now name.now ≡ None) }
@@ -61,7 +61,7 @@ impl<D: Driver> Drive<D> {
         }
     }
 
-    // Loads the volume of that name, which stands at that place, where none is loaded.
+    // Loads the volume of that name, which is at that place, if none is loaded.
     fn load(&mut self, at: usize, name: &VolName) -> Result<(), Refusal>
         requires none { self.old.loaded ≡ None }
         requires there { (v : VolumeView)
@@ -101,7 +101,7 @@ pub(crate) fn find(volumes: &[Volume], name: &VolName) -> Option<usize>
         .position(|volume| volume.name().is_same(name))
 }
 
-// Which refusal is due where a volume, which stands at that place, is to be mounted.
+// Which refusal is due if a volume, which is at that place, is to be mounted.
 fn refusal_at(
     volume: &Volume,
     at: usize,

@@ -21,7 +21,7 @@ use std::alloc::AllocError;
 /// What a place came to.
 #[derive(Drop)]
 pub enum Placed {
-    /// The piece's block stands there, and the hand is empty.
+    /// The piece's block is there, and the hand is empty.
     At(Placement),
     /// No volume is loaded that takes blocks of the drive's pool.
     NeedVolume,
@@ -34,8 +34,8 @@ pub enum Placed {
 }
 
 impl<D: Driver> Drive<D> {
-    /// Places the piece in the hand behind the last block of the loaded volume. Makes room for the journal's entry
-    /// first, and calls the device once, or not at all where the block would pass the limit. After an Err all is as
+    /// Places the piece in the hand after the last block of the loaded volume. Makes room for the journal's entry
+    /// first, and calls the device once, or not at all if the block would pass the limit. After an Err all is as
     /// before, but for that room.
     pub fn place(&mut self) -> Result<Placed, AllocError>
         ensures places { Places result self.old self.new }
@@ -88,7 +88,7 @@ impl<D: Driver> Drive<D> {
     }
 }
 
-// Empties the hand where its piece was placed.
+// Empties the hand if its piece was placed.
 fn empty_after(placed: &Result<Placed, AllocError>, hand: &mut Option<Piece>)
     ensures { hand.new ≡ hand_after placed.now hand.old }
 {
@@ -97,7 +97,7 @@ fn empty_after(placed: &Result<Placed, AllocError>, hand: &mut Option<Piece>)
     }
 }
 
-// The place of the loaded volume, where it takes blocks of the pool.
+// The place of the loaded volume, if it takes blocks of the pool.
 fn open_place(volumes: &[Volume], loaded: Option<usize>, pool: &Option<PoolName>) -> Option<usize>
     requires { IfSome loaded (λ at. at < length volumes.now) }
     ensures open { IfSome result (λ at. (volume : _)

@@ -16,7 +16,7 @@ use sd_journal::Journal;
 use sd_volume::{AdoptFault, Volume, VolumeStatus, purge};
 
 impl<D: Driver> Drive<D> {
-    /// Whether the volume of that name may be purged. The refusals, in this order: not on the shelf, where the drive has
+    /// Whether the volume of that name may be purged. The refusals, in this order: not on the shelf, if the drive has
     /// no such volume; volume not full; in use, while a volume is loaded.
     pub fn may_purge(&self, name: &VolName) -> Result<(), Refusal>
         ensures due { IfErr result (λ fault. purge_due self.now name.now ≡ Some fault) }
@@ -28,9 +28,9 @@ impl<D: Driver> Drive<D> {
 
     /// Takes all blocks from a full volume, for good: cuts it to its label block, and makes that last. It takes blocks
     /// again then, from number 1 on, and keeps its place among the drive's volumes. The journal keeps its entries, of
-    /// which those on the volume count no more. Refused as `may_purge` says, and then nothing changes. Where the device
-    /// fails, the volume has status `Error` and its blocks are gone all the same. Where it isn't on the shelf any more,
-    /// or memory is wanted, nothing changes. No volume is loaded then.
+    /// which those on the volume count no more. Refused as `may_purge` says, and then nothing changes. If the device
+    /// fails, the volume has status `Error` and its blocks are gone all the same. If it isn't on the shelf any more,
+    /// or if out of memory, nothing changes. No volume is loaded then.
     pub fn purge(&mut self, name: &VolName) -> Result<(), Refusal>
         ensures refused { (fault : SpecRefusal) → purge_due self.old name.now ≡ Some fault
             → IsErrOf result fault }
@@ -67,7 +67,7 @@ impl<D: Driver> Drive<D> {
         self.journal.has_on(key, volume)
     }
 
-    // The place of the volume of that name, where it may be purged.
+    // The place of the volume of that name, if it may be purged.
     fn purgeable(&self, name: &VolName) -> Result<usize, Refusal>
         ensures due { IfErr result (λ fault. purge_due self.now name.now ≡ Some fault) }
         ensures none { OnOk result (purge_due self.now name.now ≡ None) }
@@ -84,7 +84,7 @@ impl<D: Driver> Drive<D> {
         Ok(at)
     }
 
-    // Purges the volume of that name, which stands at that place, where none is loaded.
+    // Purges the volume of that name, which is at that place, if none is loaded.
     fn purge_at(&mut self, at: usize, name: &VolName) -> Result<(), Refusal>
         requires none { self.old.loaded ≡ None }
         requires there { (v : VolumeView)
@@ -137,7 +137,7 @@ fn may_empty(volume: &Volume, loaded: Option<usize>) -> Result<(), Refusal>
     Ok(())
 }
 
-// Tells the journal what a purge that failed did to the volume: where the device failed, its blocks are gone.
+// Tells the journal what a purge that failed did to the volume: if the device failed, its blocks are gone.
 fn tell_failure(fault: AdoptFault, journal: &mut Journal, name: &VolName)
     ensures device { fault ≡ AdoptFault.Device → journal.new ≡ record journal.old {
       entries = purged name.now journal.old.entries;

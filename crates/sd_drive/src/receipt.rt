@@ -48,8 +48,8 @@ impl Receipt {
 }
 
 impl<D: Driver> Drive<D> {
-    /// A receipt for that many blocks of a session, exactly where the journal has so many entries of it and all of
-    /// them are synced. Takes memory there alone.
+    /// A receipt for that many blocks of a session, exactly if the journal has so many entries of it and all of
+    /// them are synced. Takes memory only then.
     pub fn receipt(&self, key: SessionKey, blocks: u64) -> Result<Option<Receipt>, AllocError>
         ensures exactly { IfOk result (λ receipt. IsSome receipt
             ↔ ((placed_of key self.now.journal ≡ blocks)

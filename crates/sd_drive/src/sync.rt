@@ -12,7 +12,7 @@ use sd_driver::Driver;
 
 impl<D: Driver> Drive<D> {
     /// Makes the blocks of the loaded volume last. With no block that awaits that it calls no device and succeeds.
-    /// Where the device fails, the volume has status `Error` and is out, and those blocks are lost. Takes no memory.
+    /// If the device fails, the volume has status `Error` and is out, and those blocks are lost. Takes no memory.
     pub fn sync(&mut self) -> Result<(), Refusal>
         ensures ok { OnOk result (Syncs self.old self.new) }
         ensures none { OnOk result (awaits_sync self.new ≡ false) }

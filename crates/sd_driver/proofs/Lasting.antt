@@ -91,7 +91,7 @@ still_lasts_below to loaded volume old new is passes keeps = record {
     some_is : {a b : List ℕ} → Some a ≡ Some b → a ≡ b
     some_is e = cc
 
--- every stable byte stays where every volume does
+-- every stable byte stays if every volume does
 pub KeepsStable-same : (old new : Shelf) → SameShelf old new → KeepsStable old new
 KeepsStable-same old new same name = BeginsWith-same _ _ (ap stable_bytes (same name))
 

@@ -23,7 +23,7 @@ SyncedBytesLast =
 abbrev pub CallsKeepWhatLasts : Type 0
 CallsKeepWhatLasts = (old new : Shelf) → Passes old new → KeepsStable old new → StillLasts old new
 
--- what lasted still lasts after a cut of the loaded volume, but for what stood past the place of the cut
+-- what lasted still lasts after a cut of the loaded volume, but for what was past the place of the cut
 abbrev pub CutsKeepWhatLastsBelow : Type 0
 CutsKeepWhatLastsBelow =
     (to : ℕ) (loaded : Option (List ℕ)) (volume : List ℕ) (old new : Shelf)

@@ -30,7 +30,7 @@ told_after (Err Device) told = told
 told_after (Err Memory) told = told
 
 -- no call changes whether the device is honest; no count falls; a fault of the device is answered exactly
--- where a failure was counted, or where the count can't rise any more
+-- if a failure was counted, or if the count can't rise any more
 pub record CountsFailures {T : Type 0} (result : Result T DriverFault) (old new : Meaning) : Type 0 where
   pub honest : new.honest ≡ old.honest
   pub failures : CountsUp (IsErrOf result Device) old.failures new.failures

@@ -1,4 +1,4 @@
--- What stands on the shelf of a device, how calls change it, and what a stop leaves of it.
+-- What is on the shelf of a device, how calls change it, and what a stop leaves of it.
 use Rattle.std.specs.Prelude.{◌≡◌, ◌≢◌, ℕ, zero, suc, ◌+◌, ◌-◌, ◌≤◌, ◌⊎◌, min, List, [], ◌++◌, length, take, Option, Some, None}
 
 -- a volume: its bytes, and how many of them, from the front, a stop leaves
@@ -13,7 +13,7 @@ pub record Shelf : Type 0 where
   -- the bytes of a volume that a stop at a moment leaves
   pub kept : ℕ → List ℕ → List ℕ
 
--- the bytes of a volume that a stop leaves: its first `stable` bytes, and none where there is no volume
+-- the bytes of a volume that a stop leaves: its first `stable` bytes, and none if there is no volume
 abbrev pub stable_bytes : Option Held → List ℕ
 stable_bytes None = []
 stable_bytes (Some held) = take held.stable held.bytes
@@ -30,7 +30,7 @@ SameShelf old new = (name : List ℕ) → new.volume name ≡ old.volume name
 abbrev pub OtherShelf : Shelf → Shelf → Type 0
 OtherShelf old new = (name : List ℕ) × (new.volume name ≢ old.volume name)
 
--- a call counts exactly where it changed a volume, what a stop left earlier is not changed by it, and a stop
+-- a call counts exactly if it changed a volume, what a stop left earlier is not changed by it, and a stop
 -- now leaves what is stable now
 pub record Passes (old new : Shelf) : Type 0 where
   pub moments : (SameShelf old new × (new.moment ≡ old.moment))
@@ -57,7 +57,7 @@ pub record Creates (name : List ℕ) (old new : Shelf) : Type 0 where
   pub made : new.volume name ≡ Some (record { bytes = []; stable = 0 })
   pub others : (other : List ℕ) → other ≢ name → new.volume other ≡ old.volume other
 
--- nothing changes, but that a name which the shelf lacked may stand now, with any bytes
+-- nothing changes, but that a name which the shelf lacked may be there now, with any bytes
 pub record MayCreate (name : List ℕ) (old new : Shelf) : Type 0 where
   pub there : (held : Held) → old.volume name ≡ Some held → new.volume name ≡ Some held
   pub others : (other : List ℕ) → other ≢ name → new.volume other ≡ old.volume other
@@ -91,7 +91,7 @@ abbrev pub Truncates : ℕ → Option (List ℕ) → Shelf → Shelf → Type 0
 Truncates to = Changes
     (λ held after. after ≡ record { bytes = take to held.bytes; stable = min to held.stable })
 
--- the bytes up to `to` stay, and as many of them are stable; what stands past `to` may be anything
+-- the bytes up to `to` stay, and as many of them are stable; what is past `to` may be anything
 abbrev pub MayTruncate : ℕ → Option (List ℕ) → Shelf → Shelf → Type 0
 MayTruncate to = Changes (λ held after. (tail : List ℕ)
     × (after.bytes ≡ take to held.bytes ++ tail)
@@ -115,7 +115,7 @@ pub record StillLastsBelow (to : ℕ) (volume : List ℕ) (old new : Shelf) : Ty
   pub others : (since : ℕ) (name bytes : List ℕ) → name ≢ volume
       → Lasts since name bytes old → Lasts since name bytes new
 
--- what may stand after a stop at some time since that moment, also inside a call: of each volume the bytes
+-- what may be there after a stop at some time since that moment, also inside a call: of each volume the bytes
 -- that lasted since then, which are stable still, and then anything; a volume of which none lasted may be missing
 abbrev pub AfterStop : ℕ → Shelf → Shelf → Type 0
 AfterStop since shelf left =

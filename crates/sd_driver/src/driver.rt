@@ -10,18 +10,18 @@ use sd_base::VolName;
 pub enum DriverFault {
     /// No volume of that name (load, len, read).
     NotThere,
-    /// A volume of that name stands already (create).
+    /// A volume of that name is there already (create).
     Exists,
-    /// The device is full (append). What stands past the volume's old end may be anything.
+    /// The device is full (append). What is past the volume's old end may be anything.
     NoRoom,
     /// The device failed, and counted that. Past the old end, past where a cut was to end, and under a
-    /// name that was new may stand anything; all else is as it was.
+    /// name that was new there may be anything; all else is as it was.
     Device,
-    /// Memory was wanted, and nothing happened. A sync takes none.
+    /// Out of memory, and nothing happened. A sync takes none.
     Memory,
 }
 
-/// A device that holds volumes. What it is stands in its meaning: the shelf, the loaded volume, how many
+/// A device that holds volumes. Its meaning says what it is: the shelf, the loaded volume, how many
 /// calls failed, and whether it is honest. An honest device does what its calls name, and tells what it
 /// holds. Of any other only the counts, the loaded name and the stable bytes are known.
 ///
@@ -155,7 +155,7 @@ pub trait Driver: Send {
         ensures err { IsHonest (meaning self.old) → OnErr result
             (MaySync (meaning self.old).loaded (meaning self.old).shelf (meaning self.new).shelf) };
 
-    /// Takes away what stands past the byte at `to` of the loaded volume.
+    /// Takes away what is past the byte at `to` of the loaded volume.
     fn cut(&mut self, to: u64) -> Result<(), DriverFault>
         requires { IsSome (meaning self.old).loaded }
         ensures counts { CountsFailures result (meaning self.old) (meaning self.new) }

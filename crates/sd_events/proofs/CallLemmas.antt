@@ -1,4 +1,4 @@
--- What a call of a drive leaves of its device, and of what stands around it.
+-- What a call of a drive leaves of its device, and of what is around it.
 use Rattle.std.proofs.Common.{◌≡◌, Some, None, Ok, Err, refl, ap}
 use Rattle.std.specs.Prelude.{IsErrOf}
 use Rattle.sd_base.specs.declared.refusal.Refusal.{Refusal}

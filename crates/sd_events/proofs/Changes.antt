@@ -31,7 +31,7 @@ pub refuses_one : {D : Type 0} (w : WorldView D) (ticket at : ℕ) (e : WorldSes
     → IsReadAt ticket w.sessions at e → causes e → s ≡ e.session → TicketRefused w ticket why causes × (with_session_at at e s w ≡ w)
 refuses_one w ticket at e s why causes f cause same = (inr (e, f.found, cause), stays_as w ticket at e s f same)
 
--- the session at its place refuses the event, and stands there as it was read
+-- the session at its place refuses the event, and is there as it was read
 pub refuses_read : {D : Type 0} (w : WorldView D) (ticket at : ℕ) (e read : WorldSession) (why : Refusal) (causes : WorldSession → Type 0)
     → IsReadAt ticket w.sessions at e → e ≡ read → causes e → TicketRefused w ticket why causes × (with_session_at at read read.session w ≡ w)
 refuses_read w ticket at e read why causes f same cause =

@@ -18,7 +18,7 @@ use Rattle.sd_world.specs.World.{WorldView, WorldSession, BayView, LaneView, dri
 use Rattle.sd_events.proofs.Seats.{some_of}
 use Rattle.sd_world.proofs.Lookups.{one_or_two, get_set-same, get_set-other}
 
--- the first of a list, where each is what it should be
+-- the first of a list, if each is what it should be
 pub first_are : {A B : Type 0} (f : A → B) (xs : List A) (ys : List B) → length xs ≤ length ys
     → ((k : ℕ) (x : A) → slice_get xs k ≡ Some x → slice_get ys k ≡ Some (f x)) → take (length xs) ys ≡ map f xs
 first_are f [] ys long each = refl
@@ -40,7 +40,7 @@ made_more f xs ys place x y within stands is before k z below there =
       | inr apart ↦ get_set-other ys place k y apart ∙ before k z (omega (arith, below, apart)) there
     ]
 
--- where none is free, each is counted
+-- if none is free, each is counted
 pub none_free : (frees : List Bool) → NoneOf IsTrue frees → count_by not frees ≡ length frees
 none_free [] none = refl
 none_free (true ∷ bs) none = absurd (none 0 true refl refl)
@@ -49,7 +49,7 @@ none_free (false ∷ bs) none =
     let rest = none_free bs (λ k b there is. none (suc k) b there is) in
     omega (arith, more, rest)
 
--- where not all are busy, one is the lowest free
+-- if not all are busy, one is the lowest free
 pub some_lowest : (sessions : List WorldSession) (journal : List Entry) (lanes : List LaneView) (frees : List Bool) (P : ℕ → Type 0) (lowest : Option ℕ)
     → frees ≡ free_lanes sessions journal lanes → count_by not (free_lanes sessions journal lanes) < length lanes
     → MatchOption lowest (NoneOf IsTrue frees) P → IsSome lowest

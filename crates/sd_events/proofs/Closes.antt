@@ -44,7 +44,7 @@ close_causes {place = place} {bay = bay} {d = d} why a (inr (inl r)) =
 close_causes {e = e} {place = place} {bay = bay} {d = d} why a (inr (inr r)) =
     inr (r.0, place, bay, d, a.online, inl (inr (inr (r.0, ap (λ (p : Progress). p.failed) (sym a.far) ∙ r.1, subst (λ (p : Progress). (parts_of e.session ≢ []) ⊎ (p.synced ≢ e.session.sent)) a.far r.2, r.3))))
 
--- want of memory, where it may be closed
+-- out of memory, if it may be closed
 pub close_memory : {D : Type 0} {w : WorldView D} {e : WorldSession} {place : ℕ} {bay : BayView D} {d : DriveIs D} {progress : Progress}
     → IsAsked w e place bay d progress → MayClose e.session progress → CloseCauses w Memory e
 close_memory {e = e} {place = place} {bay = bay} {d = d} a may =

@@ -6,7 +6,7 @@ use Rattle.sd_world.specs.Drives.{FailsWhere, FailExactly}
 use Rattle.sd_world.specs.Rules.{NumbersRise}
 use Rattle.sd_world.proofs.Lookups.{number_least}
 
--- where none fails, the sessions are as they were
+-- if none fails, the sessions are as they were
 pub none_fails : (p : WorldSession → Bool) (es : List WorldSession)
     → ((at : ℕ) (e : WorldSession) → slice_get es at ≡ Some e → p e ≡ false) → FailExactly p es es
 none_fails p [] nope = tt

@@ -158,7 +158,7 @@ holds_here {D} w drive at place bay d e world on there running =
           ∙ sym p.0
     ]
 
--- a session loses a block by the failed sync exactly where it holds a lane of the drive and has a lost block then
+-- a session loses a block by the failed sync exactly if it holds a lane of the drive and has a lost block then
 pub lost_here : {D : Type 0} (w : WorldView D) (drive at place : ℕ) (bay : BayView D) (d : DriveIs D) (volume : List ℕ) (e : WorldSession)
     → IsWorld w → IsOnline w drive at bay d → slice_get w.sessions place ≡ Some e
     → (holds_lane bay.lanes e && has_lost (settled Lost volume d.journal) e) ≡ loses_by drive volume d.journal e
@@ -228,7 +228,7 @@ loses {D} w drive at bay d after sessions world on failed exactly =
     (λ place e there. ap (λ (x : DriveIs D). holds_lane bay.lanes e && has_lost x.journal e) failed.becomes ∙ lost_here w drive at place bay d failed.volume.name e world on there)
     exactly
 
--- where the journal tells of no lost block more, none of a session that goes on is lost
+-- if the journal tells of no further lost block, none of a session that goes on is lost
 none_lost : {D : Type 0} (w : WorldView D) (drive at place : ℕ) (bay : BayView D) (d : DriveIs D) (journal : List Entry) (e : WorldSession)
     → IsWorld w → IsOnline w drive at bay d → ((key : SessionKey) → fails key d.journal ≡ false → fails key journal ≡ false) → slice_get w.sessions place ≡ Some e
     → (holds_lane bay.lanes e && has_lost journal e) ≡ false

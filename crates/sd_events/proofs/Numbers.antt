@@ -1,4 +1,4 @@
--- Where a session stands among those whose numbers rise.
+-- Where a session is among those whose numbers rise.
 use Rattle.std.proofs.Common.{◌≡◌, ◌≢◌, ◌⊎◌, ℕ, zero, suc, ◌+◌, ◌<◌, ◌≤◌, ltb, true, false, sym, ap, subst, ◌∙◌, inl, inr, Some, None, List, [], ◌∷◌, length, get_or, slice_get, arith}
 use Rattle.std.proofs.lemmas.Bool.Decides.{eqb_tells, leb_tells}
 use Rattle.std.proofs.lemmas.Bool.{ltb-true, ltb-false}
@@ -39,7 +39,7 @@ never_fall time least next es rise i j d below within =
           omega arith
     ]
 
--- where the session of a ticket stands, it is found and changed
+-- where the session of a ticket is, it is found and changed
 pub found_at : (time next : ℕ) (es : List WorldSession) (at ticket : ℕ) (e : WorldSession)
     → NumbersRise time 1 next es → slice_get es at ≡ Some e → number_of e ≡ ticket → IsFoundAt ticket es at
 found_at time next es at ticket e rise there is =
@@ -51,8 +51,8 @@ found_at time next es at ticket e rise there is =
       changes = λ new same. changed_by_number time 1 next es at e new rise there (same ∙ sym is);
     }
 
--- A place at which the numbers below the ticket end; what stands there, if anything does, isn't of the ticket: no
--- session has it.
+-- A place at which the numbers below the ticket end; what is there, if anything is, isn't of the ticket: no session has
+-- it.
 pub missing : (time next ticket : ℕ) (es : List WorldSession) (place : ℕ) → NumbersRise time 1 next es
     → IsPartitionPoint (λ e. ltb (number_of e) ticket ≡ true) (λ e. ltb (number_of e) ticket ≡ false) es place
     → ((length es ≤ place) ⊎ ((e : WorldSession) × (slice_get es place ≡ Some e) × (number_of e ≢ ticket)))

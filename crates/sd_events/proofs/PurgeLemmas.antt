@@ -49,7 +49,7 @@ module _ {D T : Type 0} (meaning : D → Meaning) (name : List ℕ) (at : ℕ) (
   abbrev keeps_by : Refusal → Type 0
   keeps_by r = KeepsPurging {T = T} (Err r) name (meaning d.device) (meaning after.device) d.journal d.hand
 
-  -- where it isn't the device that failed, the drive stays as it was
+  -- if it isn't the device that failed, the drive stays as it was
   stays : (why ≡ VolumeNotOnShelf) ⊎ (why ≡ Memory) → AddsNone d after → PurgesNone meaning why d after
   stays cause adds = record {
     why_is = cause;
@@ -75,7 +75,7 @@ module _ {D T : Type 0} (meaning : D → Meaning) (name : List ℕ) (at : ℕ) (
         | inr c ↦ subst keeps_by c keeps
       ]
 
-  -- what comes of it where the drive refuses it
+  -- what comes of it if the drive refuses it
   pub refuses : Empties meaning name (Refused why) d after
   refuses = elim p.purges [
     | inl q ↦ inr (inl (

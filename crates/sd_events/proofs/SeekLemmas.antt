@@ -16,7 +16,7 @@ use Rattle.sd_volume.specs.Volume.{VolumeView}
 use Rattle.sd_world.specs.Stations.{Station, Outcome}
 use Rattle.sd_world.specs.Operators.{MountRefused, MountFails}
 
--- the volume of a name stands where it was found
+-- the volume of a name is where it was found
 stands_at : (vs : List VolumeView) (name : List ℕ) (place : ℕ) (v : VolumeView) → NamesDiffer vs → slice_get vs place ≡ Some v → name ≡ v.name
     → index_of vs name ≡ Some place
 stands_at vs name place v differ there is = from (index_of vs name) refl
@@ -31,7 +31,7 @@ stands_at vs name place v differ there is = from (index_of vs name) refl
         let one : k ≡ place = differ k place name (get_map (λ (x : VolumeView). x.name) vs k that.0 that.1 ∙ ap Some that.2) here in
         found ∙ ap Some one
 
--- where the loaded volume doesn't take blocks, one that takes them isn't the loaded one
+-- if the loaded volume doesn't take blocks, one that takes them isn't the loaded one
 not_loaded : {D : Type 0} (d : DriveIs D) (loaded : Option ℕ) (place : ℕ) → d.loaded ≡ loaded → (d.loaded ≡ Some place → ⊥) → is_at loaded place ≡ false
 not_loaded d None place is apart = refl
 not_loaded d (Some at) place is apart = elim (eqb_tells at place) [

@@ -58,7 +58,7 @@ pub can_take : (sessions : List WorldSession) (journal : List Entry) (drive plac
 can_take sessions journal drive place lane h free =
     in_lane lane sessions lane.store refl (at_holder sessions journal drive place lane lane.holder refl h free)
 
--- Who has the store, where it doesn't lie in the lane.
+-- Who has the store, if it doesn't lie in the lane.
 pub record IsHeld (lane : LaneView) (sessions : List WorldSession) : Type 0 where
   pub ticket : ℕ
   pub e : WorldSession

@@ -7,7 +7,7 @@ use Rattle.sd_drive.specs.View.{DriveIs}
 use Rattle.sd_world.specs.World.{WorldView, WorldSession, BayView, LaneView, IsOnline, with_bay}
 use Rattle.sd_world.specs.Drives.{IsInUse, RetiresDrive}
 
--- where a test that tells of `false` tells of one, one is counted
+-- if a test that tells of `false` tells of one, one is counted
 any_counts : (busy : Bool → Bool) (bs : List Bool) → busy true ≡ false → busy false ≡ true → list_any busy bs ≡ true → count_by not bs ≢ 0
 any_counts busy [] unset set any none = absurd (cc any)
 any_counts busy (true ∷ bs) unset set any none = any_counts busy bs unset set (sym (ap (λ b. b || list_any busy bs) unset) ∙ any) none
@@ -15,7 +15,7 @@ any_counts busy (false ∷ bs) unset set any none =
     let more : count_by not (false ∷ bs) ≡ 1 + count_by not bs = sum_by-cons (λ (b : Bool). cond (not b) 1 0) false bs in
     absurd (omega (arith, none, more))
 
--- where one is counted, the test tells of one
+-- if one is counted, the test tells of one
 count_any : (busy : Bool → Bool) (bs : List Bool) → busy true ≡ false → busy false ≡ true → count_by not bs ≢ 0 → list_any busy bs ≡ true
 count_any busy [] unset set some = absurd (some refl)
 count_any busy (true ∷ bs) unset set some = ap (λ b. b || list_any busy bs) unset ∙ count_any busy bs unset set some

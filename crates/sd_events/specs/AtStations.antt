@@ -1,4 +1,4 @@
--- What an event does at a drive, in whatever world the drive stands.
+-- What an event does at a drive, in whatever world the drive is.
 use Rattle.std.specs.Prelude.{◌≡◌, ℕ, ◌≤◌, Some, Option, List, ◌∷◌, slice_get, Result, Ok, Err}
 use Rattle.sd_base.specs.Limits.{most_number, most_volume}
 use Rattle.sd_base.specs.declared.refusal.Refusal.{Refusal}
@@ -22,12 +22,12 @@ MovesHere meaning own event d queue desk reply after queue' desk' = (lost : Opti
     × DriveMoves meaning own event reply (record { drive = d; queue = queue; desk = desk })
     (record { drive = after; queue = queue'; desk = desk'; lost = lost })
 
--- the same where only the drive changes, whatever its number, the queue and the desk
+-- the event is answered so, and only the drive is another then, whatever its number, the queue and the desk
 abbrev pub MovesAlone : {D : Type 0} → (D → Meaning) → (ℕ → Event) → DriveIs D → Reply → DriveIs D → Type 0
 MovesAlone meaning event d reply after = (own : ℕ) (queue : LanesView) (desk : DeskView)
     → MovesHere meaning own (event own) d queue desk reply after queue desk
 
--- the same where the desk changes too, whatever the queue
+-- the event of the drive of this number is answered so, and only drive and desk are others then, whatever the queue
 abbrev pub MovesAtDesk : {D : Type 0} → (D → Meaning) → (own : ℕ) → Event → DriveIs D → DeskView → Reply → DriveIs D → DeskView → Type 0
 MovesAtDesk meaning own event d desk reply after desk' = (queue : LanesView)
     → MovesHere meaning own event d queue desk reply after queue desk'

@@ -3,7 +3,7 @@ use Rattle.std.specs.Prelude.{◌≡◌, ℕ, Some, List, slice_get, slice_set}
 use Rattle.sd_drive.specs.View.{DriveIs}
 use Rattle.sd_world.specs.World.{WorldView, WorldSession, BayView, IsOnline, session_at, with_session}
 
--- the session of the ticket stands at this place, and with another of its number there it is changed
+-- the session of the ticket is at this place, and with another of its number there it is changed
 pub record IsFoundAt (ticket : ℕ) (sessions : List WorldSession) (at : ℕ) : Type 0 where
   pub e : WorldSession
   pub there : slice_get sessions at ≡ Some e

@@ -26,7 +26,7 @@ pub record StartsInLane (limits : Limits) (ticket : ℕ) (opening : Opening) (la
   pub starts : StartsSession opening (limits.block - block_header) limits.spool store session
   pub lane_is : after ≡ record { holder = Some ticket; store = None }
 
--- none starts: for want of memory, or the lane's store could not be cleared; it lies in the lane now
+-- none starts: it was out of memory, or the lane's store could not be cleared; the store lies in the lane now
 pub record StartsNot (limits : Limits) (lane : LaneView) (old : List WorldSession) (why : Refusal)
     (after : LaneView) (new : List WorldSession) : Type 0 where
   pub store : StoreState
@@ -35,7 +35,8 @@ pub record StartsNot (limits : Limits) (lane : LaneView) (old : List WorldSessio
   pub lane_is : after ≡ record lane { store = Some store' }
   pub cause : ((why ≡ Memory) × (store' ≡ store)) ⊎ ((limits.spool ≢ 0) × (why ≡ SpoolFault) × HasFailed store store')
 
--- it starts, comes behind all other sessions, and its pool is the drive's from now on, where there is room for its first placement
+-- it starts, comes after all other sessions, and from now on its pool is the drive's, which has room for its first
+-- placement
 pub record OpensAt {D : Type 0} (limits : Limits) (ticket drive : ℕ) (opening : Opening) (lane : LaneView) (old : List WorldSession) (d : DriveIs D)
     (after : LaneView) (new : List WorldSession) (d' : DriveIs D) : Type 0 where
   pub session : SessionView
@@ -44,7 +45,7 @@ pub record OpensAt {D : Type 0} (limits : Limits) (ticket drive : ℕ) (opening 
   pub new_is : new ≡ sessions ++ record { session = session; drive = drive } ∷ []
   pub drive_is : d' ≡ record d { pool = Some opening.pool; ready = with_key opening.key d.ready }
 
--- it isn't opened: for want of memory at first, or since it doesn't start, for which there was room
+-- it isn't opened: it was out of memory at first, or it doesn't start, for which there was room
 abbrev pub OpensNotAt : {D : Type 0} → Limits → SessionKey → LaneView → List WorldSession → DriveIs D → Refusal → LaneView → List WorldSession → DriveIs D → Type 0
 OpensNotAt limits key lane old d why after new d' =
     ((why ≡ Memory) × (after ≡ lane) × (new ≡ old) × (d' ≡ d))

@@ -9,8 +9,8 @@ use sd_driver::Driver;
 use sd_machine::Reply;
 
 /// Takes over a volume that an earlier run left, at the drive, and claims its name. The refusals, in this order:
-/// already labelled, where the name is claimed; in use, while a volume is loaded; then what stands on the volume, what
-/// the device answers, or want of memory. None of them leaves the name claimed.
+/// already labelled, if the name is claimed; in use, while a volume is loaded; then what is on the volume, what the
+/// device answers, or out of memory. None of them leaves the name claimed.
 pub(crate) fn adopt<D: Driver>(
     at: &mut Drive<D>,
     desk: &mut Desk,

@@ -43,7 +43,7 @@ pub fn choose_drive<D: Driver, Q: Lanes, S: SpoolStore + Drop>(
     }
 }
 
-// What decides of each drive whether it takes a session, and behind them others that take none, up to the most that
+// What decides of each drive whether it takes a session, and after them others that take none, up to the most that
 // there may be.
 fn drives_of<D: Driver, Q: Lanes, S: SpoolStore + Drop>(
     sessions: &[SessionEntry<S>],

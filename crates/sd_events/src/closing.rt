@@ -14,7 +14,7 @@ use sd_machine::Reply;
 use sd_spool::SpoolStore;
 use std::alloc::AllocError;
 
-/// Closes a session, exactly where it is ended and nothing of it is outstanding.
+/// Closes a session, exactly if it is ended and nothing of it is outstanding.
 pub fn close<D: Driver, Q: Lanes, S: SpoolStore + Drop>(
     parts: &mut Parts<D, Q, S>,
     ticket: Ticket,

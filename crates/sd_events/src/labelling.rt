@@ -9,7 +9,7 @@ use sd_driver::Driver;
 use sd_machine::Reply;
 
 /// Labels a new volume at the drive, and claims its name. The refusals, in this order: other media than the drive's; in
-/// use, while a volume is loaded; already labelled, where the name is claimed; then what the device answers, or want of
+/// use, while a volume is loaded; already labelled, if the name is claimed; then what the device answers, or out of
 /// memory. None of them leaves the name claimed.
 pub(crate) fn label<D: Driver>(
     at: &mut Drive<D>,

@@ -30,7 +30,7 @@ pub(crate) fn fail_lost<D: Driver, S: SpoolStore + Drop>(
     }
 }
 
-// The same of one lane.
+// The session that used a lane last, if one did, fails if it goes on and lost a block at the drive.
 fn fail_holder<D: Driver, S: SpoolStore + Drop>(
     sessions: &mut Vec<SessionEntry<S>>,
     holder: Option<Ticket>,

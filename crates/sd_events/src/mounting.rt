@@ -25,7 +25,7 @@ pub(crate) fn mount<D: Driver>(
     }
 }
 
-/// The same, with the drive's answer.
+/// Does what `mount` does, and gives the drive's answer.
 pub(crate) fn mount_named<D: Driver>(
     at: &mut Drive<D>,
     desk: &mut Desk,

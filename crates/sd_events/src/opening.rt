@@ -23,9 +23,9 @@ use sd_session::Opening;
 use sd_spool::SpoolStore;
 use std::alloc::{AllocError, Global};
 
-/// A job begins a session of this pool and media: on the drive that may take it, by the lowest of its lanes that is free.
-/// The refusals, in this order: no session number is left; no drive of the media; drive offline; no free lane; want of
-/// memory; spool fault, where the lane's store could not be cleared. A refused session uses up no number.
+/// A job begins a session of this pool and media: on the drive that may take it, by the lowest of its lanes that is
+/// free. The refusals, in this order: no session number is left; no drive of the media; drive offline; no free lane;
+/// out of memory; spool fault, if the lane's store could not be cleared. A refused session uses up no number.
 pub fn open<D: Driver, Q: Lanes, S: SpoolStore + Drop>(
     parts: &mut Parts<D, Q, S>,
     job: JobId,

@@ -25,8 +25,8 @@ use sd_lane::Lanes;
 use sd_machine::{Event, Reply};
 use sd_spool::SpoolStore;
 
-/// Answers an event of this drive, but its retirement: no such drive, or drive offline, before any other refusal. Where
-/// a sync of the loaded volume failed, those sessions of the drive fail that go on and had a block on it that wasn't
+/// Answers an event of this drive, but its retirement: no such drive, or drive offline, before any other refusal. If a
+/// sync of the loaded volume failed, those sessions of the drive fail that go on and had a block on it that wasn't
 /// synced.
 pub fn operate<D: Driver, Q: Lanes, S: SpoolStore + Drop>(
     parts: &mut Parts<D, Q, S>,
@@ -51,14 +51,14 @@ pub fn operate<D: Driver, Q: Lanes, S: SpoolStore + Drop>(
     Ok(reply)
 }
 
-// Whether the event was refused with a fault of the device, as it is where a sync failed.
+// Whether the event was refused with a fault of the device, as it is if a sync failed.
 fn is_device_fault(reply: &Reply) -> bool
     ensures { result ≡ is_device_fault reply.now }
 {
     matches!(reply, Reply::Refused(Refusal::DeviceFault))
 }
 
-// The same at the drive, the queue before it and the desk.
+// Answers the event at the drive, the queue before it and the desk.
 fn operate_on<D: Driver, Q: Lanes>(
     at: &mut Drive<D>,
     queue: &mut Q,

@@ -9,7 +9,7 @@ use sd_drive::{Drive, Placed};
 use sd_driver::Driver;
 use sd_machine::Reply;
 
-/// Places the piece in the drive's hand behind the last block of its loaded volume. Replies where it lies, or why it
+/// Places the piece in the drive's hand after the last block of its loaded volume. Replies where it lies, or why it
 /// still is in the hand.
 pub(crate) fn place<D: Driver>(drive: &mut Drive<D>) -> Reply
     requires limit { drive.old.limits.volume ≤ most_volume }

@@ -19,9 +19,9 @@ use sd_lane::Lanes;
 use sd_machine::Reply;
 use sd_spool::SpoolStore;
 
-/// Takes all blocks from a full volume of the drive, for good, so that it takes blocks again. Refused as the drive says; and
-/// as in use, while a session of the drive that keeps its lane from being free has a block on the volume. The sessions of the drive that
-/// had a block on it are purged, also where the device failed. Looks at all sessions.
+/// Takes all blocks from a full volume of the drive, for good, so that it takes blocks again. Refused as the drive
+/// says; and as in use, while a session of the drive that keeps its lane from being free has a block on the volume. The
+/// sessions of the drive that had a block on it are purged, also if the device failed. Looks at all sessions.
 pub fn purge<D: Driver, Q: Lanes, S: SpoolStore + Drop>(
     parts: &mut Parts<D, Q, S>,
     drive: DriveNo,
@@ -46,7 +46,7 @@ pub fn purge<D: Driver, Q: Lanes, S: SpoolStore + Drop>(
     Ok(reply)
 }
 
-// The drive empties its volume of the name, where that isn't refused beforehand.
+// The drive empties its volume of the name, if that isn't refused beforehand.
 fn empty<D: Driver>(at: &mut Drive<D>, name: &VolName) -> Reply
     requires due { purge_due at.old name.now ≡ None }
     ensures { Empties (λ d. D.meaning d) name.now result at.old at.new }
@@ -57,7 +57,7 @@ fn empty<D: Driver>(at: &mut Drive<D>, name: &VolName) -> Reply
     }
 }
 
-// Whether the volume has no block any more; also where the device failed.
+// Whether the volume has no block any more; also if the device failed.
 fn is_emptied(reply: &Reply) -> bool
     ensures { result ≡ is_emptied reply.now }
 {
@@ -140,7 +140,7 @@ fn purge_sessions<D: Driver, S: SpoolStore + Drop>(
     }
 }
 
-// The same of one session.
+// Purges the session if it is of the drive and had a block on the volume; such a session doesn't go on.
 fn purge_if_on<D: Driver, S: SpoolStore + Drop>(
     entry: &mut SessionEntry<S>,
     drive: DriveNo,

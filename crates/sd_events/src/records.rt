@@ -61,7 +61,7 @@ pub fn cancel<D: Driver, Q: Lanes, S: SpoolStore + Drop>(
     Ok(Reply::Cancelled)
 }
 
-/// The body of a session that has waited longest goes to its spool, where it has one with room.
+/// The body of a session that has waited longest goes to its spool, if it has one with room.
 pub fn spool<D: Driver, Q: Lanes, S: SpoolStore + Drop>(
     parts: &mut Parts<D, Q, S>,
     ticket: Ticket,

@@ -9,8 +9,8 @@ use sd_drive::Drive;
 use sd_driver::Driver;
 use sd_machine::Reply;
 
-/// Mounts the first of the drive's volumes that takes blocks of its pool; where it has none, asks the operator for one.
-/// A drive whose loaded volume takes blocks of its pool needs none, nor does one that never had a session.
+/// Mounts the first of the drive's volumes that takes blocks of its pool; if it has none, asks the operator for one. A
+/// drive whose loaded volume takes blocks of its pool needs none, nor does one that never had a session.
 pub(crate) fn seek<D: Driver>(at: &mut Drive<D>, desk: &mut Desk, drive: DriveNo) -> Reply
     ensures { MovesAtDesk (λ d. D.meaning d) drive (Seek drive)
         at.old desk.old result at.new desk.new }

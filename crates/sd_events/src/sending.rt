@@ -17,7 +17,7 @@ use sd_machine::Reply;
 use sd_session::{Despooled, Session};
 use sd_spool::SpoolStore;
 
-/// The next body of a session goes to the queue before its drive, where there is room.
+/// The next body of a session goes to the queue before its drive, if there is room.
 pub fn despool<D: Driver, Q: Lanes, S: SpoolStore + Drop>(
     parts: &mut Parts<D, Q, S>,
     ticket: Ticket,

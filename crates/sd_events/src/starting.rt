@@ -14,7 +14,7 @@ use sd_session::{Opening, Session};
 use sd_spool::SpoolStore;
 use std::alloc::Global;
 
-// A new session of this ticket on the store of its lane. Where none begins the store lies in the lane.
+// A new session of this ticket on the store of its lane. If none begins, the store lies in the lane.
 pub fn start<S: SpoolStore + Drop>(
     alloc: Global,
     limits: &Limits,

@@ -6,7 +6,7 @@ use sd_drive::Drive;
 use sd_driver::Driver;
 use sd_machine::Reply;
 
-/// Makes the blocks of the drive's loaded volume last. Where the device fails, the volume is out, and its blocks that
+/// Makes the blocks of the drive's loaded volume last. If the device fails, the volume is out, and its blocks that
 /// weren't synced are lost.
 pub(crate) fn sync<D: Driver>(drive: &mut Drive<D>) -> Reply
     ensures { MovesAlone (λ d. D.meaning d) (λ own. Sync own) drive.old result drive.new }

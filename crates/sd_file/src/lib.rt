@@ -10,8 +10,8 @@ use std::os::unix::fs::{MetadataExt, OpenOptionsExt};
 /// The permissions of a file that is made: its owner reads and writes it.
 const OWNER_ONLY: u32 = 0o600;
 
-/// Makes a file to read and write, for its owner alone. The system makes it only where nothing has its name, and
-/// follows no link there.
+/// Makes a file to read and write, for its owner alone. The system makes it only if nothing has its name, and follows
+/// no link there.
 pub fn make<R: Files>(system: &R, path: &str) -> io::Result<R::File> {
     OpenOptions::new()
         .read(true)
@@ -21,8 +21,8 @@ pub fn make<R: Files>(system: &R, path: &str) -> io::Result<R::File> {
         .open(system, path)
 }
 
-/// Opens what stands at the path, if that is a file. What was opened is compared with what stood there before,
-/// since a link could take its place in between: then its target is closed again, and no more.
+/// Opens what is at the path, if that is a file. What was opened is compared with what was there before, since a link
+/// could take its place in between: then its target is closed again, and no more.
 pub fn open_there<R: Files>(system: &R, path: &str, how: &OpenOptions) -> io::Result<R::File> {
     let found = fs::symlink_metadata(system, path)?;
     if !found.is_file() {
@@ -35,7 +35,7 @@ pub fn open_there<R: Files>(system: &R, path: &str, how: &OpenOptions) -> io::Re
     }
 }
 
-/// Whether this open file is what stands at the path.
+/// Whether this open file is what is at the path.
 pub fn is_there<R: Files>(system: &R, path: &str, file: &R::File) -> io::Result<bool> {
     let found = fs::symlink_metadata(system, path)?;
     Ok(is_same(&file.metadata()?, &found))

@@ -5,7 +5,7 @@ use Rattle.sd_driver.specs.Meaning.{Meaning}
 use Rattle.sd_filedrive.specs.Volumes.{loaded_name, folder_path}
 use Rattle.sd_filedrive.specs.declared.drive.FileDrive.{FileDrive}
 
--- nothing is said of what stands on the shelf
+-- nothing is said of what is on the shelf
 abbrev pub unknown_shelf : Shelf
 unknown_shelf = record { volume = λ _. None; moment = 0; kept = λ _ _. [] }
 
@@ -17,7 +17,7 @@ meaning_of drive = record { honest = false; shelf = unknown_shelf; loaded = load
 abbrev pub unused : Meaning
 unused = record { honest = false; shelf = unknown_shelf; loaded = None; failures = 0; told = 0 }
 
--- the same meaning, but for this count of failures
+-- a meaning, but with this count of failures
 abbrev pub counted_from : ℕ → Meaning → Meaning
 counted_from count meaning = record { honest = meaning.honest; shelf = meaning.shelf; loaded = meaning.loaded; failures = count; told = meaning.told }
 

@@ -22,13 +22,13 @@ use std::os::unix::fs::FileExt;
 /// `NotThere` and `Exists` are the system's words, `NoRoom` is an append's want of space or quota, or a file at
 /// its greatest size, `Memory` a path that could not be spelled. All else is `Device`: also a link, a folder or
 /// anything but a regular file under a volume's name. The name is looked at first, and what was opened is
-/// compared with that, since the system can't be asked here to follow no link: where a link takes the name's
-/// place in between, its target is opened and closed, and no more.
+/// compared with that, since the system can't be asked here to follow no link: if a link takes the name's place
+/// in between, its target is opened and closed, and no more.
 ///
 /// A volume is made for its owner alone. The loaded volume's file stays open, and that of the volume that was
 /// read last without being loaded, up to the next create or load. An append that fails leaves what it wrote,
-/// and the next one goes on behind that. A sync has the system write the volume's bytes, and the first one
-/// after a create or load its name too; where one fails, all that follow it fail up to the next load.
+/// and the next one goes on after that. A sync has the system write the volume's bytes, and the first one
+/// after a create or load its name too; if one fails, all that follow it fail up to the next load.
 #[derive(Drop)]
 pub struct FileDrive<R: Files + Drop> {
     pub(crate) volumes: Volumes<R>,
@@ -39,8 +39,8 @@ impl<R: Files + Drop> FileDrive<R>
 where
     R::File: FileExt,
 {
-    /// The drive of the folder at `path`, the current folder where that is empty. The folder is not looked
-    /// at before a volume is.
+    /// The drive of the folder at `path`, the current folder if that is empty. The folder is not looked at
+    /// before a volume is.
     pub fn new(system: R, alloc: Global, path: &str) -> Result<FileDrive<R>, AllocError>
         ensures unused { IfOk result (λ drive. meaning_of drive ≡ unused) }
         ensures folder { IfOk result (λ drive. folder_of drive ≡ folder_named path.now) }
@@ -51,7 +51,7 @@ where
         })
     }
 
-    /// The same drive, which goes on counting its failures from there: for whoever takes over the count of an
+    /// This drive, which goes on counting its failures from there: for whoever takes over the count of an
     /// earlier drive.
     pub fn counting_from(self, failures: u64) -> FileDrive<R>
         ensures counted { meaning_of result ≡ counted_from failures (meaning_of self) }

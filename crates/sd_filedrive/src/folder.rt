@@ -19,7 +19,7 @@ pub(crate) struct Folder<R: Files + Drop> {
 }
 
 impl<R: Files + Drop> Folder<R> {
-    /// The folder at `path`; the current one where that is empty.
+    /// The folder at `path`; the current one if that is empty.
     pub(crate) fn new(system: R, alloc: Global, path: &str) -> Result<Folder<R>, AllocError>
         ensures { IfOk result (λ folder. string_bytes folder.path ≡ folder_named path.now) }
     {
@@ -31,7 +31,7 @@ impl<R: Files + Drop> Folder<R> {
         })
     }
 
-    // The path of a volume's file, which stands in this folder. No other path of a volume is made.
+    // The path of a volume's file, which is in this folder. No other path of a volume is made.
     fn path_of(&self, name: &VolName) -> Result<String, AllocError>
         ensures { IfOk result (λ path.
             IsFileIn (string_bytes self.now.path) name.now (string_bytes path)) }
@@ -57,7 +57,7 @@ impl<R: Files + Drop> Folder<R> {
         }
     }
 
-    // Why no file could be made where something has its name.
+    // Why no file could be made if something has its name.
     fn standing(&self, path: &str) -> DriverFault
         ensures { (result ≡ DriverFault.Exists) ⊎ (result ≡ DriverFault.Device) }
     {

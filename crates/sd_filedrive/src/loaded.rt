@@ -16,8 +16,8 @@ use std::os::unix::fs::FileExt;
 pub(crate) struct Loaded<F: Drop> {
     pub name: VolName,
     pub file: F,
-    // Where it ends, as this drive's own calls left it. None where that isn't known: after `load`, and after
-    // an append or a cut that failed.
+    // Where it ends, as this drive's own calls left it. None if that isn't known: after `load`, and after an
+    // append or a cut that failed.
     end: Option<u64>,
     // The folder was synced since the volume was created or loaded.
     is_named: bool,
@@ -45,7 +45,7 @@ impl<F: OpenFile + FileExt + Drop> Loaded<F> {
         }
     }
 
-    // Where the volume ends: asked of the system where it isn't known.
+    // Where the volume ends: asked of the system if it isn't known.
     fn find_end(&self) -> io::Result<u64>
         ensures { IfSome self.now.end (λ end. result ≡ Ok end) }
     {
@@ -55,7 +55,7 @@ impl<F: OpenFile + FileExt + Drop> Loaded<F> {
         }
     }
 
-    /// Writes at the volume's end. Where that fails, what was written stays, and is not written again.
+    /// Writes at the volume's end. If that fails, what was written stays, and is not written again.
     pub(crate) fn append(&mut self, bytes: &[u8]) -> io::Result<()>
         ensures ok { OnOk result (IfSome self.old.end (λ end. end + length bytes.now < 2 ^ 64
             → self.new.end ≡ Some (end + length bytes.now))) }

@@ -8,7 +8,7 @@ use std::fs::{Files, OpenFile, OpenOptions};
 use std::io::ErrorKind;
 use std::os::unix::fs::FileExt;
 
-// No byte of a file stands at or past this place.
+// No byte of a file is at or past this place.
 const MOST_FILE: u64 = i64::MAX as u64;
 
 /// The file of the volume that was read last without being loaded.

@@ -61,7 +61,7 @@ where
     }
 
     // The volume of this file is loaded. What was open for reading is closed, since it may have been a file
-    // of this name that stands no more.
+    // of this name that is no longer there.
     fn keep(&mut self, name: &VolName, file: R::File)
         ensures { loaded_name self.new ≡ Some name.now }
     {

@@ -141,7 +141,7 @@ there_and_gone none there = never (sym none ∙ there)
 
 -- The form of what is listed, whatever the device tells.
 
--- the lines of blocks that are numbered 1, 2 and on, and stand one behind another between two places
+-- the lines of blocks that are numbered 1, 2 and on, and lie one after another between two places
 pub record LinesUpTo (first end next : ℕ) (due : List ℕ) : Type 0 where
   pub blocks : List Block
   pub end_is : end ≡ first + length (images 1 blocks)
@@ -171,7 +171,7 @@ lines_up_to_more first end next due head lines least number_is =
       due_is = ap₂ (λ (x y : List ℕ). x ++ y) lines.due_is (ap (λ h. line (head_text end h)) (sym (head_is next head body number_is size_is))) ∙ sym more;
     }
 
--- the first lines, behind a label
+-- the first lines, after a label
 pub form_front : (name : List ℕ) (label : VolumeLabel) (due : List ℕ) (first : ℕ) → IsVolumeLabel label → label.name ≡ name → first ≡ length (label_block label) → HasBlocks first due
     → HasFront name (line (label_text label) ++ due)
 form_front name label due first is named first_is (blocks, due_is) =

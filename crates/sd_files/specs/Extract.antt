@@ -22,7 +22,7 @@ use Rattle.sd_files.specs.declared.input.SpansFault.{SpansFault}
 use Rattle.sd_files.specs.declared.input.SpansFault.TheVariants.{File, Text}
 use Rattle.sd_files.specs.Lines.{ending_text, records_lines}
 
--- The text says this session and its spans; or it is no JobMedia text. Memory may lack, and the input fail, at any
+-- The text says this session and its spans; or it is no JobMedia text. Memory may run out, and the input fail, at any
 -- text.
 abbrev pub Input : List ℕ → Result SessionSpans SpansFault → Type 0
 Input text (Ok read) = IsJobMedia text read.key read.spans
@@ -30,18 +30,18 @@ Input text (Err File) = Unit {0}
 Input text (Err (Text media.BadSpan)) = (key : SessionKey) (spans : List Span) → ¬ IsJobMedia text key spans
 Input text (Err (Text media.Memory)) = Unit {0}
 
--- the same of an input, where its bytes are known
+-- an input is read to a session and its spans, or it is refused, by its bytes if they are known
 abbrev pub ReadsSpans : Option (List ℕ) → Result SessionSpans SpansFault → Type 0
 ReadsSpans input result = IfSome input (λ text. Input text result)
 
--- what is printed where no spans were read
+-- what is printed if no spans were read
 abbrev pub fault_text : SpansFault → List ℕ
 fault_text File = codes "fault file"
 fault_text (Text fault) = refusal_text (jobmedia_refusal fault)
 
 -- The spans of a session were read to this, and these records were handed over. No volume was changed, and a fault of
--- the device is answered only where the device counted one. On an honest device the records are those that the spans
--- read to, or the first of them and the first fault that the spans meet.
+-- the device is answered only if the device counted one. On an honest device the records are those that the spans read
+-- to, or the first of them and the first fault that the spans meet.
 pub record ReadsSession (old new : Meaning) (key : SessionKey) (spans : List Span) (records : List Record) (result : Result ReadEnd ReadFault) : Type 0 where
   pub device : OnlyReads (IsErrOf result Device) old new
   pub bad_spans : ¬ AreSpans spans → (result ≡ Err BadSpan) × (records ≡ []) × (new ≡ old)
@@ -54,7 +54,7 @@ pub record ReadsSession (old new : Meaning) (key : SessionKey) (spans : List Spa
       → IsErrAnd result (λ answer. (answer ≡ fault) ⊎ (answer ≡ Device) ⊎ (answer ≡ Memory))
   pub handed_over : IsHonest old → OnErr result (HandsOverFront (volumes_on old.shelf) key spans [] records)
 
--- the status: 0 where the session was read and all of it could be written
+-- the status: 0 if the session was read and all of it could be written
 abbrev pub status_of : Result ReadEnd ReadFault → Bool → ℕ
 status_of (Ok end) false = 0
 status_of (Ok end) true = 1
@@ -78,8 +78,8 @@ pub record PrintsSession (input : Option (List ℕ)) (old new : Meaning) (said s
   pub prints : Says said says (records_lines records ++ line (ending_text result))
   pub status_is : status ≡ status_of result says.failed
 
--- An input was read as a JobMedia text, and its session printed; or it was refused. Where the writer failed, a front
--- of that was printed.
+-- An input was read as a JobMedia text, and its session printed; or it was refused. If the writer failed, a front of
+-- that was printed.
 abbrev pub PrintsReading : Option (List ℕ) → Meaning → Meaning → SaidView → SaidView → ℕ → Type 0
 PrintsReading input old new said says status =
     PrintsFault input old new said says status ⊎ PrintsSession input old new said says status

@@ -9,16 +9,16 @@ use Rattle.sd_text.specs.Lines.{line}
 use Rattle.sd_files.specs.Path.{IsPlaceOf}
 use Rattle.sd_files.specs.Status.{PrintsListing}
 
--- what stands behind the last slash is no name: that is printed, and no device is asked
+-- what comes after the last slash is no name: that is printed, and no device is asked
 abbrev pub RefusesName : List ℕ → SaidView → SaidView → ℕ → Type 0
 RefusesName name said says status = ¬ IsName name × Says said says (line (refusal_text BadName)) × (status ≡ 1)
 
--- it is one: the volume of that name is listed, as it stands on the device of the folder
+-- it is one: the volume of that name is listed, as it is on the device of the folder
 abbrev pub ListsNamed : List ℕ → Meaning → SaidView → SaidView → ℕ → Type 0
 ListsNamed name device said says status = IsName name × (after : Meaning) × PrintsListing name device after said says status
 
--- The volume at a path is listed, by what the device of each folder is: the one or the other. A want of memory for the
--- device is told as one that the listing met.
+-- The volume at a path is listed, by what the device of each folder is: the one or the other. Being out of memory for
+-- the device is reported as if the listing had met it.
 abbrev pub ListsFile : (List ℕ → Meaning) → List ℕ → SaidView → SaidView → ℕ → Type 0
 ListsFile device_of path said says status =
     (folder name : List ℕ) × IsPlaceOf path folder name

@@ -36,7 +36,7 @@ head_text start h =
     codes "block " ++ decimal h.number ++ codes " " ++ decimal start ++ codes " " ++ decimal h.size
     ++ codes " " ++ decimal h.key.time ++ codes " " ++ decimal h.key.id
 
--- how many bytes stand behind the blocks
+-- how many bytes come after the blocks
 abbrev pub tail_text : ℕ → List ℕ
 tail_text count = codes "tail " ++ decimal count
 
@@ -51,13 +51,13 @@ line_text (Refused why) = refusal_text why
 abbrev pub head_of : ℕ → StoredBlock → Head
 head_of number b = record { key = b.key; number = number; size = block_header + length b.body }
 
--- the lines of blocks that are numbered from `number` on, and stand one behind another from `start` on
+-- the lines of blocks that are numbered from `number` on, and lie one after another from `start` on
 abbrev pub block_lines : ℕ → ℕ → List StoredBlock → List ℕ
 block_lines number start [] = []
 block_lines number start (b ∷ bs) =
     line (head_text start (head_of number b)) ++ block_lines (number + 1) (start + (block_header + length b.body)) bs
 
--- the lines of a label and of the blocks behind it
+-- the lines of a label and of the blocks after it
 abbrev pub front_lines : VolumeLabel → List StoredBlock → List ℕ
 front_lines label blocks = line (label_text label) ++ block_lines 1 (length (label_block label)) blocks
 
@@ -65,8 +65,8 @@ front_lines label blocks = line (label_text label) ++ block_lines 1 (length (lab
 abbrev pub volume_lines : VolumeLabel → List StoredBlock → ℕ → List ℕ
 volume_lines label blocks count = front_lines label blocks ++ line (tail_text count)
 
--- The bytes are listed whole: the label of that name, all blocks behind it, numbered 1, 2 and on, up to the first
--- place where no whole block with the next number stands, and how many bytes stand there still.
+-- The bytes are listed whole: the label of that name, all blocks after it, numbered 1, 2 and on, up to the first
+-- place where there is no whole block with the next number, and how many bytes are left there.
 pub record ListsWhole (name bytes due : List ℕ) : Type 0 where
   pub label : VolumeLabel
   pub blocks : List StoredBlock
@@ -75,7 +75,7 @@ pub record ListsWhole (name bytes due : List ℕ) : Type 0 where
   pub whole : WholeImage bytes label blocks tail
   pub due_is : due ≡ volume_lines label blocks (length tail)
 
--- the first lines of that: none, or the label's and those of some blocks behind it
+-- the first lines of that: none, or the label's and those of some blocks after it
 pub record ListsFront (name bytes due : List ℕ) : Type 0 where
   pub label : VolumeLabel
   pub blocks : List StoredBlock
@@ -84,19 +84,19 @@ pub record ListsFront (name bytes due : List ℕ) : Type 0 where
   pub image : VolumeImage bytes label blocks tail
   pub due_is : due ≡ front_lines label blocks
 
--- these lines are those of some blocks behind a label that ends there
+-- these lines are those of some blocks after a label that ends there
 abbrev pub HasBlocks : ℕ → List ℕ → Type 0
 HasBlocks first due = (blocks : List StoredBlock) × (due ≡ block_lines 1 first blocks)
 
--- these are the first lines of a listing: of a label of that name and of some blocks behind it
+-- these are the first lines of a listing: of a label of that name and of some blocks after it
 abbrev pub HasFront : List ℕ → List ℕ → Type 0
 HasFront name due =
     (label : VolumeLabel) × IsVolumeLabel label × (label.name ≡ name)
     × ((blocks : List StoredBlock) × (due ≡ front_lines label blocks))
 
 -- The form of what is listed, whatever the device tells: a label of that name, blocks that are numbered 1, 2 and on and
--- stand one behind another, and a tail. Where the listing is given up, these are the first of such lines, or none; and
--- none where it is no volume of that name.
+-- lie one after another, and a tail. If the listing is given up, these are the first of such lines, or none; and none
+-- if it is no volume of that name.
 abbrev pub HasForm : List ℕ → Result (Unit {0}) ListFault → List ℕ → Type 0
 HasForm name (Ok done) due = (front : List ℕ) × (count : ℕ) × HasFront name front × (due ≡ front ++ line (tail_text count))
 HasForm name (Err NotOurVolume) due = due ≡ []
@@ -117,8 +117,8 @@ list_fault_of driver.NoRoom = Device
 list_fault_of driver.Device = Device
 list_fault_of driver.Memory = Memory
 
--- What stands before the refusal of this fault. No volume there: nothing. No label block of that name at its front:
--- nothing. A device's fault and want of memory may come at any time: the first lines, or none.
+-- What comes before the refusal of this fault. No volume there: nothing. No label block of that name at its front:
+-- nothing. A device's fault and running out of memory may come at any time: the first lines, or none.
 abbrev pub ListsUntil : List ℕ → Option Held → ListFault → List ℕ → Type 0
 ListsUntil name found NotOnShelf front = (found ≡ None) × (front ≡ [])
 ListsUntil name found NotOurVolume front =
@@ -126,13 +126,13 @@ ListsUntil name found NotOurVolume front =
 ListsUntil name found other front =
     (front ≡ []) ⊎ ((held : Held) × (found ≡ Some held) × ListsFront name held.bytes front)
 
--- What is due to be printed of the volume of that name, by what stands under it: its listing whole, or what stands
--- before the refusal of a fault.
+-- What is due to be printed of the volume of that name, by what lies under it: its listing whole, or what comes before
+-- the refusal of a fault.
 abbrev pub Lists : List ℕ → Option Held → Result (Unit {0}) ListFault → List ℕ → Type 0
 Lists name found (Ok done) due = (held : Held) × (found ≡ Some held) × ListsWhole name held.bytes due
 Lists name found (Err fault) due = ListsUntil name found fault due
 
--- the blocks that stand in order behind a label, up to a place where the next number is due, and their lines
+-- the blocks that come in order after a label, up to a place where the next number is due, and their lines
 pub record ListsUpTo (bytes : List ℕ) (label : VolumeLabel) (end next : ℕ) (due : List ℕ) : Type 0 where
   pub blocks : List StoredBlock
   pub image : VolumeImage bytes label blocks (drop end bytes)
@@ -140,7 +140,8 @@ pub record ListsUpTo (bytes : List ℕ) (label : VolumeLabel) (end next : ℕ) (
   pub next_is : next ≡ 1 + length blocks
   pub due_is : due ≡ block_lines 1 (length (label_block label)) blocks
 
--- The lines of the blocks behind a label were listed: all of them, or, where a fault was met, some first of them.
+-- The lines of the blocks after a label were listed: all of them, or, if a fault was met, some of them, from the first
+-- on.
 abbrev pub ListsBlocks : List ℕ → VolumeLabel → Result ℕ DriverFault → List ℕ → Type 0
 ListsBlocks bytes label (Ok end) due =
     (next : ℕ) × ListsUpTo bytes label end next due × NoBlockNext next (drop end bytes)

@@ -6,12 +6,12 @@ use Rattle.std.specs.Str.{NoCharPasses}
 abbrev pub HasNoSlash : List ℕ → Type 0
 HasNoSlash text = NoCharPasses (λ c. c == 47) text
 
--- the folder that stands before the last slash, where that begins the path it is the slash alone
+-- the folder before the last slash; if that begins the path, it is the slash alone
 abbrev pub folder_before : List ℕ → List ℕ
 folder_before [] = 47 ∷ []
 folder_before (c ∷ front) = c ∷ front
 
--- The name has no slash. Before it stands nothing, and the folder is the current one, `.`; or some text and a slash.
+-- The name has no slash. Before it comes nothing, and the folder is the current one, `.`; or some text and a slash.
 abbrev pub IsPlaceOf : List ℕ → List ℕ → List ℕ → Type 0
 IsPlaceOf path folder name =
     HasNoSlash name

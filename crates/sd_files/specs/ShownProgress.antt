@@ -11,7 +11,7 @@ step = 256000000
 abbrev pub is_due : ℕ → ℕ → Bool
 is_due before after = nat_lt (before / step) (after / step)
 
--- how a reading of so many bytes is told of, where it is told of at all
+-- how a reading of so many bytes is told of, if it is told of at all
 abbrev pub of_total : ShownProgress → ℕ → ShownProgress
 of_total Silent total = Silent
 of_total Told total = Of total

@@ -9,20 +9,20 @@ use Rattle.sd_files.specs.Listing.{HasForm, Lists, list_refusal}
 use Rattle.sd_files.specs.declared.listing.ListFault.{ListFault}
 use Rattle.sd_files.specs.declared.listing.ListFault.TheVariants.{Device}
 
--- what is printed behind a listing: the line of what it was given up for
+-- what is printed after a listing: the line of what it was given up for
 abbrev pub fault_lines : Result (Unit {0}) ListFault → List ℕ
 fault_lines (Ok done) = []
 fault_lines (Err fault) = line (refusal_text (list_refusal fault))
 
--- the status: 0 where all was listed and all of it could be written
+-- the status: 0 if all was listed and all of it could be written
 abbrev pub status_of : Result (Unit {0}) ListFault → Bool → ℕ
 status_of (Ok done) false = 0
 status_of (Ok done) true = 1
 status_of (Err fault) failed = 1
 
--- A volume was listed with this end: no volume was changed, and a fault of the device is answered only where the device
--- counted one. What is listed has the form of a listing, and on an honest device it is what stands there. All that is
--- due was printed, or, where the writer failed, a front of it.
+-- A volume was listed with this end: no volume was changed, and a fault of the device is answered only if the device
+-- counted one. What is listed has the form of a listing, and on an honest device it is what is there. All that is due
+-- was printed, or, if the writer failed, a front of it.
 pub record PrintsListing (name : List ℕ) (old new : Meaning) (said says : SaidView) (status : ℕ) : Type 0 where
   pub result : Result (Unit {0}) ListFault
   pub due : List ℕ

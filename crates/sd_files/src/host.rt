@@ -11,8 +11,8 @@ use std::alloc::AllocError;
 use std::fs::{self, DirEntry, File};
 use std::io::{self, ErrorKind, Read};
 
-/// What a program has its texts and its volumes of. What it is stands in two ghost members: what the file at a path
-/// holds, where that is known, and what the device of a folder, whose reading is told of or not, is as it is made.
+/// What a program has its texts and its volumes from. Two ghost members say what it is: what the file at a path holds,
+/// if that is known, and what the device of a folder, whose reading is told of or not, is as it is made.
 pub trait Host {
     type Text: Read + Drop;
 
@@ -85,7 +85,7 @@ impl Host for HostRuntime {
     }
 }
 
-// The name of a regular file, where a volume could have it.
+// The name of a regular file, if a volume could have it.
 fn volume_name(entry: &DirEntry<HostRuntime>) -> io::Result<Option<VolName>> {
     let Ok(name) = VolName::parse(entry.file_name()) else {
         return Ok(None);
@@ -93,7 +93,7 @@ fn volume_name(entry: &DirEntry<HostRuntime>) -> io::Result<Option<VolName>> {
     Ok(entry.file_type()?.is_file().then_some(name))
 }
 
-// Puts a name before the first of these that comes behind it.
+// Puts a name before the first of these that comes after it.
 fn place(names: &mut Vec<VolName>, one: VolName) -> Result<(), AllocError> {
     let at = place_for(names, &one);
     names.insert(at, one)?;

@@ -7,7 +7,7 @@ use std::fmt;
 /// A line of a reading. Displays it without the newline.
 #[derive(Drop)]
 pub enum FileLine {
-    /// A record whose bytes stand behind the line.
+    /// A record whose bytes come after the line.
     Record {
         index: u32,
         stream: u32,

@@ -11,7 +11,7 @@ pub enum ListLine {
     Label(VolumeLabel),
     /// A block that starts at that byte.
     Block { start: u64, head: Head },
-    /// So many bytes stand behind the blocks.
+    /// So many bytes come after the blocks.
     Tail(u64),
     /// The listing is given up.
     Refused(Refusal),

@@ -1,4 +1,4 @@
-// The listing of a volume: its label, its blocks one after another, and what stands behind them.
+// The listing of a volume: its label, its blocks one after another, and what comes after them.
 ghost use Rattle.std.specs.Prelude.{◌≡◌, ◌≢◌, ◌≤◌, ℕ, List, length, IfOk, IfErr, IsErrOf, None, Some};
 ghost use Rattle.sd_base.specs.Limits.{least_block};
 ghost use Rattle.sd_driver.specs.Meaning.{IsHonest};
@@ -23,13 +23,13 @@ use std::io::Write;
 /// Why a volume is not listed, or not to its end.
 #[derive(Clone, Copy, Debug, PartialEq, Eq)]
 pub enum ListFault {
-    /// No volume of that name stands on the shelf.
+    /// No volume of that name is on the shelf.
     NotOnShelf,
     /// It begins with no label block of this profile, or its label has another name.
     NotOurVolume,
     /// The device failed.
     Device,
-    /// Memory was wanted, by the reader or by the device.
+    /// The reader or the device was out of memory.
     Memory,
 }
 
@@ -70,8 +70,8 @@ impl From<DriverFault> for ListFault {
 }
 
 /// Prints the listing of the volume of that name, block by block, whatever its length: a line for its label, one for
-/// each block behind it, up to the first place where no whole block with the next number stands, and one that says how
-/// many bytes stand there still. After a fault nothing more is printed here; what was printed before stays.
+/// each block after it, up to the first place where there is no whole block with the next number, and one that says how
+/// many bytes are left there. After a fault nothing more is printed here; what was printed before stays.
 ///
 /// Calls len once, then reads, each byte once. Holds one buffer of a block's greatest length. Volumes are not
 /// changed, loaded or not.
@@ -101,7 +101,7 @@ pub fn list<D: Driver, W: Write>(
     Ok(())
 }
 
-// Prints a line for each block behind the label of a volume of that size, and says where they end.
+// Prints a line for each block after the label of a volume of that size, and says where they end.
 fn list_blocks<D: Driver, W: Write>(
     driver: &mut D,
     reader: &mut VolumeReader,

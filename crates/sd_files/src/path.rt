@@ -2,15 +2,15 @@
 ghost use Rattle.std.specs.Prelude.{◌≡◌};
 ghost use Rattle.sd_files.specs.Path.{IsPlaceOf, folder_before};
 
-/// The folder that a path names, and what stands behind it.
+/// The folder that a path names, and what comes after it.
 #[derive(Clone, Copy)]
 pub struct Place<'a> {
     pub folder: &'a str,
     pub name: &'a str,
 }
 
-/// The folder of a path is what stands before its last slash: `.` where there is no slash, and `/` where nothing stands
-/// before it. Its name is what stands behind.
+/// The folder of a path is what comes before its last slash: `.` if there is no slash, and `/` if nothing comes before
+/// it. Its name is what comes after.
 pub fn split_path(path: &str) -> Place<'_>
     ensures { IsPlaceOf path.now result.folder.now result.name.now }
 {
@@ -26,7 +26,7 @@ pub fn split_path(path: &str) -> Place<'_>
     }
 }
 
-// The folder that stands before the last slash: the slash alone where that begins the path.
+// The folder before the last slash: the slash alone if that begins the path.
 fn folder_before(front: &str) -> &str
     ensures { result.now ≡ folder_before front.now }
 {

@@ -29,10 +29,10 @@ pub struct Extracted<W> {
 }
 
 /// Reads a JobMedia text, up to the end of the input, then the session that it names, from the device: prints each of
-/// its records as soon as it is whole, and how the reading ended. The status is 0 where all of it was read and
+/// its records as soon as it is whole, and how the reading ended. The status is 0 if all of it was read and
 /// printed, and else 1. What was printed before a fault stays.
 ///
-/// Of the device the calls are those of `read_session`; none where the input is refused.
+/// The calls of the device are those of `read_session`; none if the input is refused.
 pub fn extract<D: Driver, R: Read, W: Write>(
     alloc: Global,
     driver: &mut D,

@@ -17,8 +17,8 @@ const DONE: u8 = 0;
 /// The status of a listing that was refused, or could not be printed.
 pub(crate) const FAILED: u8 = 1;
 
-/// Prints the listing of the volume of that name, and behind it the line of what it was given up for, if it was. Answers
-/// the status: 0 where all of it was printed, and else 1.
+/// Prints the listing of the volume of that name, and after it the line of what it was given up for, if it was. Answers
+/// the status: 0 if all of it was printed, and else 1.
 pub fn list_on<D: Driver, W: Write>(
     alloc: Global,
     driver: &mut D,

@@ -16,7 +16,7 @@ pub enum ShownProgress {
     Silent,
     /// A line to standard error every 256,000,000 bytes.
     Told,
-    /// The same, with the rate so far and how long the rest of so many bytes takes at it.
+    /// A line like that of `Told`, with the rate so far and how long the rest of so many bytes takes at it.
     Of(u64),
 }
 
@@ -32,7 +32,7 @@ impl ShownProgress {
         }
     }
 
-    /// The same of a reading of so many bytes.
+    /// How a reading of so many bytes is told of, if it is told of at all.
     pub fn of(self, total: u64) -> ShownProgress
         ensures { result ≡ of_total self total }
     {
@@ -50,7 +50,7 @@ pub struct WatchedDevice<D, R: Eprint + Clock + Drop> {
     system: R,
     progress: ShownProgress,
     read: u64,
-    /// When it was made, where the clock told that.
+    /// When it was made, if the clock told that.
     begun: Option<Instant>,
 }
 
@@ -69,7 +69,7 @@ impl<D, R: Eprint + Clock + Drop> WatchedDevice<D, R> {
         }
     }
 
-    // Counts bytes that were read, and tells of them where it is time.
+    // Counts bytes that were read, and tells of them if it is time.
     fn count(&mut self, bytes: u64)
         ensures { self.new.device ≡ self.old.device }
     {
@@ -80,7 +80,7 @@ impl<D, R: Eprint + Clock + Drop> WatchedDevice<D, R> {
         }
     }
 
-    // Tells of the bytes so far. Where the line can't be written the reading goes on.
+    // Tells of the bytes so far. If the line can't be written, the reading goes on.
     fn tell(&self) {
         let read = self.read;
         let _ = match self.progress {
@@ -96,7 +96,7 @@ impl<D, R: Eprint + Clock + Drop> WatchedDevice<D, R> {
         };
     }
 
-    // How many milliseconds it has been read; 0 where the clock doesn't tell.
+    // How many milliseconds it has been read; 0 if the clock doesn't tell.
     fn millis(&self) -> u64 {
         let Some(begun) = self.begun else {
             return 0;

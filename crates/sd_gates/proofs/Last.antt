@@ -1,4 +1,4 @@
--- The last of a list, and what stands at a place.
+-- The last of a list, and what is at a place.
 use Rattle.std.proofs.Common.{◌≡◌, ℕ, zero, suc, ◌+◌, refl, sym, ap, subst, ◌∙◌, arith, List, [], ◌∷◌, ◌++◌, Some, length, slice_get}
 use Rattle.atomic_table.specs.Seated.{TableId}
 use Rattle.sd_line.specs.Side.{no_table}
@@ -10,11 +10,11 @@ there (y ∷ ys) rest x = there ys rest x
 pub last_there : {A : Type 0} (all rest : List A) (x : A) → all ≡ rest ++ x ∷ [] → slice_get all (length rest) ≡ Some x
 last_there all rest x is = subst (λ l. slice_get l (length rest) ≡ Some x) (sym is) (there rest [] x)
 
--- the first behind these stands there
+-- the first after these is there
 pub next_there : {A : Type 0} (all front left rest : List A) (x : A) → all ≡ front ++ left → left ≡ x ∷ rest → slice_get all (length front) ≡ Some x
 next_there all front left rest x is next = ap (λ l. slice_get l (length front)) (is ∙ ap (λ l. front ++ l) next) ∙ there front rest x
 
--- what stands in the front stands in all
+-- what is at a place in the front is there in all
 front_there : {A : Type 0} (front rest : List A) (k : ℕ) (x : A) → slice_get front k ≡ Some x → slice_get (front ++ rest) k ≡ Some x
 front_there [] rest k x is = absurd (cc is)
 front_there (y ∷ front) rest zero x is = is
@@ -39,7 +39,7 @@ at_there [] k one is = absurd (cc is)
 at_there (t ∷ ts) zero one is = let same : t ≡ one = cc is in sym same
 at_there (t ∷ ts) (suc k) one is = at_there ts k one is
 
--- each table is that of the number behind its place
+-- each table is that of the number after its place
 pub named_there : (all : List TableId) (k : ℕ) (one : TableId) → slice_get all k ≡ Some one → one ≡ named all (k + 1)
 unfolding named
 named_there all k one is =

@@ -89,7 +89,7 @@ pub fn begin_all<N: Naming, R: Wait + Copy + Drop>(
     Some(begun)
 }
 
-// The number of the drive behind so many.
+// The number of the drive after so many.
 fn number_behind(before: usize) -> Option<DriveNo>
     ensures { IfSome result (λ no. no ≡ before + 1) }
 {

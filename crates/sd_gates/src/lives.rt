@@ -153,7 +153,7 @@ fn first_other<N: Naming, R: Wait + Drop>(
     None
 }
 
-// The same of a line that is made for it.
+// The first row that comes to something else, in a session's life at a line that is made for it.
 fn live<N: Naming, R: Wait + Drop>(
     rt: R,
     alloc: Global,

@@ -39,7 +39,8 @@ fn count_read<N: Naming + Send + Sync, R: Threads + Wait + Clock + Sync + Copy +
     Some(many)
 }
 
-// The same of one line.
+// How many receipts of this line, once settled, read to just the records of their jobs, whose sessions are closed
+// there.
 fn count_of_line<N: Naming, R: Wait + Copy + Drop>(
     alloc: Global,
     case: &Case,
@@ -199,7 +200,7 @@ fn settle_active<N: Naming, R: Wait + Copy + Drop>(
     try_settle(alloc, left).ok()
 }
 
-// The same of a session of this number, alone at a line of one lane.
+// The world of a line of one lane, whose only session, of this number, took its record and was left active.
 fn play_active<R: Wait + Copy + Drop>(rt: R, alloc: Global, first: u32) -> Option<Settled<R>> {
     let case = Case {
         lines: 1,

@@ -20,7 +20,7 @@ pub struct Left<N: Naming, R: Wait + Drop> {
     pub line: Line<MemDrive, N, R>,
     pub ends: Vec<LaneEnd<N, MemSpool>>,
     pub receipts: Vec<Receipt>,
-    /// The same receipts once more.
+    /// The receipts of the line's jobs, once more.
     pub kept: Vec<Receipt>,
 }
 

@@ -11,7 +11,7 @@ use std::marker::Brand;
 use std::sync::Wait;
 use std::test::*;
 
-// Whether each job is found to have its line, where the last one names the line at this place.
+// Whether each job is found to have its line, if the last one names the line at this place.
 fn play<R: Wait + Copy + Drop>(rt: R, alloc: Global, place: usize) -> Option<bool> {
     let all = make_all(rt, alloc, &FOUR)?;
     play_with::<Brand, R>(rt, alloc, all, place)

@@ -58,7 +58,7 @@ all_have lanes told have all at s there =
     let i = in_lane lanes back.0 s back.1 in
     have i.at i.lane i.there i.place s i.stands
 
--- one behind none is alone
+-- one after none is alone
 pub alone : {A : Type 0} (all none : List A) (x : A) → all ≡ none ++ x ∷ [] → none ≡ [] → all ≡ x ∷ []
 alone all none x is empty = is ∙ ap (λ xs. xs ++ x ∷ []) empty
 
@@ -93,7 +93,7 @@ claims_own {D} w d media slots queue bays claimed bay e there online =
     let same : d ≡ e = cc (ap (λ (b : BayView D). b.drive) first ∙ online) in
     subst (λ (x : DriveIs D). AreClaimed x.volumes w.desk) same claimed
 
--- Such a world keeps what every world keeps; and it is that of the line, where the line was checked.
+-- Such a world keeps what every world keeps; and it is that of the line, if the line was checked.
 module _ {D : Type 0} (meaning : D → Meaning) (table : ℕ → TableId) (time : ℕ → ℕ) (c : CheckedIs D) (s : SettledIs D) (told : List ToldSession) (w : WorldView D)
     (h : Settles meaning table time c s) (b : BecomesWorld s told w) where
   pub world_rules : Kept (meaning s.drive.device) s.drive.volumes s.drive.loaded s.drive.journal → IsWorld w

@@ -7,7 +7,7 @@ use Rattle.sd_line.specs.Ends.{ToldSession}
 use Rattle.sd_session.specs.declared.status.Status.TheVariants.{Closed}
 use Rattle.sd_hub.specs.Settles.{IsUnsettled}
 
--- one of two numbers is another, where not both are this one
+-- if not both of two numbers are this one, one of them is another
 short_by : (placed synced sent : ℕ) (b : Bool) → (IsTrue b ↔ ((placed ≡ sent) × (synced ≡ sent))) → IsTrue (not b) ↔ ((placed ≢ sent) ⊎ (synced ≢ sent))
 short_by placed synced sent true all = (λ (e : false ≡ true). absurd (false≢true e), λ short. absurd (elim short [ inl p ↦ p (all.0 refl).0 | inr s ↦ s (all.0 refl).1 ]))
 short_by placed synced sent false all = (

@@ -28,7 +28,7 @@ none_claimed volumes desk none no_request = record {
   none_asked = no_request;
 }
 
--- the name of a volume stands at its place among the names
+-- the name of a volume is at its place among the names
 name_at : (volumes : List VolumeView) (place : ℕ) (v : VolumeView) → slice_get volumes place ≡ Some v → slice_get (names volumes) place ≡ Some v.name
 name_at volumes place v there = slice_get-map (λ (x : VolumeView). x.name) volumes place ∙ ap (option_map (λ (x : VolumeView). x.name)) there
 

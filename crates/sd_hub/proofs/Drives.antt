@@ -63,7 +63,7 @@ no_length : {A : Type 0} (xs : List A) → length xs ≡ 0 → xs ≡ []
 no_length [] none = refl
 no_length (x ∷ xs) none = absurd (omega (arith, none))
 
--- where all pieces of a session are placed, none is on the way
+-- if all pieces of a session are placed, none is on the way
 pub none_on_the_way : {D : Type 0} (d : DriveIs D) (queue : LanesView) (key : SessionKey) → placed_of key d.journal ≡ length (items_with key (items_before d queue)) → IsOnTheWay d queue key → ⊥
 none_on_the_way d queue key all way =
     let hand = map body_of_piece (option_to_list d.hand) in
@@ -74,7 +74,7 @@ none_on_the_way d queue key all way =
     ∙ sym (ap (λ l. length (items_with key l)) (map_pieces item_of_piece queue.held)) in
     way (no_length (bodies_with key (hand ++ queued_bodies queue)) (omega (arith, before, both, in_hand, held, all)))
 
--- no entry of a session is found that isn't synced, where each is
+-- if each entry of a session is synced, none is found that isn't
 all_synced : (key : SessionKey) (es : List Entry) → All (λ e. IsTrue (is_key key e.placement.key) → e.mark ≡ Synced) es
     → list_any (λ (e : Entry). is_key key e.placement.key && not (is_synced e.mark)) es ≡ false
 all_synced key [] all = refl
@@ -86,6 +86,6 @@ all_synced key (e ∷ es) all =
     one true is = ap (λ m. not (is_synced m)) (is refl)
     one false is = refl
 
--- where as many blocks of a session are synced as are placed, none is unsynced
+-- if as many blocks of a session are synced as are placed, none is unsynced
 pub none_unsynced : (key : SessionKey) (es : List Entry) → synced_of key es ≡ placed_of key es → IsUnsynced es key → ⊥
 none_unsynced key es all unsynced = true≢false (sym unsynced ∙ all_synced key es ((counting key es).whole.0 all))

@@ -5,7 +5,7 @@ use Rattle.sd_line.specs.Ends.{ToldSession}
 use Rattle.sd_hub.specs.Worlds.{SettlesEach, SettlesOne}
 use Rattle.sd_world.specs.World.{WorldSession}
 
--- one session behind the others
+-- one session after the others
 each_push : (journal : List Entry) (ss : List ToldSession) (es : List WorldSession) (s : ToldSession) (e : WorldSession) → SettlesEach journal ss es → SettlesOne journal s e
     → SettlesEach journal (ss ++ s ∷ []) (es ++ e ∷ [])
 each_push journal [] [] s e each one = (one, tt)

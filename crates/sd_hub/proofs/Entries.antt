@@ -1,4 +1,4 @@
--- What becomes of a session of a line in the world, and where it stands there.
+-- What becomes of a session of a line in the world, and where it lies there.
 use Rattle.std.proofs.Common.{◌≡◌, ◌⊎◌, ℕ, zero, suc, ◌==◌, if◌then◌else◌, refl, ap, subst, ◌∙◌, inl, inr, arith, Bool, true, false, Some, List, [], ◌∷◌, slice_get}
 use Rattle.std.specs.List.{Contains}
 use Rattle.std.specs.List.Sorted.{IsPermutation}
@@ -131,7 +131,7 @@ in_world journal (x ∷ ss) (e ∷ es) zero s each there =
     (e, refl, subst (λ (y : ToldSession). SettlesOne journal y e) same each.0)
 in_world journal (x ∷ ss) (e ∷ es) (suc at) s each there = in_world journal ss es at s each.1 there
 
--- one that is found by its ticket stands at some place
+-- one that is found by its ticket is at some place
 pub index_of : (ticket : ℕ) (es : List WorldSession) (e : WorldSession) → session_at ticket es ≡ Some e → (at : ℕ) × (slice_get es at ≡ Some e)
 index_of ticket [] e found = absurd (cc found)
 index_of ticket (x ∷ es) e found = by (λ is. index_of ticket es e is) (x.session.key.id == ticket) found
@@ -143,7 +143,7 @@ index_of ticket (x ∷ es) e found = by (λ is. index_of ticket es e is) (x.sess
 
 -- In another order.
 
--- what stands in a list stands in each that has its elements
+-- what is in a list is in each that has its elements
 pub moved : {A : Type 0} (xs ys : List A) (at : ℕ) (x : A) → IsPermutation xs ys → slice_get xs at ≡ Some x → (k : ℕ) × (slice_get ys k ≡ Some x)
 moved xs ys at x all there =
     let here : Contains xs x = (at, slice_get_within xs at x there, get_or_from_slice_get xs at x x there) in

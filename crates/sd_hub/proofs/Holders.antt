@@ -7,7 +7,7 @@ use Rattle.sd_spool.specs.Job.{StoreState}
 use Rattle.sd_world.specs.Honest.{StoreIsTrue}
 use Rattle.sd_hub.specs.Worlds.{last_ticket}
 
--- the last of these sessions stands at this place
+-- the last of these sessions is at this place
 pub record LastIs (ss : List ToldSession) : Type 0 where
   pub place : ℕ
   pub s : ToldSession
@@ -15,7 +15,7 @@ pub record LastIs (ss : List ToldSession) : Type 0 where
   pub ticket_is : last_ticket ss ≡ Some s.session.key.id
   pub store_is : last_store ss ≡ store_of s.session
 
--- there is none, or it stands at some place
+-- there is none, or it is at some place
 pub last_of : (ss : List ToldSession) → (ss ≡ []) ⊎ LastIs ss
 last_of [] = inl refl
 last_of (s ∷ []) = inr (record { place = 0; s = s; there = refl; ticket_is = refl; store_is = refl })
@@ -34,12 +34,12 @@ running_last (x ∷ t ∷ ss) zero s over there runs =
     absurd (over.0 (subst (λ (y : ToldSession). IsRunning y.session.status) (sym same) runs))
 running_last (x ∷ t ∷ ss) (suc at) s over there runs = running_last (t ∷ ss) at s over.1 there runs
 
--- a store that lies in one of two places is honest where both are
+-- a store that lies in one of two places is honest if both are
 pub either_true : (here there : Option StoreState) → StoreIsTrue here → StoreIsTrue there → StoreIsTrue (option_or here there)
 either_true None there own other = other
 either_true (Some store) there own other = own
 
--- it lies in the second where it isn't in the first
+-- it lies in the second if it isn't in the first
 pub else_there : (here there : Option StoreState) → IsSome (option_or here there) → here ≡ None → IsSome there
 else_there None there some none = some
 else_there (Some store) there some none = absurd (cc none)

@@ -10,7 +10,7 @@ use Rattle.sd_journal.specs.Journal.{Entry}
 use Rattle.sd_line.specs.Ends.{EndIs, ToldSession}
 use Rattle.sd_hub.specs.Settles.{AreDistinct, HasUnsettled, sessions_at, sessions_to, times_of}
 
--- what stands behind other elements
+-- what comes after other elements
 get_behind : {A : Type 0} (xs ys : List A) (at : ℕ) (x : A) → slice_get ys at ≡ Some x → (place : ℕ) × (slice_get (xs ++ ys) place ≡ Some x)
 get_behind [] ys at x there = (at, there)
 get_behind (y ∷ xs) ys at x there = let behind = get_behind xs ys at x there in (suc behind.0, behind.1)

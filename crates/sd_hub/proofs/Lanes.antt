@@ -17,7 +17,7 @@ use Rattle.sd_hub.proofs.Pieces.{keyed, keyed-append, keyed-other, keyed-own, pi
 
 -- How often a key is a session's.
 
--- one, where it is
+-- one if it is, else none
 abbrev once : Bool → ℕ
 once own = if own then 1 else 0
 
@@ -25,7 +25,7 @@ once own = if own then 1 else 0
 pub times-cons : (key : SessionKey) (s : ToldSession) (ss : List ToldSession) → times_of key (s ∷ ss) ≡ once (is_key s.session.key key) + times_of key ss
 times-cons key s ss = sum_by-cons (λ (x : ToldSession). once (is_key x.session.key key)) s ss
 
--- over two lists, one behind the other
+-- over two lists, one after the other
 pub times-append : (key : SessionKey) (ss more : List ToldSession) → times_of key (ss ++ more) ≡ times_of key ss + times_of key more
 times-append key ss more = sum_by-append (λ (x : ToldSession). once (is_key x.session.key key)) ss more
 
@@ -33,7 +33,7 @@ times-append key ss more = sum_by-append (λ (x : ToldSession). once (is_key x.s
 pub times_first : (s : ToldSession) (ss : List ToldSession) → times_of s.session.key (s ∷ ss) ≡ 1 + times_of s.session.key ss
 times_first s ss = times-cons s.session.key s ss ∙ ap (λ own. once own + times_of s.session.key ss) (key_same_self s.session.key)
 
--- it counts wherever the session stands
+-- it counts wherever the session is
 pub times_least : (ss : List ToldSession) (at : ℕ) (s : ToldSession) → slice_get ss at ≡ Some s → 1 ≤ times_of s.session.key ss
 times_least [] at s there = absurd (cc there)
 times_least (x ∷ ss) zero s there =
@@ -45,17 +45,17 @@ times_least (x ∷ ss) (suc at) s there =
     let rest = times_least ss at s there in
     omega (arith, n, rest)
 
--- where none counts, the session in front has another key, and none behind it has this one
+-- if none counts, the session in front has another key, and none after it has this one
 not_counted : (own : Bool) (n : ℕ) → once own + n ≡ 0 → (own ≡ false) × (n ≡ 0)
 not_counted true n none = absurd (omega (arith, none))
 not_counted false n none = (refl, omega (arith, none))
 
--- where one counts behind it and no more do, the session in front has another key
+-- if one counts after it and no more do, the session in front has another key
 one_counted : (own : Bool) (n : ℕ) → once own + n ≤ 1 → 1 ≤ n → own ≡ false
 one_counted true n most least = absurd (omega (arith, most, least))
 one_counted false n most least = refl
 
--- those behind the first are distinct too
+-- those after the first are distinct too
 pub distinct_behind : (s : ToldSession) (ss : List ToldSession) → AreDistinct (s ∷ ss) → AreDistinct ss
 distinct_behind s ss apart at x there =
     let n = times-cons x.session.key s ss in

@@ -6,7 +6,7 @@ use Rattle.sd_line.specs.Ends.{ToldSession}
 use Rattle.sd_hub.specs.Worlds.{last_ticket, next_number}
 use Rattle.sd_hub.specs.Tickets.{HaveTickets}
 
--- the session at the last place has the last ticket, and the next number is that behind it
+-- the session at the last place has the last ticket, and the next number is that after it
 last_at : (ss : List ToldSession) (at : ℕ) (s : ToldSession) → at + 1 ≡ length ss → slice_get ss at ≡ Some s
     → (last_ticket ss ≡ Some s.session.key.id) × (next_number ss ≡ s.session.key.id + 1)
 last_at [] at s long there = absurd (cc there)
@@ -22,11 +22,11 @@ module _ (ss : List ToldSession) (s : ToldSession) (is : Some s ≡ slice_get ss
       let within = slice_get_within ss (length ss - 1) s (sym is) in
       last_at ss (length ss - 1) s (omega (arith, within)) (sym is)
 
-  -- the next number is that behind its own
+  -- the next number is that after its own
   pub next_is : (n : ℕ) → n ≡ s.session.key.id → n + 1 ≡ next_number ss
   next_is n own = ap (λ (k : ℕ). k + 1) own ∙ sym tells.1
 
-  -- and where all have tickets, its own is small enough
+  -- and if all have tickets, its own is small enough
   pub most_is : (n : ℕ) → n ≡ s.session.key.id → HaveTickets ss → n ≤ most_number
   most_is n own have = let most = (have (length ss - 1) s (sym is)).1 in omega (arith, own, most)
 

@@ -7,7 +7,7 @@ use Rattle.sd_hub.specs.Settles.{SettledLaneIs}
 use Rattle.sd_hub.specs.Worlds.{lane_sessions, lane_view}
 use Rattle.sd_world.specs.World.{LaneView}
 
--- those of one lane behind others
+-- those of one lane after others
 lane_push : (ls : List SettledLaneIs) (l : SettledLaneIs) → lane_sessions (ls ++ l ∷ []) ≡ lane_sessions ls ++ l.sessions
 lane_push [] l = append-nil l.sessions
 lane_push (m ∷ ls) l = ap (λ (ss : List ToldSession). m.sessions ++ ss) (lane_push ls l) ∙ sym (append_assoc m.sessions (lane_sessions ls) l.sessions)
@@ -36,7 +36,7 @@ front_fits (m ∷ all) (suc at) l there =
     let long = length-append m.sessions (lane_sessions all) in
     omega (arith, more, front, long)
 
--- A lane that comes behind others, out of all.
+-- A lane that comes after others, out of all.
 module _ (all ls : List SettledLaneIs) (l : SettledLaneIs) (turn : (length ls < length all) × (l ≡ get_or all (length ls) l)) where
   pub stands : slice_get all (length ls) ≡ Some l
   stands = slice_get_read all (length all) (length ls) l refl turn.0 turn.1

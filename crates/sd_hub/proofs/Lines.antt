@@ -113,7 +113,7 @@ pub record IsInLane (ls : List SettledLaneIs) (s : ToldSession) : Type 0 where
   pub place : ℕ
   pub stands : slice_get lane.sessions place ≡ Some s
 
--- what stands in one of two lists, one behind the other, stands in one of them
+-- what is in two lists, one after the other, is in one of them
 get_either : {A : Type 0} (xs ys : List A) (at : ℕ) (x : A) → slice_get (xs ++ ys) at ≡ Some x → (slice_get xs at ≡ Some x) ⊎ ((k : ℕ) × (slice_get ys k ≡ Some x))
 get_either [] ys at x there = inr (at, there)
 get_either (y ∷ xs) ys zero x there = inl there
@@ -127,7 +127,7 @@ in_lane (l ∷ ls) k s there = elim (get_either l.sessions (lane_sessions ls) k 
   | inr more ↦ (let i = in_lane ls more.0 s more.1 in record { at = suc i.at; lane = i.lane; there = i.there; place = i.place; stands = i.stands })
 ]
 
--- what stands in the second of two lists stands in both
+-- what is in the second of two lists is in the two, one after the other
 get_behind : {A : Type 0} (xs ys : List A) (at : ℕ) (x : A) → slice_get ys at ≡ Some x → (k : ℕ) × (slice_get (xs ++ ys) k ≡ Some x)
 get_behind [] ys at x there = (at, there)
 get_behind (y ∷ xs) ys at x there = let k = get_behind xs ys at x there in (suc k.0, k.1)

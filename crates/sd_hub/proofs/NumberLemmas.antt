@@ -27,17 +27,17 @@ pub record IsOfRun (run : ℕ) (key : SessionKey) : Type 0 where
 abbrev pub AreOfRun : ℕ → List ToldSession → Type 0
 AreOfRun run ss = AllByRecursion (λ (s : ToldSession). IsOfRun run s.session.key) ss
 
--- the number behind these, where the first is this one or greater
+-- the number after these, if the first is this one or greater
 abbrev next_from : ℕ → List ToldSession → ℕ
 next_from least [] = least
 next_from least (s ∷ ss) = next_from (number s + 1) ss
 
--- where there is a session, it is the number behind the last
+-- if there is a session, it is the number after the last
 next_last : (least : ℕ) (s : ToldSession) (ss : List ToldSession) → next_from least (s ∷ ss) ≡ next_number (s ∷ ss)
 next_last least s [] = refl
 next_last least s (t ∷ ss) = next_last (number s + 1) t ss
 
--- so the next number is that behind all of them
+-- so the next number is that after all of them
 next_is : (ss : List ToldSession) → next_from 1 ss ≡ next_number ss
 next_is [] = refl
 next_is (s ∷ ss) = next_last 1 s ss
@@ -47,7 +47,7 @@ abbrev Begins : ℕ → List ToldSession → Type 0
 Begins least [] = Unit {0}
 Begins least (s ∷ ss) = least ≤ number s
 
--- those behind the first don't fall either
+-- those after the first don't fall either
 falls_not_behind : (s : ToldSession) (ss : List ToldSession) → IsNonDecreasingBy number (s ∷ ss) → IsNonDecreasingBy number ss
 falls_not_behind s ss rise i j d up below = rise (suc i) (suc j) d (omega (arith, up)) (omega (arith, below))
 

@@ -25,7 +25,7 @@ pieces_in qs = map (λ (q : Queued). q.piece) qs
 
 -- Pieces of a session.
 
--- over two lists, one behind the other
+-- over two lists, one after the other
 pub keyed-append : (key : SessionKey) (ps rest : List Piece) → keyed key (ps ++ rest) ≡ keyed key ps ++ keyed key rest
 keyed-append key [] rest = refl
 keyed-append key (p ∷ ps) rest = by (is_key key p.key) (keyed-append key ps rest)
@@ -89,7 +89,7 @@ length_items key (p ∷ ps) = by (is_key key p.key) (length_items key ps)
 
 -- Of one lane.
 
--- no piece of the session is in front, where none is there
+-- no piece of the session is in front, if none is there
 not_first : (key : SessionKey) (p : Piece) (ps : List Piece) → keyed key (p ∷ ps) ≡ [] → (is_key key p.key ≡ false) × (keyed key ps ≡ [])
 not_first key p ps none = by (is_key key p.key) refl none
   where
@@ -97,7 +97,7 @@ not_first key p ps none = by (is_key key p.key) refl none
     by true is some = absurd (cc some)
     by false is rest = (is, rest)
 
--- a lane that has none of it has none of it behind the first piece
+-- a lane that has none of it has none of it after the first piece
 none_behind : (key : SessionKey) (lane : ℕ) (q : Queued) (qs : List Queued) → keyed key (pieces_of lane (q ∷ qs)) ≡ [] → keyed key (pieces_of lane qs) ≡ []
 none_behind key lane q qs none = by (q.lane == lane) none
   where
@@ -105,7 +105,7 @@ none_behind key lane q qs none = by (q.lane == lane) none
     by true e = (not_first key q.piece (pieces_of lane qs) e).1
     by false e = e
 
--- where no other lane has a piece of the session, its pieces are those of the one lane
+-- if no other lane has a piece of the session, its pieces are those of the one lane
 pub keyed_lane : (key : SessionKey) (lanes lane : ℕ) (qs : List Queued) → AreOfLanes lanes qs
     → ((other : ℕ) → 1 ≤ other → other ≤ lanes → other ≢ lane → keyed key (pieces_of other qs) ≡ [])
     → keyed key (pieces_in qs) ≡ keyed key (pieces_of lane qs)

@@ -39,7 +39,7 @@ same_alike a b e = (
 abbrev AllSynced : List Entry → SessionKey → ℕ → Type 0
 AllSynced journal key blocks = (placed_of key journal ≡ blocks) × (synced_of key journal ≡ blocks)
 
--- the same of another key and number, which are these
+-- so many blocks are placed and synced of another key and number too, which are these
 synced_as : (journal : List Entry) (key key' : SessionKey) (blocks blocks' : ℕ) → key ≡ key' → blocks ≡ blocks' → AllSynced journal key blocks → AllSynced journal key' blocks'
 synced_as journal key key' blocks blocks' k n h =
     subst (λ (x : SessionKey). AllSynced journal x blocks') k (subst (λ (m : ℕ). AllSynced journal key m) n h)

@@ -26,7 +26,7 @@ module _ (table : ℕ → TableId) (time : ℕ → ℕ) (own : ℕ) (ends : List
   pub none_taken : (seats : List LaneSeatIs) (lanes : List SettledLaneIs) → seats ≡ [] → lanes ≡ [] → AreTaken table time own 0 ends seats lanes
   none_taken seats lanes none none' = record { seats_are = ap length none; lanes_are = ap length none'; each = λ at below. absurd (omega arith) }
 
-  -- what was taken stays where other lanes follow it
+  -- what was taken stays taken if other lanes follow it
   still_taken : (seats : List LaneSeatIs) (lanes : List SettledLaneIs) (seat : LaneSeatIs) (lane : SettledLaneIs) (at : ℕ) → IsTaken table time own ends seats lanes at
       → IsTaken table time own ends (seats ++ seat ∷ []) (lanes ++ lane ∷ []) at
   still_taken seats lanes seat lane at t = record {
@@ -72,7 +72,7 @@ module _ (table : ℕ → TableId) (time : ℕ → ℕ) (own : ℕ) (ends : List
 
 -- What a lane sent, by the seats of all.
 
--- the seats are those of the lanes behind this one, in order
+-- the seats are those of the lanes after this one, in order
 abbrev FollowOn : ℕ → List LaneSeatIs → Type 0
 FollowOn lane seats = (k : ℕ) (s : LaneSeatIs) → slice_get seats k ≡ Some s → s.lane ≡ suc (lane + k)
 
@@ -93,7 +93,7 @@ seat_sent table seats at seat are there =
     ap (sent_by seats) (sym (are at seat there).1)
     ∙ own_sent 0 seats at seat (λ k s stands. (let h = (are k s stands).1 in omega (arith, h))) there
 
--- What stands once all is taken apart.
+-- What holds once all is taken apart.
 
 lane_settles : (table : ℕ → TableId) (time : ℕ → ℕ) (own count : ℕ) (here : TableId) (ends : List EndIs) (seats : List LaneSeatIs) (lanes : List SettledLaneIs) (queue : RuledView)
     → AreTaken table time own count ends seats lanes → AreSeats here seats → LanesFollow (λ lane. sent_by seats lane) queue.taken queue.held

@@ -42,7 +42,7 @@ module _ {D : Type 0} (meaning : D → Meaning) (settled : SettledIs D) (told : 
 
   -- Bodies.
 
-  -- how the bodies of a session stand to its records, with this status, by this bay and drive
+  -- how the bodies of a session relate to its records, with this status, by this bay and drive
   abbrev BodiesOf : BayView D → DriveIs D → SessionView → Status → List Record → Type 0
   BodiesOf bay d v status records =
       HasBodies v.packer.room (bodies_with v.key (sent_to (meaning d.device).shelf d bay.queue)) (all_bodies (meaning d.device).shelf d bay.queue v) status records
@@ -61,7 +61,7 @@ module _ {D : Type 0} (meaning : D → Meaning) (settled : SettledIs D) (told : 
       subst (λ (bs : List PackedBody). HasBodies s.session.packer.room bs (bs ++ parts_of s.session) s.session.status s.told) (sym same)
       (st.own.tells.bodies_are (store_true st.in_lane.at st.in_lane.lane st.in_lane.there honest))
 
-  -- so they stand to its records in the world
+  -- so they relate to its records in the world
   bodies_here : (k : ℕ) (s : ToldSession) (e : WorldSession) → slice_get told k ≡ Some s → SettlesOne settled.drive.journal s e → IsHonestAt meaning w 0 (bay_of settled) settled.drive
       → BodiesOf (bay_of settled) settled.drive e.session (machine_session settled.drive.journal s).status s.told
   bodies_here k s e there one honest = elim (told_or_failed settled.drive.journal s e one) [

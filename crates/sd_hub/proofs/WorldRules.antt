@@ -230,7 +230,7 @@ module _ {D : Type 0} (meaning : D → Meaning) (settled : SettledIs D) (told : 
         bays = λ at bay there. (let o = only_bay at bay there in subst (λ (k : ℕ). IsBay w k bay) (sym o.0) (subst (IsBay w 0) (sym o.1) is_bay));
       }
 
-  -- and is sound, where its drive keeps what every drive keeps
+  -- and is sound, if its drive keeps what every drive keeps
   pub is_sound : Kept (meaning settled.drive.device) settled.drive.volumes settled.drive.loaded settled.drive.journal → IsSound meaning w
   is_sound kept = record {
     rules = is_world;

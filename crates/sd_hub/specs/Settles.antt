@@ -46,7 +46,7 @@ abbrev pub end_at : ℕ → ℕ → List EndIs → Option EndIs
 end_at own lane [] = None
 end_at own lane (e ∷ es) = if is_end own lane e then Some e else end_at own lane es
 
--- it stands at this place
+-- it is at this place
 pub record StandsAt (own lane : ℕ) (ends : List EndIs) (at : ℕ) : Type 0 where
   pub end : EndIs
   pub there : slice_get ends at ≡ Some end
@@ -134,7 +134,7 @@ checked_of line side ends receipts = record { line = line; side = side; ends = e
 abbrev pub sessions_of : {D : Type 0} → CheckedIs D → List ToldSession
 sessions_of c = sessions_to c.line.no c.side.seat.lanes c.ends
 
--- What is found of a line, one behind the other.
+-- What is found of a line, one after the other.
 
 -- what is under its lock has its number, and the end of each lane is there
 pub record HasLanes {D : Type 0} (c : CheckedIs D) : Type 0 where
@@ -200,8 +200,8 @@ pub record LaneSettles (time : ℕ → ℕ) (own : ℕ) (ends : List EndIs) (que
   pub lane_is : lane ≡ lane_of end
   pub follows : pieces_of (suc at) (queue.taken ++ queue.held) ≡ end.seat.seat.sent
 
--- What stands once a line is settled. The drive is as its lock had it; so its journal and its hand follow what the queue says was
--- taken. Each lane is that of its end.
+-- What holds once a line is settled. The drive is as its lock had it; so its journal and its hand follow what the queue
+-- says was taken. Each lane is that of its end.
 pub record Settles {D : Type 0} (meaning : D → Meaning) (table : ℕ → TableId) (time : ℕ → ℕ) (c : CheckedIs D) (settled : SettledIs D) : Type 0 where
   pub passes : Passes c
   pub keeps : KeepsSide meaning table time c.side

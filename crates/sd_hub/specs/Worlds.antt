@@ -42,7 +42,7 @@ last_ticket [] = None
 last_ticket (s ∷ []) = Some s.session.key.id
 last_ticket (s ∷ t ∷ ss) = last_ticket (t ∷ ss)
 
--- the number behind the greatest, where the numbers of these sessions don't fall; 1 where there is none
+-- the number after the greatest, if the numbers of these sessions don't fall; 1 if there is none
 abbrev pub next_number : List ToldSession → ℕ
 next_number [] = 1
 next_number (s ∷ []) = s.session.key.id + 1
@@ -87,7 +87,8 @@ failed_status Active = Failed
 failed_status Ended = Failed
 failed_status status = status
 
--- the session in the machine: the records that it took, and its status, or failed where the drive lost a block of it while it went on
+-- the session in the machine: the records that it took, and its status, or failed if the drive lost a block of it while
+-- it went on
 abbrev pub machine_session : List Entry → ToldSession → MachineSession
 machine_session journal s = record {
   key = s.session.key;

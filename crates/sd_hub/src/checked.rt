@@ -69,7 +69,7 @@ impl<D: Driver, N: Naming, R: Wait + Drop, S: SpoolStore + Drop> Checked<D, N, R
         count_all(self.parts.no, self.parts.side.lanes(), self.ends.as_slice())
     }
 
-    /// What was handed in, as it was, for want of memory.
+    /// What was handed in, as it was; the fault is out of memory.
     pub fn give_back(self) -> NotSettled<D, N, R, S>
         ensures line { result.line ≡ self.line }
         ensures ends { result.ends.items ≡ self.ends }

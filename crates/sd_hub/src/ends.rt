@@ -6,7 +6,7 @@ use sd_base::DriveNo;
 use sd_line::{LaneEnd, Naming, Told};
 use sd_spool::SpoolStore;
 
-/// Where the first end stands that is of this drive and of this lane.
+/// The place of the first end that is of this drive and of this lane.
 pub(crate) fn index_of<N: Naming, S: SpoolStore>(
     no: DriveNo,
     lane: u32,
@@ -56,7 +56,7 @@ pub(crate) fn missing_lane<N: Naming, S: SpoolStore>(
     None
 }
 
-/// The sessions of the end that is of this drive and of this lane; none where there is no such end.
+/// The sessions of the end that is of this drive and of this lane; none if there is no such end.
 pub(crate) fn sessions_at<N: Naming, S: SpoolStore>(
     no: DriveNo,
     lane: u32,

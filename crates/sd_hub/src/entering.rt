@@ -25,7 +25,7 @@ pub(crate) fn enter_all<D: Driver, S: SpoolStore + Drop>(
     }
 }
 
-// A session at the one drive. It fails where it goes on while the drive lost a block of it.
+// A session at the one drive. It fails if it goes on while the drive lost a block of it.
 fn enter<D: Driver, S: SpoolStore + Drop>(drive: &Drive<D>, told: Told<S>) -> SessionEntry<S>
     ensures { SettlesOne drive.now.journal told result }
 {

@@ -17,7 +17,7 @@ pub enum SettleFault {
     Unsynced(SessionKey),
     /// The drive doesn't give this receipt.
     Foreign(Receipt),
-    /// Want of memory.
+    /// Out of memory.
     Memory,
 }
 

@@ -28,7 +28,7 @@ pub(crate) fn leave_lanes<S: SpoolStore + Drop>(
     }
 }
 
-// Takes the sessions out of one lane, behind the others.
+// Takes the sessions out of one lane, and puts them after the others.
 fn leave_lane<S: SpoolStore + Drop>(lane: SettledLane<S>, told: &mut Vec<Told<S>>) -> LaneSlot<S>
     requires tickets { HaveTickets lane.sessions }
     requires room { vec_len told.old + length lane.sessions ≤ vec_capacity told.old }

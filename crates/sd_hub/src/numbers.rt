@@ -26,7 +26,7 @@ pub(crate) fn last_ticket<S: SpoolStore + Drop>(sessions: &[Told<S>]) -> Option<
     }
 }
 
-/// The number behind that of the last of these sessions, which is the greatest; 1 where there is none.
+/// The number after that of the last of these sessions, which is the greatest; 1 if there is none.
 pub(crate) fn next_number<S: SpoolStore + Drop>(sessions: &[Told<S>]) -> u32
     requires { HaveTickets sessions.now }
     ensures { result ≡ next_number sessions.now }

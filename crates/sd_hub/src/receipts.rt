@@ -8,7 +8,7 @@ use sd_driver::Driver;
 use sd_span::Span;
 use std::alloc::AllocError;
 
-/// Where the first receipt stands that the drive doesn't give.
+/// The place of the first receipt that the drive doesn't give.
 pub(crate) fn foreign<D: Driver>(
     drive: &Drive<D>,
     receipts: &[Receipt],

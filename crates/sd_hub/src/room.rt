@@ -28,8 +28,8 @@ pub(crate) struct Room<D: Driver, R: Wait + Copy + Drop, S: SpoolStore> {
 }
 
 impl<D: Driver + Drop, R: Wait + Copy + Drop, S: SpoolStore + Drop> Room<D, R, S> {
-    /// Room for the world that this line becomes; at the desk the names of its drive's volumes are claimed. More sessions
-    /// than a `usize` counts are want of memory.
+    /// Room for the world that this line becomes; at the desk the names of its drive's volumes are claimed. With more
+    /// sessions than a `usize` counts, it is out of memory.
     pub(crate) fn with_desk<N: Naming>(
         alloc: Global,
         checked: &Checked<D, N, R, S>,

@@ -24,12 +24,12 @@ use std::sync::Wait;
 
 /// A world of the one drive of a line that no thread uses any more, numbered 1: with the pieces that are still on their way,
 /// and with the sessions of its lanes, which go on there. One that goes on while the drive lost a block of it has failed.
-/// The next session's number is one above the greatest of them; 1 where there is none.
+/// The next session's number is one above the greatest of them; 1 if there is none.
 ///
 /// The end of each lane has to be there, no two sessions may have one key, of a closed session all that it sent has to be
 /// placed and synced, and each receipt has to be one that the drive gives; the first of these faults, in this order, is
-/// answered, and all that was handed in comes back with it. Memory is wanted behind the first three. Ends of other drives,
-/// and a second one of a lane, count as absent; where the line is settled they are dropped.
+/// answered, and all that was handed in comes back with it. Out of memory comes after the first three. Ends of other
+/// drives, and a second one of a lane, count as absent; if the line is settled, they are dropped.
 pub fn settle<D: Driver + Drop, N: Naming, R: Wait + Copy + Drop, S: SpoolStore + Drop>(
     alloc: Global,
     line: Line<D, N, R>,

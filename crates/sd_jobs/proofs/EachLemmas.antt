@@ -17,12 +17,12 @@ each_more [] (x ∷ es) j e h one = absurd h
 each_more (x ∷ js) [] j e h one = absurd h
 each_more (x ∷ js) (y ∷ es) j e h one = (h.0, each_more js es j e h.1 one)
 
--- the first behind these
+-- the first after these
 get_next : {X : Type 0} (xs ys : List X) (y : X) → slice_get (xs ++ y ∷ ys) (length xs) ≡ Some y
 get_next [] ys y = refl
 get_next (x ∷ xs) ys y = get_next xs ys y
 
--- so it stands there, where these and those left are all
+-- so it is there, if these and those left are all
 pub next_is : {X : Type 0} (all front left rest : List X) (x : X) → all ≡ front ++ left → left ≡ x ∷ rest → slice_get all (length front) ≡ Some x
 next_is all front left rest x is next = ap (λ l. slice_get l (length front)) (is ∙ ap (λ l. front ++ l) next) ∙ get_next front rest x
 

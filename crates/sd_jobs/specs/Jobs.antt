@@ -16,7 +16,7 @@ use Rattle.sd_session.specs.declared.status.Status.TheVariants.{Closed, Failed}
 use Rattle.sd_span.specs.Spans.{spans_of}
 use Rattle.sd_span.specs.declared.span.Span.{Span}
 
--- a job: where its line stands among the lines, its part, its records, and the moment of its end label
+-- a job: the place of its line among the lines, its part, its records, and the moment of its end label
 pub record JobIs : Type 0 where
   pub line : ℕ
   pub part : PartIs
@@ -70,8 +70,8 @@ pub record IsReceiptOf (s : SessionView) (r : ReceiptIs) : Type 0 where
   pub key_is : r.key ≡ s.key
   pub blocks_are : r.blocks ≡ s.sent
 
--- What is known of a session whose job was stopped before it was done: where that was a fault of the spool, or the drive had
--- lost a block, the session is failed.
+-- What is known of a session whose job was stopped before it was done: if that was a fault of the spool, or the drive
+-- had lost a block, the session is failed.
 abbrev pub StopsShort : Stop → SessionView → Type 0
 StopsShort Done s = ⊥
 StopsShort OutOfTurns s = Unit {0}
@@ -85,14 +85,15 @@ IsGivenUp old new = (new ≡ record old { session = new.session })
     ⊎ ((IsRunning old.session.status → ⊥) × (new.session ≡ old.session)))
 
 -- What a job came to, by what stopped it, and its part by then. Done: all records were taken, the session is closed, and
--- there is its receipt. Else there is none. Where there was no thread for it, it was given up.
+-- there is its receipt. Else there is none. If there was no thread for it, it was given up.
 abbrev pub StopsBy : Stop → JobIs → JobEndIs → PartIs → Type 0
 StopsBy Done job end part = (end.taken ≡ length job.recs) × (r : ReceiptIs) × (end.receipt ≡ Some r) × IsReceiptOf part.session r
 StopsBy OutOfTurns job end part = end.receipt ≡ None
 StopsBy (Refused why) job end part = (end.receipt ≡ None) × StopsShort (Refused why) part.session
 StopsBy NoThread job end part = (end.receipt ≡ None) × (end.taken ≡ 0) × IsGivenUp job.part part
 
--- What a job comes to: its session took so many of its records behind those that it had, and is the last of its lane's end.
+-- What a job comes to: its session took so many of its records after those that it had, and is the last of its lane's
+-- end.
 pub record EndsJob (job : JobIs) (end : JobEndIs) : Type 0 where
   pub most : end.taken ≤ length job.recs
   pub part : PartIs

@@ -11,7 +11,7 @@ use sd_spool::SpoolStore;
 use std::sync::Wait;
 use std::time::Clock;
 
-/// Adds the records, one behind the other. How many were taken, and what stopped the job before the last.
+/// Adds the records, one after the other. How many were taken, and what stopped the job before the last.
 pub(crate) fn add_all<D: Driver, N: Naming, R: Wait + Clock + Drop, S: SpoolStore + Drop, G: Gate>(
     rt: &R,
     line: &Line<D, N, R>,

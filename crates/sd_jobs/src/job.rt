@@ -9,7 +9,7 @@ use std::marker::Model;
 /// `JobIs`.
 #[derive(Drop)]
 pub struct Job<N: Naming, S: SpoolStore> {
-    /// Where the part's line stands among the lines.
+    /// The place of the part's line among the lines.
     pub line: usize,
     pub part: SessionPart<N, S>,
     pub recs: Vec<Rec>,
@@ -46,11 +46,11 @@ pub enum Stop {
 /// What a job came to. In a contract it is a `JobEndIs`.
 #[derive(Drop)]
 pub struct JobEnd<N: Naming, S: SpoolStore> {
-    /// The end of its lane, with its session behind those before.
+    /// The end of its lane, with its session after those before it.
     pub lane_end: LaneEnd<N, S>,
     /// How many of its records were taken.
     pub taken: u64,
-    /// There exactly where the job is done.
+    /// There exactly if the job is done.
     pub receipt: Option<Receipt>,
     pub stop: Stop,
 }

@@ -21,12 +21,12 @@ use std::time::Clock;
 /// at most so many turns: a job's are its steps of sending and its closes that came too early; a worker's are those of
 /// its drive. What finds nothing to do sleeps a millisecond.
 ///
-/// A job for which no thread can be made is cancelled; where none can be made for a worker, the jobs of its line run out of
-/// turns. A worker seeks a volume where its drive needs one, and passes over want of memory. It ends when its line's
-/// jobs have ended, nothing of what they sent is queued or in the drive's hand, and nothing on the loaded volume awaits
-/// a sync.
+/// A job for which no thread can be made is cancelled; if none can be made for a worker, the jobs of its line run out
+/// of turns. A worker seeks a volume if its drive needs one, and goes on if out of memory. It ends when its line's jobs
+/// have ended, nothing of what they sent is queued or in the drive's hand, and nothing on the loaded volume awaits a
+/// sync.
 ///
-/// Where memory is wanted the jobs come back, and none has begun.
+/// If out of memory, the jobs come back, and none has begun.
 pub fn run_jobs<
     D: Driver,
     N: Naming + Send + Sync,
@@ -110,7 +110,7 @@ fn count_jobs<D: Driver, N: Naming, R: Wait + Clock + Drop, S: SpoolStore, G: Ga
     }
 }
 
-// Starts a worker for each line. Where no thread can be made for one, the line has none.
+// Starts a worker for each line. If no thread can be made for one, the line has none.
 fn start_workers<
     's,
     E,

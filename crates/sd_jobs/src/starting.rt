@@ -26,7 +26,7 @@ impl<N: Naming, S: SpoolStore> Promise<JobEnd<N, S>> for JobDid<N, S> {
     ghost kept_by = { λ p end. EndsJob p.0.value end };
 }
 
-/// A job that was started: its thread; or what it came to, where none could be made. In a contract it is the job.
+/// A job that was started: its thread; or what it came to, if none could be made. In a contract it is the job.
 #[derive(Drop)]
 pub(crate) struct Started<N: Naming, S: SpoolStore> {
     job: Snapshot<Job<N, S>>,
@@ -45,8 +45,8 @@ impl<N: Naming, S: SpoolStore> Model for Started<N, S> {
         (λ end. EndsJob s.job.value end) };
 }
 
-/// Starts a thread for the job, in which it is done. Where no thread can be made it is given up here; its number, which no
-/// other job has, is written down for that.
+/// Starts a thread for the job, in which it is done. If no thread can be made, it is given up here; its number, which
+/// no other job has, is written down for that.
 pub(crate) fn start<
     's,
     E,

@@ -16,7 +16,7 @@ pub(crate) fn pause<R: Clock>(rt: &R) {
     thread::sleep(rt, Duration::from_millis(1));
 }
 
-/// One turn less is left; none where there was none.
+/// One turn less is left; none if there was none.
 pub(crate) fn take_turn(left: &mut u64) -> Result<(), Stop>
     ensures err { IfErr result (λ stop. stop ≡ Stop.OutOfTurns) }
 {
@@ -27,7 +27,7 @@ pub(crate) fn take_turn(left: &mut u64) -> Result<(), Stop>
     Ok(())
 }
 
-/// One step of spooling and one of sending. Sleeps where neither moved a body.
+/// One step of spooling and one of sending. Sleeps if neither moved a body.
 pub(crate) fn send_on<D: Driver, N: Naming, R: Wait + Clock + Drop, S: SpoolStore + Drop, G: Gate>(
     rt: &R,
     line: &Line<D, N, R>,

@@ -37,7 +37,7 @@ pub(crate) fn work<D: Driver, N: Naming, R: Wait + Clock + Drop, G: Gate>(
     }
 }
 
-// One turn; where the drive needs a volume, one is sought.
+// One turn; if the drive needs a volume, one is sought.
 fn turn<D: Driver, N: Naming, R: Wait + Drop, G: Gate>(line: &Line<D, N, R>, gate: &G) -> Headway {
     let Turned { took, place, .. } = DriveWorker::turn(line, gate);
     match place {

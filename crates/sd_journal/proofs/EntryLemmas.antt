@@ -68,7 +68,7 @@ noting es p = record {
 
 -- Syncs.
 
--- entries that get a mark where a test holds
+-- entries that get a mark if a test holds of them
 abbrev pub MarkedWhere : (Entry → Bool) → Mark → List Entry → List Entry
 MarkedWhere test mark es = map (λ e. cond (test e) (record e { mark = mark }) e) es
 
@@ -170,7 +170,7 @@ failing volume es = record {
 
 -- Counts.
 
--- the entry is synced where it is the session's
+-- the entry is synced if it is the session's
 abbrev IsSyncedWhereOwn : SessionKey → Entry → Type 0
 IsSyncedWhereOwn key e = IsTrue (is_key key e.placement.key) → e.mark ≡ Synced
 
@@ -180,7 +180,7 @@ is_synced_mark Synced is = refl
 is_synced_mark Lost is = absurd (true≢false (sym is))
 is_synced_mark Purged is = absurd (true≢false (sym is))
 
--- what counts where a test holds
+-- what counts if a test holds
 abbrev pub one_if : Bool → ℕ
 one_if b = cond b 1 0
 
@@ -261,7 +261,7 @@ synced_all key (e ∷ es) all =
     let behind = synced_all key es (All-tail (IsSyncedWhereOwn key) e es all) in
     omega (arith, front, front', here, behind)
 
--- where each of its entries is synced, no block of the session is gone
+-- if each of its entries is synced, no block of the session is gone
 none_purged : (key : SessionKey) (es : List Entry) → All (IsSyncedWhereOwn key) es → has_purged key es ≡ false
 none_purged key [] all = refl
 none_purged key (e ∷ es) all =

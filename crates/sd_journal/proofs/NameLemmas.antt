@@ -1,4 +1,4 @@
--- The names of volumes, and the places where they stand.
+-- The names of volumes, and the places where they are.
 use Rattle.std.proofs.Common.{◌≡◌, ◌≢◌, ℕ, zero, suc, ◌<◌, Bool, true, false, List, [], ◌∷◌, ◌++◌, length, get_or, refl, ap, ap₂, sym, ◌∙◌, arith, subst, inl, inr}
 use Rattle.std.specs.Prelude.{◌||◌, ◌==◌, AllPairs, Some, None}
 use Rattle.std.specs.List.{list_any}
@@ -22,7 +22,7 @@ none_is test (x ∷ xs) d none = ap₂ (λ a b. a || b) (none 0 (omega arith)) (
 
 -- Places.
 
--- a name stands at one place
+-- a name is at one place
 pub one_place : (names : List (List ℕ)) (a b : ℕ) → AllPairs (λ x y. x ≢ y) names → a < length names → b < length names → name_at names a ≡ name_at names b → a ≡ b
 one_place names a b different below below' same = elim (cases_order a b) [
   | inl is ↦ is
@@ -30,7 +30,7 @@ one_place names a b different below below' same = elim (cases_order a b) [
   | inr (inr behind) ↦ absurd (different b a [] behind below (sym same))
 ]
 
--- a name that stands somewhere was found there
+-- a name that is somewhere was found there
 pub found_is : (names : List (List ℕ)) (name : List ℕ) (place : ℕ) → AllPairs (λ x y. x ≢ y) names → (place < length names) × (name_at names place ≡ name) → IsPlaceOf names name (Some place)
 found_is names name place different at = record {
   there = λ other is. subst (λ p. (p < length names) × (name_at names p ≡ name)) (some_is is) at;
@@ -40,7 +40,7 @@ found_is names name place different at = record {
     some_is : {X : Type 0} {x y : X} → Some x ≡ Some y → x ≡ y
     some_is e = cc
 
--- and one that stands nowhere was not found
+-- and one that is nowhere was not found
 pub none_found : (names : List (List ℕ)) (name : List ℕ) → ((place : ℕ) → place < length names → name_at names place ≡ name → ⊥) → IsPlaceOf names name None
 none_found names name nowhere = record {
   there = λ place is. never is;
@@ -50,7 +50,7 @@ none_found names name nowhere = record {
     never : {X : Type 0} {x : X} {P : Type 0} → None ≡ Some x → P
     never e = cc
 
--- a test of the place is one of the name, where the name was found
+-- a test of the place is one of the name, if the name was found
 pub place_is : (names : List (List ℕ)) (name : List ℕ) (found place : ℕ) → IsPlaceOf names name (Some found) → place < length names → (found == place) ≡ bytes_eq (name_at names place) name
 place_is names name found place is below = from (bytes_eq (name_at names place) name) refl
   where
@@ -64,7 +64,7 @@ place_is names name found place is below = from (bytes_eq (name_at names place) 
         is_same : found ≡ place → bytes_eq (name_at names place) name ≡ true
         is_same e = (bytes_eq-Decides (name_at names place) name).1 (subst (λ p. name_at names p ≡ name) e (is.there found refl).1)
 
--- and no place has the name where it was not found
+-- and no place has the name if it was not found
 pub no_place_is : (names : List (List ℕ)) (name : List ℕ) (place : ℕ) → IsPlaceOf names name None → place < length names → bytes_eq (name_at names place) name ≡ false
 no_place_is names name place is below =
     false_from_ne_true (bytes_eq (name_at names place) name) (λ same. never (is.only place below ((bytes_eq-Decides (name_at names place) name).0 same)))
@@ -74,7 +74,7 @@ no_place_is names name place is below =
 
 -- One name more.
 
--- where it was found it is one of them
+-- if it was found, it is one of them
 pub with_found : (names : List (List ℕ)) (name : List ℕ) (found : ℕ) → IsPlaceOf names name (Some found) → with_name name names ≡ names
 with_found names name found is =
     let at = is.there found refl in
@@ -82,7 +82,7 @@ with_found names name found is =
     one_is (λ n. bytes_eq n name) names found (name_at names found) (get_or_default names found [] (name_at names found) at.0) at.0 ((bytes_eq-Decides (name_at names found) name).1 at.1) in
     cond-true (list_any (λ n. bytes_eq n name) names) names (names ++ name ∷ []) among
 
--- and where it was not, it is none
+-- and if it was not, it is none
 pub with_new : (names : List (List ℕ)) (name : List ℕ) → IsPlaceOf names name None → with_name name names ≡ names ++ name ∷ []
 with_new names name is =
     cond-false (list_any (λ n. bytes_eq n name) names) names (names ++ name ∷ [])

@@ -151,7 +151,7 @@ entries_stay name names (n ∷ ns) named =
     ap₂ (λ e es. e ∷ es) (ap (λ p. record { placement = p; mark = n.mark }) (placement_stays name names n (All-head (IsNamed names) n ns named)))
     (entries_stay name names ns (All-tail (IsNamed names) n ns named))
 
--- the entry of a placement that is noted, behind those that were
+-- the entry of a placement that is noted, after those that were
 pub entries_more : (name : List ℕ) (names names' : List (List ℕ)) (ns : List Noted) (n : Noted) (p : Placement) → names' ≡ with_name name names → All (IsNamed names) ns → entry_of names' n ≡ noted p
     → entries_of names' (ns ++ n ∷ []) ≡ entries_of names ns ++ noted p ∷ []
 entries_more name names names' ns n p grown named is =
@@ -173,7 +173,7 @@ ends_more es p ends fits =
 pub ends_marked : (mark : Mark) (volume : List ℕ) (es es' : List Entry) → es' ≡ marked mark volume es → All EndFits (placements es) → All EndFits (placements es')
 ends_marked mark volume es es' e ends = rw (e, marked_placements (takes mark volume) mark es) ends
 
--- a session that was ready is one less where it is not any more
+-- a session that was ready is one less if it is not any more
 passes_front : {X : Type 0} (b : Bool) (x : X) (ys : List X) (rest : Bool) → (b || rest) ≡ true → (rest ≡ true → 1 ≤ length ys) → 1 ≤ length (cond b (x ∷ ys) ys)
 passes_front true x ys rest is_so front = omega arith
 passes_front false x ys rest is_so front = front is_so
@@ -210,7 +210,7 @@ pub without_other : (key q : SessionKey) (keys : List SessionKey) → list_any (
 without_other key q [] among = absurd (true≢false (sym among))
 without_other key q (k ∷ ks) among = without_front key q k ks (is_key key k) refl among (without_other key q ks)
 
--- an entry behind the settled ones
+-- an entry after the settled ones
 pub settled_behind : (ns : List Noted) (n : Noted) (sure : ℕ) → sure ≤ length ns → All IsSettled (take sure ns) → All IsSettled (take sure (ns ++ n ∷ []))
 settled_behind ns n sure low all = rw (take-append-le sure ns (n ∷ []) low) all
 
@@ -235,7 +235,7 @@ step_kept mark volume ns i d m s takes_it set names fits =
     let same : m ≡ n = set ∙ cond-false (takes_at mark volume n) (record n { mark = mark }) n takes_it in
     rw (ap (slice_set ns i) same ∙ set-get_or ns i d) fits
 
--- the counts of a session are no more than the entries, and can be taken anew where an entry of it is marked
+-- the counts of a session are no more than the entries, and can be taken anew if an entry of it is marked
 pub step_counts : (mark : Mark) (names : List (List ℕ)) (ns : List Noted) (i : ℕ) (d : Noted) (s : Shares) (x : ShareView) → i < length ns → length ns + 1 < 2 ^ 64
     → AreSharesOf (entries_of names ns) s → share_of s (get_or ns i d).key ≡ Some x → CanRemark (get_or ns i d).mark mark x
 step_counts mark names ns i d s x below few fits there =

@@ -54,7 +54,7 @@ fails_none key (e ∷ es) none =
 lost_none : (key : SessionKey) (es : List Entry) → placed_of key es ≡ 0 → lost_of key es ≡ 0
 lost_none key es none = let most = kind_within is_lost key es in omega (arith, most, none)
 
--- the session fails exactly where one of its entries is lost
+-- the session fails exactly if one of its entries is lost
 pub fails_lost : (key : SessionKey) (es : List Entry) → fails key es ≡ true ↔ 0 < lost_of key es
 fails_lost key [] = (λ f. absurd (true≢false (sym f)), λ some. absurd (omega (arith, some)))
 fails_lost key (e ∷ es) =
@@ -162,7 +162,7 @@ set_placements es i e mark below is =
     ∙ ap (λ p. slice_set (placements es) i p) (ap (λ x. x.placement) is ∙ sym (get_or-map (λ x. x.placement) es i e e.placement below))
     ∙ set-get_or (placements es) i e.placement
 
--- how many entries of the session have a mark of that kind, where one gets another mark
+-- how many entries of the session have a mark of that kind, if one gets another mark
 marked_count : (test : Mark → Bool) (q : SessionKey) (es : List Entry) (i : ℕ) (e : Entry) (mark : Mark) → i < length es → e ≡ get_or es i e
     → count_by (λ (x : Entry). is_key q x.placement.key && test x.mark) (slice_set es i (record e { mark = mark })) + one_if (is_key q e.placement.key && test e.mark)
     ≡ count_by (λ (x : Entry). is_key q x.placement.key && test x.mark) es + one_if (is_key q e.placement.key && test mark)

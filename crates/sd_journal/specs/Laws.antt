@@ -11,7 +11,7 @@ use Rattle.sd_journal.specs.Journal.{Entry, Item, placements, noted, settled, pu
 pub record NotingAppends (entries : List Entry) (p : Placement) : Type 0 where
   -- it is the last
   pub placements : placements (entries ++ noted p ∷ []) ≡ placements entries ++ p ∷ []
-  -- where the journal followed pieces, it follows them and the piece of this one
+  -- if the journal followed pieces, it follows them and the piece of this one
   pub follows : (pieces : List Item) → Follows entries pieces → Follows (entries ++ noted p ∷ []) (pieces ++ item_of p ∷ [])
   -- its session has one block more
   pub placed : (key : SessionKey)
@@ -27,7 +27,7 @@ pub record SettlingMarks (mark : Mark) (volume : List ℕ) (entries : List Entry
   -- no entry awaits a sync of the volume any more
   pub none_awaits : mark ≢ Unsynced → any_awaits_sync volume (settled mark volume entries) ≡ false
 
--- who fails by a sync: none where it succeeds; where it fails just those that fail with the volume
+-- who fails by a sync: none if it succeeds; if it fails, just those that fail with the volume
 pub record SyncsFail (volume : List ℕ) (entries : List Entry) : Type 0 where
   pub synced : (key : SessionKey) → fails key (settled Synced volume entries) ≡ fails key entries
   pub failed : (key : SessionKey)
@@ -48,8 +48,8 @@ pub record PurgingMarks (volume : List ℕ) (entries : List Entry) : Type 0 wher
   pub fails : (key : SessionKey) → has_on key volume entries ≡ false
       → fails key (purged volume entries) ≡ fails key entries
 
--- No session has more synced than placed, and as many exactly where each entry of it is synced: so one of which a block
--- is gone has fewer.
+-- No session has more synced than placed, and as many exactly if each entry of it is synced: so one of which a block is
+-- gone has fewer.
 pub record SyncedWithinPlaced (key : SessionKey) (entries : List Entry) : Type 0 where
   pub within : synced_of key entries ≤ placed_of key entries
   pub whole : synced_of key entries ≡ placed_of key entries

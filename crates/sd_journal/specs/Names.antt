@@ -14,15 +14,15 @@ pub record NamesView : Type 0 where
 abbrev pub name_at : List (List ℕ) → ℕ → List ℕ
 name_at names place = get_or names place []
 
--- the names with this one: behind them, if it isn't one of them
+-- the names with this one: after them, if it isn't one of them
 abbrev pub with_name : List ℕ → List (List ℕ) → List (List ℕ)
 with_name name names = if list_any (λ n. bytes_eq n name) names then names else names ++ name ∷ []
 
--- What was found is the one place of the name among these, and nothing where it is none of them.
+-- What was found is the one place of the name among these, and nothing if it is none of them.
 pub record IsPlaceOf (names : List (List ℕ)) (name : List ℕ) (found : Option ℕ) : Type 0 where
-  -- the name stands where it was found
+  -- the name is where it was found
   pub there : (place : ℕ) → found ≡ Some place → (place < length names) × (name_at names place ≡ name)
-  -- and it was found where it stands
+  -- and it was found where it is
   pub only : (place : ℕ) → place < length names → name_at names place ≡ name → found ≡ Some place
 
 -- what the names keep: no two of them are one, and for so many more there is memory, and a place that 32 bits hold

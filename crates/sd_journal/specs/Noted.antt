@@ -33,7 +33,7 @@ entries_of names ns = map (entry_of names) ns
 
 -- Calls on a volume.
 
--- the entry takes that mark by a call on the volume: that of a purge wherever it lies on the volume, another where it
+-- the entry takes that mark by a call on the volume: that of a purge wherever it lies on the volume, another if it
 -- awaits a sync of it
 abbrev pub takes : Mark → List ℕ → Entry → Bool
 takes mark volume e = (is_purged mark || is_unsynced e.mark) && bytes_eq e.placement.volume volume
@@ -58,7 +58,7 @@ marked_at mark place n = if takes_at mark place n then record n { mark = mark } 
 abbrev pub IsSettled : Noted → Type 0
 IsSettled n = is_unsynced n.mark ≡ false
 
--- What is kept of each session, where no names are at hand: marks are set by places.
+-- What is kept of each session, with no names at hand: marks are set by places.
 
 -- it fits the entries, with some names
 abbrev pub HaveShares : List Noted → Shares → Type 0

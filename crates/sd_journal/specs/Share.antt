@@ -57,7 +57,7 @@ with_mark was mark (Some s) = Some (record {
   ready = s.ready;
 })
 
--- the counts can be taken anew where one entry that had the one mark gets the other
+-- the counts can be taken anew if one entry that had the one mark gets the other
 pub record CanRemark (was mark : Mark) (s : ShareView) : Type 0 where
   pub synced : s.counts.synced + 1 < 2 ^ 64
   pub some_synced : (if is_synced was then 1 else 0) ≤ s.counts.synced + (if is_synced mark then 1 else 0)

@@ -24,9 +24,9 @@ use std::marker::Model;
 /// was noted since the oldest entry that may still be synced, and at no session besides: lost entries cost
 /// later syncs nothing. A purge looks at all entries.
 ///
-/// An entry takes 40 bytes, however long its volume's name is: each name stands once in the journal, and the
-/// entry has its place there. To note a block, to settle or purge a volume and to tell whether it awaits a sync, the
-/// name is looked for once: the last entry's first, then all of them in turn.
+/// An entry takes 40 bytes, however long its volume's name is: each name is in the journal once, and the entry has
+/// its place there. To note a block, to settle or purge a volume and to tell whether it awaits a sync, the name is
+/// looked for once: the last entry's first, then all of them in turn.
 #[derive(Drop)]
 pub struct Journal {
     alloc: Global,
@@ -72,8 +72,8 @@ impl Journal {
     }
 
     /// Makes room for the next placement of the session `key`. The entries stay, and what was ready is so
-    /// still. After an Err all is as before; it comes for want of memory, and where the journal would have
-    /// more names of volumes than 32 bits can number.
+    /// still. After an Err all is as before; it is returned if out of memory, or if the journal would
+    /// have more names of volumes than 32 bits can number.
     pub fn ready(&mut self, key: SessionKey) -> Result<(), AllocError>
         ensures ok { OnOk result (self.new ≡ record self.old {
           ready = with_key key self.old.ready;
@@ -150,7 +150,7 @@ impl Journal {
     }
 
     // Each entry that takes it by a call on the volume gets this mark. Looks at what was noted since the oldest entry
-    // that may still be synced; where the volume was purged, at all entries.
+    // that may still be synced; if the volume was purged, at all entries.
     fn remark(&mut self, volume: &VolName, mark: Mark)
         ensures { self.new ≡ record self.old {
           entries = marked mark volume.now self.old.entries;
@@ -238,7 +238,7 @@ impl Journal {
     }
 }
 
-// The place of the first entry that a call may mark so, where those before that place await no sync.
+// The place of the first entry that a call may mark so, if those before `settled` await no sync.
 fn first_marked(mark: Mark, settled: usize) -> usize
     ensures { result ≡ (if is_purged mark then 0 else settled) }
 {

@@ -21,7 +21,7 @@ pub fn syncs_fail()
     ensures { (volume : _) (entries : _) → SyncsFail volume entries }
 {}
 
-/// No session has more synced than placed, and as many exactly where each of its entries is synced; one of which a block
+/// No session has more synced than placed, and as many exactly if each of its entries is synced; one of which a block
 /// is gone has fewer.
 pub fn synced_within_placed()
     ensures { (key : _) (entries : _) → SyncedWithinPlaced key entries }

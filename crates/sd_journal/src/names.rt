@@ -61,7 +61,7 @@ impl Names {
         None
     }
 
-    // Whether it is this name that stands at the place.
+    // Whether this name is at the place.
     fn is_at(&self, place: u32, name: &VolName) -> bool
         ensures { IsTrue result
             ↔ ((place < length self.now.names) × (name_at self.now.names place ≡ name.now)) }
@@ -72,8 +72,8 @@ impl Names {
         }
     }
 
-    /// Makes room for so many names more. After an Err all is as before; it comes for want of memory, and
-    /// where a place would be no `u32` any more.
+    /// Makes room for so many names more. After an Err all is as before; it is returned if out of memory,
+    /// or if a place would be no `u32` any more.
     pub(crate) fn reserve(&mut self, more: usize) -> Result<(), AllocError>
         ensures names { self.new.names ≡ self.old.names }
         ensures room { self.old.room ≤ self.new.room }
@@ -91,8 +91,8 @@ impl Names {
         Ok(())
     }
 
-    /// The place of this name, which is added behind the others where it isn't here yet, in the room that was made for
-    /// it. Looks at the place `likely` first. Takes no memory.
+    /// The place of this name, which is added after the others if it isn't here yet, in the room that was made for it.
+    /// Looks at the place `likely` first. Takes no memory.
     pub(crate) fn index_of(&mut self, name: &VolName, likely: u32) -> u32
         requires { 0 < self.old.room }
         ensures names { self.new.names ≡ with_name name.now self.old.names }

@@ -38,7 +38,7 @@ impl Noted {
         self.mark.is_unsynced() && volume == self.volume
     }
 
-    /// Gives it that mark where it takes it by a call on the volume at this place; tells whether it did.
+    /// Gives it that mark if it takes it by a call on the volume at this place; tells whether it did.
     fn remark(&mut self, volume: u32, mark: Mark) -> bool
         ensures noted { self.new ≡ marked_at mark volume self.old }
         ensures taken { result ≡ takes_at mark volume self.old }
@@ -66,7 +66,7 @@ impl Noted {
     }
 }
 
-/// The place of the last entry's volume; 0 where there is no entry.
+/// The place of the last entry's volume; 0 if there is no entry.
 pub(crate) fn last_volume(noted: &[Noted]) -> u32
     ensures { IfSome (slice_get noted.now (length noted.now - 1)) (λ last. result ≡ last.volume) }
 {

@@ -29,7 +29,7 @@ append_longer : {X : Type 0} (xs ys zs : List X) → (xs ++ ys) ++ zs ≡ xs →
 append_longer xs ys zs e =
     nil_from_length ys (omega (arith, ap length e, length-append (xs ++ ys) zs, length-append xs ys))
 
--- what stands behind the whole records begins with no whole record
+-- what comes after the whole records begins with no whole record
 pub behind_no_record : (all : List Record) (standing : Standing) (r : Record) (behind first rest : List Fragment)
     → Behind all standing behind → Fragments r first → behind ≡ first ++ rest → ⊥
 behind_no_record all Between r behind first rest b c e =
@@ -53,7 +53,7 @@ unfinished_label fs label b e =
     let heads : session_label_fragment label ∷ b.remaining ≡ g.0 ∷ g.1 = ap (λ l. l ++ b.remaining) (sym e) ∙ g.2 in
     label_is_no_record label b.unfinished.index (ap (λ f. f.index) (first_same _ g.0 b.remaining g.1 heads) ∙ g.3)
 
--- what stands behind tells how the session stands
+-- what comes after the whole records tells the session's standing
 behind_apart : (all all' : List Record) (standing standing' : Standing) (fs : List Fragment) → Behind all standing fs → Behind all' standing' fs → standing ≡ standing'
 behind_apart all all' Between Between fs b c = refl
 behind_apart all all' Between Within fs b c = absurd (c.some_there b)
@@ -65,7 +65,7 @@ behind_apart all all' AtEnd Between fs b c = absurd (cc (sym c ∙ b.2))
 behind_apart all all' AtEnd Within fs b c = absurd (unfinished_label fs b.0 c b.2)
 behind_apart all all' AtEnd AtEnd fs b c = refl
 
--- the whole records of one list of fragments are one list, and so is what stands behind them
+-- the whole records of one list of fragments are one list, and so is what comes after them
 pub records_apart : (all all' rs rs' : List Record) (standing standing' : Standing) (parts parts' behind behind' : List Fragment)
     → FragmentsOfAll rs parts → FragmentsOfAll rs' parts' → Behind all standing behind → Behind all' standing' behind'
     → parts ++ behind ≡ parts' ++ behind' → (rs ≡ rs') × (behind ≡ behind')
@@ -103,7 +103,7 @@ session_apart fs rs rs' standing standing' s t =
     let one = records_apart rs rs' rs rs' standing standing' s.parts t.parts s.behind t.behind s.parts_are t.parts_are s.behind_is t.behind_is flat in
     (one.0, behind_apart rs rs' standing standing' t.behind (subst (Behind rs standing) one.1 s.behind_is) t.behind_is)
 
--- bodies hold one list of whole records, and stand in one way
+-- bodies hold one list of whole records, and have one standing
 pub holds_one : (bodies : List (List ℕ)) (rs rs' : List Record) (standing standing' : Standing)
     → Holds bodies rs standing → Holds bodies rs' standing' → (rs ≡ rs') × (standing ≡ standing')
 holds_one bodies rs rs' standing standing' h h' =
@@ -176,7 +176,7 @@ only_one : (f g : Fragment) (pre post : List Fragment) → f ∷ (pre ++ post) �
 only_one f g pre post e =
     ap (λ h. h ∷ pre) (first_same f g (pre ++ post) [] e) ∙ ap (λ l. g ∷ l) (front_nil pre post (rest_same f g (pre ++ post) [] e))
 
--- the front of what stands behind the whole records
+-- the front of what comes after the whole records
 front_of_behind : (all : List Record) (standing : Standing) (pre post behind : List Fragment) → Behind all standing behind → pre ++ post ≡ behind → Front all [] pre
 front_of_behind all Between pre post behind b e =
     subst (Front all []) (sym (front_nil pre post (e ∙ b))) (front_of_nothing all [])
@@ -198,7 +198,7 @@ front_of_behind all AtEnd (f ∷ pre) post behind b e = record {
   ended_is_all = (λ e. refl);
 }
 
--- the front of a session's fragments behind the start label
+-- the front of a session's fragments after the start label
 front_of_session : (all rs : List Record) (standing : Standing) (pre post parts behind : List Fragment) → AllByRecursion IsRecord rs
     → FragmentsOfAll rs parts → Behind all standing behind → pre ++ post ≡ parts ++ behind → Front all rs pre
 front_of_session all [] standing pre post parts behind are c b e =
@@ -233,7 +233,7 @@ pub AreBodies-front : (xs ys : List (List Fragment)) → AreBodies (xs ++ ys) �
 AreBodies-front [] ys are = tt
 AreBodies-front (x ∷ xs) ys are = (are.0, are.1, AreBodies-front xs ys are.2)
 
--- the totals of the whole list serve where the front is the whole
+-- the totals of the whole list serve if the front is the whole
 behind_of_front : (rs whole others : List Record) (standing : Standing) (behind : List Fragment) → rs ≡ whole ++ others
     → (standing ≡ AtEnd → others ≡ []) → Behind rs standing behind → Behind whole standing behind
 behind_of_front rs whole others Between behind split all b = b
@@ -330,7 +330,7 @@ nothing_without_bodies (fs ∷ fragments) e = cc
 session_with_bodies : (fragments : List (List Fragment)) (rs : List Record) {standing : Standing} → fragments ≡ [] → IsSession (joined fragments) rs standing → ⊥
 session_with_bodies fragments rs none s = cc (ap joined (sym none) ∙ s.order)
 
--- bodies with an unfinished record become a cutting once its other fragments stand in bodies of their own
+-- bodies with an unfinished record become a cutting once its other fragments are in bodies of their own
 unfinished_begins : (bodies : List (List ℕ)) (rs : List Record) (fragments : List (List Fragment)) (p : HoldsBy fragments bodies rs Within) → BeginsCutting bodies
 unfinished_begins bodies rs fragments p =
     let s = p.session_is in

@@ -88,7 +88,7 @@ position-text_bytes text more none =
 not_zero : (byte : ℕ) → is_zero byte ≡ false → 0 < byte
 not_zero byte e = grind (arith, nat_tests)
 
--- what stands before the first zero byte is a text, and the byte ends it
+-- what comes before the first zero byte is a text, and the byte ends it
 pub text_before_zero : (xs : List ℕ) (end : ℕ) → position is_zero xs ≡ Some end
     → HasNoZero (take end xs) × (xs ≡ text_bytes (take end xs) ++ drop (end + 1) xs)
 unfolding text_bytes
@@ -135,7 +135,7 @@ unfolding front_bytes
 front_whole version xs rest more text number =
     text ∙ ap (λ l. text_bytes profile_text ++ l) number ∙ sym (append_assoc (text_bytes profile_text) (u32_bytes version) more)
 
--- a version that is read behind the text of the profile
+-- a version that is read after the text of the profile
 pub front_read : {E : Type 0} (read : Result ℕ E) (xs rest more : List ℕ) → xs ≡ text_bytes profile_text ++ rest
     → IfOk read (λ version. rest ≡ u32_bytes version ++ more) → IfOk read (λ version. xs ≡ front_bytes version ++ more)
 front_read (Ok version) xs rest more text number = front_whole version xs rest more text number

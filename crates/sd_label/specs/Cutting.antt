@@ -1,4 +1,4 @@
--- How the records of a session stand in block bodies, and which of them some bodies hold whole.
+-- How the records of a session lie in block bodies, and which of them some bodies hold whole.
 use Rattle.std.specs.Prelude.{◌≡◌, ◌≢◌, ◌⊎◌, ℕ, ◌+◌, ◌<◌, ◌≤◌, Bool, true, false, Some, None, List, [], ◌∷◌, ◌++◌, length, map, sum_by}
 use Rattle.std.specs.List.{flat_map, AllByRecursion}
 use Rattle.sd_base.specs.Record.{Record, IsRecord}
@@ -21,7 +21,7 @@ pub record IsEnd (label : SessionLabel) (records : List Record) : Type 0 where
   pub totals_are : label.totals
       ≡ Some (record { records = length records; bytes = total_bytes records })
 
--- where a session stands: between two records, within one, or behind its end label
+-- where a session stands: between two records, within one, or after its end label
 pub data Standing : Type 0 where
   Between : Standing
   Within : Standing
@@ -122,7 +122,7 @@ BeginsWithLongLabel room taken (f ∷ fs) =
     (label : SessionLabel) × (f ≡ session_label_fragment label)
     × (room < taken + length (fragment_bytes f))
 
--- a body of at most `room` bytes that others follow: full where its last record goes on; else it has
+-- a body of at most `room` bytes that others follow: full if its last record goes on; else it has
 -- fewer than twelve bytes free, or a label follows that is longer than what is free
 pub record IsFilled (room : ℕ) (fs next : List Fragment) : Type 0 where
   pub going_on : LastGoesOn fs → length (fragments_bytes fs) ≡ room
@@ -147,7 +147,7 @@ pub record HoldsTightly (room : ℕ) (bodies : List (List ℕ)) (records : List 
 
 -- Laws.
 
--- bodies hold one list of whole records and stand in one way; so a cutting has one list and one end
+-- bodies hold one list of whole records and have one standing; so a cutting has one list and one end
 abbrev pub HoldOneList : Type 0
 HoldOneList = (bodies : List (List ℕ)) (records others : List Record)
     (standing standing' : Standing)

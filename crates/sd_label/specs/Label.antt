@@ -25,7 +25,7 @@ start_label_index = neg_ℤ (pos 4)
 abbrev pub end_label_index : ℤ
 end_label_index = neg_ℤ (pos 5)
 
--- the version that a volume label says: 1 where it has no host, 2 where it has one
+-- the version that a volume label says: 1 if it has no host, 2 if it has one
 abbrev pub volume_label_version : Option (List ℕ) → ℕ
 volume_label_version None = 1
 volume_label_version (Some host) = 2
@@ -64,7 +64,7 @@ pub record IsSessionLabel (l : SessionLabel) : Type 0 where
   pub moment : FitsSigned w64 l.moment
   pub totals : IfSome l.totals AreTotals
 
--- none of its bytes is zero, so the first zero byte behind it ends it
+-- none of its bytes is zero, so the first zero byte after it ends it
 abbrev pub HasNoZero : List ℕ → Type 0
 HasNoZero text = All (λ byte. 0 < byte) text
 

@@ -12,7 +12,7 @@ pub fn front_holds_front()
     ensures { FrontHoldsFront }
 {}
 
-/// Bodies begin a cutting exactly where they hold a session so far.
+/// Bodies begin a cutting exactly if they hold a session so far.
 pub fn holding_begins_a_cutting()
     ensures begins { HoldingBeginsACutting }
     ensures holds { BeginningHolds }

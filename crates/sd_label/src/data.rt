@@ -18,7 +18,7 @@ pub const FRONT_LENGTH: usize = 16;
 /// The bytes of a moment.
 pub const MOMENT_LENGTH: usize = 8;
 
-/// The bytes of what an end label has behind the fields that every session label has.
+/// The bytes of what an end label has after the fields that every session label has.
 pub const TOTALS_LENGTH: usize = 20;
 
 /// The data of a label so far. In a contract it is the list of its bytes.
@@ -104,7 +104,7 @@ impl LabelData {
         self.add_u32(version);
     }
 
-    /// Adds what a volume label with a host has behind the fields that every volume label has.
+    /// Adds what a volume label with a host has after the fields that every volume label has.
     pub fn add_host(&mut self, host: &Option<HostName>)
         requires { length self.old + 128 ≤ most_label_data }
         ensures host { IfSome host.now IsName }
@@ -115,7 +115,7 @@ impl LabelData {
         }
     }
 
-    /// Adds what an end label has behind the fields that every session label has.
+    /// Adds what an end label has after the fields that every session label has.
     pub fn add_totals(&mut self, totals: Option<Totals>)
         requires { length self.old + 20 ≤ most_label_data }
         ensures totals { IfSome totals AreTotals }

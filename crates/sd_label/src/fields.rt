@@ -114,7 +114,7 @@ impl<'a> Fields<'a> {
         name_of(text)
     }
 
-    /// The version that a label says, behind the text of the profile: what every label begins with.
+    /// The version that a label says, after the text of the profile: what every label begins with.
     pub fn take_front(&mut self) -> Result<u32, NotOurs>
         ensures field { IfOk result (λ version. self.old ≡ front_bytes version ++ self.new) }
         ensures read_back { (version : ℕ) (more : List ℕ) → version < 2 ^ 32
@@ -161,8 +161,8 @@ impl<'a> Fields<'a> {
         Ok(Totals { records, bytes })
     }
 
-    /// What a session label has last, by its FileIndex: nothing where it starts the session, the
-    /// totals where it ends it. Nothing may stand behind it.
+    /// What a session label has last, by its FileIndex: nothing if it starts the session, the
+    /// totals if it ends it. Nothing may come after it.
     pub fn take_ending(&mut self, index: i32) -> Result<Option<Totals>, NotOurs>
         ensures totals { IfOk result (λ totals. IfSome totals AreTotals) }
         ensures index { IfOk result (λ totals. session_label_index totals ≡ index) }

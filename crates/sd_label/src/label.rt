@@ -29,7 +29,7 @@ pub const SESSION_LABEL_VERSION: u32 = 1;
 pub const ENDED_STATUS: u32 = 84;
 
 /// The label of a volume: its name, its pool, its media type, when it was labelled, in microseconds,
-/// and the host whose daemon did so, where it says one (as: Bacula Developer's Guide, storage media
+/// and the host whose daemon did so, if it says one (as: Bacula Developer's Guide, storage media
 /// output format).
 #[derive(Drop)]
 pub struct VolumeLabel {

@@ -4,7 +4,7 @@ use Rattle.std.proofs.lemmas.List.{append_assoc}
 use Rattle.sd_lane.specs.declared.piece.Queued.{Queued}
 use Rattle.sd_lane.specs.Queue.{pieces_of, Sends, AreOfLanes, WasFull, PlainView}
 
--- the pieces of a lane, over two lists one behind the other
+-- the pieces of a lane, over two lists one after the other
 pub pieces_of-append : (lane : ℕ) (xs ys : List Queued) → pieces_of lane (xs ++ ys) ≡ pieces_of lane xs ++ pieces_of lane ys
 pieces_of-append lane [] ys = refl
 pieces_of-append lane (q ∷ qs) ys = of_test (q.lane == lane) (pieces_of-append lane qs ys)

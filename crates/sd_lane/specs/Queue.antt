@@ -1,4 +1,4 @@
--- What stands in the queue before a drive, what its lanes sent and what its drive took.
+-- What is in the queue before a drive, what its lanes sent and what its drive took.
 use Rattle.std.specs.Prelude.{◌≡◌, ℕ, ◌≤◌, List, [], ◌∷◌, ◌++◌, ◌==◌, if◌then◌else◌, length}
 use Rattle.std.specs.List.{AllByRecursion}
 use Rattle.sd_lane.specs.declared.piece.Piece.{Piece}
@@ -17,7 +17,7 @@ pieces_of lane (q ∷ qs) = if q.lane == lane then q.piece ∷ pieces_of lane qs
 abbrev pub LanesFollow : (ℕ → List Piece) → List Queued → List Queued → Type 0
 LanesFollow sent taken held = (lane : ℕ) → sent lane ≡ pieces_of lane (taken ++ held)
 
--- the lane of this piece sent it, behind what it sent before; the other lanes sent nothing
+-- the lane of this piece sent it, after what it sent before; the other lanes sent nothing
 abbrev pub Sends : (ℕ → List Piece) → (ℕ → List Piece) → Queued → Type 0
 Sends old new q = (lane : ℕ) → new lane ≡ old lane ++ pieces_of lane (q ∷ [])
 
@@ -44,7 +44,7 @@ pub record LanesView : Type 0 where
   pub capacity : ℕ
   pub held : List Queued
 
--- what contracts see of a queue for one thread: the same, and what was taken from it, in order
+-- what contracts see of a queue for one thread: what a world sees of it, and what was taken from it, in order
 pub record PlainView : Type 0 where
   pub lanes : ℕ
   pub capacity : ℕ

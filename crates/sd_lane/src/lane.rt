@@ -10,7 +10,7 @@ use std::alloc::{AllocError, Global};
 /// Something by which lanes push their pieces to a drive.
 ///
 /// Its owner may be alone with the queue; then it is known what the queue holds, and a push is refused
-/// exactly where the queue is full. Where others push and take at the same time, a push is refused
+/// exactly if the queue is full. If others push and take at the same time, a push is refused
 /// because the queue was full at some moment of the call.
 pub trait Lane {
     ghost use Rattle.std.specs.Prelude.{ℕ, Bool, List};
@@ -27,13 +27,13 @@ pub trait Lane {
     // owner knows.
     ghost sent: { Self → ℕ → List Piece };
 
-    // All that the drive took from the start, in order, where its owner is alone.
+    // All that the drive took from the start, in order, if its owner is alone.
     ghost taken: { Self → List Queued };
 
     // Whether its owner is alone with the queue.
     ghost alone: { Self → Bool };
 
-    // What the queue holds, the piece that came first in front, where its owner is alone.
+    // What the queue holds, the piece that came first in front, if its owner is alone.
     ghost held: { Self → List Queued };
 
     // How many pieces the queue has room for.
@@ -43,7 +43,7 @@ pub trait Lane {
     // seat knows what became of it.
     ghost place: { Self → ℕ };
 
-    /// Pushes a piece behind the others, or gives it back where there is no room. Takes no memory.
+    /// Pushes a piece after the others, or gives it back if there is no room. Takes no memory.
     fn try_push(&mut self, lane: LaneNo, piece: Piece) -> Result<(), Piece>
         requires { opens self.old lane }
         ensures opens { (other : ℕ) → opens self.old other → opens self.new other }
@@ -69,7 +69,7 @@ pub trait Lane {
             → OnErr result (capacity self.old ≤ length (held self.old)) }
         ensures kept { alone self.old ≡ true → OnErr result (held self.new ≡ held self.old) };
 
-    // A law: where its owner is alone, what was taken of a lane and then what is held of it is what it sent.
+    // A law: if its owner is alone, what was taken of a lane and then what is held of it is what it sent.
     ghost follows: { (x : Self) → alone x ≡ true
         → LanesFollow (λ lane. sent x lane) (taken x) (held x) };
 }

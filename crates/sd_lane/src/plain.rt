@@ -57,7 +57,7 @@ impl PlainLanes {
         })
     }
 
-    // Adds a piece behind the others, where there is room.
+    // Adds a piece after the others, if there is room.
     fn push(&mut self, lane: LaneNo, piece: Piece) -> Result<(), Piece>
         requires least { 1 ≤ lane }
         requires most { lane ≤ self.old.lanes }

@@ -1,4 +1,4 @@
--- What a drive answers where no desk is.
+-- What a drive answers if there is no desk.
 use Rattle.std.proofs.Common.{◌≡◌, ◌≢◌, ◌⊎◌, ℕ, Bool, true, false, Option, None, Some, Ok, Err, List, refl, sym, ap, ◌∙◌, inl, inr}
 use Rattle.std.specs.Prelude.{IsErrOf}
 use Rattle.std.specs.Str.{bytes_eq}

@@ -26,7 +26,7 @@ pub record Refuses (s v : SessionView) (why : Refusal) (result : Result Closing 
   pub failed : why ≡ SessionFailed → (result ≡ Err why) × FailsSession s v
   pub other : why ≢ IsNotYet → why ≢ SessionFailed → (result ≡ Err why) × (v ≡ s)
 
--- where the cause is the status
+-- if the cause is the status
 by_status : (journal : List Entry) (s v : SessionView) (status : Status) (why : Refusal) (result : Result Closing Refusal) → s.status ≡ status → status ≢ Ended
     → why ≡ status_refusal status → Refuses s v why result → (result ≡ Err why) × (v ≡ s)
 by_status journal s v Active why result is not same h = h.other (λ e. cc (e, same)) (λ e. cc (e, same))

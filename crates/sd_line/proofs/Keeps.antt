@@ -131,7 +131,7 @@ over_bodies Cancelled room sent parts parts' records over same h = h
 over_bodies Failed room sent parts parts' records over same h = tt
 over_bodies Purged room sent parts parts' records over same h = tt
 
--- a session that is over tells the same where it has given its store back
+-- a session that is over tells the same if it has given its store back
 without_store : (honest : Type 0) (s : SessionView) (records : List Record) (sent : List PackedBody) → (IsRunning s.status → ⊥)
     → TellsAll honest (told s records) sent → TellsAll honest (told (record s { store = None; spool = None }) records) sent
 without_store honest s records sent over h =

@@ -25,7 +25,8 @@ pub mapped_some : {A B : Type 0} (f : A → B) (o : Option A) → IsSome o → I
 mapped_some f None h = h
 mapped_some f (Some x) h = h
 
--- A session at an end that was taken apart: `e` is the end, `f` its parts, and `before` its sessions where room was made for one more.
+-- A session at an end that was taken apart: `e` is the end, `f` its parts, and `before` its sessions with room made for
+-- one more.
 
 pub begun : (time : ℕ → ℕ) (e f : EndIs) (before : List ToldSession) (m : Meaning) (opening : Opening) (room limit : ℕ) (s : SessionView)
     → KeepsEnd time f → f ≡ e → before ≡ f.sessions → f.store ≡ Some (state_of m) → LastIsOver e.sessions → opening.key.time ≡ time e.seat.no
@@ -74,7 +75,7 @@ not_opened limits e f before store store' why is same stored r =
       ];
     })
 
--- or memory was wanted, and the store is as it was
+-- or it was out of memory, and the store is as it was
 pub wanting : (limits : Limits) (e f : EndIs) (before : List ToldSession) (store store' : StoreState) → f ≡ e → before ≡ f.sessions → f.store ≡ Some store
     → store' ≡ store → OpensNotAt limits e Memory (end_with f before store')
 wanting limits e f before store store' is same stored kept =
@@ -106,7 +107,7 @@ gave None all earlier last v is over stored none = absurd (elim none.0 [
   | inr gone ↦ (let e : IsSome {T = StoreState} None = subst IsSome (ap last_store is ∙ last_store_push earlier last ∙ gone) stored in cc (e))
 ])
 
--- The lane's store, where it lies in the end.
+-- The lane's store, if it lies in the end.
 
 pub stored_here : (e : EndIs) (option : Option StoreState) → e.store ≡ option → IsSome option → BringsStore e e
 stored_here e None is some = absurd (cc some)

@@ -62,7 +62,7 @@ unmoved meaning d after same = subst (Leaves meaning d) (sym same) (record {
   device = record { honest = refl; moment = omega arith; lasts = inl (λ since name bytes lasts. lasts) };
 })
 
--- so it is whatever shape the event has, where no piece was before the drive
+-- so it is whatever shape the event has, if no piece was before the drive
 shaped : {D : Type 0} (meaning : D → Meaning) (own : ℕ) (event : Event) (reply : Reply) (s : Station D) (o : Outcome D) → s.queue.held ≡ []
     → StationShape meaning own event reply s o → Leaves meaning s.drive o.drive
 shaped {D} meaning own event reply s o none (shape.rests is) = unmoved meaning s.drive o.drive (ap (λ (x : Outcome D). x.drive) is)

@@ -1,4 +1,4 @@
--- Lists of sessions and of pieces, and one more behind them.
+-- Lists of sessions and of pieces, and one more after them.
 use Rattle.std.proofs.Common.{◌≡◌, ℕ, zero, suc, ◌+◌, ◌-◌, refl, sym, ap, subst, ◌∙◌, arith, List, [], ◌∷◌, ◌++◌, Some, length, slice_get, append_assoc, append-nil}
 use Rattle.std.specs.List.{AllByRecursion}
 use Rattle.sd_base.specs.declared.number.SessionKey.{SessionKey}
@@ -82,7 +82,7 @@ sent_push honest (x ∷ ss) s before bodies (own, rest, is, told, more) tells =
     let mine = pieces_from s.session.key 1 bodies in
     (own, rest ++ mine, ap (λ l. l ++ mine) is ∙ append_assoc (pieces_from x.session.key 1 own) rest mine, told, sent_push honest ss s rest bodies more tells)
 
--- what the last one sent, behind what those before it sent
+-- what the last one sent, after what those before it sent
 pub record LastSent (honest : Type 0) (ss : List ToldSession) (s : ToldSession) (sent : List Piece) : Type 0 where
   pub before : List Piece
   pub bodies : List PackedBody

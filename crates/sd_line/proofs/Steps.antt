@@ -95,7 +95,7 @@ pub failed : (s v : SessionView) (records : List Record) → FailsSession s v �
 failed s v records (inl t) = dropped s s v records t.1 refl refl refl refl refl refl (λ honest. honest) (λ some. some)
 failed s v records (inr t) = stays s v records t.1
 
--- a store is as honest as it was, also where the spool is gone that had it
+-- a store is as honest as it was, even if the spool that had it is gone
 fails_by_spool : (s v : SessionView) (records : List Record) (job : JobView) → s.spool ≡ Some job → FailsBySpool s job v → StepsOn s records v records
 fails_by_spool s v records job there f =
     let had : store_of s ≡ Some job.store = ap (home_of s.store) there in

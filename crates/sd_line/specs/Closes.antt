@@ -19,9 +19,9 @@ progress_in journal s = progress_of s.key journal
 abbrev pub IsOnItsWay : List Entry → SessionView → Type 0
 IsOnItsWay journal s = (parts_of s ≢ []) ⊎ ((progress_in journal s).synced ≢ s.sent) ⊎ (placed_of s.key journal ≢ s.sent)
 
--- What a close comes to, by the drive's journal. Closed, with a receipt for all that was sent: where the session is ended and
--- didn't fail, and nothing of it is on its way. Not yet: where something is. Else it is refused, for its status, or since
--- the drive lost a block of it, by which it fails; or for want of memory, where it would be closed.
+-- What a close comes to, by the drive's journal. Closed, with a receipt for all that was sent: if the session is ended
+-- and didn't fail, and nothing of it is on its way. Not yet: if something is. Else it is refused, for its status, or
+-- since the drive lost a block of it, by which it fails; or, if it would be closed, because it was out of memory.
 abbrev pub Closes : List Entry → SessionView → Result Closing Refusal → SessionView → Type 0
 Closes journal s (Ok (Closed receipt)) new =
     ClosesSession s (progress_in journal s) new × (placed_of s.key journal ≡ s.sent)

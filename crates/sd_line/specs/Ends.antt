@@ -87,8 +87,8 @@ pub record IsOfLane (time lane : ℕ) (s : ToldSession) : Type 0 where
   pub id_most : s.session.key.id ≤ most_number
   pub lane_is : s.session.lane ≡ lane
 
--- A session took just these records, and these bodies of it were sent. Where the lane's store is honest, then those bodies
--- and behind them the ones that the session still has are a packed cutting of the records, with their end label or
+-- A session took just these records, and these bodies of it were sent. If the lane's store is honest, then those bodies
+-- and after them the ones that the session still has are a packed cutting of the records, with their end label or
 -- without; and of a session that was cancelled those that were sent begin one. A closed session has sent all.
 pub record TellsAll (honest : Type 0) (s : ToldSession) (sent : List PackedBody) : Type 0 where
   pub count_is : length s.told ≡ s.session.count
@@ -100,7 +100,7 @@ pub record TellsAll (honest : Type 0) (s : ToldSession) (sent : List PackedBody)
   pub closed : s.session.status ≡ Closed → (parts_of s.session ≡ []) × (1 ≤ s.session.sent)
   pub not_purged : s.session.status ≢ Purged
 
--- These pieces are what the sessions sent, one session behind the other, each piece with its session's key and its place
+-- These pieces are what the sessions sent, one session after the other, each piece with its session's key and its place
 -- in it; and what was sent of each goes with the records that it took.
 abbrev pub SentBy : Type 0 → List ToldSession → List Piece → Type 0
 SentBy honest [] sent = sent ≡ []
@@ -108,7 +108,7 @@ SentBy honest (s ∷ ss) sent = (bodies : List PackedBody) × (rest : List Piece
     × (sent ≡ pieces_from s.session.key 1 bodies ++ rest) × TellsAll honest s bodies × SentBy honest ss rest
 
 -- What a lane's end keeps. Its sessions are of its drive's run and of its lane; what its seat sent is what they sent, one
--- behind the other; only the last of them may still go on; and the lane's store is there.
+-- after the other; only the last of them may still go on; and the lane's store is there.
 pub record KeepsEnd (time : ℕ → ℕ) (e : EndIs) : Type 0 where
   pub of_lane : AllByRecursion (IsOfLane (time e.seat.no) e.seat.seat.lane) e.sessions
   pub sent_are : SentBy (StoreIsTrue (lane_store e)) e.sessions e.seat.seat.sent

@@ -1,4 +1,4 @@
--- What an event of the operator does to the drive of a line, where no desk is.
+-- What an event of the operator does to the drive of a line, if there is no desk.
 use Rattle.std.specs.Prelude.{◌≡◌, ◌≢◌, ◌⊎◌, ℕ, List, map, Option, None, Some, slice_get}
 use Rattle.sd_base.specs.declared.refusal.Refusal.TheVariants.{BadCommand}
 use Rattle.sd_desk.specs.Desk.{DeskView, new_claim}
@@ -14,7 +14,7 @@ use Rattle.sd_machine.specs.declared.reply.Reply.TheVariants.{Refused}
 use Rattle.sd_volume.specs.Volume.{VolumeView}
 use Rattle.sd_world.specs.DriveMoves.{DriveMoves}
 
--- the drive at which a line answers the event; none where it answers no such event
+-- the drive at which a line answers the event; none if it answers no such event
 abbrev pub operated_at : Event → Option ℕ
 operated_at (Sync drive) = Some drive
 operated_at (Label drive name pool media moment) = Some drive

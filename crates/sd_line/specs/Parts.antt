@@ -40,8 +40,8 @@ end_of p = record { seat = p.seat; store = None; sessions = p.before ++ told_of 
 abbrev pub with_session : PartIs → SessionView → PartIs
 with_session p s = record p { session = s }
 
--- What a part keeps. The seat sent what the sessions before sent, and behind that these bodies of the part's own session;
--- where the lane's store is honest, what that session took is the whole of those bodies and of what it still has.
+-- What a part keeps. The seat sent what the sessions before sent, and after that these bodies of the part's own
+-- session; if the lane's store is honest, what that session took is the whole of those bodies and of what it still has.
 pub record KeepsPart (time : ℕ → ℕ) (p : PartIs) : Type 0 where
   pub of_lane : IsOfLane (time p.seat.no) p.seat.seat.lane (told_of p)
   pub before_of_lane : AllByRecursion (IsOfLane (time p.seat.no) p.seat.seat.lane) p.before
@@ -73,7 +73,7 @@ pub record OpensAt (limits : Limits) (opening : Opening) (e : EndIs) (p : PartIs
   pub starts : StartsSession opening (limits.block - block_header) limits.spool store p.session
   pub is : p ≡ record { seat = e.seat; before = e.sessions; session = p.session; told = [] }
 
--- none begins: for want of memory, or the store could not be cleared, which lies in the end still
+-- none begins: it was out of memory, or the store could not be cleared, which lies in the end still
 pub record OpensNotAt (limits : Limits) (e : EndIs) (why : Refusal) (e' : EndIs) : Type 0 where
   pub store : StoreState
   pub store' : StoreState
@@ -107,8 +107,8 @@ queue_at capacity s = queue_view (sent_by_seat s) false [] capacity
 abbrev pub next_piece : SessionView → PackedBody → Piece
 next_piece s body = record { key = s.key; seq = s.sent + 1; body = body }
 
--- What one step of sending did to the session and to the seat of its lane. Where a body was sent, the seat sent that one piece
--- more; else it sent nothing.
+-- What one step of sending did to the session and to the seat of its lane. If a body was sent, the seat sent that one
+-- piece more; else it sent nothing.
 abbrev pub SendsBy : Despooled → ℕ → SeatIs → SessionView → SeatIs → SessionView → Type 0
 SendsBy Sent capacity seat s seat' s' =
     (sends : SendsBody s (queue_at capacity seat) s' (queue_at capacity seat'))

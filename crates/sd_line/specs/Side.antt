@@ -57,8 +57,8 @@ blocks_taken taken = map (λ q. Some (block_of_piece q.piece)) taken
 -- for its number, which has so many lanes at most, and its drive of the run; the drive's limits are
 -- such as a drive may have. The drive's journal and then its hand follow the pieces that the seat
 -- took: they have, in order, each one's key, indexes and length. No block is gone, since no line
--- purges a volume. And while the device is honest, the block that stands at each placement, and then
--- the one of the piece in the hand, has that piece's key and body.
+-- purges a volume. And while the device is honest, the block at each placement, and then the one of
+-- the piece in the hand, has that piece's key and body.
 pub record KeepsSide {D : Type 0} (meaning : D → Meaning) (table : ℕ → TableId) (time : ℕ → ℕ) (s : SideIs D) : Type 0 where
   pub here : s.seat.table ≡ table s.no
   pub lanes : s.seat.lanes ≤ most_lanes

@@ -14,8 +14,8 @@ use Rattle.sd_line.specs.Side.{SideIs}
 use Rattle.sd_ruled.specs.Seats.{DriveSeatIs, WasEmpty}
 use Rattle.sd_world.specs.Stations.{Calls}
 
--- A take of a turn. Where one was made the hand was empty; a piece of one of the lanes came into
--- it, and the seat took it. Else both are as they were; and where the hand was empty, so was the
+-- A take of a turn. If one was made, the hand was empty; a piece of one of the lanes came into
+-- it, and the seat took it. Else both are as they were; and if the hand was empty, so was the
 -- queue at a moment of the call.
 abbrev pub Takes : {D : Type 0} → Bool → DriveIs D → DriveSeatIs → DriveIs D → DriveSeatIs → Type 0
 Takes true old seat new seat' = (old.hand ≡ None) × (lane : ℕ) × (1 ≤ lane) × (lane ≤ seat.lanes) × (piece : Piece)
@@ -29,7 +29,7 @@ pub record PlacesBy {D E : Type 0} (meaning : D → Meaning) (result : Result Pl
   pub calls : Calls meaning (result ≡ Ok VolumeError) ((result ≡ Ok VolumeFull) × LimitAllows old) old new
   pub unchanged : OnErr result (Unchanged (meaning old.device) (meaning new.device))
 
--- a sync is due exactly where there was nothing to place, or no volume for it
+-- a sync is due exactly if there was nothing to place, or no volume for it
 abbrev pub is_sync_due : {E : Type 0} → Result Placed E → Bool
 is_sync_due (Ok (At p)) = false
 is_sync_due (Ok NeedVolume) = true
@@ -38,8 +38,8 @@ is_sync_due (Ok VolumeError) = false
 is_sync_due (Ok Idle) = true
 is_sync_due (Err error) = false
 
--- The sync of a turn, which is there exactly where it was due. The loaded volume is synced, with no
--- call of the device where no block awaited that; or the sync failed, and the blocks that awaited
+-- The sync of a turn, which is there exactly if it was due. The loaded volume is synced, with no
+-- call of the device if no block awaited that; or the sync failed, and the blocks that awaited
 -- it are lost.
 abbrev pub SyncsBy : {D T : Type 0} → (D → Meaning) → Bool → Option (Result T Refusal) → DriveIs D → DriveIs D → Type 0
 SyncsBy meaning due None old new = (due ≡ false) × (new ≡ old)
@@ -48,7 +48,7 @@ SyncsBy meaning due (Some (Ok done)) old new =
 SyncsBy meaning due (Some (Err why)) old new =
     (due ≡ true) × (why ≡ DeviceFault) × FailsToSync old new × Calls meaning (Unit {0}) ⊥ old new
 
--- a turn: a take, then a place, then a sync where that is due
+-- a turn: a take, then a place, then a sync if that is due
 pub record Turns {D : Type 0} (meaning : D → Meaning) (did : Turned) (old new : SideIs D) : Type 0 where
   pub held : DriveIs D
   pub after : DriveIs D

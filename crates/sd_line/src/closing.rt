@@ -20,7 +20,7 @@ pub enum Closing {
     NotYet,
 }
 
-/// Closes the session, exactly where it may be closed and the drive gives a receipt for all that it sent. A session of
+/// Closes the session, exactly if it may be closed and the drive gives a receipt for all that it sent. A session of
 /// which the drive lost a block fails.
 pub(crate) fn close<D: Driver, S: SpoolStore + Drop>(
     drive: &Drive<D>,
@@ -43,7 +43,7 @@ pub(crate) fn close<D: Driver, S: SpoolStore + Drop>(
     }
 }
 
-// What a close comes to of a session that may not be closed, and why it may not: where a block of it was lost it fails.
+// What a close comes to of a session that may not be closed, and why it may not: if a block of it was lost, it fails.
 fn refuse<S: SpoolStore + Drop>(session: &mut Session<S>, why: Refusal) -> Result<Closing, Refusal>
     ensures not_yet { why ≡ Refusal.NotYet
         → (result ≡ Ok Closing.NotYet) × (session.new ≡ session.old) }

@@ -14,7 +14,7 @@ use std::marker::Model;
 
 /// The end of a lane: its seat, the store of its spools, and the sessions that used it. In a contract it is an `EndIs`.
 ///
-/// Its type keeps what `KeepsEnd` says: what the seat sent is what those sessions sent, one behind the other.
+/// Its type keeps what `KeepsEnd` says: what the seat sent is what those sessions sent, one after the other.
 #[derive(Drop)]
 pub struct LaneEnd<N: Naming, S: SpoolStore> {
     pub(crate) seat: Seat<N>,

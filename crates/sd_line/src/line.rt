@@ -62,7 +62,7 @@ impl<D: Driver, N: Naming, R: Wait + Drop> Model for Line<D, N, R> {
     } };
 }
 
-/// A drive and a queue of which no line was made, for want of memory.
+/// A drive and a queue of which no line was made, because there was no memory.
 #[derive(Drop)]
 pub struct NotLined<D: Driver, R: Wait + Drop> {
     pub drive: Drive<D>,
@@ -82,7 +82,7 @@ pub struct LineParts<D: Driver, N: Naming, R: Wait + Drop> {
 
 impl<D: Driver, N: Naming, R: Wait + Drop> Line<D, N, R> {
     /// A line of a drive and of the queue before it, and the seats of the lanes 1, 2 and on, none of
-    /// which sent anything. Where memory is wanted drive and queue come back.
+    /// which sent anything. If out of memory, drive and queue come back.
     pub fn new(
         rt: R,
         alloc: Global,

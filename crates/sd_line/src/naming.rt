@@ -1,7 +1,7 @@
 // What ties what is of one line together.
 use std::marker::Brand;
 
-/// Which queue stands before the drive of a number, and of which run that drive is. Each run of a
+/// Which queue is before the drive of a number, and of which run that drive is. Each run of a
 /// daemon picks it for all its lines: what has this parameter and one number is of one line.
 pub trait Naming {
     ghost use Rattle.std.specs.Prelude.{ℕ};

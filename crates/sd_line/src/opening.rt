@@ -31,7 +31,7 @@ impl<N: Naming, S: SpoolStore + Drop> SessionPart<N, S> {
     /// number; it is for the media, the block limit and the spool limit of the line's drive.
     ///
     /// First room is made; then the lane's store is cleared, if the session spools; last the drive notes the session, with
-    /// its lock held. Where one of these fails the end comes back, with the store.
+    /// its lock held. If one of these fails, the end comes back, with the store.
     pub fn open<D: Driver, R: Wait + Drop>(
         alloc: Global,
         line: &Line<D, N, R>,

@@ -1,4 +1,4 @@
-// What an operator does to the drive of a line, where no desk is.
+// What an operator does to the drive of a line, if there is no desk.
 ghost use Rattle.std.specs.Prelude.{◌≡◌, ℕ};
 ghost use Rattle.sd_machine.specs.declared.event.Event.TheVariants.{Sync, Label, Adopt, Mount, Unmount, Seek};
 ghost use Rattle.sd_line.specs.Operates.{Operates, AnswersAlone, operated_at};

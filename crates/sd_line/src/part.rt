@@ -150,9 +150,9 @@ impl<N: Naming, S: SpoolStore + Drop> SessionPart<N, S> {
         pushing::push(line.queue(), &mut self.seat, &mut self.session)
     }
 
-    /// Closes the session, by what lies under the lock of its line: exactly where it is ended, its drive lost no block of
-    /// it, it has sent all that it has, and each block that it sent is placed and synced. Where one was lost it fails.
-    /// A receipt takes memory; where that is wanted, all stays as it was.
+    /// Closes the session, by what lies under the lock of its line: exactly if it is ended, its drive lost no block of
+    /// it, it has sent all that it has, and each block that it sent is placed and synced. If one was lost, it fails.
+    /// A receipt takes memory; if out of memory, all stays as it was.
     pub fn close_on<D: Driver>(&mut self, side: &DriveSide<D, N>) -> Result<Closing, Refusal>
         requires { self.old.seat.no ≡ side.now.no }
         ensures closes { Closes side.now.drive.journal self.old.session result self.new.session }
@@ -161,7 +161,7 @@ impl<N: Naming, S: SpoolStore + Drop> SessionPart<N, S> {
         closing::close(side.drive(), &mut self.session)
     }
 
-    /// The same, with the line's lock held.
+    /// Closes the session as `close_on` does, with the line's lock held.
     pub fn close<D: Driver, R: Wait + Drop>(
         &mut self,
         line: &Line<D, N, R>,
@@ -178,7 +178,7 @@ impl<N: Naming, S: SpoolStore + Drop> SessionPart<N, S> {
         self.close_on(side)
     }
 
-    // The same at a drive that placed no block of the session.
+    // Closes the session at a drive that placed no block of it.
     fn close_nowhere(&mut self) -> Result<Closing, Refusal>
         ensures closes { Closes [] self.old.session result self.new.session }
         ensures same { self.new ≡ with_session self.old self.new.session }
@@ -186,7 +186,7 @@ impl<N: Naming, S: SpoolStore + Drop> SessionPart<N, S> {
         closing::close_nowhere(&mut self.session)
     }
 
-    /// The end of the lane, with the session as it stands behind those before it. Takes no memory.
+    /// The end of the lane, with the session as it is after those before it. Takes no memory.
     pub fn leave(self) -> LaneEnd<N, S>
         ensures { result ≡ end_of self }
     {

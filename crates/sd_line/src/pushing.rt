@@ -13,7 +13,7 @@ use sd_session::{Despooled, Session};
 use sd_spool::SpoolStore;
 use std::sync::Wait;
 
-/// The next body of the session goes into the queue of its line, where there is room.
+/// The next body of the session goes into the queue of its line, if there is room.
 pub(crate) fn push<'a, N: Naming, R: Wait + Drop, S: SpoolStore + Drop>(
     queue: &'a LaneQueue<R>,
     seat: &'a mut Seat<N>,

@@ -73,7 +73,7 @@ impl<N: Naming> Seat<N> {
         self.seat.lane()
     }
 
-    /// Pushes a piece behind the others, or gives it back because the queue was full at a moment of
+    /// Pushes a piece after the others, or gives it back because the queue was full at a moment of
     /// the call. Takes no memory.
     pub fn push<D: Driver, R: Wait + Drop>(
         &mut self,
@@ -90,7 +90,7 @@ impl<N: Naming> Seat<N> {
         line.push(&mut self.seat, piece)
     }
 
-    /// The same, where only the queue of the line is at hand.
+    /// Pushes a piece as `push` does, with only the queue of the line at hand.
     pub fn push_to<R: Wait + Drop>(
         &mut self,
         queue: &LaneQueue<R>,

@@ -108,9 +108,9 @@ impl<D: Driver, N: Naming> DriveSide<D, N> {
         self.drive.know();
     }
 
-    /// A turn: takes a piece from the queue where the drive's hand is empty, then places, and syncs
-    /// exactly where there was nothing to place or no volume for it. What lasted lasts, at each
-    /// moment in between too. Where memory is wanted for the place, the piece stays in the hand.
+    /// A turn: takes a piece from the queue if the drive's hand is empty, then places, and syncs
+    /// exactly if there was nothing to place or no volume for it. What lasted lasts, at each
+    /// moment in between too. If out of memory for the place, the piece stays in the hand.
     pub fn turn_on<R: Wait + Drop, G: Gate>(&mut self, queue: &LaneQueue<R>, gate: &G) -> Turned
         requires { queue.now.table ≡ N.table self.old.no }
         ensures turns { Turns (λ d. D.meaning d) result self.old self.new }
@@ -127,7 +127,7 @@ impl<D: Driver, N: Naming> DriveSide<D, N> {
 
     /// Answers a label, an adoption, a mount, an unmount, a seek or a sync of this drive; any other
     /// event, and one of another drive, is a bad command. No desk is asked: a name counts as
-    /// claimed where the drive has a volume of it, and a drive that needs a volume and has none
+    /// claimed if the drive has a volume of it, and a drive that needs a volume and has none
     /// answers `Requested`. The pieces given so far stay. Of the drive's
     /// volumes what lasted lasts, and so do whole blocks of an adopted one.
     pub fn operate_on(&mut self, event: Event) -> Reply

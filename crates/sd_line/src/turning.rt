@@ -15,7 +15,7 @@ use std::sync::Wait;
 pub struct Turned {
     /// Whether a piece was taken from the queue.
     pub took: bool,
-    /// What the drive answered to the place; an error for want of memory.
+    /// What the drive answered to the place; an error if out of memory.
     pub place: Result<Placed, AllocError>,
     /// What it answered to the sync, if there was one.
     pub sync: Option<Result<(), Refusal>>,
@@ -34,7 +34,7 @@ impl Turned {
     }
 }
 
-// Takes a piece from the queue, where the hand is empty.
+// Takes a piece from the queue, if the hand is empty.
 pub(crate) fn take<D: Driver, R: Wait + Drop>(
     drive: &mut Drive<D>,
     seat: &mut DriveSeat,
@@ -81,7 +81,7 @@ pub(crate) fn is_sync_due(placed: &Result<Placed, AllocError>) -> bool
     matches!(placed, Ok(Placed::Idle | Placed::NeedVolume))
 }
 
-// Syncs the loaded volume, where that is due.
+// Syncs the loaded volume, if that is due.
 pub(crate) fn sync<D: Driver>(drive: &mut Drive<D>, due: bool) -> Option<Result<(), Refusal>>
     ensures { SyncsBy (λ d. D.meaning d) due result drive.old drive.new }
 {

@@ -83,14 +83,14 @@ told_by (events.Close ticket) reply old new a = own_told Shuts ticket _ reply ol
 told_by (events.Cancel ticket) reply old new a = own_told Cancels ticket _ reply old new (cancels_told ticket reply) a
 told_by event reply old new a = bad_told event reply _ old new a.0 a.1
 
--- So a port keeps what it keeps, behind an event,
+-- So a port keeps what it keeps, after an event,
 
 pub keeps_stepped : (asked : List Exchange) (event : Event) (reply : Reply) (old new : Option PartIs) → told_in old ≡ taken_last asked → AnswersEvent event reply old new
     → told_in new ≡ taken_last (asked ++ Stepped event reply ∷ [])
 keeps_stepped asked event reply old new keeps a =
     told_by event reply old new a ∙ ap (taken_by reply event) keeps ∙ sym (taken_more [] asked (Stepped event reply))
 
--- and behind what takes no record.
+-- and after what takes no record.
 
 pub keeps_still : (asked : List Exchange) (x : Exchange) (old new : Option PartIs) → told_in old ≡ taken_last asked → told_in new ≡ told_in old
     → ((so_far : List Record) → taken_behind x so_far ≡ so_far) → told_in new ≡ taken_last (asked ++ x ∷ [])

@@ -1,4 +1,4 @@
--- That threads may share a hub where they may share its parts.
+-- That threads may share a hub if they may share its parts.
 use denote.Param.Send.{IsSend, IsSync, array_send, recorded_send, recorded_sync, sendable, struct_send, struct_sync}
 use denote.RattleType.{RattleType}
 use denote.Struct.Declared.{shape}

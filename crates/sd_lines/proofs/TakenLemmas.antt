@@ -1,4 +1,4 @@
--- The records that were taken, behind one more exchange.
+-- The records that were taken, after one more exchange.
 use Rattle.std.proofs.Common.{◌≡◌, refl, List, [], ◌∷◌, ◌++◌}
 use Rattle.sd_append.specs.Port.{Exchange}
 use Rattle.sd_base.specs.Record.{Record}

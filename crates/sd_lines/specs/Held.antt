@@ -70,7 +70,8 @@ Cancels Cancelled p q = CancelsSession p.session q.session × (q ≡ with_sessio
 Cancels (Refused why) p q = NotRunning p.session why × (q ≡ p)
 Cancels reply p q = ⊥
 
--- why an event of the session of this number is refused, where what is known of the one opened last is what it was at its end
+-- why an event of the session of this number is refused, if what is known of the one opened last is what it was at its
+-- end
 abbrev pub RefusesOver : ℕ → Reply → Option PartIs → Type 0
 RefusesOver ticket reply over =
     ((p : PartIs) × (why : Refusal) × (over ≡ Some p) × (p.session.key.id ≡ ticket) × (reply ≡ Refused why) × NotRunning p.session why)

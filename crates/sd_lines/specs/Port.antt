@@ -16,7 +16,7 @@ pub record LinePortIs : Type 0 where
 abbrev pub new_port : ℤ → LinePortIs
 new_port moment = record { last = None; moment = moment; asked = [] }
 
--- the port behind one exchange more, with the part as it is then
+-- the port after one exchange more, with the part as it is then
 abbrev pub behind : Exchange → Option PartIs → LinePortIs → LinePortIs
 behind exchange last p = record p { last = last; asked = p.asked ++ exchange ∷ [] }
 

@@ -7,19 +7,19 @@ use Rattle.sd_machine.specs.declared.event.Event.TheVariants.{Append}
 use Rattle.sd_machine.specs.declared.reply.Reply.{Reply}
 use Rattle.sd_machine.specs.declared.reply.Reply.TheVariants.{Opened, Taken}
 
--- The records that were taken of the session that was opened last, behind one more reply to an event: none where the reply
--- is that a session is open; one more where it is that this record was taken.
+-- The records that were taken of the session that was opened last, after one more reply to an event: none if the reply
+-- is that a session is open; one more if it is that this record was taken.
 abbrev pub taken_by : Reply → Event → List Record → List Record
 taken_by (Opened ticket drive) event so_far = []
 taken_by (Taken count) (Append ticket r) so_far = so_far ++ r ∷ []
 taken_by reply event so_far = so_far
 
--- the same behind one more exchange
+-- the records that were taken of the session that was opened last, after one more exchange
 abbrev pub taken_behind : Exchange → List Record → List Record
 taken_behind (Stepped event reply) so_far = taken_by reply event so_far
 taken_behind exchange so_far = so_far
 
--- the same behind all these
+-- the records that were taken of the session that was opened last, after all these exchanges
 abbrev pub taken_from : List Record → List Exchange → List Record
 taken_from so_far [] = so_far
 taken_from so_far (x ∷ xs) = taken_from (taken_behind x so_far) xs

@@ -22,7 +22,7 @@ use std::time::Clock;
 pub enum AddFault {
     /// It has another number than the next one, or there are as many as there may be.
     NotNext,
-    /// Memory was wanted, or there are fewer stores than lanes.
+    /// Out of memory, or there are fewer stores than lanes.
     Memory,
 }
 

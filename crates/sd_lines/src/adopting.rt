@@ -13,7 +13,7 @@ use sd_spool::SpoolStore;
 use std::sync::Wait;
 use std::time::Clock;
 
-/// Takes over a volume at a drive, and claims its name. The name is claimed first, and let go where the drive refuses.
+/// Takes over a volume at a drive, and claims its name. The name is claimed first, and let go if the drive refuses.
 pub(crate) fn adopt<D: Driver, N: Naming, R: Wait + Clock + Drop, S: SpoolStore + Drop>(
     hub: &Hub<D, N, R, S>,
     drive: DriveNo,
@@ -44,7 +44,7 @@ pub(crate) fn adopt<D: Driver, N: Naming, R: Wait + Clock + Drop, S: SpoolStore 
     }
 }
 
-// Why a volume isn't taken over at a drive, whose name can't be claimed for this cause: want of memory comes behind a
+// Why a volume isn't taken over at a drive, whose name can't be claimed for this cause: out of memory comes after a
 // volume that is loaded, and a claimed name before it.
 fn refusal_before<D: Driver, N: Naming, R: Wait + Clock + Drop>(
     post: &Post<D, N, R>,

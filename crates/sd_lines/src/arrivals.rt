@@ -22,7 +22,7 @@ impl<D: Driver, N: Naming, R: Wait + Clock + Drop, S: SpoolStore + Drop> Hub<D, 
         }
     }
 
-    // The same of one lane.
+    // Looks at one lane: if what was on its way by it is placed by now, the lane is free.
     fn look_at(&self, post: &Post<D, N, R>, lane: LaneNo) {
         let line = post.station.line();
         let on_its_way = self.front.lock(&self.rt).board.on_its_way(line.no(), lane);

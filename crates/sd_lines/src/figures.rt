@@ -71,7 +71,7 @@ impl<D: Driver, N: Naming, R: Wait + Clock + Drop, S: SpoolStore + Drop> Hub<D, 
         let faults = post.tally.faults(&self.rt, self.alloc)?;
         let drive = post.station.line().no();
         let desk = self.seen_at_desk(drive);
-        // Asked behind the desk, so that what a session had sent by then is seen.
+        // Asked after the desk, so that what a session had sent by then is seen.
         let backlog = post.station.backlog(&self.rt);
         Ok(DriveFigures {
             drive,
@@ -99,8 +99,8 @@ impl<D: Driver, N: Naming, R: Wait + Clock + Drop, S: SpoolStore + Drop> Hub<D, 
 }
 
 impl AtDesk {
-    // How many lanes are free. Where nothing is on its way to the drive's volumes, what was on its way has arrived, also where the
-    // desk wasn't told so yet.
+    // How many lanes are free. If nothing is on its way to the drive's volumes, what was on its way has arrived, even
+    // if the desk wasn't told so yet.
     fn free_lanes(&self, has_arrived: bool) -> u64 {
         if has_arrived {
             self.free.saturating_add(self.on_their_way)

@@ -15,8 +15,8 @@ use std::array;
 pub(crate) const DRIVES: usize = MOST_DRIVES as usize;
 
 /// The board; of the drives 1, 2 and on the pool of the session that was opened there last; and how many of the board's
-/// sessions stand how. A drive itself learns of the pool a little later, and who opens a session in between must not be told of
-/// the one before.
+/// sessions have each status. A drive itself learns of the pool a little later, and who opens a session in between must
+/// not be told of the one before.
 #[derive(Drop)]
 pub struct Front<N: Naming, S: SpoolStore> {
     pub board: Board<N, S>,
@@ -63,7 +63,7 @@ impl<N: Naming, S: SpoolStore + Drop> Front<N, S> {
         }
     }
 
-    /// The session's line says from now on that it stands so and took so many records.
+    /// The session's line says from now on that it has this status and took so many records.
     pub(crate) fn post(&mut self, ticket: Ticket, status: Status, records: u64) {
         if let Some(posted) = self.board.session(ticket) {
             self.standings.take(posted.status);
@@ -72,7 +72,7 @@ impl<N: Naming, S: SpoolStore + Drop> Front<N, S> {
         self.board.post(ticket, status, records);
     }
 
-    /// How many sessions stand how.
+    /// How many sessions have each status.
     pub(crate) fn standings(&self) -> Standings {
         self.standings
     }

@@ -213,7 +213,7 @@ impl<
         }
     }
 
-    // The talk's session leaves its lane, where it goes on no more.
+    // The talk's session leaves its lane, if it goes on no more.
     fn leave_if_over(&mut self)
         ensures { last_of self.new ≡ last_of self.old }
     {
@@ -226,7 +226,7 @@ impl<
     }
 }
 
-// Why a session goes on no more, where there is one and it doesn't.
+// Why a session goes on no more, if there is one and it doesn't.
 fn why_over<D: Driver, N: Naming, R: Wait + Clock + Drop, S: SpoolStore + Drop>(
     live: &Option<Live<'_, D, N, R, S>>,
 ) -> Option<Refusal>

@@ -103,14 +103,14 @@ impl<D: Driver, N: Naming, R: Wait + Clock + Drop, S: SpoolStore + Drop> Hub<D, 
         front.open(loaded, pool, media)
     }
 
-    /// Takes it back, where the session does not begin.
+    /// Takes back what the desk gave, if the session does not begin.
     pub(crate) fn take_back(&self, ticket: Ticket, end: LaneEnd<N, S>) {
         let mut front = self.front.lock(&self.rt);
         let front: &mut Front<N, S> = &mut front;
         front.take_back(ticket, end);
     }
 
-    /// The end of a lane lies at the desk from now on, and the line of its last session says that it stands so.
+    /// The end of a lane lies at the desk from now on, and the line of its last session says that it has this status.
     pub(crate) fn come_back(
         &self,
         end: LaneEnd<N, S>,
@@ -173,7 +173,7 @@ impl<D: Driver, N: Naming, R: Wait + Clock + Drop, S: SpoolStore + Drop> Hub<D, 
         self.front.lock(&self.rt).board.session(ticket).is_some()
     }
 
-    /// Claims a name for a drive; refused where it is claimed, or for want of memory.
+    /// Claims a name for a drive; refused if it is claimed, or if out of memory.
     pub(crate) fn claim(&self, name: &VolName, drive: DriveNo) -> Result<(), Refusal> {
         let mut front = self.front.lock(&self.rt);
         match front.board.claim(name, drive) {

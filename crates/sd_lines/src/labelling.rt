@@ -13,8 +13,8 @@ use sd_spool::SpoolStore;
 use std::sync::Wait;
 use std::time::Clock;
 
-/// Labels a new volume at a drive, and claims its name. The name is claimed first, and let go where the drive refuses; one
-/// that is claimed is refused behind what the drive would refuse before.
+/// Labels a new volume at a drive, and claims its name. The name is claimed first, and let go if the drive refuses; one
+/// that is claimed is refused after what the drive would refuse before it.
 pub(crate) fn label<D: Driver, N: Naming, R: Wait + Clock + Drop, S: SpoolStore + Drop>(
     hub: &Hub<D, N, R, S>,
     drive: DriveNo,

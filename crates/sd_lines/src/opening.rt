@@ -21,7 +21,7 @@ pub(crate) struct Begun<'h, D: Driver, N: Naming, R: Wait + Drop, S: SpoolStore>
 }
 
 /// Opens a session: first the desk gives it a number, a drive and a lane; then it begins at the end of that lane, and its
-/// drive notes it. Where it can't begin the desk takes back what it gave.
+/// drive notes it. If it can't begin, the desk takes back what it gave.
 pub(crate) fn open<'h, D: Driver, N: Naming, R: Wait + Clock + Drop, S: SpoolStore + Drop>(
     hub: &'h Hub<D, N, R, S>,
     job: JobId,

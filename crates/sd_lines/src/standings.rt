@@ -1,4 +1,4 @@
-// How many sessions stand how.
+// How many sessions have each status.
 use sd_session::Status;
 
 /// How many sessions of a run have each status.

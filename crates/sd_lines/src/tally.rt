@@ -21,7 +21,8 @@ pub struct Tally {
     // How often the drive had to ask for a volume, and how many volumes became full.
     waits: AtomicU64,
     full: AtomicU64,
-    // Under a lock of its own, which is taken where a device failed and where the figures are read. A volume stands here once.
+    // Under a lock of its own, which is taken when a device failed and when the figures are read. A volume is here
+    // once.
     faults: Mutex<Vec<VolumeFaults>>,
 }
 
@@ -50,7 +51,8 @@ impl Tally {
         }
     }
 
-    // Counts that the device failed with a volume. Where there is no memory for a volume that wasn't counted yet, it isn't.
+    // Counts that the device failed with a volume. If there is no memory for a volume that wasn't counted yet, it
+    // isn't.
     fn failed<R: Wait>(&self, rt: &R, volume: &VolName) {
         let mut faults = self.faults.lock(rt);
         let faults: &mut Vec<VolumeFaults> = &mut faults;

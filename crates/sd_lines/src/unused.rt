@@ -49,7 +49,7 @@ impl<D: Driver, R: Wait + Drop> Model for UnusedDrive<D, R> {
 }
 
 impl<D: Driver + Drop, R: Wait + Drop> UnusedDrive<D, R> {
-    /// A drive with this device, and a queue for so many lanes with this room. `None` for want of memory.
+    /// A drive with this device, and a queue for so many lanes with this room. `None` if out of memory.
     pub fn new(
         rt: R,
         alloc: Global,
@@ -72,8 +72,8 @@ impl<D: Driver + Drop, R: Wait + Drop> UnusedDrive<D, R> {
         Some(UnusedDrive { drive, lanes })
     }
 
-    /// The drive's line of this number, and the ends of its lanes, each with one of the stores, in their order. `None` for
-    /// want of memory, or where there are fewer stores than lanes.
+    /// The drive's line of this number, and the ends of its lanes, each with one of the stores, in their order. `None`
+    /// if out of memory, or if there are fewer stores than lanes.
     pub(crate) fn begin<N: Naming, S: SpoolStore + Drop>(
         self,
         rt: R,

@@ -11,7 +11,7 @@ use std::time::Clock;
 
 impl<D: Driver, N: Naming, R: Wait + Clock + Drop, S: SpoolStore + Drop> Hub<D, N, R, S> {
     /// Waits until a drive has something to do, and does it. What volume the drive needs is noted at the desk, and taken away
-    /// again once one is mounted. Where it was noted before, a turn is told. What the worker told is counted.
+    /// again once one is mounted. If it was noted before, a turn is reported. What the worker told is counted.
     pub fn work(&self, post: &Post<D, N, R>) -> Worked {
         let worked = match post.station.work(&self.rt) {
             Worked::Mounted(volume) => {
@@ -25,7 +25,7 @@ impl<D: Driver, N: Naming, R: Wait + Clock + Drop, S: SpoolStore + Drop> Hub<D, 
         worked
     }
 
-    // Notes the request of a drive. For want of memory it is noted once the drive seeks again.
+    // Notes the request of a drive. If out of memory, it is noted once the drive seeks again.
     fn ask(&self, post: &Post<D, N, R>, pool: PoolName) -> Worked {
         let line = post.station.line();
         let request = Request {

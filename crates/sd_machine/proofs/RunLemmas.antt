@@ -35,7 +35,7 @@ session_of-with ticket new (y ∷ ss) other =
     (λ n. chosen (λ o. session_of ticket ss ≡ o) y.key.id ticket (Some y) (session_of ticket ss) (λ q. absurd (other (sym p ∙ q))) (λ m. refl)))
     (λ n. ap (cond (y.key.id == ticket) (Some y)) (session_of-with ticket new ss other))
 
--- a session that is found stays so when one comes behind
+-- a session that is found stays so when one comes after it
 session_of-more : (ticket : ℕ) (ss more : List MachineSession) (s : MachineSession) → session_of ticket ss ≡ Some s → session_of ticket (ss ++ more) ≡ Some s
 session_of-more ticket [] more s at = absurd (cc at)
 session_of-more ticket (y ∷ ss) more s at =
@@ -80,7 +80,7 @@ only_purged (x ∷ xs) ticket status all =
 
 -- Strikes.
 
--- the session that was found, struck where it is among these
+-- the session that was found, struck if it is among these
 abbrev option_struck : List Strike → Option MachineSession → Option MachineSession
 option_struck strikes None = None
 option_struck strikes (Some s) = Some (struck strikes s)

@@ -41,7 +41,7 @@ abbrev pub opened : Machine → Machine
 opened m =
     record m { sessions = m.sessions ++ record { key = record { time = m.time; id = m.next }; records = []; status = Active } ∷ []; next = m.next + 1 }
 
--- the FileIndex of the last record, 0 where there is none
+-- the FileIndex of the last record, 0 if there is none
 abbrev pub last_index : List Record → ℕ
 last_index [] = 0
 last_index (r ∷ []) = r.index

@@ -45,7 +45,7 @@ pub enum Event {
     Place {
         drive: DriveNo,
     },
-    /// What stands on the loaded volume is made to last.
+    /// What is on the loaded volume is made to last.
     Sync {
         drive: DriveNo,
     },

@@ -60,7 +60,7 @@ pub enum Reply {
     VolumeFull,
     /// The loaded volume's device failed.
     VolumeError,
-    /// What stands on the loaded volume lasts.
+    /// What is on the loaded volume lasts.
     Synced,
     /// The volume is labelled.
     Labelled,

@@ -18,7 +18,7 @@ bytes_eq_other a b other = only_false (bytes_eq a b) (λ h. other ((bytes_eq-Dec
     only_false true h = absurd (h refl)
     only_false false h = refl
 
--- a volume of that name is what stands under it
+-- a volume of that name is what lies under it
 pub volume_of-here : (v : Volume) (vs : List Volume) (name : List ℕ) → v.name ≡ name → volume_of (v ∷ vs) name ≡ Some v.held
 volume_of-here v vs name e = ap (λ b. if b then Some v.held else volume_of vs name) (ap (λ n. bytes_eq n name) e ∙ bytes_eq_refl name)
 
@@ -36,7 +36,7 @@ StandsFirstAt-there name [] place at = absurd at
 StandsFirstAt-there name (v ∷ vs) zero at = subst IsSome (sym (volume_of-here v vs name at)) refl
 StandsFirstAt-there name (v ∷ vs) (suc place) at = subst IsSome (sym (volume_of-other v vs name at.0)) (StandsFirstAt-there name vs place at.1)
 
--- the volume at the place of a name has that name, and is what stands under it
+-- the volume at the place of a name has that name, and is what lies under it
 pub volume_of-place : (name : List ℕ) (vs : List Volume) (place : ℕ) (v : Volume) → StandsFirstAt name vs place → slice_get vs place ≡ Some v → (v.name ≡ name) × (volume_of vs name ≡ Some v.held)
 volume_of-place name [] place v at read = absurd at
 volume_of-place name (w ∷ vs) zero v at read =
@@ -113,7 +113,7 @@ names_differ-push (w ∷ vs) v p none =
     (is_none_by _ (volume_of-push_other vs v w.name other ∙ names_differ-first w vs p))
     (names_differ-push vs v (names_differ-rest w vs p) (sym (volume_of-other w vs v.name (λ e. other (sym e))) ∙ none))
 
--- none stands under a name after a change in a place where none stood before
+-- no volume is under a name after a change in a place, if none was before
 pub volume_of-set_none : (vs : List Volume) (name other : List ℕ) (place : ℕ) (v : Volume) → StandsFirstAt name vs place → v.name ≡ name → volume_of vs other ≡ None → volume_of (slice_set vs place v) other ≡ None
 volume_of-set_none vs name other place v at e none = elim (name_cases other name) [
   | inl same ↦ absurd (there vs place at (subst (λ (n : List ℕ). volume_of vs n ≡ None) same none))

@@ -5,12 +5,12 @@ use Rattle.sd_driver.specs.Shelf.{Held, Shelf, stable_bytes}
 use Rattle.sd_memdrive.specs.declared.change_log.Change.{Change}
 use Rattle.sd_memdrive.specs.Volumes.{Volume, volume_of}
 
--- the stable bytes of a volume before a change, where these are its stable bytes after it
+-- the stable bytes of a volume before a change, if these are its stable bytes after it
 abbrev pub undo_change : Change → List ℕ → List ℕ → List ℕ
 undo_change change name bytes =
     if bytes_eq change.name name then take change.stable (bytes ++ change.lost) else bytes
 
--- the stable bytes of a volume before all these changes, the oldest of which stands first
+-- the stable bytes of a volume before all these changes, the oldest of which comes first
 abbrev pub undo : List Change → List ℕ → List ℕ → List ℕ
 undo [] name bytes = bytes
 undo (change ∷ later) name bytes = undo_change change name (undo later name bytes)
@@ -23,7 +23,7 @@ shelf_of volumes changes = record {
   kept = λ moment name. undo (drop moment changes) name (stable_bytes (volume_of volumes name));
 }
 
--- what a stop leaves, where these bytes of a volume are stable and the device adds a tail
+-- what a stop leaves, if these bytes of a volume are stable and the device adds a tail
 abbrev pub left_of : List ℕ → List ℕ → Option Held
 left_of [] tail = None
 left_of (b ∷ bytes) tail =

@@ -74,14 +74,14 @@ LacksRoom more drive =
 abbrev pub FailsAtOnce : Call → MemDrive → Type 0
 FailsAtOnce call drive = plans.FailsAtOnce drive_calls call drive.plan
 
--- a call counts once in the plan; it answers `Device` exactly where it fails at once, or where an entry
--- is due for it and it is refused neither for its own cause nor for want of memory
+-- a call counts once in the plan; it answers `Device` exactly if it fails at once, or if an entry is
+-- due for it and it is refused neither for its own cause nor because it is out of memory
 abbrev pub FollowsPlan : {T : Type 0} → Call → Type 0 → Result T DriverFault → MemDrive → MemDrive → Type 0
 FollowsPlan call own_cause result old new =
     Follows drive_calls call (IsErrOf result Device) ⊥ (own_cause ⊎ IsErrOf result Memory) old.plan new.plan
 
--- What an append leaves that isn't refused for want of memory: the same where it fails at once, or where the volume lacks
--- the room; else as much of its bytes at the end of the loaded volume as its entry says, all where none is due.
+-- What an append leaves whose answer isn't out of memory: what was there if it fails at once, or if the volume lacks
+-- the room; else as much of its bytes at the end of the loaded volume as its entry says, all if none is due.
 pub record AppendsPart (bytes : List ℕ) (old new : MemDrive) : Type 0 where
   pub at_once : FailsAtOnce Append old → SameShelf (store_shelf old.store) (store_shelf new.store)
   pub no_room : LacksRoom bytes old → SameShelf (store_shelf old.store) (store_shelf new.store)

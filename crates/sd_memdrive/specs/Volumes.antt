@@ -8,18 +8,18 @@ pub record Volume : Type 0 where
   pub name : List ℕ
   pub held : Held
 
--- what stands under a name: the first volume of that name
+-- what lies under a name: the first volume of that name
 abbrev pub volume_of : List Volume → List ℕ → Option Held
 volume_of [] name = None
 volume_of (v ∷ vs) name = if bytes_eq v.name name then Some v.held else volume_of vs name
 
--- the first volume of that name stands at this place
+-- the first volume of that name is at this place
 abbrev pub StandsFirstAt : List ℕ → List Volume → ℕ → Type 0
 StandsFirstAt name [] place = ⊥
 StandsFirstAt name (v ∷ vs) zero = v.name ≡ name
 StandsFirstAt name (v ∷ vs) (suc place) = (v.name ≢ name) × StandsFirstAt name vs place
 
--- the names that stand are those that stood
+-- the names that are there are those that were
 abbrev pub SameNames : List Volume → List Volume → Type 0
 SameNames old new = (name : List ℕ) → volume_of old name ≢ None → volume_of new name ≢ None
 

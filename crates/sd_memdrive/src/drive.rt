@@ -85,7 +85,7 @@ impl MemDrive {
         })
     }
 
-    // The loaded volume's name, and where the volume stands.
+    // The loaded volume's name, and where the volume lies.
     fn loaded_place(&self) -> (VolName, usize)
         requires { IsSome self.now.loaded }
         ensures loaded { self.now.loaded ≡ Some result.0 }
@@ -272,7 +272,7 @@ impl Driver for MemDrive {
             (MayAppend (meaning_of self.old).loaded
             (meaning_of self.old).shelf (meaning_of self.new).shelf) }
 
-        // This drive is full exactly where the volume would pass the capacity.
+        // This drive is full exactly if the volume would pass the capacity.
         ensures room { OnOk result (HasRoom bytes.now self.old) }
         ensures no_room { IsErrOf result DriverFault.NoRoom → LacksRoom bytes.now self.old }
         ensures plan { FollowsPlan Call.Append (LacksRoom bytes.now self.old)

@@ -50,7 +50,7 @@ impl Store {
         })
     }
 
-    /// Where the volume of a name stands.
+    /// Where the volume of a name lies.
     pub fn index_of(&self, name: &VolName) -> Option<usize>
         ensures place { MatchOption result (volume_of self.now.volumes.items name.now ≡ None)
             (λ place. StandsFirstAt name.now self.now.volumes.items place) }
@@ -134,7 +134,7 @@ impl Store {
             .unwrap();
     }
 
-    /// Takes away what stands past `to` of a volume. The log keeps what of it was stable.
+    /// Takes away what is past `to` of a volume. The log keeps what of it was stable.
     pub fn cut(&mut self, name: &VolName, place: usize, to: usize) -> Result<(), AllocError>
         requires { StandsFirstAt name.now self.old.volumes.items place }
         ensures passes { Passes (store_shelf self.old) (store_shelf self.new) }
@@ -164,7 +164,7 @@ impl Store {
     }
 }
 
-// Where the first volume of a name stands.
+// Where the first volume of a name lies.
 fn first_named(volumes: &[Stored], name: &VolName) -> Option<usize>
     ensures place { MatchOption result (volume_of volumes.now name.now ≡ None)
         (λ place. StandsFirstAt name.now volumes.now place) }

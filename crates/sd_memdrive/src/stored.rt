@@ -133,7 +133,7 @@ impl Stored {
         self.stable = self.bytes.len();
     }
 
-    /// Takes away what stands past `to`.
+    /// Takes away what is past `to`.
     pub fn cut(&mut self, to: usize)
         ensures { self.new ≡ record {
           name = self.old.name;

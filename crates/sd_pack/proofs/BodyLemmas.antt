@@ -63,7 +63,7 @@ all_bytes-alone (f ∷ fs) =
     ap (λ l. l ++ all_bytes (bodies_alone fs)) (append-nil (fragment_bytes f))
     ∙ ap (λ l. fragment_bytes f ++ l) (all_bytes-alone fs)
 
--- a body that is left out where it is empty has its bytes either way
+-- a body that is left out if it is empty has its bytes either way
 all_bytes-unless : (bytes : List ℕ) (body : PackedBody) → body.bytes ≡ bytes → all_bytes (unless_empty bytes body) ≡ bytes
 all_bytes-unless [] body e = refl
 all_bytes-unless (x ∷ bytes) body e = append-nil body.bytes ∙ e

@@ -1,4 +1,4 @@
--- What is added behind the room for a block's header.
+-- What is added after the room for a block's header.
 use Rattle.std.proofs.Common.{◌≡◌, ℕ, ◌≤◌, List, ◌++◌, length, drop, ap, ◌∙◌}
 use Rattle.std.proofs.lemmas.List.{drop-append-le}
 

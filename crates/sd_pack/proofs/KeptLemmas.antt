@@ -46,7 +46,7 @@ last_within room waiting waiting' body body' later are are' order =
 pub within_some : (room : ℕ) (body : PackedBody) → IsWithin room body → body.bytes ≢ []
 within_some room body is = length_some body.bytes (let least = is.least in omega arith)
 
--- a packer stays one where the bodies that it closes and opens are within its room
+-- a packer stays one if the bodies that it closes and opens are within its room
 pub stays_packer : (room : ℕ) (waiting waiting' : List PackedBody) (open_body body body' : PackedBody) (later : List PackedBody) (spare spare' : ℕ)
     → IsPacker room waiting open_body spare → AreWithin room (body ∷ later)
     → waiting' ++ body' ∷ [] ≡ (waiting ++ body ∷ []) ++ later → 0 < spare' → IsPacker room waiting' body' spare'
@@ -63,7 +63,7 @@ stays_packer room waiting waiting' open_body body body' later spare spare' is ar
       none_open = (λ none. absurd (omega arith));
     }
 
--- the open body, where no further fragment fits in, may be closed
+-- an open body that has a byte may be closed
 pub open_within : (room : ℕ) (waiting : List PackedBody) (body : PackedBody) (spare : ℕ) → IsPacker room waiting body spare → 0 < length body.bytes → IsWithin room body
 open_within room waiting body spare is some = record { least = is.open_least some; most = is.open_fits }
 

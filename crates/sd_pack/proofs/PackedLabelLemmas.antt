@@ -22,7 +22,7 @@ packs_start room label start fits =
     (record { bodies_are = ((λ none. cc none), (IsFragment-session_label label start.label_is, (λ more. refl), tt), tt); tight = omega (arith, length-one f) })
     (record { start = label; parts = []; behind = []; order = refl; start_is = start; records_are = tt; parts_are = refl; behind_is = refl })
 
--- behind the records' fragments comes the end label
+-- after the records' fragments comes the end label
 ended : (fs gs : List Fragment) (records : List Record) (label : SessionLabel) → IsSession fs records Between → IsEnd label records
     → gs ≡ fs ++ session_label_fragment label ∷ [] → IsSession gs records AtEnd
 ended fs gs records label s is more =
@@ -63,7 +63,7 @@ end_behind room front body records label is narrow fits packs =
     (stand_behind room p.lists p.last f p.tightly (record { going_on = (λ more. absurd (whole more)); else_closed = (λ none. inr (label, refl, omega arith)) }) (IsFragment-session_label label is.label_is) fits)
     (ended (joined (p.lists ++ p.last ∷ [])) (joined ((p.lists ++ p.last ∷ []) ++ (f ∷ []) ∷ [])) records label p.session is (joined-behind (p.lists ++ p.last ∷ []) f))
 
--- an end label in the open body, or behind it
+-- an end label in the open body, or after it
 pub ends_in : (room : ℕ) (taken waiting : List PackedBody) (body : PackedBody) (records : List Record) (label : SessionLabel) → IsEnd label records
     → length body.bytes + length (session_label_bytes label) ≤ room → Packs room (taken ++ (waiting ++ body ∷ [])) records Between
     → Packs room (taken ++ (waiting ++ with_fragment body (session_label_fragment label) ∷ [])) records AtEnd

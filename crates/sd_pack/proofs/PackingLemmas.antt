@@ -33,7 +33,7 @@ split_last (b ∷ front) body (fs ∷ fragments) e =
       more.4,
     )
 
--- packed bodies between two records, of which the last stands apart
+-- packed bodies between two records, the last of them apart
 pub record PacksBetween (room : ℕ) (front : List PackedBody) (body : PackedBody) (records : List Record) : Type 0 where
   pub lists : List (List Fragment)
   pub last : List Fragment
@@ -111,7 +111,7 @@ part_done room bodies records r p =
       behind_is = refl;
     })
 
--- the last fragment of a list goes on where it does itself
+-- if the last fragment of a list goes on, it does so itself
 one_goes_on : (fs : List Fragment) (f : Fragment) → LastGoesOn (fs ++ f ∷ []) → GoesOn f
 one_goes_on fs f more = LastGoesOn-back fs f [] more
 
@@ -207,7 +207,7 @@ begins_last room front body records r count is within fits fills packs =
       full = (λ more. let filled = fills (first_on r count within (one_goes_on p.last f more)) in omega arith);
     }
 
--- a record begins behind a body that has no room for its header
+-- a record begins after a body that has no room for its header
 pub begins_behind : (room : ℕ) (front : List PackedBody) (body : PackedBody) (records : List Record) (r : Record) (count : ℕ)
     → IsRecord r → count ≤ length r.bytes → room < length body.bytes + 12 → 12 + count ≤ room → (count < length r.bytes → 12 + count ≡ room)
     → Packs room (front ++ body ∷ []) records Between
@@ -319,7 +319,7 @@ packs_in room taken waiting waiting' body body' later records r count is within 
     ∙ append_assoc taken (waiting ++ with_fragment body (first_fragment r count) ∷ []) later ∙ ap (λ l. taken ++ l) (sym order))
     all
 
--- a record that begins behind the open body
+-- a record that begins after the open body
 pub packs_behind : (room : ℕ) (taken waiting waiting' : List PackedBody) (body body' : PackedBody) (later : List PackedBody) (records : List Record) (r : Record) (count : ℕ)
     → IsRecord r → count ≤ length r.bytes → room < length body.bytes + 12 → 12 + count ≤ room → (count < length r.bytes → 12 + count ≡ room)
     → LaterBodies room r (drop count r.bytes) [] later

@@ -1,4 +1,4 @@
--- Fragments fragments in bodies: one more in the last body, or in a new one behind it.
+-- Fragments in bodies: one more in the last body, or in a new one after it.
 use Rattle.std.proofs.Common.{◌≡◌, ◌≢◌, ℕ, ◌+◌, ◌≤◌, refl, sym, ap, subst, ◌∙◌, arith, inl, inr, List, [], ◌∷◌, ◌++◌, drop, length}
 use Rattle.std.specs.Prelude.{ℤ, pos, neg_ℤ}
 use Rattle.std.proofs.lemmas.List.{append_assoc, append-nil, length-append}
@@ -34,7 +34,7 @@ AreWhole-append : (xs ys : List Fragment) → AreWhole xs → AreWhole ys → Ar
 AreWhole-append xs [] whole whole' = λ more. whole (subst LastGoesOn (append-nil xs) more)
 AreWhole-append xs (y ∷ ys) whole whole' = λ more. whole' (LastGoesOn-back xs y ys more)
 
--- where no fragment continues a record's data none of them remain
+-- if no fragment continues a record's data, none of them remain
 continue_whole : (f : Fragment) (index stream negated : ℤ) (left : List ℕ) (fs : List Fragment) → BeginsData f index negated left
     → Continue index stream (drop (length f.part) left) fs → AreWhole (f ∷ fs)
 continue_whole f index stream negated left [] begins c = λ more.
@@ -119,7 +119,7 @@ last_some : (front : List (List Fragment)) (last : List Fragment) → AreBodies 
 last_some [] last are = are.0
 last_some (fs ∷ front) last are = last_some front last are.2
 
--- a fragment that fits goes behind the last body's last, which does not go on
+-- a fragment that fits goes after the last body's last, which does not go on
 pub stand_last : (room : ℕ) (front : List (List Fragment)) (last : List Fragment) (f : Fragment) → StandTightly room (front ++ last ∷ [])
     → AreWhole last → IsFragment f → length (fragments_bytes last) + length (fragment_bytes f) ≤ room
     → StandTightly room (front ++ (last ++ f ∷ []) ∷ [])
@@ -130,7 +130,7 @@ stand_last room front last f are whole is fits = record {
       AreTight-last room front last (last ++ f ∷ []) (λ taken. begins_alike room taken last f (last_some front last are.bodies_are)) (omega arith) are.tight;
 }
 
--- a fragment begins a body behind one that is filled
+-- a fragment begins a body after one that is filled
 pub stand_behind : (room : ℕ) (front : List (List Fragment)) (last : List Fragment) (f : Fragment) → StandTightly room (front ++ last ∷ [])
     → IsFilled room last (f ∷ []) → IsFragment f → length (fragment_bytes f) ≤ room
     → StandTightly room ((front ++ last ∷ []) ++ (f ∷ []) ∷ [])

@@ -9,7 +9,7 @@ AreWithin room [] = Unit {0}
 AreWithin room (body ∷ bodies) = IsWithin room body × AreWithin room bodies
 
 -- what a packer keeps: its room is that of a block, every body is within it, an open body has a header at
--- least and a place in the queue, and where none is open no index is noted
+-- least and a place in the queue, and if none is open, no index is noted
 pub record IsPacker (room : ℕ) (waiting : List PackedBody) (open_body : PackedBody) (spare : ℕ)
     : Type 0 where
   pub room_least : 1000 ≤ room

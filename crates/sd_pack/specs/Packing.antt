@@ -1,4 +1,4 @@
--- What a packer holds, and how a session's labels and records stand in bodies of one room.
+-- What a packer holds, and how a session's labels and records lie in bodies of one room.
 use Rattle.std.specs.Prelude.{◌≡◌, ◌≢◌, ℕ, List, [], ◌∷◌, ◌++◌, map, None}
 use Rattle.std.specs.List.{flat_map}
 use Rattle.sd_base.specs.Record.{Record}
@@ -18,7 +18,7 @@ pub record PackerView : Type 0 where
 abbrev pub HasOpen : PackerView → Type 0
 HasOpen view = view.open_body.bytes ≢ []
 
--- the body, left out where these bytes are none
+-- the body, left out if these bytes are none
 abbrev pub unless_empty : List ℕ → PackedBody → List PackedBody
 unless_empty [] body = []
 unless_empty (byte ∷ bytes) body = body ∷ []
@@ -49,27 +49,27 @@ abbrev pub PacksStart : PackerView → PackerView → SessionLabel → Type 0
 PacksStart old new label =
     bodies_of old ≡ [] → label.totals ≡ None → Packs new.room (bodies_of new) [] Between
 
--- behind the bodies that were taken before, the new bodies pack one record more than the old; said where
--- a body is open, so that there is one to go on in
+-- after the bodies that were taken before, the new bodies pack one record more than the old; said if a
+-- body is open, so that there is one to go on in
 abbrev pub PacksRecord : PackerView → PackerView → Record → Type 0
 PacksRecord old new r = (taken : List PackedBody) (records : List Record)
     → Packs old.room (taken ++ bodies_of old) records Between
     → Packs new.room (taken ++ bodies_of new) (records ++ r ∷ []) Between
 
--- behind the bodies that were taken before, the new bodies end with a label that has the totals of all
--- records; said where a body is open
+-- after the bodies that were taken before, the new bodies end with a label that has the totals of all
+-- records; said if a body is open
 abbrev pub PacksEnd : PackerView → PackerView → SessionLabel → Type 0
 PacksEnd old new label = (taken : List PackedBody) (records : List Record) → IsEnd label records
     → Packs old.room (taken ++ bodies_of old) records Between
     → Packs new.room (taken ++ bodies_of new) records AtEnd
 
--- all bytes stay, and the record's fragments come behind them
+-- all bytes stay, and the record's fragments come after them
 pub record AddsRecord (old new : PackerView) (r : Record) : Type 0 where
   pub parts : List Fragment
   pub parts_are : Fragments r parts
   pub bytes_are : all_bytes (bodies_of new) ≡ all_bytes (bodies_of old) ++ fragments_bytes parts
 
--- all bytes stay, and the label's come behind them
+-- all bytes stay, and the label's come after them
 abbrev pub AddsLabel : PackerView → PackerView → SessionLabel → Type 0
 AddsLabel old new label =
     all_bytes (bodies_of new) ≡ all_bytes (bodies_of old) ++ session_label_bytes label

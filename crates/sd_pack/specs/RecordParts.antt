@@ -24,7 +24,7 @@ later_fragment r left count =
       part = take count left;
     }
 
--- the fragment fits into a body of its own, and fills it where it goes on
+-- the fragment fits into a body of its own, and fills it if it goes on
 pub record FitsAlone (room : ℕ) (f : Fragment) : Type 0 where
   pub fits : length (fragment_bytes f) ≤ room
   pub fills : GoesOn f → length (fragment_bytes f) ≡ room
@@ -39,7 +39,7 @@ abbrev pub bodies_alone : List Fragment → List PackedBody
 bodies_alone fs = map (λ f. body_of (f ∷ [])) fs
 
 -- the bodies of a record's later fragments, from where `left` of its data remain to where `rest` do:
--- whatever fragments go on with `rest`, behind these they go on with `left`
+-- whatever fragments go on with `rest`, after these they go on with `left`
 pub record LaterBodies (room : ℕ) (r : Record) (left rest : List ℕ) (bodies : List PackedBody)
     : Type 0 where
   pub parts : List Fragment

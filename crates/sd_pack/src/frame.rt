@@ -1,4 +1,4 @@
-// The bytes of a body that is being filled, behind room for the block's header.
+// The bytes of a body that is being filled, after room for the block's header.
 ghost use Rattle.std.specs.Prelude.{◌≡◌, ◌≤◌, [], ◌++◌, length, drop, IfOk, OnOk, OnErr};
 ghost use Rattle.sd_base.specs.Limits.{block_header};
 ghost use Rattle.sd_record.specs.Fragment.{fragment_bytes};

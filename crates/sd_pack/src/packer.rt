@@ -17,7 +17,7 @@ use std::marker::Model;
 use std::mem::replace;
 
 /// Packs a session's labels and records into bodies. A body is closed only when the next thing does not
-/// go in, or by `finish`. A record's data go on in the next body where they do not fit; a label is never
+/// go in, or by `finish`. A record's data go on in the next body if they do not fit; a label is never
 /// split. In a contract it is a `PackerView`.
 #[derive(Drop)]
 pub struct Packer {
@@ -104,8 +104,8 @@ impl Packer {
         Ok(())
     }
 
-    /// Adds a label, in the next body where the open one has no room for all of it. A session begins
-    /// with a label without totals, and ends with one that has those of its records. `ends` speaks of a
+    /// Adds a label, in the next body if the open one has no room for all of it. A session begins with
+    /// a label without totals, and ends with one that has those of its records. `ends` speaks of a
     /// packer with an open body, which one has from its first label until `finish`.
     pub fn put_label(&mut self, label: &SessionLabel) -> Result<(), AllocError>
         ensures starts { OnOk result (PacksStart self.old self.new label.now) }

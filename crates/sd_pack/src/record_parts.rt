@@ -42,7 +42,7 @@ pub fn later_part(rec: &Rec, from: usize, to: usize) -> Fragment<'_>
     }
 }
 
-/// The bodies of the record's fragments behind its first `from` bytes of data, one fragment in each; all
+/// The bodies of the record's fragments after its first `from` bytes of data, one fragment in each; all
 /// but the last are full.
 pub fn later_bodies(
     alloc: Global,

@@ -1,4 +1,4 @@
--- Talks, one behind the other.
+-- Talks, one after the other.
 use Rattle.std.proofs.Common.{◌≡◌, ℕ, suc, List, Option, None, Some, refl, subst}
 use Rattle.std.specs.Prelude.{ℤ, Result}
 use Rattle.std.specs.Io.KnownBytes.{Keeps}

@@ -64,8 +64,8 @@ fn run_script<R: Input + Print + AllocGlobal>(rt: &R) -> ExitCode {
     ExitCode::from(status)
 }
 
-/// Holds talks on standard input and output, over a new world. The status is 0 where the input came to its end behind a talk
-/// that was finished, or before the first.
+/// Holds talks on standard input and output, over a new world. The status is 0 if the input came to its end after a
+/// talk that was finished, or before the first.
 fn hold<R: Input + Print + Eprint + AllocGlobal>(rt: &R) -> ExitCode {
     let alloc = rt.alloc();
     // One reader for all talks, so that no byte is lost between two.

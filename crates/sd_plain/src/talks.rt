@@ -10,9 +10,9 @@ use std::io::{BufRead, Write};
 /// How often a talk reads at most, one byte or more each time.
 const TURNS: u64 = 1_099_511_627_776;
 
-/// Holds talks by what comes of this reader, one behind the other, until nothing more comes; then the answer is true. It is
-/// false behind a talk that ended otherwise than by its client, or than by the end of the input between two commands, and
-/// where it isn't known whether more comes. What one read brings behind a talk's end is lost to the next talk.
+/// Holds talks by what comes of this reader, one after the other, until nothing more comes; then the answer is true. It
+/// is false after a talk that ended otherwise than by its client, or than by the end of the input between two commands,
+/// and if it isn't known whether more comes. What one read brings beyond a talk's end is lost to the next talk.
 pub(crate) fn hold_talks<R: BufRead, W: Write + Drop, P: SessionPort>(
     alloc: Global,
     reader: &mut R,

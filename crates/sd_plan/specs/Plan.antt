@@ -56,7 +56,7 @@ works kinds call (Some Before) = false
 works kinds call (Some Half) = kinds.appends call
 works kinds call (Some After) = true
 
--- the bytes of an append that are done, where it fails so: half of them, rounded down, or all
+-- the bytes of an append that are done, if it fails so: half of them, rounded down, or all
 abbrev pub part_of : Option When → List ℕ → List ℕ
 part_of None bytes = bytes
 part_of (Some Before) bytes = bytes
@@ -68,8 +68,8 @@ part_of (Some After) bytes = bytes
 abbrev pub FailsAtOnce : {K : Type 0} → Kinds K → K → Plan K → Type 0
 FailsAtOnce kinds call plan = IsSpent (failures_of plan) ⊎ (works kinds call (due_of kinds call plan) ≡ false)
 
--- A call counts once in the plan. It fails exactly where it fails at once, where it has a cause of its own to
--- fail, or where an entry is due for it and it isn't refused for another cause.
+-- A call counts once in the plan. It fails exactly if it fails at once, if it has a cause of its own to fail,
+-- or if an entry is due for it and it isn't refused for another cause.
 pub record Follows
     {K : Type 0} (kinds : Kinds K) (call : K) (fails own_cause refused : Type 0) (old new : Plan K)
     : Type 0 where

@@ -20,7 +20,7 @@ pub struct Fail<K> {
     pub when: When,
 }
 
-/// What of an append is done, where it is to fail so: the first half of its bytes, rounded down, or all.
+/// What of an append is done, if it is to fail so: the first half of its bytes, rounded down, or all.
 pub fn part(due: Option<When>, bytes: &[u8]) -> &[u8]
     ensures { result.now ≡ part_of due bytes.now }
 {

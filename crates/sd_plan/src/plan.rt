@@ -37,7 +37,7 @@ impl<K: Kind> Plan<K> {
     }
 
     /// Counts a call, and tells how it is to fail once it has done its work: by the first entry for it. Past
-    /// `u64::MAX` calls of a kind none fails by plan. Answers `fault` where the call fails at once.
+    /// `u64::MAX` calls of a kind none fails by plan. Answers `fault` if the call fails at once.
     pub fn begin<E: Drop>(&mut self, call: K, fault: E) -> Result<Option<When>, E>
         ensures strikes { Strikes K.kinds call self.old self.new }
         ensures at_once { OnErr result (FailsAtOnce K.kinds call self.old) }

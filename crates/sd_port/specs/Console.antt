@@ -44,7 +44,7 @@ told_adopted (Refused why) = Err why
 told_adopted (Adopted end next) = Ok (line (reply_line (Adopted end next)) ∷ [])
 told_adopted reply = Err BadCommand
 
--- An operator's event, and how its reply is told. Where there is no memory for the answer the event isn't given.
+-- An operator's event, and how its reply is told. If there is no memory for the answer, the event isn't given.
 abbrev pub Operates : {D : Type 0} → (D → Meaning) → Event → (Reply → Answer) → Answer → List Event → List Reply → WorldView D → WorldView D → Type 0
 Operates meaning e told answer events replies old new =
     ((answer ≡ Err Memory) × GivesNone events replies old new)
@@ -85,8 +85,8 @@ CommandDoes meaning syncing moment Status answer events replies old new =
 CommandDoes meaning syncing moment Requests answer events replies old new =
     GivesNone events replies old new × Shows (flat_map line (requests_lines old.desk.requests)) answer
 
--- What a console's line does: what its command does; or, where it is a command but for a word that is no name, nothing,
--- which is refused as a bad name; or, where it is none, nothing, which is refused as a bad command.
+-- What a console's line does: what its command does; or, if it is a command but for a word that is no name, nothing,
+-- and it is refused as a bad name; or, if it is none, nothing, and it is refused as a bad command.
 abbrev pub LineDoes : {D : Type 0} → (D → Meaning) → Syncing → ℤ → List ℕ → Answer → List Event → List Reply → WorldView D → WorldView D → Type 0
 LineDoes meaning syncing moment text answer events replies old new =
     ((command : ConsoleCmd) × HasForm text (Console command) × CommandDoes meaning syncing moment command answer events replies old new)

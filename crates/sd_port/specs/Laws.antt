@@ -18,7 +18,7 @@ AnswersLead D = (meaning : D → Meaning) (syncing : Syncing) (rounds : ℕ) (ol
     → Answers meaning syncing rounds old event reply events replies new
     → LeadsTo meaning old (answered events replies) new
 
--- However often a cancel is given, its session doesn't go on in the world behind it.
+-- However often a cancel is given, its session doesn't go on in the world after it.
 abbrev pub GivenUp : Type 0 → Type 0
 GivenUp D = (meaning : D → Meaning) (syncing : Syncing) (rounds : ℕ) (old new : WorldView D) (ticket : ℕ) (reply : Reply) (events : List Event) (replies : List Reply)
     → Answers meaning syncing rounds old (Cancel ticket) reply events replies new

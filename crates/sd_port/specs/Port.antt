@@ -25,7 +25,7 @@ pub record PortView (D : Type 0) : Type 0 where
 abbrev pub new_port : {D : Type 0} → WorldView D → ℤ → Syncing → ℕ → PortView D
 new_port w moment syncing rounds = record { world = w; moment = moment; syncing = syncing; rounds = rounds; opening = w; asked = [] }
 
--- the port behind one exchange more, with the world as it is then
+-- the port after one exchange more, with the world as it is then
 abbrev pub behind : {D : Type 0} → Exchange → WorldView D → PortView D → PortView D
 behind exchange w p = record p { world = w; asked = p.asked ++ exchange ∷ [] }
 

@@ -91,7 +91,7 @@ impl<D: Driver + Drop, Q: Lanes, S: SpoolStore + Drop> WorldPort<D, Q, S> {
     }
 
     /// The reply to an event. An append that is answered 'Busy' and a close that is answered 'Not yet' are given again
-    /// after each round in which something moved, as long as there are rounds; then that refusal is the answer. Where the
+    /// after each round in which something moved, as long as there are rounds; then that refusal is the answer. If the
     /// drives sync at rest, they sync once nothing moved, and the event is given once more.
     pub fn step(&mut self, event: Event) -> Reply
         ensures answers { (events : List SpecEvent) × (replies : List SpecReply)
@@ -128,7 +128,7 @@ impl<D: Driver + Drop, Q: Lanes, S: SpoolStore + Drop> WorldPort<D, Q, S> {
 
     /// The lines that answer a console's line, each with its newline, or the refusal. What the line orders is done in the
     /// world, at the moment that is set. An operator's event is given only once there is room for the line that answers
-    /// it; so want of memory may be answered before its other refusals. Where the drives sync at rest, no volume is purged.
+    /// it; so `Memory` may be answered before its other refusals. If the drives sync at rest, no volume is purged.
     pub fn console(&mut self, line: &[u8]) -> Result<Items<Payload>, Refusal>
         ensures obeys { (events : List SpecEvent) × (replies : List SpecReply)
             × LineDoes (λ d. D.meaning d) self.old.syncing self.old.moment line.now result
@@ -156,7 +156,7 @@ impl<D: Driver + Drop, Q: Lanes, S: SpoolStore + Drop> WorldPort<D, Q, S> {
         self.moment = moment;
     }
 
-    /// Plays one round, and says what came of it. Want of memory comes before its first step.
+    /// Plays one round, and says what came of it. `Memory` is answered before its first step.
     pub fn round(&mut self) -> Result<Round, Refusal>
         ensures plays { IfOk result (λ round. PlaysRound (λ d. D.meaning d)
             self.old.world round self.new.world) }

@@ -1,4 +1,4 @@
--- Images of blocks that stand at one place, numbered from two numbers on: they are of the same blocks.
+-- Images of blocks that lie at one place, numbered from two numbers on: they are of the same blocks.
 use Rattle.std.proofs.Common.{◌≡◌, ◌⊎◌, inl, inr, ℕ, suc, ◌+◌, List, [], ◌∷◌, ◌++◌, length, refl, ap, ap₂, sym, ◌∙◌, arith, add-zero}
 use Rattle.std.proofs.lemmas.List.{append_assoc, append-nil}
 use Rattle.sd_base.specs.declared.number.SessionKey.{SessionKey}
@@ -8,7 +8,7 @@ use Rattle.sd_label.proofs.CuttingLemmas.{front_nil}
 use Rattle.sd_volume.specs.Image.{Block, images, AreImages}
 use Rattle.sd_volume.proofs.ImageLemmas.{one_block_there}
 
--- the number behind one block and n more
+-- the number after one block and n more
 suc_number : (number n : ℕ) → number + 1 + n ≡ number + suc n
 suc_number number n = omega arith
 

@@ -1,4 +1,4 @@
--- Where spans meet a fault, they read to no list.
+-- If spans meet a fault, they read to no list.
 use Rattle.std.proofs.Common.{◌≡◌, ◌≢◌, ℕ, ◌+◌, refl, sym, ap, subst, ◌∙◌, arith, inl, inr, ◌⊎◌, List, [], ◌∷◌, ◌++◌, length, take, Bool}
 use Rattle.std.specs.Prelude.{Option}
 use Rattle.std.proofs.lemmas.List.{append_assoc, append-nil, length-append, take_at, take-append-le}
@@ -52,7 +52,7 @@ readable_blocks key xs ys are = readable_front (blocks_of key xs) (blocks_of key
 whole_readable : (bodies : List (List ℕ)) (records : List Record) (ended : Bool) → WholeOf bodies records ended → AreCountable records → AreReadable bodies
 whole_readable bodies records ended w are = inr (records, w.0, w.1, are)
 
--- Where a block comes next, nothing is wrong with the bytes.
+-- If a block comes next, nothing is wrong with the bytes.
 
 pub image_size : (bytes : List ℕ) (b : Block) (number : ℕ) (behind : List ℕ) → bytes ≡ block_image b.key number b.body ++ behind
     → length (block_image b.key number b.body) + length behind ≡ length bytes
@@ -117,7 +117,7 @@ next_number number other [] same = tt
 next_number number other (d ∷ ds) (inl none) = absurd (cc)
 next_number number other (d ∷ ds) (inr same) = omega arith
 
--- behind the blocks that are done comes another, with which all can be read
+-- after the blocks that are done comes another, with which all can be read
 pub stop_refuted : (key : SessionKey) (before : List Block) (last : Option ℕ) (m : Block) (at : ℕ) (rest behind : List ℕ) (fault : ReadFault)
     → BeginsWithBlock last rest m at behind → AreReadable (blocks_of key (before ++ m ∷ []))
     → (BeginsWithNoBlock fault last rest ⊎ ((fault ≡ DamagedBlock) × BeginsWithRefused key before last rest)) → ⊥
@@ -134,7 +134,7 @@ next_readable key earlier done m ms later readable =
     let order : earlier ++ ((done ++ m ∷ ms) ++ later) ≡ ((earlier ++ done) ++ m ∷ []) ++ (ms ++ later) = simp append_assoc in
     readable_blocks key ((earlier ++ done) ++ m ∷ []) (ms ++ later) (subst (λ l. AreReadable (blocks_of key l)) order readable)
 
--- what is left behind the blocks that are done begins with the next of them
+-- what is left after the blocks that are done begins with the next of them
 pub left_begins : (number other : ℕ) (done : List Block) (m : Block) (ms : List Block) (rest tail : List ℕ) → AreImages other (done ++ m ∷ ms)
     → rest ≡ images (other + length done) (m ∷ ms) ++ tail → ((done ≡ []) ⊎ (number ≡ other))
     → BeginsWithBlock (last_number number done) rest m (other + length done) (images ((other + length done) + 1) ms ++ tail)
@@ -144,7 +144,7 @@ left_begins number other done m ms rest tail are e same = record {
   next_is = next_number number other done same;
 }
 
--- behind the blocks that are done the span holds another, or is at its end
+-- after the blocks that are done the span holds another, or is at its end
 stops_not : (key : SessionKey) (earlier later done more : List Block) (number other : ℕ) (rest : List ℕ) (fault : ReadFault)
     → AreImages other (done ++ more) → rest ≡ images (other + length done) more → ((done ≡ []) ⊎ (number ≡ other))
     → AreReadable (blocks_of key (earlier ++ ((done ++ more) ++ later))) → rest ≢ []

@@ -109,7 +109,7 @@ same_last n m [] same = refl
 same_last n m (d ∷ ds) (inl none) = absurd (cc)
 same_last n m (d ∷ ds) (inr same) = ap (λ k. Some (k + length ds)) same
 
--- where one of them goes further, the other had no fault there
+-- if one of them goes further, the other had no fault there
 further_refuted : (key : SessionKey) (earlier done further : List Block) (n m : ℕ) (rest rest' : List ℕ) (fault : ReadFault) → AreImages m further
     → GoesFurther n m done further rest rest' → AreReadable (blocks_of key (earlier ++ further)) → StopsSo key (earlier ++ done) (last_number n done) rest fault → ⊥
 further_refuted key earlier done further n m rest rest' fault are f readable stops =
@@ -180,7 +180,7 @@ so_one volumes key earlier s fault other (inr (inr a)) (inr (inr b)) = in_part_o
 
 -- The span of the first fault.
 
--- the second place is behind the first
+-- the second place is after the first
 pub record IsBehind (before : List Span) (at : Span) (before' : List Span) : Type 0 where
   pub between : List Span
   pub before_is : before' ≡ before ++ at ∷ between

@@ -46,7 +46,7 @@ head_of_front bytes head is within =
 pub size_of_front : (bytes : List ℕ) (head : Head) → head.size ≤ length bytes → length (take head.size bytes) ≡ head.size
 size_of_front bytes head within = let long = length-take head.size bytes in omega arith
 
--- what is known where an image with this header isn't a block
+-- what is known if an image with this header isn't a block
 pub record IsOpenFault (image : List ℕ) (fault : BlockFault) : Type 0 where
   pub short : fault ≡ Short → IsShort image
   pub bad_id : fault ≡ BadId → HasBadId image
@@ -80,7 +80,7 @@ head_from_front bytes head long is = record {
   most = is.most;
 }
 
--- what is known where the first bytes are no header
+-- what is known if the first bytes are no header
 pub record IsHeadFault (front : List ℕ) (fault : BlockFault) : Type 0 where
   pub short : fault ≡ Short → IsShort front
   pub bad_id : fault ≡ BadId → HasBadId front
@@ -133,7 +133,7 @@ pub shown_head : (rest shown : List ℕ) → (s : ShowsBlock rest shown) → IsH
 shown_head rest shown s =
     (subst (λ l. IsHeadOf most_block l s.head) (sym s.shown_is) (head_of_front rest s.head s.head_is s.within), sym (ap length s.shown_is ∙ size_of_front rest s.head s.within))
 
--- where it isn't the next block, none is there
+-- if it isn't the next block, none is there
 pub shown_is_bad : (rest shown : List ℕ) (last : Option ℕ) → ShowsBlock rest shown
     → ((head : Head) → IsHeadOf most_block shown head → head.size ≡ length shown → HasBadBlock last shown head)
     → BeginsWithNoBlock DamagedBlock last rest
@@ -147,7 +147,7 @@ shown_is_bad rest shown last s why =
     bad_there (inl bad) = inl (subst HasBadSum (ap (take s.head.size) s.shown_is ∙ take-take s.head.size s.head.size rest (omega arith)) bad)
     bad_there (inr other) = inr other
 
--- where it is, the bytes begin with it
+-- if it is, the bytes begin with it
 pub shown_begins : (last : Option ℕ) (rest shown behind : List ℕ) (key : SessionKey) (number : ℕ) (body : List ℕ) → ShowsBlock rest shown
     → IsBlockImage most_block shown key number body → ComesNext last number → behind ≡ drop (length shown) rest
     → BeginsWithBlock last rest (record { key = key; body = body }) number behind

@@ -71,7 +71,7 @@ part_front old mid got got' start at end last There bytes p is = record {
   first = λ key before taken r. read_first key (before ++ p.done) (taken ++ p.on.more) mid (p.on.goes_on key before taken r);
 }
 
--- and of the block behind that
+-- and of the block after that
 pub part_block_front : (old mid : Reader) (got got' got'' : List Record) (start at end : ℕ) (last : Option ℕ) (There : List ℕ → Type 0) (bytes behind : List ℕ) (b : Block) (number : ℕ)
     → HasReadPart old mid got got' start at end last There → There bytes → BeginsWithBlock last (stretch at end bytes) b number behind → HandsOverInBlock mid got' got'' b
     → HandsOverInPart old got got'' (stretch start end bytes)
@@ -166,7 +166,7 @@ span_front volumes key spans before after s reader got got' got'' bytes part are
   records_first = p.first key (joined_blocks h.blocks) h.more h.read;
 }
 
--- and of the next span, where it can't be read
+-- and of the next span, if it can't be read
 pub span_stopped_front : (volumes : Volumes) (key : SessionKey) (spans before after : List Span) (s : Span) (reader : Reader) (got got' got'' : List Record)
     → AreSpans spans → spans ≡ before ++ s ∷ after → HasReadSpans volumes key before reader got got' → HandsOverInSpan volumes s reader got' got''
     → HandsOverFront volumes key spans got got''
@@ -175,9 +175,9 @@ span_stopped_front volumes key spans before after s reader got got' got'' are e 
 span_stopped_front volumes key spans before after s reader got got' got'' are e h (inr (bytes, part, there, is, p)) =
     span_front volumes key spans before after s reader got got' got'' bytes part are e h there is p
 
--- Where the spans can be read, what was handed over of them are the first of their records.
+-- If the spans can be read, what was handed over of them are the first of their records.
 
--- the blocks that a span holds go on where it begins with some
+-- if a span begins with some blocks, those that it holds go on from these
 span_begins_held : (volumes : Volumes) (s : Span) (blocks held : List Block) → SpanBegins volumes s blocks → SpanHolds volumes s held → (more : List Block) × (held ≡ blocks ++ more)
 span_begins_held volumes s blocks held b h =
     let same = same_bytes (volumes s.volume) b.bytes h.bytes b.there h.there in
@@ -189,7 +189,7 @@ next_begins_held : (volumes : Volumes) (s : Span) (after : List Span) (blocks he
 next_begins_held volumes s after blocks held (inl none) h = (held, ap (λ l. l ++ held) (sym none))
 next_begins_held volumes s after blocks held (inr b) h = span_begins_held volumes s blocks held b h
 
--- blocks that stand first in the spans are the first of those that the spans hold
+-- blocks that come first in the spans are the first of those that the spans hold
 first_held : (volumes : Volumes) (before after : List Span) (held : List (List Block)) (last : List Block) (all : List (List Block))
     → AllHold volumes before held → NextBegins volumes after last → AllHold volumes (before ++ after) all
     → (more : List Block) × (joined_blocks all ≡ (joined_blocks held ++ last) ++ more)
@@ -222,7 +222,7 @@ held_first_front bodies others first records ended (inr h) w =
     let one = holds_one bodies front.whole (first ++ h.0) front.standing h.1 front.holds h.2 in
     (h.0 ++ front.others, front.records_split ∙ ap (λ l. l ++ front.others) one.0 ∙ append_assoc first h.0 front.others)
 
--- where the spans can be read, the sink got the first of their records
+-- if the spans can be read, the sink got the first of their records
 pub front_of_records : HandedOverAreFirst
 front_of_records volumes key spans got got' records ended h r =
     let first = joined_blocks h.held ++ h.last in

@@ -17,7 +17,7 @@ pub nil_from_map : {X Y : Type 0} (f : X → Y) (xs : List X) → map f xs ≡ [
 nil_from_map f [] e = refl
 nil_from_map f (x ∷ xs) e = cc
 
--- one element, put in front of a list where a test says so
+-- one element, put in front of a list if a test says so
 pub cond_map : {X Y : Type 0} (f : X → Y) (b : Bool) (x : X) (xs : List X) (ys : List Y) → ys ≡ map f xs → cond b (f x ∷ ys) ys ≡ map f (cond b (x ∷ xs) xs)
 cond_map f true x xs ys e = ap (λ l. f x ∷ l) e
 cond_map f false x xs ys e = e

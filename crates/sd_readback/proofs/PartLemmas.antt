@@ -17,7 +17,7 @@ use Rattle.sd_volume.proofs.ImageLemmas.{images-append, AreImages-append}
 use Rattle.sd_readback.proofs.ReaderLemmas.{has_read_readable}
 
 -- What was read so far of the bytes from `start` to `end`, of which those from `at` on are left. Which bytes they
--- are is known where the device is honest.
+-- are is known if the device is honest.
 pub record HasReadPart (old new : Reader) (got got' : List Record) (start at end : ℕ) (last : Option ℕ) (There : List ℕ → Type 0) : Type 0 where
   pub done : List Block
   pub number : ℕ
@@ -44,7 +44,7 @@ part_begins old got start end There = record {
   on = reads_none old got;
 }
 
--- the same blocks, numbered so that this one comes next
+-- the blocks that are done, numbered so that this one comes next
 pub record NumberedFor (number : ℕ) (done : List Block) (b : Block) (at : ℕ) : Type 0 where
   pub first : ℕ
   pub images_are : images first (done ++ b ∷ []) ≡ images number done ++ block_image b.key at b.body
@@ -85,7 +85,7 @@ reads_on_more old mid new got got' got'' done b first next = record {
       (next.goes_on key (before ++ done) (taken ++ first.more) (first.goes_on key before taken r)));
 }
 
--- the blocks that are done with the next one, and what is left behind it
+-- the blocks that are done with the next one, and what is left after it
 pub with_next : (part left behind image done_images all : List ℕ) → part ≡ done_images ++ left → left ≡ image ++ behind → all ≡ done_images ++ image → part ≡ all ++ behind
 with_next part left behind image done_images all e there is =
     e ∙ ap (λ l. done_images ++ l) there ∙ sym (append_assoc done_images image behind) ∙ ap (λ l. l ++ behind) (sym is)

@@ -240,11 +240,11 @@ reaches_nil Whole fs records so_far none r = let some = r.order in cc
 reaches_nil (Partway due) fs records so_far none r = let some = r.order in cc
 reaches_nil Closed fs records so_far none r = let some = r.order in cc
 
--- where there are no bodies there are no fragments
+-- if there are no bodies, there are no fragments
 pub no_fragments : (placed : List (List Fragment)) → map fragments_bytes placed ≡ [] → joined placed ≡ []
 no_fragments placed e = ap joined (nil_from_map fragments_bytes placed e)
 
--- no record was handed out and none waits where no body was given
+-- no record was handed out and none waits if no body was given
 pub nothing_held : (taken : List Record) (view : Unpacking) → Unpacks [] taken view → taken ++ view.ready ≡ []
 nothing_held taken view u = reaches_nil view.stage (joined u.fragments) (taken ++ view.ready) view.so_far (no_fragments u.fragments (sym u.bytes_are)) u.reaches
 

@@ -1,4 +1,4 @@
--- Which blocks stand in spans, and that spans read to one list.
+-- Which blocks are in spans, and that spans read to one list.
 use Rattle.std.proofs.Common.{◌≡◌, ℕ, suc, ◌+◌, ◌≤◌, refl, sym, ap, ap₂, subst, ◌∙◌, arith, List, [], ◌∷◌, ◌++◌, length, take, drop, Bool}
 use Rattle.std.specs.Prelude.{Option, Some}
 use Rattle.std.specs.List.{flat_map}
@@ -119,9 +119,9 @@ reads_one volumes key spans records others ended ended' r r' =
     whole_one (blocks_of key (joined_blocks r'.blocks)) records others ended ended'
     (subst (λ bss. WholeOf (blocks_of key (joined_blocks bss)) records ended) same r.whole) r'.whole
 
--- Bytes that stand keep what spans read to.
+-- Bytes that stay keep what spans read to.
 
--- the front of a volume up to the end of what stands there, and what is behind it in another
+-- the front of a volume up to the end of what is there, and what comes after it in another
 kept_front : (bytes after front part back : List ℕ) (end : ℕ) → bytes ≡ front ++ (part ++ back) → length front + length part ≡ end → BeginsWith after (take end bytes)
     → after ≡ front ++ (part ++ drop end after)
 kept_front bytes after front part back end e long begins =

@@ -157,7 +157,7 @@ met_or_broken volumes key spans (Err VolumeNotOnShelf) why reads fault m = inl (
 met_or_broken volumes key spans (Err SpanEndsEarly) why reads fault m = inl (first_fault_one volumes key spans SpanEndsEarly fault (why (λ e. cc, λ e. cc)) m)
 met_or_broken volumes key spans (Err DamagedBlock) why reads fault m = inl (first_fault_one volumes key spans DamagedBlock fault (why (λ e. cc, λ e. cc)) m)
 
--- Whatever the device: what was read of the spans so far. That the spans hold these blocks is known where the
+-- Whatever the device: what was read of the spans so far. That the spans hold these blocks is known if the
 -- device is honest.
 pub record HasReadAll (key : SessionKey) (spans : List Span) (reader : Reader) (got got' : List Record) (There : Volumes → Type 0) : Type 0 where
   pub blocks : List (List Block)

@@ -60,7 +60,7 @@ abbrev pub last_number : ℕ → List Block → Option ℕ
 last_number number [] = None
 last_number number (b ∷ bs) = Some (number + length bs)
 
--- behind that number comes this one; at the start of a span any may come
+-- after that number comes this one; at the start of a span any may come
 abbrev pub ComesNext : Option ℕ → ℕ → Type 0
 ComesNext None number = Unit {0}
 ComesNext (Some last) number = number ≡ last + 1
@@ -80,7 +80,7 @@ abbrev pub HasBadBlock : Option ℕ → List ℕ → Head → Type 0
 HasBadBlock last bytes head = ¬ HasSum (take head.size bytes) ⊎ (ComesNext last head.number → ⊥)
 
 -- The bytes that are left of a span don't begin with the block that comes next: there are too few of
--- them for any block, or for this one, or what stands there is no such block.
+-- them for any block, or for this one, or what is there is no such block.
 abbrev pub BeginsWithNoBlock : ReadFault → Option ℕ → List ℕ → Type 0
 BeginsWithNoBlock BadSpan last bytes =
     (length bytes < least_block) ⊎ ((head : Head) × IsHeadOf most_block bytes head × (length bytes < head.size))
@@ -117,7 +117,7 @@ pub record StopsInPart (volumes : Volumes) (key : SessionKey) (earlier : List Bl
   pub part_is : IsPartOf bytes s part
   pub stops : StopsWithin key earlier part fault
 
--- behind the blocks of earlier spans, this span can't be read: its volume isn't there, or ends early, or its bytes stop
+-- after the blocks of earlier spans, this span can't be read: its volume isn't there, or ends early, or its bytes stop
 abbrev pub CantRead : ReadFault → Volumes → SessionKey → List Block → Span → Type 0
 CantRead VolumeNotOnShelf volumes key earlier s = volumes s.volume ≡ None
 CantRead SpanEndsEarly volumes key earlier s = (bytes : List ℕ) × (volumes s.volume ≡ Some bytes) × (length bytes < s.end)
@@ -141,7 +141,7 @@ MeetsFault volumes key spans fault =
     ⊎ (AreSpans spans × (StopsAtSpan volumes key spans fault
     ⊎ ((fault ≡ BadSpan) × (blocks : List (List Block)) × AllHold volumes spans blocks × (blocks_of key (flat_map (λ bs. bs) blocks) ≡ []))))
 
--- The fault is one of the spans or of what stands in them: neither the device nor memory failed.
+-- The fault is one of the spans or of what is in them: neither the device nor memory failed.
 abbrev pub IsOfSpans : ReadFault → Type 0
 IsOfSpans fault = (fault ≢ Device) × (fault ≢ Memory)
 

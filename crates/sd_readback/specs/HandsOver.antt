@@ -16,7 +16,7 @@ pub record GotFirstOf (records got got' : List Record) : Type 0 where
   pub got_is : got' ≡ got ++ more
   pub records_are : records ≡ more ++ others
 
--- from the start of the span on stand the images of these blocks, without gap, their numbers rising by one
+-- from the start of the span on lie the images of these blocks, without a gap, their numbers rising by one
 pub record SpanBegins (volumes : Volumes) (s : Span) (blocks : List Block) : Type 0 where
   pub bytes : List ℕ
   pub part : List ℕ
@@ -27,7 +27,7 @@ pub record SpanBegins (volumes : Volumes) (s : Span) (blocks : List Block) : Typ
   pub begins : part ≡ images number blocks ++ rest
   pub blocks_are : AreImages number blocks
 
--- the blocks stand in the first of the spans, from its start on, or there are none
+-- the blocks lie in the first of the spans, from its start on, or there are none
 abbrev pub NextBegins : Volumes → List Span → List Block → Type 0
 NextBegins volumes [] blocks = blocks ≡ []
 NextBegins volumes (s ∷ ss) blocks = (blocks ≡ []) ⊎ SpanBegins volumes s blocks
@@ -36,9 +36,9 @@ NextBegins volumes (s ∷ ss) blocks = (blocks ≡ []) ⊎ SpanBegins volumes s 
 abbrev pub AreHeldFirst : List (List ℕ) → List Record → Type 0
 AreHeldFirst bodies records = (records ≡ []) ⊎ ((others : List Record) × (standing : Standing) × Holds bodies (records ++ others) standing)
 
--- A sink got some records more before a fault. If the spans themselves are bad there are none. Else they are the first of those
--- that the session's bodies hold whole among some blocks which stand first in the spans: all those of some spans, from the first
--- span on, and then some of the next one, from its start on.
+-- A sink got some records more before a fault. If the spans themselves are bad, there are none. Else they are the first
+-- of those that the session's bodies hold whole among some blocks which come first in the spans: all those of some
+-- spans, from the first span on, and then some of the next one, from its start on.
 pub record HandsOverFront (volumes : Volumes) (key : SessionKey) (spans : List Span) (got got' : List Record) : Type 0 where
   pub more : List Record
   pub got_is : got' ≡ got ++ more

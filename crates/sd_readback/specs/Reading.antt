@@ -40,7 +40,7 @@ pub record IsPartOf (bytes : List ℕ) (s : Span) (part : List ℕ) : Type 0 whe
   pub start_is : length front ≡ s.start
   pub end_is : s.start + length part ≡ s.end
 
--- from the start of the span to its end stand the images of these blocks, without gap, their numbers rising by one
+-- from the start of the span to its end lie the images of these blocks, without a gap, their numbers rising by one
 pub record SpanHolds (volumes : Volumes) (s : Span) (blocks : List Block) : Type 0 where
   pub bytes : List ℕ
   pub number : ℕ
@@ -53,7 +53,7 @@ abbrev pub AllHold : Volumes → List Span → List (List Block) → Type 0
 AllHold volumes spans blocks = AllZip (SpanHolds volumes) spans blocks
 
 -- The spans read to these records of the session: their numbers are 1, 2 and on; from the start to the end
--- of each stand whole blocks; those of the session, in the order of the spans, begin a cutting with its
+-- of each lie whole blocks; those of the session, in the order of the spans, begin a cutting with its
 -- start label, and the records are those that they hold whole. `ended` says that the end label is there.
 pub record Reads (volumes : Volumes) (key : SessionKey) (spans : List Span) (records : List Record) (ended : Bool) : Type 0 where
   pub some_span : spans ≢ []
@@ -63,7 +63,7 @@ pub record Reads (volumes : Volumes) (key : SessionKey) (spans : List Span) (rec
   pub some_block : blocks_of key (flat_map (λ bs. bs) blocks) ≢ []
   pub whole : WholeOf (blocks_of key (flat_map (λ bs. bs) blocks)) records ended
 
--- each span's volume still begins with the bytes that it had up to the span's end, whatever stands behind them
+-- each span's volume still begins with the bytes that it had up to the span's end, whatever comes after them
 abbrev pub KeepSpans : List Span → Volumes → Volumes → Type 0
 KeepSpans spans old new =
     All (λ s. (bytes : List ℕ) → old s.volume ≡ Some bytes
@@ -76,7 +76,7 @@ abbrev pub ReadsToOneList : Type 0
 ReadsToOneList = (volumes : Volumes) (key : SessionKey) (spans : List Span) (records others : List Record) (ended ended' : Bool)
     → Reads volumes key spans records ended → Reads volumes key spans others ended' → (records ≡ others) × (ended ≡ ended')
 
--- spans that read to a list read to it as long as their bytes stand, whatever else comes to the volumes
+-- spans that read to a list read to it as long as their bytes stay, whatever else comes to the volumes
 abbrev pub KeptSpansRead : Type 0
 KeptSpansRead =
     (old new : Volumes) (key : SessionKey) (spans : List Span) (records : List Record) (ended : Bool)

@@ -13,17 +13,17 @@ use std::alloc::AllocError;
 #[derive(Clone, Copy, Debug, PartialEq, Eq)]
 pub enum ReadFault {
     /// There are no spans, they aren't numbered 1, 2 and on, one doesn't begin below its end, one ends
-    /// within a block, or no block of the session stands in them.
+    /// within a block, or no block of the session is in them.
     BadSpan,
     /// A span's volume isn't on the shelf.
     VolumeNotOnShelf,
     /// A span goes on past the end of its volume.
     SpanEndsEarly,
-    /// What stands where a block should is no block, or not the next, or not the session's next.
+    /// What lies where a block should is no block, or not the next, or not the session's next.
     DamagedBlock,
     /// The device failed.
     Device,
-    /// Memory was wanted, by the reader, by the device or by the sink.
+    /// The reader, the device or the sink was out of memory.
     Memory,
 }
 

@@ -51,7 +51,7 @@ pub(crate) fn show_block<D: Driver>(
     Ok(())
 }
 
-/// The block that these bytes are, which is to come behind the block with the number `last`. Its checksum is
+/// The block that these bytes are, which is to come after the block with the number `last`. Its checksum is
 /// tested before its number.
 pub(crate) fn next_block(bytes: &[u8], last: Option<u32>) -> Result<Opened<'_>, ReadFault>
     ensures block { IfOk result (λ block.

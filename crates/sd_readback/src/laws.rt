@@ -8,12 +8,12 @@ pub fn reads_to_one_list()
     ensures { ReadsToOneList }
 {}
 
-/// Spans read to the same as long as their bytes stand, whatever else comes to the volumes.
+/// Spans read to the same as long as their bytes stay, whatever else comes to the volumes.
 pub fn kept_spans_read()
     ensures { KeptSpansRead }
 {}
 
-/// Where spans meet a fault, they don't read to any list.
+/// If spans meet a fault, they don't read to any list.
 pub fn fault_is_no_reading()
     ensures { FaultIsNoReading }
 {}

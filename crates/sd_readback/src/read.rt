@@ -32,9 +32,9 @@ pub struct ReadEnd {
     pub ended: bool,
 }
 
-/// Reads the session `key` back from its spans. Each record goes to the sink as soon as the block is read
-/// that makes it whole, so records may be handed over before a fault is met; those stay, and they are the
-/// first of the session's, in order. The first fault is the answer, and nothing behind it is read: first the
+/// Reads the session `key` back from its spans. Each record goes to the sink as soon as the block that makes
+/// it whole is read, so records may be handed over before a fault is met; those stay, and they are the
+/// first of the session's, in order. The first fault is the answer, and nothing after it is read: first the
 /// spans themselves are looked at, then span by span the volume, its length, and the blocks one after
 /// another. The blocks of other sessions within a span are tested whole like the session's own. A session
 /// with more records or data bytes than a `u64` counts is damaged, since no such session is ever taken.

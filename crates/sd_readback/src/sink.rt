@@ -1,4 +1,4 @@
-// Where the records of a session go that is read back.
+// Where the records of a session that is read back go.
 ghost use Rattle.std.specs.Prelude.{◌≡◌, [], ◌∷◌, ◌++◌, List, OnOk, OnErr};
 ghost use Rattle.sd_base.specs.Record.{Record};
 
@@ -9,7 +9,7 @@ use std::alloc::AllocError;
 pub trait Sink {
     ghost got: { Self → List Record };
 
-    /// Takes the next record; without memory the record is gone, and the sink is as before.
+    /// Takes the next record; if out of memory, the record is gone, and the sink is as before.
     fn put(&mut self, rec: Rec) -> Result<(), AllocError>
         ensures ok { OnOk result (got self.new ≡ got self.old ++ rec ∷ []) }
         ensures err { OnErr result (got self.new ≡ got self.old) };

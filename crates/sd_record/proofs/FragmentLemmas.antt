@@ -25,7 +25,7 @@ same_parts f g i s n p =
     ap (λ x. fragment_of x f.stream f.size f.part) i ∙ ap (λ x. fragment_of g.index x f.size f.part) s
     ∙ ap (λ x. fragment_of g.index g.stream x f.part) n ∙ ap (λ x. fragment_of g.index g.stream g.size x) p
 
--- two fragments that begin the same bytes are one, where only the last goes on
+-- two fragments that begin the same bytes are one, if only the last goes on
 pub fragment_apart : (f g : Fragment) (xs ys : List ℕ) → IsFragment f → IsFragment g
     → (GoesOn f → xs ≡ []) → (GoesOn g → ys ≡ []) → fragment_bytes f ++ xs ≡ fragment_bytes g ++ ys → (f ≡ g) × (xs ≡ ys)
 fragment_apart f g xs ys f_fits g_fits f_last g_last e =
@@ -54,7 +54,7 @@ fragments_apart (f ∷ fs) (g ∷ gs) fits fits' e =
     let first = fragment_apart f g (fragments_bytes fs) (fragments_bytes gs) fits.0 fits'.0 (λ more. ap fragments_bytes (fits.1 more)) (λ more. ap fragments_bytes (fits'.1 more)) e in
     ap (λ l. l ∷ fs) first.0 ∙ ap (λ l. g ∷ l) (fragments_apart fs gs fits.2 fits'.2 first.1)
 
--- a fragment that is written at the end of a body stands there, where it is one
+-- a fragment that is written at the end of a body is there, if it is one
 pub stands_last : (body old : List ℕ) (f : Fragment) → body ≡ old ++ fragment_bytes f → IsFragment f → StandsAt body (length old) f (length body)
 stands_last body old f e fits =
     let long : length body ≡ length old + (12 + length f.part) =
@@ -67,7 +67,7 @@ stands_last body old f e fits =
       fragment = fits;
     }
 
--- what the reader says stands at a place is what stands there
+-- what the reader says is at a place is what is there
 pub stands_apart : (body rest : List ℕ) (at next : ℕ) (f g : Fragment) → StandsAt body at f next → IsFragment g
     → (GoesOn g → rest ≡ []) → drop at body ≡ fragment_bytes g ++ rest → f ≡ g
 stands_apart body rest at next f g stands g_fits g_last there =

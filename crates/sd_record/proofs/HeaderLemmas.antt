@@ -36,14 +36,14 @@ read_header body rest index stream size at is_rest e0 e4 e8 =
     sym is_rest ∙ one ∙ ap (λ l. index ++ l) second ∙ ap (λ l. index ++ (stream ++ l)) third
     ∙ sym (append_assoc index stream (size ++ drop (at + 12) body)) ∙ sym (append_assoc (index ++ stream) size (drop (at + 12) body))
 
--- where fewer than twelve bytes are left no fragment stands
+-- if fewer than twelve bytes are left, there is no fragment
 pub no_header : (body rest : List ℕ) (at : ℕ) (f : Fragment) → length body < at + 12 → drop at body ≡ fragment_bytes f ++ rest → ⊥
 no_header body rest at f short e =
     let long : length body - at ≡ 12 + length f.part + length rest =
     sym (length-drop at body) ∙ ap length e ∙ length-append (fragment_bytes f) rest ∙ ap (λ n. n + length rest) (length-fragment_bytes f) in
     omega arith
 
--- the stream of a header stands four bytes behind its place
+-- the stream of a header is four bytes after its place
 pub stream_at : (body : List ℕ) (at : ℕ) (index stream : ℤ) (size : ℕ) → IsHeaderAt body at index stream size
     → take 4 (drop (at + 4) body) ≡ i32_bytes stream
 stream_at body at index stream size header =
@@ -85,7 +85,7 @@ stands_there body part at next index stream size there fits_i fits_s fits_n name
       fragment = record { index_fits = fits_i; stream_fits = fits_s; stream_named = named; size_fits = fits_n; part_within = omega arith };
     }
 
--- a header and a fragment that stand at one place have one stream
+-- a header and a fragment that are at one place have one stream
 pub one_stream : (body rest : List ℕ) (at : ℕ) (index stream : ℤ) (size : ℕ) (f : Fragment) → FitsSigned w32 index → FitsSigned w32 stream
     → IsFragment f → IsHeaderAt body at index stream size → drop at body ≡ fragment_bytes f ++ rest → stream ≡ f.stream
 one_stream body rest at index stream size f fits_i fits_s fits header there =

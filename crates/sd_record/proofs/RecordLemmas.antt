@@ -30,7 +30,7 @@ rests_long part left left' e e' long =
     let two = ap length e' ∙ length-append part (drop (length part) left') in
     omega arith
 
--- where nothing remains no later fragment stands
+-- if nothing remains, there is no later fragment
 none_remain : (f : Fragment) (index stream : ℤ) (left : List ℕ) → BeginsData f index stream left → f.part ≢ [] → length left ≡ 0 → ⊥
 none_remain f index stream left begins some none =
     let whole = ap length begins.part_first ∙ length-append f.part (drop (length f.part) left) in

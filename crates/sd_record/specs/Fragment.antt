@@ -1,11 +1,11 @@
--- The fragments that stand in a block's body, and how a record is cut into them.
+-- The fragments in a block's body, and how a record is cut into them.
 use Rattle.std.specs.Prelude.{◌≡◌, ◌≢◌, ◌⊎◌, ℕ, ◌+◌, ◌-◌, ◌^◌, ◌≤◌, ◌<◌, ℤ, pos, negsuc, neg_ℤ, FitsSigned, List, [], ◌∷◌, ◌++◌, length, take, drop, min}
 use Rattle.std.specs.Int.{w32}
 use Rattle.std.specs.List.{flat_map}
 use Rattle.sd_base.specs.Field.{u32_bytes, i32_bytes}
 use Rattle.sd_base.specs.Record.{Record}
 
--- what a header says, and the data that stand behind it
+-- what a header says, and the data after it
 pub record Fragment : Type 0 where
   pub index : ℤ
   pub stream : ℤ
@@ -16,7 +16,7 @@ pub record Fragment : Type 0 where
 abbrev pub fragment_bytes : Fragment → List ℕ
 fragment_bytes f = i32_bytes f.index ++ i32_bytes f.stream ++ u32_bytes f.size ++ f.part
 
--- the bytes of fragments that stand one after another
+-- the bytes of fragments that come one after another
 abbrev pub fragments_bytes : List Fragment → List ℕ
 fragments_bytes fs = flat_map fragment_bytes fs
 
@@ -36,7 +36,7 @@ pub record IsFragment (f : Fragment) : Type 0 where
 abbrev pub GoesOn : Fragment → Type 0
 GoesOn f = length f.part < f.size
 
--- what may stand in one body: a fragment that goes on is its last
+-- what may be in one body: a fragment that goes on is its last
 abbrev pub FitTogether : List Fragment → Type 0
 FitTogether [] = Unit {0}
 FitTogether (f ∷ fs) = IsFragment f × (GoesOn f → fs ≡ []) × FitTogether fs
@@ -48,7 +48,7 @@ pub record BeginsData (f : Fragment) (index stream : ℤ) (left : List ℕ) : Ty
   pub size_is : f.size ≡ length left
   pub part_first : left ≡ f.part ++ drop (length f.part) left
 
--- the fragments behind a record's first: each says the negated stream and what remains, and none is empty
+-- the fragments after a record's first: each says the negated stream and what remains, and none is empty
 abbrev pub Continue : ℤ → ℤ → List ℕ → List Fragment → Type 0
 Continue index stream left [] = left ≡ []
 Continue index stream left (f ∷ fs) =
@@ -69,20 +69,20 @@ FragmentsOfAll (r ∷ rs) fs =
     (first : List Fragment) × (rest : List Fragment)
     × (fs ≡ first ++ rest) × Fragments r first × FragmentsOfAll rs rest
 
--- the fragment stands at `at`, and the next thing of the body at `next`; its part ends where its size
--- or the body does
+-- the fragment is at `at`, and the next thing of the body at `next`; its part ends where its size or
+-- the body does
 pub record StandsAt (body : List ℕ) (at : ℕ) (f : Fragment) (next : ℕ) : Type 0 where
   pub bytes_there : drop at body ≡ fragment_bytes f ++ drop next body
   pub part_length : length f.part ≡ min f.size (length body - (at + 12))
   pub next_is : next ≡ at + 12 + length f.part
   pub fragment : IsFragment f
 
--- the header of these numbers stands at `at`
+-- the header of these numbers is at `at`
 abbrev pub IsHeaderAt : List ℕ → ℕ → ℤ → ℤ → ℕ → Type 0
 IsHeaderAt body at index stream size =
     drop at body ≡ i32_bytes index ++ i32_bytes stream ++ u32_bytes size ++ drop (at + 12) body
 
--- a whole header stands at `at`, and its stream is none that a fragment has
+-- a whole header is at `at`, and its stream is none that a fragment has
 abbrev pub HasZeroStream : List ℕ → ℕ → Type 0
 HasZeroStream body at =
     (at + 12 ≤ length body)

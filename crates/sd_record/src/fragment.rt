@@ -11,7 +11,7 @@ use std::marker::Model;
 /// The bytes of a record header.
 pub const HEADER_LENGTH: usize = 12;
 
-/// A record header (FileIndex, Stream, DataSize) and the data behind it. Of data that go on in a later
+/// A record header (FileIndex, Stream, DataSize) and the data after it. Of data that go on in a later
 /// body, the header there has the negated Stream and as size the bytes that remain. Labels have a
 /// negative FileIndex. In a contract it is the `Fragment` of specs.
 #[derive(Debug, Drop)]
@@ -35,7 +35,7 @@ impl<'a> Model for Fragment<'a> {
     } };
 }
 
-/// Why no fragment stands at a place of a body.
+/// Why there is no fragment at a place of a body.
 #[derive(Clone, Copy, Debug, PartialEq, Eq)]
 pub enum FragmentFault {
     /// 1 to 11 bytes are left: no whole header.
@@ -70,8 +70,8 @@ fn header_bytes(index: i32, stream: i32, size: u32) -> [u8; HEADER_LENGTH]
     header
 }
 
-/// The fragment at `at` and the place behind it, or `None` where the body has ended. Its part is as
-/// long as its size says, or shorter where the body ends before that.
+/// The fragment at `at` and the place after it, or `None` if the body has ended. Its part is as
+/// long as its size says, or shorter if the body ends before that.
 pub fn next_fragment(body: &[u8], at: usize) -> Result<Option<(Fragment<'_>, usize)>, FragmentFault>
     ensures end { (result ≡ Ok None) ↔ (length body.now ≤ at) }
     ensures cut { (result ≡ Err FragmentFault.Cut)
@@ -80,7 +80,7 @@ pub fn next_fragment(body: &[u8], at: usize) -> Result<Option<(Fragment<'_>, usi
     ensures found { IfOk result
         (λ next. IfSome next (λ found. StandsAt body.now at found.0 found.1)) }
 
-    // A fragment that stands there is found, and no other: one that goes on ends the body.
+    // A fragment that is there is found, and no other: one that goes on ends the body.
     ensures read_back { (f : SpecFragment) (rest : List ℕ) → IsFragment f → (GoesOn f → rest ≡ [])
         → drop at body.now ≡ fragment_bytes f ++ rest
         → result ≡ Ok (Some (f, at + 12 + length f.part)) }

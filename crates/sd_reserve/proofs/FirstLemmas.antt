@@ -6,7 +6,7 @@ use Rattle.sd_base.specs.Choice.{FirstOf, NoneOf}
 use Rattle.sd_base.proofs.ChoiceLemmas.{NoneBelow, same_some, none_more, none_all}
 use Rattle.sd_reserve.specs.Better.{IsBetter}
 
--- at this place stands the first candidate of those before place `n`
+-- at this place is the first candidate of those before place `n`
 pub record FirstBelow {A : Type 0} (P : A → Type 0) (R : A → A → Type 0) (xs : List A) (n place : ℕ) : Type 0 where
   pub within : place < n
   pub first : A
@@ -41,7 +41,7 @@ first_more P R xs n place x f there never = record {
   ];
 }
 
--- no candidate stands at the next place: the best stays
+-- no candidate is at the next place: the best stays
 pub best_stays : {A : Type 0} (P : A → Type 0) (R : A → A → Type 0) (xs : List A) (n : ℕ) (best : Option ℕ) (x : A)
     → BestBelow P R xs n best → slice_get xs n ≡ Some x → (P x → ⊥) → BestBelow P R xs (n + 1) best
 best_stays P R xs n None x b there never = none_more P xs n x b there never

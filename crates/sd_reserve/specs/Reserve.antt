@@ -19,7 +19,7 @@ pub record IsCandidate (pool media : List ℕ) (drive : DriveView) : Type 0 wher
   pub lane_free : drive.sessions < drive.lanes
   pub pool_suits : (drive.sessions ≡ 0) ⊎ (drive.pool ≡ Some pool)
 
--- 0 where a volume of the pool is loaded in the drive, else 1
+-- 0 if a volume of the pool is loaded in the drive, else 1
 abbrev pub rank : List ℕ → DriveView → ℕ
 rank pool drive = if option_map_or (λ loaded. bytes_eq loaded pool) drive.loaded false then 0 else 1
 

@@ -119,7 +119,7 @@ fn first_candidate(drives: &[DriveView], pool: &PoolName, media: &MediaName) -> 
     best
 }
 
-// The better of two places: the new one only where its drive comes before the best one so far.
+// The better of two places: the new one only if its drive comes before the best one so far.
 fn better(drives: &[DriveView], best: Option<usize>, place: usize, pool: &PoolName) -> usize
     requires place { place < length drives.now }
     requires best { IfSome best (λ other. other < length drives.now) }

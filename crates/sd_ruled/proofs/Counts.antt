@@ -61,7 +61,7 @@ cancel : (xs ys zs : List Piece) → xs ++ ys ≡ xs ++ zs → ys ≡ zs
 cancel [] ys zs e = e
 cancel (x ∷ xs) ys zs e = cancel xs ys zs (cc e)
 
--- the queue held n pieces, and so n stand in a list that has, behind what was taken, all that the lanes sent
+-- the queue held n pieces, and so n are in a list that has, after what was taken, all that the lanes sent
 pub as_long : (v : PassView) (n : ℕ) (found : List Queued) → v.takes ≡ true → v.away ≡ 0 → Held n (Tells v) → AreOfLanes v.lanes (v.taken ++ found)
     → ((j : ℕ) → pieces_of (suc j) (v.taken ++ found) ≡ pieces_of (suc j) v.before) → length found ≡ n
 as_long v n found takes away held are h =
@@ -119,6 +119,6 @@ went_round v0 v w p z q m n same lifted p_is m_is n_is z_is =
       of_lanes = subst (λ l. AreOfLanes v0.lanes (v0.taken ++ l)) (sym held) (subst (λ (u : PassView). AreOfLanes u.lanes (u.taken ++ q ∷ w.held)) same lifted.of_lanes);
     }
 
--- one piece more is held, where one was put back
+-- one piece more is held, if one was put back
 pub one_back : (lanes : ℕ) (taken held : List Queued) (p : PassView) (q : Queued) → p ≡ of_owner lanes taken (held ++ q ∷ []) → length p.held ≡ suc (length held)
 one_back lanes taken held p q is = ap (λ (u : PassView). length u.held) is ∙ (length-append held (q ∷ []) ∙ omega arith)

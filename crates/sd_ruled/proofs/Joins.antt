@@ -56,7 +56,7 @@ last_seat table seats rest seat are all = are (length rest) seat (ap (λ l. slic
 pub front_seats : (table : TableId) (seats rest : List LaneSeatIs) (seat : LaneSeatIs) → AreSeats table seats → seats ≡ rest ++ seat ∷ [] → AreSeats table rest
 front_seats table seats rest seat are all k s e = are k s (ap (λ l. slice_get l k) all ∙ get_front rest (seat ∷ []) k s e)
 
--- what is known to have been sent, of the lanes behind these seats and of theirs
+-- what is known to have been sent, of the lanes after these seats and of theirs
 pub gathered : (seats rest : List LaneSeatIs) (seat : LaneSeatIs) (old met new : List Queued) → seats ≡ rest ++ seat ∷ [] → seat.lane ≡ suc (length rest)
     → met ≡ of_others seat.lane old ++ map (queued seat.lane) seat.sent → ((k : ℕ) → length rest < k → pieces_of k new ≡ pieces_of k met)
     → ((k : ℕ) (s : LaneSeatIs) → slice_get rest k ≡ Some s → pieces_of (suc k) new ≡ s.sent) → (k : ℕ) (s : LaneSeatIs) → slice_get seats k ≡ Some s → pieces_of (suc k) new ≡ s.sent
@@ -69,7 +69,7 @@ gathered seats rest seat old met new all lane met_is h theirs k s e =
     ∙ (own_is seat.lane old seat.sent ∙ ap (λ (y : LaneSeatIs). y.sent) t.1))))
     (get_snoc rest seat s k (ap (λ l. slice_get l k) (sym all) ∙ e))
 
--- of the lanes behind these seats it is as before
+-- of the lanes after these seats it is as before
 pub gathered_behind : (seats rest : List LaneSeatIs) (seat : LaneSeatIs) (old met new : List Queued) → seats ≡ rest ++ seat ∷ [] → seat.lane ≡ suc (length rest)
     → met ≡ of_others seat.lane old ++ map (queued seat.lane) seat.sent → ((k : ℕ) → length rest < k → pieces_of k new ≡ pieces_of k met) → (k : ℕ) → length seats < k → pieces_of k new ≡ pieces_of k old
 gathered_behind seats rest seat old met new all lane met_is h k m =

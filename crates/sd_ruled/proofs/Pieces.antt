@@ -47,7 +47,7 @@ of_foreign : (j k : ℕ) (ps : List Piece) → j ≢ k → pieces_of k (map (que
 of_foreign j k [] n = refl
 of_foreign j k (p ∷ ps) n = of_other (queued j p) k (map (queued j) ps) n ∙ of_foreign j k ps n
 
--- what all lanes sent, where one lane's is known anew: of another lane it is as before, of that lane it is this
+-- what all lanes sent, if one lane's is known anew: of another lane it is as before, of that lane it is this
 pub others_as : (l k : ℕ) (all : List Queued) (s : List Piece) → l ≢ k → pieces_of k (of_others l all ++ map (queued l) s) ≡ pieces_of k all
 others_as l k all s n =
     pieces_of-append k (of_others l all) (map (queued l) s) ∙ (ap (λ y. pieces_of k (of_others l all) ++ y) (of_foreign l k s n) ∙ (append-nil (pieces_of k (of_others l all)) ∙ all_of_others l k all n))
@@ -68,7 +68,7 @@ lanes_behind n (x ∷ xs) ys h = lanes_behind n xs ys h.1
 pub lane_within : (n : ℕ) (xs : List Queued) (q : Queued) (ys : List Queued) → AreOfLanes n (xs ++ q ∷ ys) → (1 ≤ q.lane) × (q.lane ≤ n)
 lane_within n xs q ys h = (lanes_behind n xs (q ∷ ys) h).0
 
--- none came by lane 0, or by one behind the last
+-- none came by lane 0, or by one after the last
 pub none_outside : (n k : ℕ) (qs : List Queued) → AreOfLanes n qs → ((l : ℕ) → 1 ≤ l → l ≤ n → l ≢ k) → pieces_of k qs ≡ []
 none_outside n k [] h out = refl
 none_outside n k (q ∷ qs) h out = of_other q k qs (out q.lane h.0.0 h.0.1) ∙ none_outside n k qs h.1 out
@@ -81,7 +81,7 @@ pub from_1 : (n m : ℕ) (xs ys : List Queued) → AreOfLanes n xs → AreOfLane
 from_1 n m xs ys h i same zero = none_of_0 n xs h ∙ sym (none_of_0 m ys i)
 from_1 n m xs ys h i same (suc j) = same j
 
--- a list behind another that adds no piece of any lane is empty
+-- a list after another that adds no piece of any lane is empty
 pub none_left : (taken items : List Queued) → ((k : ℕ) → pieces_of k (taken ++ items) ≡ pieces_of k taken) → items ≡ []
 none_left taken [] h = refl
 none_left taken (q ∷ qs) h =

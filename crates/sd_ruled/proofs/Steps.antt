@@ -231,7 +231,7 @@ lanes_less : (lanes : ℕ) (taken : List Queued) (q : Queued) (held : List Queue
 lanes_less lanes [] q held h = h.1
 lanes_less lanes (t ∷ ts) q held h = (h.0, lanes_less lanes ts q held h.1)
 
--- where one pass has all lanes and takes, the others know nothing
+-- if one pass has all lanes and takes, the others know nothing
 others_none : (lanes more : ℕ) (owner : ℕ → ℕ) (sent now : ℕ → List Piece) (drive : ℕ) (taken later held rest : List Queued) (pass : ℕ) (j : ℕ) (u : PassView) → j ≢ pass → drive ≡ pass → ((i : ℕ) → owner (suc i) ≡ pass)
     → Fits lanes owner sent drive taken held j u → Fits more owner now drive later rest j u
 others_none lanes more owner sent now drive taken later held rest pass j u apart own all f =

@@ -8,7 +8,7 @@ split_at i [] less = absurd (omega arith)
 split_at zero (x ∷ xs) less = (x, refl, refl)
 split_at (suc i) (x ∷ xs) less = let r = split_at i xs (omega arith) in (r.0, r.1, ap (λ l. x ∷ l) r.2)
 
--- one piece more, where so many went round
+-- one piece more, if so many went round
 pub one_more : (i : ℕ) (xs now : List Queued) → i < length xs → now ≡ drop i xs ++ take i xs → drop 1 now ++ take 1 now ≡ drop (i + 1) xs ++ take (i + 1) xs
 one_more i xs now less e =
     let r = split_at i xs less in

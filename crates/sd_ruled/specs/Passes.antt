@@ -1,4 +1,4 @@
--- What the passes of a ruled queue know. A pass has no bytes: all this stands in proofs alone.
+-- What the passes of a ruled queue know. A pass has no bytes: all this is in proofs alone.
 use Rattle.std.specs.Prelude.{ℕ, suc, ◌-◌, Bool, true, false, List, [], ◌∷◌, ◌++◌, map, ◌==◌, if◌then◌else◌}
 use Rattle.sd_lane.specs.declared.piece.Piece.{Piece}
 use Rattle.sd_lane.specs.declared.piece.Queued.{Queued}
@@ -7,7 +7,7 @@ use Rattle.sd_lane.specs.Queue.{queued, pieces_of}
 -- A pass is a lane's, which sends, or the drive's, which takes, or neither. Each of those knows how many lanes the
 -- queue has. A lane's knows its number and all that it sent. The drive's knows all that was taken; that the lanes 1
 -- to `away` have passes of their own; what those had sent when they got them, and all that the others sent (`before`);
--- and, where it is sure, what the queue holds.
+-- and, if it is sure, what the queue holds.
 pub record PassView : Type 0 where
   pub lanes : ℕ
   pub sends : Bool
@@ -45,7 +45,7 @@ of_others lane (q ∷ qs) = if q.lane == lane then of_others lane qs else q ∷ 
 abbrev pub one_lane_more : PassView → PassView
 one_lane_more v = of_owner (suc v.lanes) v.taken v.held
 
--- the drive's, where one lane more is away
+-- the drive's, with one lane more away
 abbrev pub without_lane : PassView → PassView
 without_lane v = of_drive v.lanes (suc v.away) v.before v.taken
 
@@ -57,6 +57,6 @@ only_lane v = of_lane v.lanes (suc v.away) (pieces_of (suc v.away) v.before)
 abbrev pub with_lane : PassView → PassView → PassView
 with_lane v u = of_drive v.lanes (v.away - 1) (of_others u.lane v.before ++ map (queued u.lane) u.sent) v.taken
 
--- the only pass, where the queue holds nothing
+-- the only pass, if the queue holds nothing
 abbrev pub at_rest : PassView → PassView
 at_rest v = of_owner v.lanes v.taken []

@@ -8,7 +8,7 @@ use Rattle.sd_ruled.specs.Seats.{StartsWith}
 
 -- What a pass learns of what the queue holds at a moment. Who is sure knew it. A lane's pass: each came by one of the
 -- lanes, and those of its own lane are the last that it sent. The drive's: each piece came by one of the lanes; of
--- each lane, what was taken and then what is held begins with what it knew, and is that, where the lane isn't away.
+-- each lane, what was taken and then what is held begins with what it knew, and is that, if the lane isn't away.
 pub record Tells (v : PassView) (held : List Queued) : Type 0 where
   pub exact : v.sure ≡ true → v.held ≡ held
   pub last : v.sends ≡ true → AreOfLanes v.lanes held × (before : List Piece) × (v.sent ≡ before ++ pieces_of v.lane held)

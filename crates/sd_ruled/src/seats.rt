@@ -87,7 +87,7 @@ impl LaneSeat {
         self.lane
     }
 
-    /// Pushes a piece behind the others, or gives it back because the queue was full at a moment of the call. Takes no
+    /// Pushes a piece after the others, or gives it back because the queue was full at a moment of the call. Takes no
     /// memory.
     pub fn push<R: Wait + Drop>(&mut self, queue: &LaneQueue<R>, piece: Piece) -> Result<(), Piece>
         requires { self.old.table ≡ queue.now.table }

@@ -23,14 +23,14 @@ pub struct Split<R: Wait + Drop> {
     pub drive: DriveSeat,
 }
 
-/// A queue that was not split, for want of memory.
+/// A queue that was not split, because there was no memory.
 #[derive(Drop)]
 pub struct NotSplit<R: Wait + Drop> {
     pub lanes: RuledLanes<R>,
 }
 
 impl<R: Wait + Drop> RuledLanes<R> {
-    /// The queue and its seats, each for itself. Where memory is wanted the queue comes back as it was.
+    /// The queue and its seats, each for itself. If out of memory, the queue comes back as it was.
     pub fn split(self, alloc: Global) -> Result<Split<R>, NotSplit<R>>
         ensures queue { IfOk result (λ split. split.queue
             ≡ record { table = self.table; capacity = self.capacity }) }
@@ -111,7 +111,7 @@ fn cut_seats(ring: &Ring, pass: &mut Pass, lanes: u32, seats: &mut Vec<LaneSeat>
     }
 }
 
-// Makes the seat of the lane behind the first `at`.
+// Makes the seat of the lane after the first `at`.
 fn cut_seat(ring: &Ring, pass: &mut Pass, at: u32) -> LaneSeat
     requires pass { IsPassOf ring.now pass.old × ((view pass.old).takes ≡ true) × ((view pass.old).away ≡ at) }
     requires lanes { (at < (view pass.old).lanes) × ((view pass.old).lanes ≤ most_lanes) }
@@ -190,7 +190,7 @@ fn count_held<R: Wait>(rt: &R, ring: &Ring, pass: &mut Pass) -> usize
     }
 }
 
-// Takes so many pieces out in front, each of which goes back behind the others.
+// Takes so many pieces out in front, each of which goes back after the others.
 fn turn_round<R: Wait>(rt: &R, ring: &Ring, pass: &mut Pass, times: usize)
     requires pass { IsPassOf ring.now pass.old × (view pass.old
         ≡ of_owner (view pass.old).lanes (view pass.old).taken (view pass.old).held) }
@@ -203,7 +203,7 @@ fn turn_round<R: Wait>(rt: &R, ring: &Ring, pass: &mut Pass, times: usize)
     }
 }
 
-// Takes the piece in front out and puts it back behind the others.
+// Takes the piece in front out and puts it back after the others.
 fn turn_one<R: Wait>(rt: &R, ring: &Ring, pass: &mut Pass)
     requires pass { IsPassOf ring.now pass.old × (view pass.old
         ≡ of_owner (view pass.old).lanes (view pass.old).taken (view pass.old).held) }
@@ -217,7 +217,7 @@ fn turn_one<R: Wait>(rt: &R, ring: &Ring, pass: &mut Pass)
     }
 }
 
-// Puts a piece that was taken out back behind the others.
+// Puts a piece that was taken out back after the others.
 fn put_back<R: Wait>(rt: &R, ring: &Ring, pass: &mut Pass, piece: Queued)
     requires pass { IsPassOf ring.now pass.old × (view pass.old
         ≡ of_owner (view pass.old).lanes (view pass.old).taken (view pass.old).held) }

@@ -25,7 +25,7 @@ OnlyReads-scan driver.Memory old new never reads = OnlyReads-as _ _ _ _ (λ f. c
 err_same : {T : Type 0} {a b : ScanFault} → ◌≡◌ {A = Result T ScanFault} (Err a) (Err b) → a ≡ b
 err_same e = cc
 
--- a fault that is passed on is the device's where it was
+-- a fault that is passed on is the device's if it was
 pub OnlyReads-again : {T U : Type 0} (e : ScanFault) (old new : Meaning) → OnlyReads (IsErrOf {T = T} (Err e) fault.Device) old new
     → OnlyReads (IsErrOf {T = U} (Err e) fault.Device) old new
 OnlyReads-again e old new reads = OnlyReads-as _ _ _ _ (λ f. ap Err (err_same f)) (λ f. ap Err (err_same f)) reads

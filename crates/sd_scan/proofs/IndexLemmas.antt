@@ -43,7 +43,7 @@ pub record ReadTo (body : List ℕ) (at first last : ℕ) (fs : List Fragment) :
 pub read_none : (body : List ℕ) (fs : List Fragment) → FitTogether fs → body ≡ fragments_bytes fs → ReadTo body 0 0 0 fs
 read_none body fs fit is = record { front = []; back = fs; all = refl; rest = is; fit = fit; first_is = refl; last_is = refl }
 
--- whoever is asked for the fragment at a place answers one that stands there
+-- whoever is asked for the fragment at a place answers one that is there
 abbrev pub Finds : List ℕ → ℕ → Option (Fragment × ℕ) → Type 0
 Finds body at answer =
     (g : Fragment) (rest : List ℕ) → IsFragment g → (GoesOn g → rest ≡ []) → drop at body ≡ fragment_bytes g ++ rest
@@ -86,7 +86,7 @@ read_more body at first last fs f next r finds below = more r.front r.back r.all
 pub never_some : (found : Fragment × ℕ) → ◌≡◌ {A = Option (Fragment × ℕ)} None (Some found) → ⊥
 never_some found e = cc
 
--- where none is found, all were read
+-- if none is found, all were read
 pub read_all : (body : List ℕ) (at first last : ℕ) (fs : List Fragment) (answer : Option (Fragment × ℕ)) → ReadTo body at first last fs
     → Finds body at answer → answer ≡ None → (first ≡ first_file_index fs) × (last ≡ last_file_index fs)
 read_all body at first last fs answer r finds none = all r.front r.back r.all r.rest r.fit r.first_is r.last_is
@@ -101,7 +101,7 @@ read_all body at first last fs answer r finds none = all r.front r.back r.all r.
 
 -- The start label that a body begins with.
 
--- where the body begins with a session label, its fragment is found first
+-- if the body begins with a session label, its fragment is found first
 pub label_first : (body behind : List ℕ) (label : SessionLabel) (answer : Option (Fragment × ℕ)) → Finds body 0 answer → IsSessionLabel label
     → body ≡ session_label_bytes label ++ behind → answer ≡ Some (session_label_fragment label, length (session_label_bytes label))
 label_first body behind label answer finds is begins =
@@ -109,7 +109,7 @@ label_first body behind label answer finds is begins =
     finds f behind (IsFragment-session_label label is) (λ goes. absurd (omega arith)) begins
     ∙ ap (λ (n : ℕ). Some (f, n)) (sym (length-fragment_bytes f))
 
--- and its bytes are those in front of what is behind it
+-- and its bytes are those in front of what comes after it
 pub label_in_front : (body behind : List ℕ) (label : SessionLabel) (n : ℕ) → body ≡ session_label_bytes label ++ behind → n ≡ length (session_label_bytes label)
     → take n body ≡ session_label_bytes label
 label_in_front body behind label n begins n_is = ap (take n) begins ∙ take_at (session_label_bytes label) behind n (sym n_is)

@@ -46,7 +46,7 @@ pub no_whole_there : (bytes shown : List ℕ) (head : Head) → IsHeadOf most_bl
 no_whole_there bytes shown head is shown_is within none =
     ((head, is, within), none_there bytes shown head is shown_is (λ key number body image. none (record { key = key; number = number; body = body; block = image })))
 
--- where opening the bytes failed, they are no block
+-- if opening the bytes failed, they are no block
 pub none_opened : (bytes : List ℕ) (fault : BlockFault)
     → ((key : SessionKey) (number : ℕ) (body : List ℕ) → IsBlockImage most_block bytes key number body
     → IsOkAnd {T = Opened} {E = BlockFault} (Err fault) (λ block. (block.key ≡ key) × (block.number ≡ number) × (block.body.now ≡ body)))

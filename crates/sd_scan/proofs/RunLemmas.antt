@@ -1,4 +1,4 @@
--- Blocks that stand one behind another, with one more.
+-- Blocks that lie one after another, with one more.
 use Rattle.std.proofs.Common.{◌≡◌, ℕ, ◌+◌, ◌≤◌, List, [], ◌∷◌, ◌++◌, length, take, drop, refl, sym, ap, ap₂, subst, ◌∙◌, arith}
 use Rattle.std.specs.Prelude.{IfOk, Result, Ok, Err}
 use Rattle.std.proofs.lemmas.List.{append_assoc, append-nil, drop-drop, length-append, length-drop, take-append-drop}
@@ -71,7 +71,7 @@ size_of_block bytes head is =
 pub block_long : (bytes : List ℕ) (head : Head) → IsBlockOf bytes head → 24 ≤ length bytes
 block_long bytes head is = omega (arith, length-image bytes head.key head.number is.body is.image)
 
--- what was shown of the volume, and is a block, begins what stands there
+-- what was shown of the volume, and is a block, begins what is there
 pub shown_begins : (bytes shown : List ℕ) (head : Head) → shown ≡ take head.size bytes → IsBlockOf shown head → BeginsWithBlock bytes head.key head.number (drop 24 shown)
 shown_begins bytes shown head shown_is is =
     let long : head.size ≡ 24 + length is.body = is.size_is ∙ length-image shown head.key head.number is.body is.image in
@@ -87,7 +87,7 @@ keeps_none s found keeps = subst (λ (l : List Found). Keeps l s) (sym (append-n
 pub keeps_more : (found more : List Found) (f : Found) (s : Sessions) → Keeps ((found ++ more) ++ f ∷ []) s → Keeps (found ++ (more ++ f ∷ [])) s
 keeps_more found more f s keeps = subst (λ (l : List Found). Keeps l s) (append_assoc found more (f ∷ [])) keeps
 
--- The image of a volume is its label block and the run behind it.
+-- The image of a volume is its label block and the run after it.
 pub run_image : (bytes : List ℕ) (label : VolumeLabel) (blocks : List Block) (end : ℕ) → IsVolumeLabel label → BeginsWith bytes (label_block label)
     → RunTo bytes (length (label_block label)) 1 blocks end → WholeImage bytes label blocks (drop end bytes) × (end ≡ volume_end label blocks)
 run_image bytes label blocks end is begins (next, stand, ended) =

@@ -100,7 +100,7 @@ stops_more : (front rest : List (List ℕ)) (body : List ℕ) → Stops front re
 stops_more front [] body stops = absurd stops
 stops_more front (first ∷ rest) body stops = stops
 
--- a body behind one that could not follow is not looked at
+-- a body after one that could not follow is not looked at
 pub took_damaged : (bodies : List (List ℕ)) (body : List ℕ) (view : Unpacking) (records bytes : ℕ) (damaged : Bool) → damaged ≡ true → Took bodies view records bytes damaged
     → Took (bodies ++ body ∷ []) view records bytes damaged
 took_damaged bodies body view records bytes damaged is took = record {

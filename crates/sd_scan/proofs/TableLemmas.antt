@@ -86,7 +86,7 @@ some_same e = cc
 none_some : {X : Type 0} {P : Type 0} {a : X} → ◌≡◌ {A = Option X} None (Some a) → P
 none_some e = absurd cc
 
--- each stands at one place
+-- each is at one place
 one_place : (keys : List SessionKey) (at other : ℕ) (a b : SessionKey) → Distinct keys → slice_get keys at ≡ Some a → slice_get keys other ≡ Some b → is_key a b ≡ true → at ≡ other
 one_place [] at other a b d here there same = none_some here
 one_place (key ∷ keys) zero zero a b d here there same = refl
@@ -182,7 +182,7 @@ stands_other found ps f p s is other stands =
           (subst (λ l. StandsFor stands.first (placements_of s.key ps) l s) (sym bodies) stands.stands);
     }
 
--- whoever takes a block behind others, of the same session
+-- whoever takes a block after others, of the same session
 abbrev pub TakesOn : Placement → List ℕ → Session → Session → Type 0
 TakesOn p body old new =
     (first : List ℕ) (own : List Placement) (bodies : List (List ℕ)) → StandsFor first own bodies old → StandsFor first (own ++ p ∷ []) (bodies ++ body ∷ []) new
@@ -229,7 +229,7 @@ keys_set v [] at old new e same = none_some e
 keys_set v (y ∷ xs) zero old new e same = ap (λ z. z ∷ map v xs) (same ∙ ap v (sym (some_same e)))
 keys_set v (y ∷ xs) (suc at) old new e same = ap (λ l. v y ∷ l) (keys_set v xs at old new e same)
 
--- what stands at a place of a list that was changed at one place
+-- what is at a place of a list that was changed at one place
 at_set : {X : Type 0} (xs : List X) (at place : ℕ) (new x : X) → slice_get (slice_set xs at new) place ≡ Some x → ((place ≡ at) × (x ≡ new)) ⊎ ((place ≢ at) × (slice_get xs place ≡ Some x))
 at_set [] at place new x e = none_some e
 at_set (y ∷ xs) zero zero new x e = inl (refl, sym (some_same e))

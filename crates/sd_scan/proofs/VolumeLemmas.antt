@@ -34,7 +34,7 @@ use Rattle.sd_scan.specs.Kind.{IsKind}
 use Rattle.sd_scan.specs.declared.kind.Kind.{Kind}
 use Rattle.sd_scan.specs.declared.line.ScanLine.TheVariants.{Behind, Done}
 
--- The first whole block behind a place.
+-- The first whole block after a place.
 
 -- no place
 pub between_start : (bytes : List ℕ) (from : ℕ) → NoneBetween bytes from from
@@ -58,7 +58,7 @@ between_more bytes from to none here at behind before = elim (cases_lt at to) [
   | inr past ↦ (let same : at ≡ to = omega arith in subst (NoneAt bytes) (sym same) here)
 ]
 
--- the places that were looked at, and at none of which the header of a block stands
+-- the places that were looked at, and at none of which there is the header of a block
 pub between_headless : (bytes shown : List ℕ) (from at count : ℕ) → shown ≡ take most_block (drop at bytes)
     → ((k : ℕ) → k < count → (k + 24 ≤ length shown) × ((head : Head) → ¬ IsHeadOf most_block (drop k shown) head))
     → NoneBetween bytes from at → NoneBetween bytes from (at + count)
@@ -163,9 +163,9 @@ pub prints_cut : (a b : SaidView) (r : Report) (f : Found) → r.ended ≡ false
 prints_cut a b r f is f_is says =
     subst (λ e. Says a b (cut_lines e (found_of r))) (sym is) (subst (λ x. Says a b (line (found_text x))) f_is says)
 
--- What stands behind damage.
+-- What comes after damage.
 
--- a run that begins with a block ends behind its place
+-- a run that begins with a block ends after its place
 run_goes_on : (bytes : List ℕ) (at number end : ℕ) (blocks : List Block) (key : SessionKey) (body : List ℕ) → RunTo bytes at number blocks end
     → BeginsWithBlock (drop at bytes) key number body → at < end
 run_goes_on bytes at number end [] key body (next, stand, ended) begins =
@@ -210,7 +210,7 @@ goes_more told name bytes end from next due lines kind at number goes within kin
     regrouped : (a b c d : List ℕ) → a ++ (b ++ (c ++ d)) ≡ (a ++ (b ++ c)) ++ d
     regrouped a b c d = ap (λ (l : List ℕ). a ++ l) (sym (append_assoc b c d)) ∙ sym (append_assoc a (b ++ c) d)
 
--- damage behind which no whole block stands
+-- damage after which there is no whole block
 pub goes_damaged : (told : Told) (name bytes : List ℕ) (end from : ℕ) (due : List ℕ) (kind : Kind) → GoesOn told name bytes end from due → from < length bytes
     → IsKind (drop from bytes) kind → NoneBetween bytes from (length bytes)
     → (all : List Region) × TellsBehind told name bytes end all (due ++ damage_line name from kind)
@@ -225,7 +225,7 @@ goes_ended told name bytes end from due goes past =
 
 -- Volumes, one after another.
 
--- what was told of a volume is told of it where it stands unchanged
+-- what was told of a volume is told of it if it is unchanged
 pub scan_same : (told : Told) (old now : Shelf) (name : List ℕ) (found : List FoundBlock) (due : List ℕ) (whole : Bool) → now.volume name ≡ old.volume name → ScansVolume told now name found due whole
     → ScansVolume told old name found due whole
 scan_same told old now name found due whole same scans = record {

@@ -25,7 +25,7 @@ blocks_in found = map (λ f. f.block) found
 abbrev pub bodies_of : SessionKey → List Found → List (List ℕ)
 bodies_of key found = blocks_of key (blocks_in found)
 
--- where the body is whole fragments, these are the first and the last FileIndex among them
+-- if the body is whole fragments, these are the first and the last FileIndex among them
 abbrev pub HasIndexes : List ℕ → ℕ → ℕ → Type 0
 HasIndexes body first last =
     (fs : List Fragment) → FitTogether fs → body ≡ fragments_bytes fs

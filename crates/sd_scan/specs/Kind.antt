@@ -22,9 +22,9 @@ kind_of fault.BadSum = BadSum
 abbrev pub front_of : List ℕ → List ℕ
 front_of bytes = take block_header bytes
 
--- What is wrong with the bytes from a place on. They are fewer than a header has, or than it says; it names no block; it says a
--- size that no block has; it is a block's, but with the bytes behind it no whole block, so that the checksum is another one; or they
--- begin with a whole block, which is not the one that is due.
+-- What is wrong with the bytes from a place on. They are fewer than a header has, or than it says; it names no block;
+-- it says a size that no block has; it is a block's, but with the bytes after it no whole block, so that the checksum
+-- is another one; or they begin with a whole block, which is not the one that is due.
 abbrev pub IsKind : List ℕ → Kind → Type 0
 IsKind bytes Short = IsShort (front_of bytes) ⊎ ((head : Head) × IsHeadOf most_block (front_of bytes) head × (length bytes < head.size))
 IsKind bytes BadId = HasHeader (front_of bytes) × HasBadId (front_of bytes)

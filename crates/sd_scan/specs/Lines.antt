@@ -28,7 +28,7 @@ abbrev pub end_word : Bool → List ℕ
 end_word true = codes "ended"
 end_word false = codes "cut"
 
--- the job and the pool of a session, where its start label was found
+-- the job and the pool of a session, if its start label was found
 abbrev pub start_text : Option Start → List ℕ
 start_text None = codes " job 0 pool -"
 start_text (Some start) = codes " job " ++ decimal start.job ++ codes " pool " ++ start.pool

@@ -20,15 +20,15 @@ ScansVolumes told shelf (name ∷ names) found due undamaged =
     × ScansVolume told shelf name here first whole × ScansVolumes told shelf names rest behind others
     × (found ≡ here ++ rest) × (due ≡ first ++ behind) × (undamaged ≡ (whole && others))
 
--- a scan is sound where no volume is damaged, and all of each session is there
+-- a scan is sound if no volume is damaged, and all of each session is there
 abbrev pub outcome_of : Bool → Bool → Outcome
 outcome_of true true = Sound
 outcome_of true false = Unsound
 outcome_of false ended = Unsound
 
--- What is printed of volumes. First what is damaged of each and what stands behind damage; then the sessions of the blocks that were
--- found before all damage, and of no others: of each its line, with the spans of its placements; last how many volumes and sessions
--- there are.
+-- What is printed of volumes. First what is damaged of each and what comes after damage; then the sessions of the
+-- blocks that were found before all damage, and of no others: of each its line, with the spans of its placements; last
+-- how many volumes and sessions there are.
 pub record Scans (told : Told) (shelf : Shelf) (names : List (List ℕ)) (due : List ℕ) (outcome : Outcome) : Type 0 where
   pub found : List Found
   pub front : List ℕ

@@ -14,13 +14,13 @@ use Rattle.sd_scan.specs.declared.session.Session.{Session}
 abbrev pub counted : ℕ → ℕ
 counted n = min n (2 ^ 64 - 1)
 
--- The job and the pool are those of the start label that the body begins with; none where it begins with none.
+-- The job and the pool are those of the start label that the body begins with; none if it begins with none.
 abbrev pub IsStartOf : List ℕ → Option Start → Type 0
 IsStartOf body None = (label : SessionLabel) → ¬ BeginsWithStart body label
 IsStartOf body (Some start) =
     (label : SessionLabel) × BeginsWithStart body label × (start.job ≡ label.job) × (start.pool ≡ label.pool)
 
--- behind these bodies the next one can't stand: no cutting of records begins with them and it
+-- after these bodies the next one can't come: no cutting of records begins with them and it
 abbrev pub Stops : List (List ℕ) → List (List ℕ) → Type 0
 Stops front [] = ⊥
 Stops front (body ∷ rest) = (records : List Record) (standing : Standing) → ¬ Holds (front ++ body ∷ []) records standing
@@ -30,9 +30,10 @@ abbrev pub HoldsSome : List (List ℕ) → List Record → Type 0
 HoldsSome bodies records =
     ((bodies ≡ []) × (records ≡ [])) ⊎ ((standing : Standing) × Holds bodies records standing)
 
--- What the bodies of a session come to. The records and bytes told are those that are whole in the first of the bodies, as many
--- of them as begin a cutting; and it is told as ended exactly where all the bodies are a cutting with its end label. So a
--- session that lacks a record, or the end label with the totals of just these records, is never told as ended.
+-- What the bodies of a session come to. The records and bytes told are those that are whole in the first of the
+-- bodies, as many of them as begin a cutting; and it is told as ended exactly if all the bodies are a cutting with its
+-- end label. So a session that lacks a record, or the end label with the totals of just these records, is never told as
+-- ended.
 pub record ReadsTo (bodies : List (List ℕ)) (records bytes : ℕ) (ended : Bool) : Type 0 where
   pub front : List (List ℕ)
   pub rest : List (List ℕ)
@@ -47,8 +48,8 @@ pub record ReadsTo (bodies : List (List ℕ)) (records bytes : ℕ) (ended : Boo
 
 -- What is kept of the bodies of a session.
 
--- An unpacker took the first of the bodies, and its records were counted and let go: of all bodies, or, where one is damaged, of
--- those before it.
+-- An unpacker took the first of the bodies, and its records were counted and let go: of all bodies, or, if one is
+-- damaged, of those before it.
 pub record Took (bodies : List (List ℕ)) (view : Unpacking) (records bytes : ℕ) (damaged : Bool) : Type 0 where
   pub front : List (List ℕ)
   pub rest : List (List ℕ)
@@ -61,7 +62,7 @@ pub record Took (bodies : List (List ℕ)) (view : Unpacking) (records bytes : �
   pub whole : damaged ≡ false → (rest ≡ []) × (view.damage ≡ None)
   pub stopped : damaged ≡ true → Stops front rest
 
--- a session whose first body is this one stands so behind its blocks at these placements, with these bodies
+-- a session whose first body is this one is in this state after its blocks at these placements, with these bodies
 pub record StandsFor (first : List ℕ) (own : List Placement) (bodies : List (List ℕ)) (s : Session) : Type 0 where
   pub start_is : IsStartOf first s.start
   pub stretches_are : s.stretches.items ≡ stretches own

@@ -56,7 +56,7 @@ sessions_in s = s.found.items
 abbrev pub keys_in : Sessions → List SessionKey
 keys_in s = map (λ one. one.key) (sessions_in s)
 
--- one session, behind all these blocks, which lie at these placements
+-- one session, after all these blocks, which lie at these placements
 pub record Stands (found : List Found) (placements : List Placement) (s : Session) : Type 0 where
   pub first : List ℕ
   pub rest : List (List ℕ)

@@ -1,4 +1,4 @@
--- What a scan finds on volumes: the blocks of their images, and, apart from these, what stands behind damage.
+-- What a scan finds on volumes: the blocks of their images, and, apart from these, what comes after damage.
 use Rattle.std.specs.Prelude.{◌≡◌, ◌⊎◌, ℕ, ◌<◌, ◌≤◌, Bool, nat_eq, List, [], ◌∷◌, ◌++◌, length, drop, Some}
 use Rattle.sd_driver.specs.Shelf.{Held, Shelf}
 use Rattle.sd_scan.specs.Found.{Found}
@@ -25,14 +25,14 @@ pub record FindsImage (name bytes : List ℕ) (found : List Found) (end : ℕ) :
   pub found_is : found ≡ found_from name (length (label_block label)) blocks
   pub end_is : end ≡ volume_end label blocks
 
--- What is found on a volume before all damage: the blocks of its image, which ends there; where no label of its name begins it,
--- none.
+-- What is found on a volume before all damage: the blocks of its image, which ends there; if no label of its name
+-- begins it, none.
 abbrev pub FindsOn : List ℕ → List ℕ → List Found → ℕ → Type 0
 FindsOn name bytes found end =
     FindsImage name bytes found end ⊎ (((label : VolumeLabel) → ¬ IsLabelled name bytes label) × (found ≡ []) × (end ≡ 0))
 
--- What is printed of the blocks that stand one behind another from a whole block on: where it stands, and what is told of their
--- sessions, by these blocks alone.
+-- What is printed of the blocks that lie one after another from a whole block on: where it lies, and what is told of
+-- their sessions, by these blocks alone.
 pub record TellsRun (told : Told) (name bytes : List ℕ) (at number end : ℕ) (due : List ℕ) : Type 0 where
   pub blocks : List Block
   pub run : RunTo bytes at number blocks end
@@ -44,8 +44,8 @@ pub record TellsRun (told : Told) (name bytes : List ℕ) (at number end : ℕ) 
 abbrev pub damage_line : List ℕ → ℕ → Kind → List ℕ
 damage_line name at kind = line (line_text (Damage name at kind))
 
--- a part of a volume behind damage: of which kind that is, where the first whole block behind it stands, with which number, where
--- the blocks end that stand one behind another from there on, and what is printed of them
+-- a part of a volume after damage: of which kind that is, where the first whole block after it lies, with which number,
+-- where the blocks end that lie one after another from there on, and what is printed of them
 pub record Region : Type 0 where
   pub kind : Kind
   pub at : ℕ
@@ -53,15 +53,15 @@ pub record Region : Type 0 where
   pub end : ℕ
   pub due : List ℕ
 
--- what stands from `from` on, where no block that is due does
+-- what lies from `from` on, where there is no block that is due
 pub record IsRegion (told : Told) (name bytes : List ℕ) (from : ℕ) (r : Region) : Type 0 where
   pub within : from < length bytes
   pub kind_is : IsKind (drop from bytes) r.kind
   pub first : IsFirstWhole bytes from r.at r.number
   pub tells : TellsRun told name bytes r.at r.number r.end r.due
 
--- What is printed of a volume from `from` on, where no block that is due stands: nothing at its end; else a region, and what is
--- printed from its end on; or damage, behind which no whole block stands.
+-- What is printed of a volume from `from` on, where there is no block that is due: nothing at its end; else a region,
+-- and what is printed from its end on; or damage, after which there is no whole block.
 abbrev pub TellsBehind : Told → List ℕ → List ℕ → ℕ → List Region → List ℕ → Type 0
 TellsBehind told name bytes from [] due =
     ((length bytes ≤ from) × (due ≡ []))
@@ -69,7 +69,8 @@ TellsBehind told name bytes from [] due =
 TellsBehind told name bytes from (r ∷ rs) due =
     IsRegion told name bytes from r × ((rest : List ℕ) × TellsBehind told name bytes r.end rs rest × (due ≡ damage_line name from r.kind ++ (r.due ++ rest)))
 
--- What is printed of a volume, and which blocks are found on it before all damage. It is undamaged where these reach to its end.
+-- What is printed of a volume, and which blocks are found on it before all damage. It is undamaged if these reach to
+-- its end.
 pub record ScansVolume (told : Told) (shelf : Shelf) (name : List ℕ) (found : List Found) (due : List ℕ) (undamaged : Bool) : Type 0 where
   pub held : Held
   pub there : shelf.volume name ≡ Some held

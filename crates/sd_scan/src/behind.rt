@@ -1,4 +1,4 @@
-// What stands behind damage.
+// What comes after damage.
 ghost use Rattle.std.specs.Prelude.{◌≡◌, ◌+◌, ◌<◌, ◌≤◌, ◌^◌, max, ℕ, List, length, drop, Some, OnOk, IfOk, IsErrOf};
 ghost use Rattle.sd_base.specs.declared.number.SessionKey.{SessionKey as SpecKey};
 ghost use Rattle.sd_driver.specs.Meaning.{IsHonest};
@@ -23,8 +23,8 @@ use sd_volume::VolumeReader;
 use std::alloc::Global;
 use std::io::Write;
 
-/// Tells what is damaged of a volume of that size from a place on, where no block that is due
-/// stands; and, apart from all else, what is found behind it.
+/// Tells what is damaged of a volume of that size from a place on, where there is no block that is
+/// due; and, apart from all else, what is found after it.
 pub(crate) fn tell_behind<D: Driver, W: Write>(
     alloc: Global,
     driver: &mut D,
@@ -100,8 +100,8 @@ fn tell_run<D: Driver, W: Write>(
     Ok(end_behind(whole.at, end))
 }
 
-// Where a run ends that begins at a place: behind that place, also where a device tells no block
-// there any more.
+// Where a run ends that begins at a place: after that place, even if a device tells no block there
+// any more.
 fn end_behind(at: u64, end: u64) -> u64
     requires { at + 1 < 2 ^ 64 }
     ensures { result ≡ max end (at + 1) }

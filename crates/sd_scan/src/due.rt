@@ -12,7 +12,7 @@ use sd_driver::{Driver, DriverFault};
 use sd_volume::{VolumeReader, next_block};
 
 /// The block with that number at a place of a volume of that size, which the reader shows then; or
-/// `None` where no such block stands there whole.
+/// `None` if no such block is there whole.
 pub(crate) fn due_block<D: Driver>(
     driver: &mut D,
     reader: &mut VolumeReader,

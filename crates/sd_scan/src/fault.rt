@@ -10,11 +10,11 @@ use std::alloc::AllocError;
 /// Why a scan is given up.
 #[derive(Clone, Copy, Debug, PartialEq, Eq)]
 pub enum ScanFault {
-    /// A volume of that name does not stand on the shelf.
+    /// A volume of that name is not on the shelf.
     NotOnShelf,
     /// The device failed.
     Device,
-    /// Memory was wanted, by the scan or by the device.
+    /// The scan or the device was out of memory.
     Memory,
 }
 

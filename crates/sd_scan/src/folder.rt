@@ -12,11 +12,11 @@ use sd_volume::{VolumeReader, read_label};
 use std::alloc::{AllocError, Global};
 use std::io::Write;
 
-/// The status where all was read, and what was to be sound is.
+/// The status if all was read, and what was to be sound is.
 const DONE: u8 = 0;
 
-/// The status where the scan was given up or could not be printed, or something is not sound that
-/// was to be.
+/// The status if the scan was given up or could not be printed, or something is not sound that was
+/// to be.
 const FAILED: u8 = 1;
 
 /// Scans the volumes of these names in a folder, in that order: see `scan`. Answers the status.
@@ -35,8 +35,8 @@ pub fn scan_named<H: Host + AllocGlobal, W: Write>(
 
 /// Scans all volumes of a folder, those that were labelled first before the others, and those that
 /// were at one moment in the order of their names: see `scan`. Of each other file whose name a
-/// volume could have it prints a line. Answers the status, which is not 0 either where only what is
-/// not sound is told, and something is not.
+/// volume could have it prints a line. Answers the status, which is also not 0 if only what is not
+/// sound is told, and something is not.
 pub fn scan_folder<H: Host + AllocGlobal, W: Write>(
     host: &H,
     folder: &str,

@@ -4,7 +4,7 @@ ghost use Rattle.sd_record.specs.Fragment.{Fragment as SpecFragment, fragment_by
 
 use sd_record::{Fragment, next_fragment};
 
-/// The fragment at a place and the place behind it, if one stands there.
+/// The fragment at a place and the place after it, if one is there.
 pub(crate) fn fragment_at(body: &[u8], at: usize) -> Option<(Fragment<'_>, usize)>
     ensures found { IfSome result (λ found. StandsAt body.now at found.0 found.1) }
     ensures read_back { (f : SpecFragment) (rest : List ℕ) → IsFragment f → (GoesOn f → rest ≡ [])

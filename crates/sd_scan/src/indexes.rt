@@ -14,7 +14,7 @@ pub struct Indexes {
     pub last: u32,
 }
 
-/// The FileIndexes of a body, which is read up to the first place where no fragment stands.
+/// The FileIndexes of a body, which is read up to the first place where there is no fragment.
 pub fn indexes_in(body: &[u8]) -> Indexes
     ensures { HasIndexes body.now result.first result.last }
 {

@@ -1,4 +1,4 @@
-// What stands at a place where the next block is due.
+// What is at a place where the next block is due.
 ghost use Rattle.std.specs.Prelude.{◌≡◌, ◌≢◌, ◌≤◌, length, drop, IfOk, IfErr, IsErrOf, None, Some, ◌⊎◌};
 ghost use Rattle.sd_base.specs.Limits.{most_block};
 ghost use Rattle.sd_block.specs.Image.{IsImage};
@@ -26,7 +26,7 @@ pub enum Kind {
     BadSize,
     /// The checksum is not that of the bytes.
     BadSum,
-    /// It is a whole block, and another one than is due.
+    /// It is a whole block, but not the one that is due.
     BadNumber,
 }
 
@@ -48,8 +48,8 @@ impl fmt::Display for Kind {
     }
 }
 
-/// What is wrong at a place of the reader's volume, which has that size. No whole block with the
-/// number that is due stands there.
+/// What is wrong at a place of the reader's volume, which has that size. There is no whole block
+/// there with the number that is due.
 pub(crate) fn kind_at<D: Driver>(
     driver: &mut D,
     reader: &mut VolumeReader,

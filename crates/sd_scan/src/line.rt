@@ -17,13 +17,13 @@ pub enum ScanLine {
         name: VolName,
         size: u64,
     },
-    /// No whole block with the due number stands at that place of the volume.
+    /// No whole block with the due number is at that place of the volume.
     Damage {
         volume: VolName,
         at: u64,
         kind: Kind,
     },
-    /// Behind damage a whole block stands at that place of the volume. What follows was found
+    /// After damage there is a whole block at that place of the volume. What follows was found
     /// there.
     Behind {
         volume: VolName,
@@ -31,7 +31,7 @@ pub enum ScanLine {
     },
     /// What was found of a session.
     Session(Found),
-    /// All volumes were read: how many, and how many sessions stand on them.
+    /// All volumes were read: how many, and how many sessions are on them.
     Done {
         volumes: usize,
         sessions: usize,

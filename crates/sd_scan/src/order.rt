@@ -13,7 +13,7 @@ pub(crate) struct Labelled {
     pub(crate) size: u64,
 }
 
-/// Puts a volume before the first of these that comes behind it.
+/// Puts a volume before the first of these that comes after it.
 pub(crate) fn place(volumes: &mut Vec<Labelled>, one: Labelled) -> Result<(), AllocError>
     ensures { OnOk result ((at : ℕ) × (at ≤ length volumes.old.items)
         × (volumes.new.items ≡ insert volumes.old.items at one)) }

@@ -11,7 +11,7 @@ pub struct Start {
     pub pool: PoolName,
 }
 
-/// What was found of a session: its job and pool, where the first of its bodies begins with a start
+/// What was found of a session: its job and pool, if the first of its bodies begins with a start
 /// label; whether all of it is there, up to its end label; how many records are whole in the bodies
 /// before the first that can't follow, and their data bytes; and the spans of its blocks.
 #[derive(Drop)]
@@ -25,7 +25,7 @@ pub struct Report {
 }
 
 impl Start {
-    /// The same; takes no memory.
+    /// A copy of the start, if there is one; takes no memory.
     pub fn copy_of(start: &Option<Start>) -> Option<Start>
         ensures { result ≡ start.now }
     {

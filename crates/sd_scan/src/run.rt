@@ -1,4 +1,4 @@
-// Blocks that stand one behind another.
+// Blocks that lie one after another.
 ghost use Rattle.std.specs.Prelude.{◌≡◌, ◌+◌, ◌<◌, ◌≤◌, ◌^◌, ℕ, List, [], ◌∷◌, ◌++◌, length, drop, Some, IfOk, OnOk, IsErrOf};
 ghost use Rattle.sd_base.specs.Limits.{block_header};
 ghost use Rattle.sd_driver.specs.Meaning.{IsHonest};
@@ -20,8 +20,8 @@ use sd_driver::Driver;
 use sd_volume::VolumeReader;
 use std::alloc::AllocError;
 
-/// Takes the blocks of a volume of that size that stand one behind another from a place on, the
-/// first of them with that number and each other with the next one. Says where they end.
+/// Takes the blocks of a volume of that size that lie one after another from a place on, the first
+/// of them with that number and each of the others with the next one. Says where they end.
 pub(crate) fn take_run<D: Driver>(
     driver: &mut D,
     reader: &mut VolumeReader,

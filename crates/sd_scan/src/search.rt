@@ -1,4 +1,4 @@
-// The next whole block behind a damaged place.
+// The next whole block after a damaged place.
 ghost use Rattle.std.specs.Prelude.{◌≡◌, ◌≢◌, ◌+◌, ◌≤◌, ◌<◌, ℕ, length, drop, None, Some, IfOk, IfErr, IfSome, IfNone, OnOk, IsErrOf};
 ghost use Rattle.sd_base.specs.Limits.{block_header, most_block};
 ghost use Rattle.sd_block.specs.Head.{IsHeadOf};
@@ -14,14 +14,14 @@ use sd_block::read_head;
 use sd_driver::{Driver, DriverFault};
 use sd_volume::{VolumeReader, next_block};
 
-/// A whole block: where it stands, and its number.
+/// A whole block: where it lies, and its number.
 #[derive(Clone, Copy, Debug, PartialEq, Eq)]
 pub(crate) struct Whole {
     pub(crate) at: u64,
     pub(crate) number: u32,
 }
 
-/// The first place from `from` on at which a whole block stands, whatever its number, on a volume
+/// The first place from `from` on at which there is a whole block, whatever its number, on a volume
 /// of that size.
 pub(crate) fn next_whole<D: Driver>(
     driver: &mut D,
@@ -66,8 +66,8 @@ pub(crate) fn next_whole<D: Driver>(
     Ok(None)
 }
 
-// How many of the first places in the bytes are none where the header of a block stands, each with
-// a whole header's bytes behind it.
+// How many of the first places in the bytes have no header of a block there, each with a whole
+// header's bytes after it.
 fn headless(bytes: &[u8]) -> usize
     ensures within { result ≤ length bytes.now }
     ensures none { (at : ℕ) → at < result → (at + block_header ≤ length bytes.now)

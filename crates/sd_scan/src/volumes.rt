@@ -33,8 +33,8 @@ pub enum Outcome {
 }
 
 /// Reads the volumes of these names to their ends, in that order, and prints what is damaged of
-/// each of them and what is found behind damage; then, of each session that stands in the blocks
-/// before all damage, what was found of it. After a fault nothing more is printed here.
+/// each of them and what is found after damage; then, of each session that is in the blocks before
+/// all damage, what was found of it. After a fault nothing more is printed here.
 ///
 /// Holds one buffer of a block's greatest length, and what `Sessions` keeps. Volumes are not
 /// changed, loaded or not.
@@ -127,8 +127,8 @@ fn scan_volume<D: Driver, W: Write>(
     Ok(end == size)
 }
 
-// Takes the blocks of the image of a volume of that size, and says where it ends: at its front,
-// where no label of that name begins it.
+// Takes the blocks of the image of a volume of that size, and says where it ends: at its front, if
+// no label of that name begins it.
 fn take_image<D: Driver>(
     driver: &mut D,
     reader: &mut VolumeReader,

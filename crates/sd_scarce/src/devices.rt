@@ -54,7 +54,7 @@ fn write<D: Driver>(drive: &mut D, name: &VolName) -> Result<(), DriverFault>
     append(drive, &[3; 100])
 }
 
-// The three calls that take memory, each once more where it was wanted.
+// The three calls that take memory, each made once more if it was out of memory.
 
 fn create<D: Driver>(drive: &mut D, name: &VolName) -> Result<(), DriverFault>
     requires { (D.meaning drive.old).loaded ≡ None }

@@ -19,7 +19,7 @@ use std::sync::Wait;
 use std::thread::Threads;
 use std::time::Clock;
 
-/// How many turns the job has, and the worker. Where there is no thread for the worker the job makes them all, each of a
+/// How many turns the job has, and the worker. If there is no thread for the worker, the job makes them all, each of a
 /// millisecond.
 const TURNS: u64 = 300;
 
@@ -144,7 +144,7 @@ fn begin<N: Naming, R: Wait + Copy + Drop>(
     }
 }
 
-// The line of a drive that was just made, and the seats of its lanes; for want of memory the drive comes back.
+// The line of a drive that was just made, and the seats of its lanes; if out of memory, the drive comes back.
 fn make_line<N: Naming, R: Wait + Drop>(
     rt: R,
     alloc: Global,
@@ -231,7 +231,7 @@ fn label<N: Naming, R: Wait + Drop>(
     matches!(line.operate(label), Reply::Labelled)
 }
 
-// A session at the end of a lane, which comes back where none is opened.
+// A session at the end of a lane, which comes back if none is opened.
 fn open<N: Naming, R: Wait + Drop>(
     alloc: Global,
     names: &Names,
@@ -248,7 +248,7 @@ fn open<N: Naming, R: Wait + Drop>(
     }
 }
 
-// Runs the jobs; once more, where memory was wanted.
+// Runs the jobs; once more, if it was out of memory.
 fn run_again<N: Naming + Send + Sync, R: Threads + Wait + Clock + Sync + Drop>(
     rt: R,
     alloc: Global,

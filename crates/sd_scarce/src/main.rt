@@ -1,13 +1,13 @@
 //! A program for tests: calls that take memory, each made again if it is refused.
 //!
-//! Where a call is refused for want of memory it is made once more with the same arguments. So whichever
-//! one allocation fails, the program ends with the output that it has with ample memory: a refusal left
-//! all as it was. `tests/memory/run` makes each allocation fail in turn and
-//! compares the outputs.
+//! If a call is refused because it is out of memory, it is made once more with the same arguments. So
+//! whichever one allocation fails, the program ends with the output that it has with ample memory: a
+//! refusal left all as it was. `tests/memory/run` makes each allocation fail in turn and compares the
+//! outputs.
 //!
-//! The packets, the codecs of records and blocks, a device and a volume are called by themselves, and of
-//! drives, journals and spans the calls that no world makes. What else stands behind them, from the desk to the drive, is
-//! called by the scripts that `tests/memory/run` gives `sdtool`. Last a job is run in a thread, its line is settled whatever it
+//! The packets, the codecs of records and blocks, a device and a volume are called by themselves, and of drives,
+//! journals and spans the calls that no world makes. What else is behind them, from the desk to the drive, is called by
+//! the scripts that `tests/memory/run` gives `sdtool`. Last a job is run in a thread, its line is settled whatever it
 //! came to, and its session is brought to its end and read back.
 #![tactic(auto)]
 

@@ -17,7 +17,7 @@ static ROWS: [Row; 8] = [
     (5, 3, 700, 8),
 ];
 
-/// The records; made again, where one couldn't be.
+/// The records; made again, if one couldn't be.
 pub fn make_again(alloc: Global) -> Option<Vec<Rec>> {
     match make_all(alloc) {
         None => make_all(alloc),

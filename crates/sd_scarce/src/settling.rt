@@ -14,7 +14,7 @@ use sd_spool::MemSpool;
 use std::alloc::Global;
 use std::sync::Wait;
 
-/// How often a call is made, which is refused for want of memory once at the most.
+/// How often a call is made, which is refused as out of memory once at the most.
 const TRIES: u32 = 2;
 
 /// How many rounds an append waits for, at the most.
@@ -132,7 +132,7 @@ pub fn list_of<T: Drop>(alloc: Global, one: T) -> Option<Vec<T>> {
     Some(list)
 }
 
-// The same receipt once more.
+// This receipt once more, from the line's drive.
 fn receipt_again<N: Naming, R: Wait + Drop>(
     line: &Line<MemDrive, N, R>,
     receipt: &Receipt,
@@ -145,7 +145,7 @@ fn receipt_again<N: Naming, R: Wait + Drop>(
     }
 }
 
-// Settles a line, once more where memory was wanted; and whether it was.
+// Settles a line, once more if it was out of memory; and whether it was.
 fn settle_again<N: Naming, R: Wait + Copy + Drop>(
     alloc: Global,
     line: Line<MemDrive, N, R>,
@@ -246,7 +246,7 @@ fn bring_to_end<R: Wait + Copy + Drop>(
     close(world, ticket)
 }
 
-// Appends the records behind the first ones, which the session took.
+// Appends the records after the first ones, which the session took.
 fn append_rest<R: Wait + Copy + Drop>(
     world: &mut Settled<R>,
     ticket: Ticket,
@@ -294,7 +294,7 @@ fn end<R: Wait + Copy + Drop>(world: &mut Settled<R>, ticket: Ticket) -> Option<
     None
 }
 
-// Closes the session once all of it is synced. A drain may end at a round in which memory was wanted.
+// Closes the session once all of it is synced. A drain may end at a round that was out of memory.
 fn close<R: Wait + Copy + Drop>(
     world: &mut Settled<R>,
     ticket: Ticket,

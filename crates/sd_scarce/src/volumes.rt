@@ -14,13 +14,13 @@ use sd_volume::{
 use std::alloc::{AllocError, Global};
 use std::io;
 
-/// The greatest length of the volume while blocks are added: it is full behind two of them.
+/// The greatest length of the volume while blocks are added: it is full after two of them.
 const LIMIT: u64 = 3000;
 
 /// Labels a volume, fills it, purges it and fills it again, adopts it and goes over its blocks.
 pub fn run(rt: HostRuntime, label: &VolumeLabel) -> io::Result<()> {
-    // A label that wanted memory behind its create leaves the name on the shelf: the second try has a drive of
-    // its own.
+    // A label that was out of memory after its create leaves the name on the shelf: the second try has a drive
+    // of its own.
     if write(rt, label)? || write(rt, label)? {
         return Ok(());
     }

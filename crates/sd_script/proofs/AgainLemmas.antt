@@ -37,7 +37,8 @@ decimal-plain : (n : ℕ) → n < 2 ^ 64 → HasNoBlank (decimal n)
 decimal-plain n small =
     All-from_get_or (λ c. c ≢ 32) (decimal n) 0 (λ i within blank. let digit = digit_at (decimal n) i (digits_decimal own n small) within in omega arith)
 
--- the command that bytes begin with, what its lines have in common, the fields behind it, and that these are read as that line
+-- the command that bytes begin with, what its lines have in common, the fields after it, and that these are read as
+-- that line
 pub record Parts (bytes : List ℕ) (l : ScriptLine) : Type 0 where
   pub command : Command
   pub kinds_are : kinds command ≡ line_kinds l
@@ -166,7 +167,7 @@ number-plain n within = decimal-plain n (omega (arith, within.1))
 drive-plain : (n : ℕ) → IsDrive n → HasNoBlank (decimal n)
 drive-plain n within = decimal-plain n (omega (arith, within.1))
 
--- the fields of a record, whose text is what stands behind the fourth blank
+-- the fields of a record, whose text is what comes after the fourth blank
 rec_fields : (t i s : ℕ) (text : List ℕ) → IsNumber t → IsNumber i → IsNumber s
     → fields_of (joined (command_text Rec ∷ decimal t ∷ decimal i ∷ decimal s ∷ text ∷ [])) ≡ command_text Rec ∷ decimal t ∷ decimal i ∷ decimal s ∷ fields_of text
 rec_fields t i s text t_is i_is s_is =

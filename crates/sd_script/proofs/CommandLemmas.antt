@@ -1,4 +1,4 @@
--- The words of commands: which command a word is in each part of a script, and where lines of it stand.
+-- The words of commands: which command a word is in each part of a script, and where lines of it belong.
 use Rattle.std.proofs.Common.{◌≡◌, ◌≢◌, ℕ, ◌<◌, refl, sym, ap, ◌∙◌, lit<, Bool, true, false, cond, List, length, Option, Some, None, rules}
 use Rattle.std.specs.Prelude.{codes, ◌&&◌, not, if◌then◌else◌, IfSome}
 use Rattle.std.specs.List.{AllByRecursion}
@@ -81,7 +81,7 @@ pub command_one : (part : Part) (k j : Command) → stands part k ≡ true → s
 command_one part k j k_stands j_stands e =
     let both = sym (command_found part k k_stands) ∙ ap (command_at part) e ∙ command_found part j j_stands in cc
 
--- a command that is not `spool` stands at the head
+-- a command that is not `spool` belongs at the head
 head_other : (k : Command) → command_text k ≢ codes "spool" → stands Head k ≡ true
 head_other Spool e = absurd (e refl)
 head_other k e = refl
@@ -188,7 +188,7 @@ abbrev pub is_spool_line : ScriptLine → Bool
 is_spool_line (line.Spool ticket) = true
 is_spool_line l = false
 
--- what of a command its lines have too: whether a console has them, and what tells where they stand
+-- what of a command its lines have too: whether a console has them, and what tells where they belong
 abbrev pub kinds : Command → Bool × Bool × Bool
 kinds k = (is_console k, is_setting k, is_spool k)
 
@@ -213,7 +213,7 @@ true-stands Head l e = tt
 true-stands Body (line.Set s) e = absurd (cc e)
 true-stands Body l e = tt
 
--- a command stands where its line does
+-- a command belongs where its line does
 pub command_stands : (part : Part) (k : Command) (l : ScriptLine) → kinds k ≡ line_kinds l → StandsIn part l → stands part k ≡ true
 command_stands part k l is there = same_stands part k l is ∙ stands-true part l there
 

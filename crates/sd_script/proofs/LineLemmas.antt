@@ -116,7 +116,7 @@ tells_no_command part bytes some_there none l has there =
     let parts = parts_of bytes l some_there has.spelled has.within has.words in
     none parts.command parts.rest parts.fields_are (command_stands part parts.command l parts.kinds_are there)
 
--- what a command and the fields behind it give
+-- what a command and the fields after it give
 tells_shape : (part : Part) (bytes : List ℕ) (r : Result ScriptLine LineFault) (l : ScriptLine) → Gives r (Some l) → HasShape bytes l → StandsIn part l → Tells part bytes r
 tells_shape part bytes (Ok found) l gives has there =
     subst (λ (x : ScriptLine). HasShape bytes x × StandsIn part x × AreNames x) (sym gives.0) (has, there, gives.1)

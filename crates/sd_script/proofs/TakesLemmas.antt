@@ -140,7 +140,7 @@ open_takes bytes fs l has e =
       kinds_are = refl;
     })
 
--- the text behind three numbers, with a blank before it or not there
+-- the text after three numbers, with a blank before it or not there
 rec_spelled : (bytes : List ℕ) (t i s : ℕ) (rest : Fields) → bytes ≡ joined (command_text Rec ∷ decimal t ∷ decimal i ∷ decimal s ∷ rest)
     → IsSpelled bytes (line.Rec t i s (joined rest))
 rec_spelled bytes t i s [] e = inr e
@@ -191,7 +191,7 @@ fill_takes bytes fs l has e =
       kinds_are = refl;
     })
 
--- a line of one number, where what is made of it is spelled so and has no names
+-- a line of one number, if what is made of it is spelled so and has no names
 one_takes : (bytes : List ℕ) (k : Command) (fs : Fields) (least most : ℕ) (made : ℕ → ScriptLine) (l : ScriptLine)
     → ((n : ℕ) → least ≤ n → n ≤ most → bytes ≡ joined (command_text k ∷ decimal n ∷ []) → Spells k bytes (made n))
     → HasFields bytes (command_text k) fs → one_number least most made fs ≡ Some l → Spells k bytes l
@@ -293,7 +293,7 @@ again_takes bytes fs l has e =
       kinds_are = refl;
     })
 
--- a restart behind which no field is left, or what a stop leaves
+-- a restart after which no field is left, or what a stop leaves
 behind_takes : (bytes : List ℕ) (t : ℕ) (fs : Fields) (l : ScriptLine) → HasFields bytes (command_text Restart) (decimal t ∷ fs) → IsNumber t
     → behind_shape t fs ≡ Some l → Spells Restart bytes l
 unfolding behind_shape
@@ -327,7 +327,7 @@ restart_takes bytes fs l has e =
     let time = number_at_takes 1 most_number fs a.0 a.1 in
     restart_takes_behind bytes a.0.0 a.0.1 l (subst (λ (gs : Fields). HasFields bytes (command_text Restart) gs) time.fields_are has) (time.least_is, time.most_is) a.2
 
--- what is read of a command and the fields behind it
+-- what is read of a command and the fields after it
 fields_take : (k : Command) (bytes : List ℕ) (fs : Fields) (l : ScriptLine) → HasFields bytes (command_text k) fs → shape k fs ≡ Some l → Spells k bytes l
 fields_take Block bytes fs l has e =
     one_takes bytes Block fs least_block_limit most_block (λ n. line.Set (setting.Block n)) l (λ n low high text. spelled_so Block bytes (line.Set (setting.Block n)) (inl text) (low, high) tt refl) has e

@@ -1,4 +1,4 @@
--- The words that lines begin with, and where in a script lines of each stand.
+-- The words that lines begin with, and where in a script lines of each belong.
 use Rattle.std.specs.Prelude.{ℕ, ◌&&◌, Bool, true, false, not, if◌then◌else◌, List, codes}
 use Rattle.sd_script.specs.declared.command.Command.{Command}
 use Rattle.sd_script.specs.declared.command.Command.TheVariants.{Block, Volume, SpoolLimit, Queue, Time, Host, Drive, Capacity, Fail, At, Label, Adopt, Mount, Unmount, Seek, Retire, Purge, Open, Rec, Fill, End, Cancel, Spool, Despool, Take, Place, Sync, Close, JobMedia, Read, Again, Drain, Status, Requests, Restart}
@@ -66,7 +66,7 @@ abbrev pub is_head : Part → Bool
 is_head Head = true
 is_head Body = false
 
--- lines of the command stand there: settings at the head alone, and `spool` as a step behind it alone
+-- lines of the command belong there: settings at the head alone, and `spool` as a step after it alone
 abbrev pub stands : Part → Command → Bool
 stands part command =
     if is_setting command then is_head part else not (is_spool command && is_head part)

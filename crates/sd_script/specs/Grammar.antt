@@ -93,7 +93,7 @@ fields (Restart time None) = codes "restart" ∷ decimal time ∷ []
 fields (Restart time (Some tail)) =
     codes "restart" ∷ decimal time ∷ decimal tail.drive ∷ tail.volume ∷ decimal tail.count ∷ []
 
--- how a line is written, without the newline behind it
+-- how a line is written, without the newline after it
 abbrev pub spelling : ScriptLine → List ℕ
 spelling line = joined (fields line)
 
@@ -170,7 +170,7 @@ IsWithin (Restart time None) = IsNumber time
 IsWithin (Restart time (Some tail)) =
     IsNumber time × IsDrive tail.drive × (tail.count < 2 ^ 64)
 
--- the fields of a console's line that stand in the place of a name
+-- the fields of a console's line that are in the place of a name
 abbrev pub console_names : ConsoleCmd → List (List ℕ)
 console_names (Label drive volume pool media) = volume ∷ pool ∷ media ∷ []
 console_names (Adopt drive volume) = volume ∷ []
@@ -178,7 +178,7 @@ console_names (Mount drive volume) = volume ∷ []
 console_names (Purge drive volume) = volume ∷ []
 console_names command = []
 
--- the fields of a line that stand in the place of a name
+-- the fields of a line that are in the place of a name
 abbrev pub names : ScriptLine → List (List ℕ)
 names (Console command) = console_names command
 names (Set (setting.Host host)) = host ∷ []
@@ -191,11 +191,11 @@ names line = []
 abbrev pub IsWord : List ℕ → Type 0
 IsWord text = (0 < length text) × HasNoBlank text
 
--- what stands in the place of a line's names are words
+-- what a line has in the places of names are words
 abbrev pub AreWords : ScriptLine → Type 0
 AreWords line = AllByRecursion IsWord (names line)
 
--- what stands in the place of a line's names are names
+-- what a line has in the places of names are names
 abbrev pub AreNames : ScriptLine → Type 0
 AreNames line = AllByRecursion IsName (names line)
 
@@ -213,7 +213,7 @@ pub record HasForm (bytes : List ℕ) (line : ScriptLine) : Type 0 where
   pub within : IsWithin line
   pub names : AreNames line
 
--- the line stands there: settings at the head alone, where `spool` is one and no step of a session
+-- the line belongs there: settings at the head alone, where `spool` is one and no step of a session
 abbrev pub StandsIn : Part → ScriptLine → Type 0
 StandsIn Head (Spool ticket) = ⊥
 StandsIn Head line = Unit {0}

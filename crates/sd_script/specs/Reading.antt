@@ -26,7 +26,7 @@ most_moment = 9223372036854775807
 abbrev pub most_wide : ℕ
 most_wide = 18446744073709551615
 
--- the line whose shape was read, where its names are names
+-- the line whose shape was read, if its names are names
 abbrev pub Gives : Result ScriptLine LineFault → Option ScriptLine → Type 0
 Gives result None = result ≡ Err BadCommand
 Gives result (Some line) =
@@ -42,28 +42,28 @@ label_shape fs = do
   media ← word_at pool.1
   all_read (line.Console (console.Label drive.0 volume.0 pool.0 media.0)) media.1
 
--- the same of `adopt`
+-- the line of `adopt` that these fields spell, whatever its names are
 unfoldable pub adopt_shape : Fields → Option ScriptLine
 adopt_shape fs = do
   drive ← number_at 1 most_drives fs
   volume ← word_at drive.1
   all_read (line.Console (console.Adopt drive.0 volume.0)) volume.1
 
--- the same of `mount`
+-- the line of `mount` that these fields spell, whatever its names are
 unfoldable pub mount_shape : Fields → Option ScriptLine
 mount_shape fs = do
   drive ← number_at 1 most_drives fs
   volume ← word_at drive.1
   all_read (line.Console (console.Mount drive.0 volume.0)) volume.1
 
--- the same of `purge`
+-- the line of `purge` that these fields spell, whatever its names are
 unfoldable pub purge_shape : Fields → Option ScriptLine
 purge_shape fs = do
   drive ← number_at 1 most_drives fs
   volume ← word_at drive.1
   all_read (line.Console (console.Purge drive.0 volume.0)) volume.1
 
--- the same of `open`
+-- the line of `open` that these fields spell, whatever its names are
 unfoldable pub open_shape : Fields → Option ScriptLine
 open_shape fs = do
   job ← number_at 1 most_number fs
@@ -71,7 +71,7 @@ open_shape fs = do
   media ← word_at pool.1
   all_read (line.Open job.0 pool.0 media.0) media.1
 
--- the same of `rec`, whose text is all that is left behind its numbers
+-- the line of `rec` that these fields spell, whose text is all that is left after its numbers
 unfoldable pub rec_shape : Fields → Option ScriptLine
 rec_shape fs = do
   ticket ← number_at 1 most_number fs
@@ -81,7 +81,7 @@ rec_shape fs = do
       then Some (line.Rec ticket.0 index.0 stream.0 (joined stream.1))
       else None
 
--- the same of `fill`
+-- the line of `fill` that these fields spell
 unfoldable pub fill_shape : Fields → Option ScriptLine
 fill_shape fs = do
   ticket ← number_at 1 most_number fs
@@ -90,20 +90,20 @@ fill_shape fs = do
   count ← only_number 0 most_data stream.1
   Some (line.Fill ticket.0 index.0 stream.0 count)
 
--- the same of `host`
+-- the line of `host` that these fields spell, whatever its names are
 unfoldable pub host_shape : Fields → Option ScriptLine
 host_shape fs = do
   host ← word_at fs
   all_read (line.Set (setting.Host host.0)) host.1
 
--- the same of `drive`
+-- the line of `drive` that these fields spell, whatever its names are
 unfoldable pub drive_shape : Fields → Option ScriptLine
 drive_shape fs = do
   media ← word_at fs
   lanes ← only_number 1 most_lanes media.1
   Some (line.Set (setting.Drive media.0 lanes))
 
--- the same of `capacity`
+-- the line of `capacity` that these fields spell
 unfoldable pub capacity_shape : Fields → Option ScriptLine
 capacity_shape fs = do
   drive ← number_at 1 most_drives fs
@@ -130,21 +130,21 @@ when_in word =
     else if bytes_eq word (when_text «when».After) then Some «when».After
     else None
 
--- the next field, where it is a kind of call
+-- the next field, if it is a kind of call
 unfoldable pub call_at : Fields → Option (Call × Fields)
 call_at fs = do
   word ← word_at fs
   kind ← call_in word.0
   Some (kind, word.1)
 
--- the next field, where it says how a call fails
+-- the next field, if it says how a call fails
 unfoldable pub when_at : Fields → Option (When × Fields)
 when_at fs = do
   word ← word_at fs
   way ← when_in word.0
   Some (way, word.1)
 
--- the same of `fail`
+-- the line of `fail` that these fields spell
 unfoldable pub fail_shape : Fields → Option ScriptLine
 fail_shape fs = do
   drive ← number_at 1 most_drives fs
@@ -153,14 +153,14 @@ fail_shape fs = do
   way ← when_at nth.1
   all_read (line.Set (setting.Fail drive.0 (record { call = kind.0; nth = nth.0; when = way.0 }))) way.1
 
--- the same of `again`
+-- the line of `again` that these fields spell
 unfoldable pub again_shape : Fields → Option ScriptLine
 again_shape fs = do
   time ← number_at 1 most_number fs
   id ← only_number 1 most_number time.1
   Some (line.Again (record { time = time.0; id = id }))
 
--- the same of `restart` of that time, with what a stop leaves
+-- the line of `restart` of that time, with what a stop leaves, that these fields spell, whatever its names are
 unfoldable pub behind_shape : ℕ → Fields → Option ScriptLine
 behind_shape time fs = do
   drive ← number_at 1 most_drives fs
@@ -168,12 +168,12 @@ behind_shape time fs = do
   count ← only_number 0 most_wide volume.1
   Some (line.Restart time (Some (record { drive = drive.0; volume = volume.0; count = count })))
 
--- the same of `restart` of that time, whether a field is left or not
+-- the line of `restart` of that time that these fields spell, whether a field is left or not, whatever its names are
 abbrev pub restart_behind : ℕ → Fields → Option ScriptLine
 restart_behind time [] = Some (line.Restart time None)
 restart_behind time fs = behind_shape time fs
 
--- the same of `restart`
+-- the line of `restart` that these fields spell, whatever its names are
 unfoldable pub restart_shape : Fields → Option ScriptLine
 restart_shape fs = do
   time ← number_at 1 most_number fs
@@ -183,7 +183,7 @@ restart_shape fs = do
 abbrev pub one_number : ℕ → ℕ → (ℕ → ScriptLine) → Fields → Option ScriptLine
 one_number least most made fs = only_number least most fs >>= λ n. Some (made n)
 
--- the line of a command and the fields behind it
+-- the line of a command and the fields after it
 abbrev pub shape : Command → Fields → Option ScriptLine
 shape Block fs = one_number least_block_limit most_block (λ n. line.Set (setting.Block n)) fs
 shape Volume fs = one_number 0 most_volume (λ n. line.Set (setting.Volume n)) fs

@@ -6,7 +6,7 @@ pub fn lines_have_one_form()
     ensures { HaveOneForm }
 {}
 
-/// Nor do they where words stand in the places of names, whatever words these are.
+/// No bytes have the forms of two lines, even if words are in the places of names, whatever words these are.
 pub fn lines_have_one_shape()
     ensures { HaveOneShape }
 {}

@@ -60,7 +60,7 @@ pub enum ScriptLine<'a> {
     },
 }
 
-/// A line that sets what the world is made with; it stands before all other lines.
+/// A line that sets what the world is made with; it comes before all other lines.
 #[derive(Drop)]
 pub enum Setting {
     /// The limit of a block, in bytes.
@@ -83,7 +83,7 @@ pub enum Setting {
     Fail { drive: DriveNo, fail: Fail },
 }
 
-/// What a stop may leave behind the end of a volume: here `count` bytes of zero.
+/// What a stop may leave after the end of a volume: here `count` bytes of zero.
 #[derive(Drop)]
 pub struct Tail {
     pub drive: DriveNo,
@@ -91,8 +91,8 @@ pub struct Tail {
     pub count: u64,
 }
 
-/// Where a line stands in a script: at its head, where no line but settings came before it, or in its
-/// body, behind the first line that is no setting. That first line itself is the last one of the head.
+/// Where a line is in a script: at its head, if no line but settings came before it, or in its
+/// body, after the first line that is no setting. That first line itself is the last one of the head.
 #[derive(Clone, Copy, Debug, PartialEq, Eq)]
 pub enum Part {
     Head,

@@ -19,11 +19,11 @@ use crate::settings::{block, capacity, drive, fail, host, queue, spool_limit, ti
 use sd_text::Words;
 use std::str;
 
-/// The line that `bytes` spell in that part of a script, without the newline behind it.
+/// The line that `bytes` spell in that part of a script, without the newline after it.
 pub fn read_line(part: Part, bytes: &[u8]) -> Result<ScriptLine<'_>, LineFault>
-    // What is read has the form of that line, and stands there,
+    // What is read has the form of that line, and belongs there,
     ensures ok { IfOk result (λ line. HasForm bytes.now line × StandsIn part line) }
-    // and what has the form of a line that stands there is read as that.
+    // and what has the form of a line that belongs there is read as that.
     ensures found { (line : SpecLine) → HasForm bytes.now line → StandsIn part line
         → result ≡ Ok line }
     // A bad name: the form is there, but for a word that is no name.
@@ -46,7 +46,7 @@ pub fn read_line(part: Part, bytes: &[u8]) -> Result<ScriptLine<'_>, LineFault>
     line_of(command, words)
 }
 
-/// The command that `bytes` spell on a console, without the newline behind it: `read_line` of those lines
+/// The command that `bytes` spell on a console, without the newline after it: `read_line` of those lines
 /// that a console has too.
 pub fn read_console(bytes: &[u8]) -> Result<ConsoleCmd, LineFault>
     // What is read has the form of that command,
@@ -96,7 +96,7 @@ fn begins_as_console(bytes: &[u8]) -> bool
     }
 }
 
-/// The bytes as a text, where they are ASCII.
+/// The bytes as a text, if they are ASCII.
 fn ascii_text(bytes: &[u8]) -> Option<&str>
     ensures found { IfSome result (λ text.
         (text.now ≡ bytes.now) × All (λ byte. byte < 128) bytes.now) }
@@ -124,7 +124,7 @@ fn first_command(part: Part, words: &mut Words<'_>) -> Option<Command>
     command_of(part, word)
 }
 
-/// The line of a command and the fields behind it.
+/// The line of a command and the fields after it.
 fn line_of(command: Command, words: Words<'_>) -> Result<ScriptLine<'_>, LineFault>
     ensures { Gives result (shape command words.entry) }
 {

@@ -20,8 +20,8 @@ impl Patience for ClientPatience<'_> {
     }
 }
 
-// Whether the client hasn't ended its side of the connection, and the connection isn't broken. Bytes of it that wait to be read
-// don't matter. Where the system doesn't say, the client counts as there.
+// Whether the client hasn't ended its side of the connection, and the connection isn't broken. Bytes of it that wait to
+// be read don't matter. If the system doesn't say, the client counts as there.
 fn is_there(rt: &HostRuntime, stream: &TcpStream) -> bool {
     !is_ended(rt, stream).unwrap_or(false)
 }

@@ -15,7 +15,7 @@ use std::time::Clock;
 /// The line of the operator that gives up a session.
 const CANCEL: &[u8] = b"cancel ";
 
-/// What an event is about, where the log is told of it.
+/// What an event is about, if the log is told of it.
 #[derive(Clone, Copy, Drop)]
 pub enum About {
     Job(u32),
@@ -177,8 +177,8 @@ impl<R: Wait + Clock, L: Write> Heard<'_, R, L> {
         }
     }
 
-    /// A line of the operator was obeyed. Where it gave up a session, that is the one that the talk opened last: those before
-    /// it have come to their end, and another talk's can't be given up.
+    /// A line of the operator was obeyed. If it gave up a session, that is the one that the talk opened last: those
+    /// before it have come to their end, and another talk's can't be given up.
     pub fn obeyed(&self, line: &[u8]) {
         if !line.starts_with(CANCEL) {
             return;

@@ -27,14 +27,15 @@ impl<L: Write> Log<L> {
         let mut printer = self.printer.lock(rt);
         let printer: &mut Option<Printer<L>> = &mut printer;
         if let Some(printer) = printer {
-            // Under the lock, so that lines stand in the order in which their times were read.
+            // Under the lock, so that lines are in the order in which their times were read.
             let moment = time_now(rt);
             printer.line(Dated { moment, line });
         }
     }
 }
 
-// The time, in whole seconds: when 1970 began where the clock can't be read, and the latest that can be said where it is later.
+// The time, in whole seconds: when 1970 began if the clock can't be read, and the latest that can be said if it is
+// later.
 fn time_now<C: Clock>(clock: &C) -> Timestamp {
     let seconds = match since_1970(clock) {
         Some(since) => since.as_secs(),

@@ -24,7 +24,7 @@ pub enum LogLine<'a> {
     Begins {
         talk: u64,
     },
-    /// The talk has ended: how, or for want of memory.
+    /// The talk has ended: how, or because it was out of memory.
     Ended {
         talk: u64,
         end: Option<TalkEnd>,

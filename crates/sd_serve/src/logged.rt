@@ -31,7 +31,7 @@ impl<'l, P, R: Wait + Clock, L: Write> LoggedPort<'l, P, R, L> {
         LoggedPort { port, heard }
     }
 
-    /// The talk has ended so, or for want of memory. Its port comes back.
+    /// The talk has ended so, or because it was out of memory. Its port comes back.
     pub fn end(self, end: &Result<TalkEnd, AllocError>) -> P
         ensures { result ≡ self.entry.port }
     {

@@ -13,7 +13,7 @@ pub const QUIET_SECONDS: u64 = 300;
 /// How many talks are held at once at the most: one for each lane that the drives may have, and some more.
 pub const MOST_TALKS: u64 = MOST_DRIVES as u64 * MOST_LANES as u64 + 64;
 
-/// How long the server waits where a connection can't be taken, in milliseconds.
+/// How long the server waits if a connection can't be taken, in milliseconds.
 const PAUSE_MILLISECONDS: u64 = 100;
 
 /// What holds talks over connections.
@@ -38,7 +38,7 @@ pub fn serve_each<R: Threads + Wait + Clock + Sync, H: TalkHolder>(
     });
 }
 
-// Takes the connections, one behind the other.
+// Takes the connections, one after the other.
 fn take_all<'s, E, R: Wait + Clock + Sync, H: TalkHolder>(
     scope: &Scope<'s, E>,
     rt: &'s R,

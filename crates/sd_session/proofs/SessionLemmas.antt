@@ -14,7 +14,7 @@ use Rattle.sd_pack.specs.Packing.{PackerView, Packs, HasOpen, bodies_of, unless_
 use Rattle.sd_session.specs.declared.status.Status.TheVariants.{Active, Ended}
 use Rattle.sd_session.specs.Session.{SessionView, spooled_in, MayTake, end_label, TakesRecord, EndsSession}
 
--- where no body is taken from the front, none is left
+-- if no body is taken from the front, none is left
 pub none_left : (taken : Option PackedBody) (old new : List PackedBody) → (IsSome taken ↔ (old ≢ [])) → old ≡ option_to_list taken ++ new → IfNone taken (new ≡ [])
 none_left (Some b) old new is first = tt
 none_left None [] new is first = sym first
@@ -24,11 +24,11 @@ none_left None (b ∷ old) new is first = let some : b ∷ old ≢ [] = λ e. cc
 pub waiting_alone : (p : PackerView) → p.open_body ≡ empty_body → bodies_of p ≡ p.waiting
 waiting_alone p none = ap (λ b. p.waiting ++ unless_empty b.bytes b) none ∙ append-nil p.waiting
 
--- what stands behind three stations stands behind them one by one
+-- what comes after three stations comes after them one by one
 regroup : (a b c d : List PackedBody) → (a ++ (b ++ c)) ++ d ≡ a ++ (b ++ (c ++ d))
 regroup a b c d = append_assoc a (b ++ c) d ∙ ap (λ l. a ++ l) (append_assoc b c d)
 
--- a step of the packer behind the bodies that were sent is one behind those, the ready one and those in the spool
+-- a step of the packer after the bodies that were sent is one after those, the ready one and those in the spool
 behind_parts : (room : ℕ) (ready spooled bodies bodies' : List PackedBody) (records records' : List Record) (standing : Standing) (before : List PackedBody)
     → (Packs room ((before ++ (ready ++ spooled)) ++ bodies) records Between → Packs room ((before ++ (ready ++ spooled)) ++ bodies') records' standing)
     → Packs room (before ++ (ready ++ (spooled ++ bodies))) records Between → Packs room (before ++ (ready ++ (spooled ++ bodies'))) records' standing
@@ -36,7 +36,7 @@ behind_parts room ready spooled bodies bodies' records records' standing before 
     subst (λ l. Packs room l records' standing) (regroup before ready spooled bodies')
     (step (subst (λ l. Packs room l records Between) (sym (regroup before ready spooled bodies)) packs))
 
--- what is added behind is added to the whole
+-- what is added at the end is added to the whole
 bytes_behind : (front bodies bodies' : List PackedBody) (more : List ℕ) → all_bytes bodies' ≡ all_bytes bodies ++ more
     → all_bytes (front ++ bodies') ≡ all_bytes (front ++ bodies) ++ more
 bytes_behind front bodies bodies' more adds =

@@ -27,7 +27,7 @@ pub record QueueView : Type 0 where
 abbrev pub queue_view : (ℕ → List Piece) → Bool → List Queued → ℕ → QueueView
 queue_view sent alone held capacity = record { sent = sent; alone = alone; held = held; capacity = capacity }
 
--- the piece went in behind the others; there was room for it
+-- the piece went in after the others; there was room for it
 pub record PutsIn (old : QueueView) (q : Queued) (new : QueueView) : Type 0 where
   pub sends : Sends old.sent new.sent q
   pub room : old.alone ≡ true → length old.held < old.capacity
@@ -39,7 +39,7 @@ pub record IsFull (old new : QueueView) : Type 0 where
   pub full : old.alone ≡ true → old.capacity ≤ length old.held
   pub held : old.alone ≡ true → new.held ≡ old.held
 
--- where the bodies stand that a session has itself
+-- where the bodies are that a session has itself
 pub record Stations : Type 0 where
   pub ready : Option PackedBody
   pub spool : Option JobView
@@ -76,12 +76,12 @@ TakesNext body old new =
     ⊎ ((old.ready ≡ None) × LeavesSpool body old new)
     ⊎ ((old.ready ≡ None) × (old.spool ≡ None) × StopsWaiting body old new)
 
--- none is in the spool; or, where there is no spool, none waits
+-- none is in the spool; or, if there is no spool, none waits
 abbrev pub NoneIn : Option JobView → PackerView → Type 0
 NoneIn None packer = packer.waiting ≡ []
 NoneIn (Some job) packer = job.shapes ≡ []
 
--- nothing can be sent: no body is ready, and none comes out of the spool or, where there is no spool, waits
+-- nothing can be sent: no body is ready, and none comes out of the spool or, if there is no spool, waits
 abbrev pub HasNoNext : Stations → Type 0
 HasNoNext at = (at.ready ≡ None) × NoneIn at.spool at.packer
 
@@ -99,7 +99,7 @@ abbrev pub goes_on : Option JobView → Bool → Bool
 goes_on None despooling = false
 goes_on (Some job) despooling = goes_on_with job.shapes despooling
 
--- The next body goes to the end of the queue as a piece, with the next number. Despooling is over where
+-- The next body goes to the end of the queue as a piece, with the next number. Despooling is over if
 -- nothing is left in the spool. With an honest store, that body was the first of the session's.
 pub record SendsBody (old : SessionView) (queue : QueueView) (new : SessionView) (queue' : QueueView) : Type 0 where
   pub running : IsRunning old.status
@@ -145,7 +145,7 @@ DespoolRefused old why new =
     ⊎ ((reads : ReadsSpool old) × (why ≡ SpoolFault) × FailsBySpool old reads.job new)
     ⊎ (ReadsSpool old × (why ≡ Memory) × (new ≡ old))
 
--- a body is to come out of the spool, and does not: the store failed, or memory was wanted
+-- a body is to come out of the spool, and does not: the store failed, or it was out of memory
 pub record FailsToTakeNext (fault : SpoolStoreFault) (old new : Stations) : Type 0 where
   pub none_ready : old.ready ≡ None
   pub job : JobView

@@ -40,7 +40,7 @@ pub record SessionView : Type 0 where
   pub despooling : Bool
   pub packer : PackerView
 
--- the bodies in the spool, oldest first; none where there is no spool
+-- the bodies in the spool, oldest first; none if there is no spool
 abbrev pub spooled_in : Option JobView → List PackedBody
 spooled_in None = []
 spooled_in (Some j) = j.bodies
@@ -64,7 +64,7 @@ abbrev pub IsWhole : Option JobView → Type 0
 IsWhole None = Unit {0}
 IsWhole (Some j) = j.torn ≡ false
 
--- the lane's store: in the spool where there is one, else unused, or given back
+-- the lane's store: in the spool if there is one, else unused, or given back
 abbrev pub home_of : Option StoreState → Option JobView → Option StoreState
 home_of store None = store
 home_of store (Some j) = Some j.store
@@ -73,7 +73,7 @@ home_of store (Some j) = Some j.store
 abbrev pub store_of : SessionView → Option StoreState
 store_of s = home_of s.store s.spool
 
--- where an event finds a session that its status keeps from it
+-- the refusal if an event finds a session that its status keeps from it
 abbrev pub status_refusal : Status → Refusal
 status_refusal Cancelled = SessionCancelled
 status_refusal Failed = SessionFailed
@@ -103,7 +103,7 @@ start_label o = record { job = o.job; pool = o.pool; media = o.media; moment = o
 abbrev pub end_label : SessionView → ℤ → SessionLabel
 end_label s moment = record { job = s.job; pool = s.pool; media = s.media; moment = moment; totals = Some (record { records = s.count; bytes = s.bytes }) }
 
--- how the bodies of a session stand that goes on: between two records, or behind its end label
+-- how the bodies of a session that goes on stand: between two records, or after its end label
 abbrev pub standing_of : Status → Standing
 standing_of Active = Between
 standing_of status = AtEnd
@@ -180,7 +180,7 @@ abbrev pub store_refusal : SpoolStoreFault → Refusal
 store_refusal Device = SpoolFault
 store_refusal OutOfMemory = Memory
 
--- Why no session is opened: want of memory, which leaves the store as it was; or, last of all, the store could
+-- Why no session is opened: out of memory, which leaves the store as it was; or, last of all, the store could
 -- not be cleared for a spool.
 abbrev pub StartRefused : ℕ → Meaning → Refusal → Meaning → Type 0
 StartRefused limit store why store' =
@@ -189,8 +189,8 @@ StartRefused limit store why store' =
 
 -- Records.
 
--- The record is added: its fragments come behind all bytes that were there, and behind whatever was sent
--- before the bodies pack one record more; the last of them is open.
+-- The record is added: its fragments come after all bytes that were there, and after whatever was sent
+-- before, the bodies pack one record more; the last of them is open.
 pub record TakesRecord (old : SessionView) (r : Record) (n : ℕ) (new : SessionView) : Type 0 where
   pub active : old.status ≡ Active
   pub may_take : MayTake old.count old.bytes old.last r
@@ -206,7 +206,8 @@ pub record TakesRecord (old : SessionView) (r : Record) (n : ℕ) (new : Session
       → Packs old.packer.room (before ++ parts_of old) records Between
       → Packs old.packer.room (before ++ parts_of new) (records ++ r ∷ []) Between
 
--- why the record is not added: the status, then the index or the counts, then a closed body that waits, then want of memory
+-- why the record is not added: the status, then the index or the counts, then a closed body that waits, then out of
+-- memory
 abbrev pub AppendRefused : SessionView → Record → Refusal → Type 0
 AppendRefused s r why =
     ((s.status ≢ Active) × (why ≡ status_refusal s.status))
@@ -228,7 +229,7 @@ pub record EndsSession (old : SessionView) (moment : ℤ) (new : SessionView) : 
       → Packs old.packer.room (before ++ parts_of new) records AtEnd
   pub bytes_are : all_bytes (parts_of new) ≡ all_bytes (parts_of old) ++ session_label_bytes (end_label old moment)
 
--- why a session is not ended: the status, then want of memory
+-- why a session is not ended: the status, then out of memory
 abbrev pub EndRefused : SessionView → Refusal → Type 0
 EndRefused s why = ((s.status ≢ Active) × (why ≡ status_refusal s.status)) ⊎ ((s.status ≡ Active) × (why ≡ Memory))
 

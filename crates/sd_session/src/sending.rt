@@ -8,8 +8,8 @@ ghost use Rattle.sd_session.specs.Spooling.{HasFailed};
 use sd_pack::{Body, Packer};
 use sd_spool::{JobSpool, SpoolStore, SpoolStoreFault};
 
-/// Takes the body out that is to be sent next: the ready one; else the oldest in the spool, or, where there is no
-/// spool, the one that has waited longest. After a fault of the store the same bodies are in the spool.
+/// Takes out the body that is to be sent next: the ready one; else the oldest in the spool, or, if there is no spool,
+/// the one that has waited longest. After a fault of the store the same bodies are in the spool.
 pub fn take_next<S: SpoolStore>(
     ready: &mut Option<Body>,
     spool: &mut Option<JobSpool<S>>,
@@ -32,7 +32,7 @@ pub fn take_next<S: SpoolStore>(
     }
 }
 
-// Takes the oldest body out of the spool, none where it is empty.
+// Takes the oldest body out of the spool, none if it is empty.
 fn take_spooled<S: SpoolStore>(spool: &mut JobSpool<S>) -> Result<Option<Body>, SpoolStoreFault>
     ensures ok { IfOk result (λ found. MatchOption found
         ((spool.old.shapes ≡ []) × (spool.new ≡ spool.old))

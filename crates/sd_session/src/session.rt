@@ -26,9 +26,9 @@ use sd_spool::{JobSpool, SpoolStore, SpoolStoreFault};
 use std::alloc::{AllocError, Global};
 use std::marker::Model;
 
-/// A session: what it took and hasn't sent yet. Its records are cut into bodies. A closed body waits; where the session
-/// spools it then goes into its spool; and the oldest body that it has goes to the queue before its drive.
-/// In a contract a session is a `SessionView`.
+/// A session: what it took and hasn't sent yet. Its records are cut into bodies. A closed body waits; if the session
+/// spools, it then goes into its spool; and the oldest body that the session has goes to the queue before its drive. In
+/// a contract a session is a `SessionView`.
 #[derive(Drop)]
 pub struct Session<S: SpoolStore> {
     key: SessionKey,
@@ -42,7 +42,7 @@ pub struct Session<S: SpoolStore> {
     last: u32,
     sent: u64,
     ready: Option<Body>,
-    // The lane's store, where there is no spool on it.
+    // The lane's store, if there is no spool on it.
     store: Option<S>,
     spool: Option<JobSpool<S>>,
     // Nothing goes into the spool until it is empty.
@@ -96,11 +96,11 @@ impl<S: SpoolStore> Model for Session<S> {
 
 impl<S: SpoolStore + Drop> Session<S> {
     /// A new session, with its start label, for blocks of at most `block` bytes, 1,024 to 1,048,576. It spools on the
-    /// store up to a limit of `spool` body bytes, and not at all where that is 0; then the store is not touched. Any
-    /// other limit is `block` at least, since a body that passes the limit by itself would wait for ever.
+    /// store up to a limit of `spool` body bytes, and not at all if that is 0; then the store is not touched. Any other
+    /// limit is `block` at least, since a body that passes the limit by itself would wait for ever.
     ///
-    /// All room is made first; then the store is cleared for the spool. Where that fails the session is refused with
-    /// `SpoolFault`, and the store comes back, as it does for want of memory.
+    /// All room is made first; then the store is cleared for the spool. If that fails, the session is refused with
+    /// `SpoolFault`, and the store comes back, as it does if out of memory.
     pub fn open(
         alloc: Global,
         opening: Opening,
@@ -174,7 +174,7 @@ impl<S: SpoolStore + Drop> Session<S> {
         self.bytes
     }
 
-    /// The FileIndex of its last record, 0 where it has none.
+    /// The FileIndex of its last record, 0 if it has none.
     pub fn last(&self) -> u32
         ensures { result ≡ self.now.last }
     {
@@ -225,7 +225,7 @@ impl<S: SpoolStore + Drop> Session<S> {
         Ok(totals.records)
     }
 
-    // The counts with the record, where the session may take it.
+    // The counts with the record, if the session may take it.
     fn totals_with(&self, rec: &Rec) -> Option<Totals>
         ensures { MatchOption result
             (MayTake self.now.count self.now.bytes self.now.last rec.now → ⊥)
@@ -280,8 +280,8 @@ impl<S: SpoolStore + Drop> Session<S> {
         Ok(())
     }
 
-    /// The session fails where it goes on, since a sync of its drive lost a block of it: what it has not sent is
-    /// dropped. Takes no memory.
+    /// The session fails if it goes on, since a sync of its drive lost a block of it: what it has not sent is dropped.
+    /// Takes no memory.
     pub fn fail(&mut self)
         ensures { FailsSession self.old self.new }
     {
@@ -332,7 +332,7 @@ impl<S: SpoolStore + Drop> Session<S> {
         }
     }
 
-    /// One step of spooling: the body that has waited longest goes into the spool. Where it would pass the limit the
+    /// One step of spooling: the body that has waited longest goes into the spool. If it would pass the limit, the
     /// session despools from then on, and nothing goes in until the spool is empty. A fault of the store fails the
     /// session: what it has not sent is dropped.
     pub fn spool_step(&mut self) -> Result<Spooling, Refusal>
@@ -364,10 +364,9 @@ impl<S: SpoolStore + Drop> Session<S> {
     }
 
     /// One step of sending, by the session's lane: the next body goes to the end of the queue before its drive. That is
-    /// the ready one; else the oldest in the spool, or, where the session doesn't spool, the one that has waited
-    /// longest. Where the queue has no room the body is ready from then on. A session that spools is due while it
-    /// despools, and once it is ended and nothing waits. A fault of the store fails the session: what it has not
-    /// sent is dropped.
+    /// the ready one; else the oldest in the spool, or, if the session doesn't spool, the one that has waited longest.
+    /// If the queue has no room, the body is ready from then on. A session that spools is due while it despools, and
+    /// once it is ended and nothing waits. A fault of the store fails the session: what it has not sent is dropped.
     pub fn despool_step<L: Lane>(&mut self, lane: &mut L) -> Result<Despooled, Refusal>
         requires opens { L.opens lane.old self.old.lane }
         ensures ok { IfOk result (λ answer. Despools answer self.old
@@ -451,7 +450,7 @@ impl<S: SpoolStore + Drop> Session<S> {
         Ok(())
     }
 
-    /// Closes a session, exactly where it may be closed. Takes no memory.
+    /// Closes a session, exactly if it may be closed. Takes no memory.
     pub fn close(&mut self, progress: &Progress) -> Result<(), Refusal>
         ensures ok { OnOk result (ClosesSession self.old progress.now self.new) }
         ensures why { IfErr result (λ why. CloseRefused self.old progress.now why) }
@@ -462,8 +461,8 @@ impl<S: SpoolStore + Drop> Session<S> {
         Ok(())
     }
 
-    /// The lane's store, for the lane's next session, from a session that no longer goes on; none where it does, or
-    /// has given it back already. All else of the session stays.
+    /// The lane's store, for the lane's next session, from a session that no longer goes on; none if it does, or has
+    /// given it back already. All else of the session stays.
     pub fn give_back(&mut self) -> Option<S>
         ensures some { IfSome result (λ store. GivesBack self.old
             (state_of (S.meaning store)) self.new) }
@@ -558,7 +557,7 @@ fn begin<S: SpoolStore>(
     }
 }
 
-// Whether a body is in the spool; where there is none there is no body.
+// Whether a body is in the spool; if there is none there is no body.
 fn has_bodies<S: SpoolStore>(spool: &Option<JobSpool<S>>) -> bool
     ensures bodies { IsTrue result ↔ (spooled_in spool.now ≢ []) }
     ensures none { result ≡ false → spooled_count spool.now ≡ 0 }

@@ -18,7 +18,7 @@ use Rattle.sd_span.specs.JobMedia.{session_text, span_text, KeyFits, SpanFits, J
 abbrev pub Lacks : ℕ → List ℕ → Type 0
 Lacks c text = AllByRecursion (λ d. d ≢ c) text
 
--- a text up to the first of a byte, and what stands behind that
+-- a text up to the first of a byte, and what comes after that
 cut_at : (c : ℕ) (a b x y : List ℕ) → Lacks c a → Lacks c b → a ++ (c ∷ x) ≡ b ++ (c ∷ y) → (a ≡ b) × (x ≡ y)
 cut_at c [] [] x y h g e = (refl, cc)
 cut_at c [] (b ∷ bs) x y h g e = absurd (g.0 (cc))
@@ -45,7 +45,7 @@ chars_lack c none (d ∷ ds) h = ((λ same. none (subst (λ n. IsTrue (is_name_c
 pub name_lacks : (c : ℕ) → (IsTrue (is_name_char c) → ⊥) → (text : List ℕ) → IsName text → Lacks c text
 name_lacks c none text is = chars_lack c none text (recursion_from_All (λ c. IsTrue (is_name_char c)) text is.2)
 
--- a number and what stands behind the byte at its end
+-- a number and what comes after the byte at its end
 number_apart : (c n m : ℕ) (x y : List ℕ) → 10 ≤ digit_value c → n < 2 ^ 64 → m < 2 ^ 64
     → decimal n ++ (c ∷ x) ≡ decimal m ++ (c ∷ y) → (n ≡ m) × (x ≡ y)
 number_apart c n m x y none small small' e =

@@ -107,11 +107,11 @@ jobmedia_is_one text key key' spans spans' is is' =
 
 -- How far a text is read.
 
--- no session and no spans stand in it
+-- no session and no spans are in it
 abbrev pub SaysNone : List ℕ → Type 0
 SaysNone text = (key : SessionKey) (spans : List Span) → IsJobMedia text key spans → ⊥
 
--- spans that were read, the lines behind them, and what is kept of the spans
+-- spans that were read, the lines after them, and what is kept of the spans
 pub record Taken (text : List ℕ) (key : SessionKey) (behind : List (List ℕ)) (kept : Option (List Span)) : Type 0 where
   pub done : List Span
   pub fits : AllByRecursion SpanFits done
@@ -174,7 +174,7 @@ line_says_none text key l behind kept t none key' spans is =
     unread_line spans t.done l behind (recursion_from_All SpanFits spans is.spans_fit) none
     (same_rest (session_text key') (session_text key) (map span_text spans) (map span_text t.done ++ l ∷ behind) (sym (lines_written text key' spans is) ∙ t.lines_are)).1
 
--- where no line is left, the text says what was read
+-- if no line is left, the text says what was read
 pub all_taken : (text : List ℕ) (key : SessionKey) (kept : Option (List Span)) → KeyFits key → (t : Taken text key [] kept) → IsJobMedia text key t.done
 all_taken text key kept fits t =
     written_lines text key t.done fits t.fits (t.lines_are ∙ ap (λ (ls : List (List ℕ)). session_text key ∷ ls) (append-nil (map span_text t.done)))

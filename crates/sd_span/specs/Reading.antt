@@ -15,14 +15,14 @@ most_u32 = 4294967295
 abbrev pub most_u64 : ℕ
 most_u64 = 18446744073709551615
 
--- the session that the fields behind `session` spell
+-- the session that the fields after `session` spell
 unfoldable pub key_shape : Fields → Option SessionKey
 key_shape fs = do
   time ← number_at 0 most_u32 fs
   id ← only_number 0 most_u32 time.1
   Some (record { time = time.0; id = id })
 
--- the span that the fields behind `span` spell, whatever its volume is called
+-- the span that the fields after `span` spell, whatever its volume is called
 unfoldable pub span_shape : Fields → Option Span
 span_shape fs = do
   volume ← word_at fs
@@ -33,7 +33,7 @@ span_shape fs = do
   end ← only_number 0 most_u64 start.1
   Some (record { volume = volume.0; vol_index = vol_index.0; first = first.0; last = last.0; start = start.0; end = end })
 
--- the span whose shape was read, where its volume has a name
+-- the span whose shape was read, if its volume has a name
 abbrev pub GivesSpan : Result Span BadField → Option Span → Type 0
 GivesSpan result None = IfOk result (λ _. ⊥)
 GivesSpan result (Some span) =

@@ -16,11 +16,11 @@ abbrev pub placements_of : SessionKey → List Placement → List Placement
 placements_of key [] = []
 placements_of key (p ∷ ps) = if is_key key p.key then p ∷ placements_of key ps else placements_of key ps
 
--- The stretch of one placement. Its number is 0: stretches are numbered where all of them are there.
+-- The stretch of one placement. Its number is 0: stretches are numbered once all of them are there.
 abbrev pub stretch_of : Placement → Span
 stretch_of p = record { volume = p.volume; vol_index = 0; first = p.first; last = p.last; start = p.start; end = p.start + p.length }
 
--- a placement in front of stretches: it begins the first of them where that is on its volume, else one of its own
+-- a placement in front of stretches: it begins the first of them if that is on its volume, else one of its own
 abbrev pub in_front : Placement → List Span → List Span
 in_front p [] = stretch_of p ∷ []
 in_front p (s ∷ ss) =
@@ -47,7 +47,7 @@ spans_of key ps = numbered_from 1 (stretches (placements_of key ps))
 abbrev pub stretch_with : Span → Placement → Span
 stretch_with s p = record s { first = first_nonzero s.first p.first; last = first_nonzero p.last s.last; end = p.start + p.length }
 
--- stretches with one placement more behind them: it ends the last of them where that is on its volume, else it is a
+-- stretches with one placement more after them: it ends the last of them if that is on its volume, else it is a
 -- stretch of its own
 abbrev pub grown : List Span → Placement → List Span
 grown [] p = stretch_of p ∷ []

@@ -54,12 +54,12 @@ impl From<BadField> for JobMediaFault {
 /// The session and the spans that a JobMedia text says (as: Bacula Developer's Guide, JobMedia); its last
 /// newline may lack. A text that says none is refused as such whatever memory is left.
 pub fn read_jobmedia(alloc: Global, text: &str) -> Result<SessionSpans, JobMediaFault>
-    // What is read stands in the text,
+    // What is read is in the text,
     ensures ok { IfOk result (λ read. IsJobMedia text.now read.key read.spans) }
-    // and what stands in it is read, where memory lasts.
+    // and what is in it is read, if memory lasts.
     ensures found { (key : SpecKey) (spans : List SpecSpan) → IsJobMedia text.now key spans
         → (result ≡ Ok (record { key = key; spans = spans })) ⊎ (result ≡ Err Memory) }
-    // A bad span: nothing stands in it.
+    // A bad span: nothing is in it.
     ensures bad_span { (result ≡ Err BadSpan)
         ↔ ((key : SpecKey) (spans : List SpecSpan) → IsJobMedia text.now key spans → ⊥) }
 {

@@ -27,8 +27,8 @@ pub fn spans_of(
     numbered(alloc, &stretches)
 }
 
-/// Adds one placement behind stretches: the last of them grows where it is on the placement's volume, else
-/// a stretch begins. After an Err they are as before.
+/// Adds one placement after stretches: the last of them grows if it is on the placement's volume, else a
+/// stretch begins. After an Err they are as before.
 pub fn grow(stretches: &mut Vec<Span>, placement: &Placement) -> Result<(), AllocError>
     requires { EndFits placement.now }
     ensures ok { OnOk result (stretches.new.items ≡ grown stretches.old.items placement.now) }

@@ -9,7 +9,7 @@ use Rattle.sd_spool.specs.Job.{JobView, EndsAt, entry_shape, entry_body, shape_o
 use Rattle.sd_spool.specs.declared.entry.SpoolEntry.{SpoolEntry}
 use Rattle.sd_spool.specs.declared.entry.Extent.{Extent}
 
--- what stands behind a body doesn't change it
+-- what comes after a body doesn't change it
 entry_body-append : (bytes tail : List ℕ) (e : SpoolEntry) → e.at + e.length ≤ length bytes → entry_body (bytes ++ tail) e ≡ entry_body bytes e
 entry_body-append bytes tail e within =
     ap (λ (x : List ℕ). record { bytes = x; first = e.first; last = e.last })
@@ -88,7 +88,7 @@ no_entries : (es : List SpoolEntry) → map entry_shape es ≡ [] → es ≡ []
 no_entries [] h = refl
 no_entries (e ∷ es) h = absurd cc
 
--- the same of a spool whose view is known
+-- what a failed put leaves of a spool whose view is known
 pub fails_to_put : (v : JobView) (old new : Meaning) (es es' : List SpoolEntry) (before after : Extent) (limit : ℕ) (is_first : Bool) → view_of old es before limit ≡ v → es' ≡ es → IsKept old es before limit → IsTrue is_first ↔ (v.shapes ≡ []) → (is_first ≡ false → IsHonest old → MayAppend old.bytes new.bytes) → (is_first ≡ false → after ≡ record { end = before.end; torn = true }) → FailsToPut v (view_of new es' after limit)
 fails_to_put v old new es es' before after limit is_first view same kept empty bytes extent =
     let shapes = ap (λ (v : JobView). v.shapes) view in

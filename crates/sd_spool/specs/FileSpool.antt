@@ -16,7 +16,7 @@ unused = record { honest = false; bytes = []; failures = 0 }
 abbrev pub path_of : {R F D : Type 0} → FileSpool R F D → List ℕ
 path_of spool = string_bytes spool.file.path
 
--- the name of the file of a lane of a drive, behind its folder
+-- the name of the file of a lane of a drive, after its folder
 abbrev pub lane_file : ℕ → ℕ → List ℕ
 lane_file drive lane = codes "/spool~" ++ (decimal drive ++ (codes "~" ++ decimal lane))
 

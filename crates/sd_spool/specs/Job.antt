@@ -41,25 +41,25 @@ pub record JobView : Type 0 where
   pub used : ℕ
   -- the most that `used` may come to
   pub limit : ℕ
-  -- the store failed a put while bodies stood in it, and the spool hasn't been empty since. Those bodies
-  -- stand as they did, but what is put behind them may come back as other bytes
+  -- the store failed a put while bodies were in it, and the spool hasn't been empty since. Those bodies
+  -- are as they were, but what is put after them may come back as other bytes
   pub torn : Bool
 
 -- the spool's store is honest
 abbrev pub StoreIsHonest : JobView → Type 0
 StoreIsHonest view = IsTrue view.store.honest
 
--- what counts towards the limit while these bodies are in the spool: nothing where none is
+-- what counts towards the limit while these bodies are in the spool: nothing if none is
 abbrev pub used_with : List BodyShape → ℕ → ℕ
 used_with [] used = 0
 used_with (s ∷ ss) used = used
 
--- whether a failed put is felt while these bodies are in the spool: not where none is
+-- whether a failed put is felt while these bodies are in the spool: not if none is
 abbrev pub torn_with : List BodyShape → Bool → Bool
 torn_with [] torn = false
 torn_with (s ∷ ss) torn = torn
 
--- where no failed put is felt, an honest store under a spool that isn't empty holds as many bytes as count towards
+-- if no failed put is felt, an honest store under a spool that isn't empty holds as many bytes as count towards
 -- the limit: the bodies since the spool was last empty, and nothing from before
 abbrev pub HoldsUsed : JobView → Meaning → Type 0
 HoldsUsed view store = IsHonest store → view.torn ≡ false → view.shapes ≢ [] → length store.bytes ≡ view.used
@@ -68,7 +68,7 @@ HoldsUsed view store = IsHonest store → view.torn ≡ false → view.shapes �
 abbrev pub entry_shape : SpoolEntry → BodyShape
 entry_shape entry = record { length = entry.length; first = entry.first; last = entry.last }
 
--- that body, with the bytes that stand at its place
+-- that body, with the bytes at its place
 abbrev pub entry_body : List ℕ → SpoolEntry → PackedBody
 entry_body bytes entry = record {
   bytes = take entry.length (drop entry.at bytes);
@@ -93,7 +93,7 @@ pub record IsEntry (end : ℕ) (entry : SpoolEntry) : Type 0 where
   pub most : entry.length ≤ most_body
   pub within : entry.at + entry.length ≤ end
 
--- where no call failed to change an honest store, it holds just the bytes up to the end
+-- if no call failed to change an honest store, it holds just the bytes up to the end
 abbrev pub EndsAt : Meaning → Extent → Type 0
 EndsAt store extent = IsHonest store → extent.torn ≡ false → length store.bytes ≡ extent.end
 
@@ -103,12 +103,12 @@ pub record IsKept (store : Meaning) (entries : List SpoolEntry) (extent : Extent
   pub within : extent.end ≤ limit
   pub ends : EndsAt store extent
 
--- where a put begins: where things stand, or at the start where no body is in the spool and it is cleared
+-- where a put begins: where things stand, or at the start if no body is in the spool and it is cleared
 abbrev pub begin_extent : Bool → Extent → Extent
 begin_extent true extent = record { end = 0; torn = false }
 begin_extent false extent = extent
 
--- the bytes behind which a put begins, in the same way
+-- the bytes after which a put begins, in the same way
 abbrev pub begin_bytes : Bool → List ℕ → List ℕ
 begin_bytes true bytes = []
 begin_bytes false bytes = bytes
@@ -133,7 +133,7 @@ pub record FailsToClear (fault : SpoolStoreFault) (old new : Meaning) : Type 0 w
   pub bytes : IsHonest old → MayClear old.bytes new.bytes
 
 -- no call changes whether the store is honest; its failures don't fall; the call answers a fault of the store only
--- where one was counted, or where the count can't rise any more, and it does where one was counted
+-- if one was counted, or if the count can't rise any more, and it does if one was counted
 pub record HasCause (fault : Type 0) (old new : StoreState) : Type 0 where
   pub honest : new.honest ≡ old.honest
   pub failures : old.failures ≤ new.failures
@@ -148,7 +148,7 @@ pub record Puts (body : PackedBody) (old new : JobView) : Type 0 where
   pub limit : new.limit ≡ old.limit
   pub torn : new.torn ≡ old.torn
 
--- the body isn't in the spool; where others are, it is torn
+-- the body isn't in the spool; if others are, it is torn
 pub record FailsToPut (old new : JobView) : Type 0 where
   pub shapes : new.shapes ≡ old.shapes
   pub bodies : StoreIsHonest old → old.torn ≡ false → new.bodies ≡ old.bodies

@@ -17,15 +17,15 @@ abbrev pub IsHonest : Meaning → Type 0
 IsHonest meaning = IsTrue meaning.honest
 
 -- no call changes whether the store is honest; the count of failures doesn't fall; a fault of the device is
--- answered exactly where a failure was counted, or where the count can't rise any more
+-- answered exactly if a failure was counted, or if the count can't rise any more
 pub record CountsFailures {T : Type 0} (result : Result T SpoolStoreFault) (old new : Meaning) : Type 0 where
   pub honest : new.honest ≡ old.honest
   pub failures : CountsUp (IsErrOf result Device) old.failures new.failures
 
--- the bytes are those that stood, and some behind them, or none
+-- the bytes are those that were there, and some after them, or none
 abbrev pub MayAppend : List ℕ → List ℕ → Type 0
 MayAppend old new = (tail : List ℕ) × (new ≡ old ++ tail)
 
--- the bytes are those that stood, or none is left
+-- the bytes are those that were there, or none is left
 abbrev pub MayClear : List ℕ → List ℕ → Type 0
 MayClear old new = (new ≡ old) ⊎ (new ≡ [])

@@ -31,7 +31,7 @@ plan_of spool = entries_of spool.plan
 abbrev pub NoneCounted : MemSpool → Type 0
 NoneCounted spool = plans.NoneCounted spool_calls spool.plan
 
--- so many bytes don't stand from this place on
+-- there aren't so many bytes from this place on
 abbrev pub IsShort : ℕ → ℕ → MemSpool → Type 0
 IsShort at count spool = length spool.bytes.items < at + count
 
@@ -40,21 +40,21 @@ IsShort at count spool = length spool.bytes.items < at + count
 abbrev pub FailsAtOnce : SpoolCall → MemSpool → Type 0
 FailsAtOnce call spool = plans.FailsAtOnce spool_calls call spool.plan
 
--- a call counts once in the plan; it answers `Device` exactly where it fails at once, or where it has a cause
--- of its own or an entry is due for it, and it isn't refused for want of memory
+-- a call counts once in the plan; it answers `Device` exactly if it fails at once, or if it has a cause of
+-- its own or an entry is due for it, and it isn't refused because it is out of memory
 abbrev pub FollowsPlan
     : {T : Type 0} → SpoolCall → Type 0 → Result T SpoolStoreFault → MemSpool → MemSpool → Type 0
 FollowsPlan call own_cause result old new =
     Follows spool_calls call (IsErrOf result Device) own_cause (IsErrOf result Memory) old.plan new.plan
 
--- What an append leaves that isn't refused for want of memory: nothing more where it fails at once; else as much of its
--- bytes behind the others as its entry says, all where none is due.
+-- What an append leaves whose answer isn't out of memory: nothing more if it fails at once; else as much of its bytes
+-- after the others as its entry says, all if none is due.
 pub record AppendsPart (bytes : List ℕ) (old new : MemSpool) : Type 0 where
   pub at_once : FailsAtOnce Append old → new.bytes.items ≡ old.bytes.items
   pub part : ¬ FailsAtOnce Append old
       → new.bytes.items ≡ old.bytes.items ++ part_of (due_of spool_calls Append old.plan) bytes
 
--- what a clear leaves: the same where it fails at once, else nothing
+-- what a clear leaves: the same bytes if it fails at once, else nothing
 pub record ClearsUnlessAtOnce (old new : MemSpool) : Type 0 where
   pub at_once : FailsAtOnce Clear old → new.bytes.items ≡ old.bytes.items
   pub none : ¬ FailsAtOnce Clear old → new.bytes.items ≡ []

@@ -1,4 +1,4 @@
-// Where the bodies of a spool stand in its store.
+// Where the bodies of a spool lie in its store.
 ghost use Rattle.std.specs.Prelude.{◌≡◌, ◌↔◌, ◌+◌, ◌^◌, ◌<◌, ◌≤◌, ◌++◌, [], false, true, length, IfOk, OnOk, OnErr, IsErrOf, IsTrue};
 ghost use Rattle.sd_spool.specs.Meaning.{IsHonest, CountsFailures, MayAppend};
 ghost use Rattle.sd_spool.specs.Job.{EndsAt, HasCause, state_of, begin_extent, begin_bytes};
@@ -31,7 +31,7 @@ impl Extent {
         self.end == 0 && !self.torn
     }
 
-    // Makes the store ready for a body: clears it where that body will be the only one.
+    // Makes the store ready for a body: clears it if that body will be the only one.
     fn begin<S: SpoolStore>(&mut self, store: &mut S, is_first: bool) -> Result<(), SpoolStoreFault>
         requires { EndsAt (S.meaning store.old) self.old }
         ensures ends { EndsAt (S.meaning store.new) self.new }
@@ -87,8 +87,8 @@ impl Extent {
         }
     }
 
-    /// Puts the bytes of a body into the store, and tells their place. Where no other body stands there, what
-    /// stands is cleared away first.
+    /// Puts the bytes of a body into the store, and tells their place. If no other body is in it, what is
+    /// there is cleared away first.
     pub fn put<S: SpoolStore>(
         &mut self,
         store: &mut S,

@@ -13,7 +13,7 @@ use std::io;
 use std::os::unix::fs::FileExt;
 
 /// A spool in a file of its own. It claims nothing of what the file holds; its failures are counted. A `Device`
-/// is answered to each call of the system that failed, want of memory too.
+/// is answered to each call of the system that failed, also if out of memory.
 #[derive(Drop)]
 pub struct FileSpool<R: Files + Drop> {
     pub(crate) file: SpoolFile<R>,
@@ -21,9 +21,9 @@ pub struct FileSpool<R: Files + Drop> {
 }
 
 impl<R: Files + Drop> FileSpool<R> {
-    /// The spool of a lane, in the folder at a path, the current folder where that is empty. Nothing of the
+    /// The spool of a lane, in the folder at a path, the current folder if that is empty. Nothing of the
     /// folder is touched before the first append or clear, which empties a file that an earlier run left. The
-    /// file's name is no volume's, since a `~` stands in it. A drop removes it only where this spool made it.
+    /// file's name is no volume's, since a `~` is in it. A drop removes it only if this spool made it.
     pub fn new(
         system: R,
         alloc: Global,

@@ -20,7 +20,7 @@ pub enum PutFault {
     Full,
     /// The store failed, and counted that.
     Device,
-    /// Memory was wanted.
+    /// Out of memory.
     Memory,
 }
 
@@ -76,7 +76,7 @@ impl<S: SpoolStore> JobSpool<S> {
         }
     }
 
-    /// The store as it stands; what bodies are in it are lost.
+    /// The store as it is; what bodies are in it are lost.
     pub fn into_store(self) -> S
         ensures state { state_of (S.meaning result) ≡ self.store }
         ensures bytes { HoldsUsed self (S.meaning result) }
@@ -99,7 +99,7 @@ impl<S: SpoolStore> JobSpool<S> {
         self.entries.is_empty()
     }
 
-    /// Puts a body behind those in the spool. `Full` and `Memory` leave the spool as it was.
+    /// Puts a body after those in the spool. `Full` and `Memory` leave the spool as it was.
     pub fn put_body(&mut self, body: &Body) -> Result<(), PutFault>
         ensures cause { HasCause (IsErrOf result PutFault.Device) self.old.store self.new.store }
         ensures ok { OnOk result (Puts body.now self.old self.new) }
@@ -133,8 +133,8 @@ impl<S: SpoolStore> JobSpool<S> {
         Ok(())
     }
 
-    /// Takes the oldest body out, none where the spool is empty. After a fault of the store the same bodies are
-    /// in the spool; `Memory` leaves it as it was.
+    /// Takes the oldest body out, none if the spool is empty. After a fault of the store the same bodies are in
+    /// the spool; `Memory` leaves it as it was.
     pub fn next_body(&mut self) -> Result<Option<Body>, SpoolStoreFault>
         ensures cause { HasCause (IsErrOf result SpoolStoreFault.Device)
             self.old.store self.new.store }
@@ -160,7 +160,7 @@ impl<S: SpoolStore> JobSpool<S> {
     }
 }
 
-// The body of `size` bytes that stands at `at` of a store.
+// The body of `size` bytes at `at` of a store.
 fn read_body<S: SpoolStore>(
     alloc: Global,
     store: &mut S,

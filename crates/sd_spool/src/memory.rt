@@ -109,7 +109,7 @@ impl SpoolStore for MemSpool {
     }
 }
 
-// Whether so many bytes stand from a place on.
+// Whether there are so many bytes from a place on.
 fn stands(bytes: &[u8], at: u64, count: usize) -> bool
     ensures { IsTrue result ↔ (at + count ≤ length bytes.now) }
 {

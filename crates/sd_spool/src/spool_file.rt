@@ -5,7 +5,7 @@ use std::fs::{self, Files, OpenFile, OpenOptions};
 use std::io::{self, ErrorKind};
 use std::os::unix::fs::FileExt;
 
-/// A file at a path, which is not looked at before the first write or clear. Where it is made by this, it goes
+/// A file at a path, which is not looked at before the first write or clear. If it is made by this, it goes
 /// with it. Reads and writes name their place, so the file's own position is never used.
 pub(crate) struct SpoolFile<R: Files + Drop> {
     system: R,
@@ -43,7 +43,7 @@ impl<R: Files + Drop> SpoolFile<R> {
         }
     }
 
-    // Opens what stands at the path, if that is a file, and empties it.
+    // Opens what is at the path, if that is a file, and empties it.
     fn find_left(&self) -> io::Result<R::File> {
         let file = sd_file::open_there(
             &self.system,
@@ -67,7 +67,7 @@ impl<R: Files + Drop> SpoolFile<R> {
         Ok(())
     }
 
-    // Removes the file, if it was made by this one and stands there still.
+    // Removes the file, if it was made by this one and is there still.
     fn remove(&self) -> io::Result<()> {
         if let Some((file, true)) = &self.opened {
             if sd_file::is_there(&self.system, self.path.as_str(), file)? {
@@ -82,7 +82,7 @@ impl<R: Files + Drop> SpoolFile<R>
 where
     R::File: FileExt,
 {
-    /// Writes behind what was written. Where that fails, the next write takes the same place.
+    /// Writes after what was written. If that fails, the next write takes the same place.
     pub(crate) fn append(&mut self, bytes: &[u8]) -> io::Result<()>
         ensures ok { OnOk result (self.new.end ≡ self.old.end + length bytes.now) }
         ensures err { OnErr result (self.new.end ≡ self.old.end) }

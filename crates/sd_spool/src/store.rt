@@ -7,11 +7,11 @@ ghost use Rattle.sd_spool.specs.Meaning.{Meaning, IsHonest, CountsFailures, MayA
 pub enum SpoolStoreFault {
     /// The store failed, and counted that.
     Device,
-    /// Memory was wanted, and nothing happened.
+    /// Out of memory, and nothing happened.
     Memory,
 }
 
-/// A store of bytes for a spool. What it is stands in its meaning: whether it is honest, the bytes that were
+/// A store of bytes for a spool. Its meaning says what it is: whether it is honest, the bytes that were
 /// appended since the last clear, and how many calls failed. An honest store keeps those bytes and tells
 /// them. Of any other only the count of failures is known.
 ///
@@ -20,7 +20,7 @@ pub enum SpoolStoreFault {
 pub trait SpoolStore: Send {
     ghost meaning: { Self → Meaning };
 
-    /// Adds bytes behind those that stand. After a fault some of them may stand there.
+    /// Adds bytes after those that are there. After a fault some of them may be there.
     fn append(&mut self, bytes: &[u8]) -> Result<(), SpoolStoreFault>
         ensures counts { CountsFailures result (meaning self.old) (meaning self.new) }
         ensures memory { IsErrOf result SpoolStoreFault.Memory
@@ -30,8 +30,8 @@ pub trait SpoolStore: Send {
         ensures err { IsHonest (meaning self.old) → OnErr result
             (MayAppend (meaning self.old).bytes (meaning self.new).bytes) };
 
-    /// Fills `into` with the bytes that stand from `at` on. Where there are fewer than it has room for, that is
-    /// a fault of the store. After a fault `into` may hold anything.
+    /// Fills `into` with the bytes from `at` on. If there are fewer than it has room for, that is a fault of
+    /// the store. After a fault `into` may hold anything.
     fn read_at(&mut self, at: u64, into: &mut [u8]) -> Result<(), SpoolStoreFault>
         ensures counts { CountsFailures result (meaning self.old) (meaning self.new) }
         ensures memory { IsErrOf result SpoolStoreFault.Memory
@@ -41,7 +41,7 @@ pub trait SpoolStore: Send {
         ensures same { IsHonest (meaning self.old)
             → (meaning self.new).bytes ≡ (meaning self.old).bytes };
 
-    /// Throws all bytes away. After a fault they stand, or none is left.
+    /// Throws all bytes away. After a fault they stay, or none is left.
     fn clear(&mut self) -> Result<(), SpoolStoreFault>
         ensures counts { CountsFailures result (meaning self.old) (meaning self.new) }
         ensures memory { IsErrOf result SpoolStoreFault.Memory

@@ -19,7 +19,7 @@ pub struct Shut {
     pub spans: Items<Span>,
 }
 
-/// Closes the session, if that is possible now; none where something of it is on its way.
+/// Closes the session, if that is possible now; none if something of it is on its way.
 pub(crate) fn try_close<D: Driver, N: Naming, R: Wait + Drop, S: SpoolStore + Drop>(
     line: &Line<D, N, R>,
     part: &mut SessionPart<N, S>,

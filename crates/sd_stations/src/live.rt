@@ -66,8 +66,8 @@ impl<'h, D: Driver, N: Naming, R: Wait + Clock + Drop, S: SpoolStore + Drop> Liv
         self.station
     }
 
-    /// Adds a record, and says how many the session has then. While a closed body waits, that is sent on first; where the
-    /// queue before the drive is full, what moves at the drive is waited for. Where the drive has no volume for what is in
+    /// Adds a record, and says how many the session has then. While a closed body waits, that is sent on first; if the
+    /// queue before the drive is full, what moves at the drive is waited for. If the drive has no volume for what is in
     /// its hand, one is waited for as long as the patience lasts, and then the session is busy.
     pub fn add<P: Patience>(&mut self, rt: &R, rec: &Rec, patience: &P) -> Result<u64, Refusal>
         ensures ok { IfOk result (λ n. GoesOn self.old (rec.now ∷ []) self.new
@@ -91,8 +91,8 @@ impl<'h, D: Driver, N: Naming, R: Wait + Clock + Drop, S: SpoolStore + Drop> Liv
         unreachable!()
     }
 
-    // Sends a body on. Where the drive has no volume for what is in its hand, how often something had moved there: what lies
-    // ready may have made room all the same. A spool that fails has failed the session.
+    // Sends a body on. If the drive has no volume for what is in its hand, answers how often something had moved there:
+    // what lies ready may have made room all the same. A spool that fails has failed the session.
     fn send_on(&mut self, rt: &R) -> Result<Option<Moves>, Refusal>
         ensures goes_on { GoesOn self.old [] self.new }
         ensures err { IfErr result (λ why. StopsShort (Refused why) self.new.session) }
@@ -124,7 +124,7 @@ impl<'h, D: Driver, N: Naming, R: Wait + Clock + Drop, S: SpoolStore + Drop> Liv
     }
 
     /// Sends all that an ended session has, and closes it once all of it is placed: the drive is synced for that, so that
-    /// no close waits for what others send. What is on its way is waited for; where the drive has no volume for what is in
+    /// no close waits for what others send. What is on its way is waited for; if the drive has no volume for what is in
     /// its hand, one is waited for as long as the patience lasts, and then the answer is 'not yet'.
     pub fn close<P: Patience>(&mut self, rt: &R, patience: &P) -> Result<Shut, Refusal>
         ensures goes_on { GoesOn self.old [] self.new }
@@ -151,8 +151,8 @@ impl<'h, D: Driver, N: Naming, R: Wait + Clock + Drop, S: SpoolStore + Drop> Liv
         unreachable!()
     }
 
-    // Sends all that the session has, which is ended. Where it can't be sent now, it can't be closed yet; a spool that fails
-    // has failed the session.
+    // Sends all that the session has, which is ended. If it can't be sent now, it can't be closed yet; a spool that
+    // fails has failed the session.
     fn send_rest<P: Patience>(&mut self, rt: &R, patience: &P) -> Result<(), Refusal>
         ensures goes_on { GoesOn self.old [] self.new }
         ensures err { IfErr result (λ why. StopsShort (Refused why) self.new.session) }
@@ -170,7 +170,7 @@ impl<'h, D: Driver, N: Naming, R: Wait + Clock + Drop, S: SpoolStore + Drop> Liv
         self.station.line().progress(session.key()).placed == session.sent()
     }
 
-    // Syncs the drive's volume. Where that fails the close tells it.
+    // Syncs the drive's volume. If that fails, the close reports it.
     fn sync(&self, rt: &R) {
         let drive = self.station.line().no();
         let _ = self.station.operate(rt, Event::Sync { drive });
@@ -189,7 +189,7 @@ impl<'h, D: Driver, N: Naming, R: Wait + Clock + Drop, S: SpoolStore + Drop> Liv
         }
     }
 
-    /// The end of the lane, with the session as it stands. Takes no memory.
+    /// The end of the lane, with the session as it is. Takes no memory.
     pub fn leave(self) -> LaneEnd<N, S>
         ensures { result ≡ end_of self.entry }
     {

@@ -52,7 +52,7 @@ impl Meter {
         self.synced(clock, begun, awaited_sync && turned.sync.is_some());
     }
 
-    /// Counts a sync that began then, if there was one. Where the clock can't be read it counts as none of the time.
+    /// Counts a sync that began then, if there was one. If the clock can't be read, it counts as none of the time.
     pub(crate) fn synced<C: Clock>(&self, clock: &C, begun: Option<Instant>, was_synced: bool) {
         if was_synced {
             self.syncs.fetch_add(1, Ordering::SeqCst);
@@ -72,7 +72,7 @@ impl Meter {
     }
 }
 
-// How many nanoseconds went by since then; 0 where the clock can't be read.
+// How many nanoseconds went by since then; 0 if the clock can't be read.
 fn nanos_since<C: Clock>(clock: &C, begun: Option<Instant>) -> u64 {
     let Some(begun) = begun else {
         return 0;

@@ -26,8 +26,8 @@ enum Stepped {
 }
 
 /// One step of spooling and one of sending. While the queue has no room for a body that isn't spooled, waits until something
-/// moves at the drive and tries again, so that nothing is added behind a body that could be sent. Where the drive has no volume
-/// for what is in its hand, answers how often something had moved there.
+/// moves at the drive and tries again, so that nothing is added after a body that could be sent. If the drive has no
+/// volume for what is in its hand, answers how often something had moved there.
 pub(crate) fn send_on<D: Driver, N: Naming, R: Wait + Clock + Drop, S: SpoolStore + Drop>(
     rt: &R,
     station: &Station<D, N, R>,
@@ -79,8 +79,8 @@ fn step<D: Driver, N: Naming, R: Wait + Clock + Drop, S: SpoolStore + Drop>(
     }
 }
 
-/// Sends all that an ended session has. Where the drive has no volume for what is in its hand, waits until it has one, as long
-/// as the patience lasts, and then the session is busy.
+/// Sends all that an ended session has. If the drive has no volume for what is in its hand, waits until it has one, as
+/// long as the patience lasts, and then the session is busy.
 pub(crate) fn send_rest<
     D: Driver,
     N: Naming,
@@ -110,7 +110,7 @@ pub(crate) fn send_rest<
     Ok(())
 }
 
-/// Waits until something has moved at the drive since, or may have: then what was refused may be tried again. Where the
+/// Waits until something has moved at the drive since, or may have: then what was refused may be tried again. If the
 /// drive has no volume for what is in its hand, waits until it has one, as long as the patience lasts. Whether to try again.
 pub(crate) fn wait<D: Driver, N: Naming, R: Wait + Clock + Drop, P: Patience>(
     rt: &R,

@@ -95,12 +95,12 @@ fn is_change(loaded: &Option<VolName>, reply: &Reply) -> bool {
     }
 }
 
-// Whether an event has the loaded volume synced, where blocks await that.
+// Whether an event has the loaded volume synced, if blocks await that.
 fn is_sync(event: &Event) -> bool {
     matches!(event, Event::Sync { .. } | Event::Unmount { .. })
 }
 
-// How a drive stood before a turn or an event of the operator.
+// The state of a drive before a turn or an event of the operator.
 #[derive(Drop)]
 struct Before {
     // The name of the loaded volume.
@@ -155,7 +155,7 @@ impl<D: Driver, N: Naming, R: Wait + Clock + Drop> Station<D, N, R> {
         }
     }
 
-    // A turn; and where the drive needs a volume, it seeks one.
+    // A turn; and if the drive needs a volume, it seeks one.
     fn turn(&self, rt: &R) -> Worked {
         // A volume that fails is loaded no more.
         let Before {
@@ -176,14 +176,14 @@ impl<D: Driver, N: Naming, R: Wait + Clock + Drop> Station<D, N, R> {
                 Told::Failed => (Headway::Moved { holding: true }, Told::Failed),
                 _ => return self.seek(rt, took),
             },
-            // For want of memory, which may be there once somebody else has given some back.
+            // Out of memory; there may be some once somebody else has given some back.
             Err(_) => (Headway::Halted, Told::Nothing),
         };
         self.watch.turned(rt, took, headway);
         told.of_volume(loaded)
     }
 
-    // How the drive stands.
+    // The state of the drive.
     fn before(&self) -> Before {
         let Some(side) = self.line.lock() else {
             return Before {
@@ -249,7 +249,7 @@ impl<D: Driver, N: Naming, R: Wait + Clock + Drop> Station<D, N, R> {
         reply
     }
 
-    // Has the worker tell of the volume that was loaded, where the device failed with it.
+    // Has the worker tell of the volume that was loaded, if the device failed with it.
     fn tell_failed(&self, rt: &R, loaded: Option<VolName>, reply: &Reply) {
         if let (Some(volume), Reply::Refused(Refusal::DeviceFault)) = (loaded, reply) {
             if self.has_failed(&volume) {

@@ -65,7 +65,7 @@ pub(crate) enum Headway {
     Halted,
 }
 
-// How a drive stands, by what its worker and the talks told.
+// The state of a drive, by what its worker and the talks told.
 #[derive(Drop)]
 struct Standing {
     // How many pieces were pushed, and how many were taken. One may be taken before its push is told.
@@ -238,8 +238,8 @@ impl Watch {
         standing.queued() <= 1 || !standing.is_gathering()
     }
 
-    /// Tells that the operator did something at the drive, so that what could not be placed may be placed now. Where nothing
-    /// changed by it, who waits waits on.
+    /// Tells that the operator did something at the drive, so that what could not be placed may be placed now. If
+    /// nothing changed by it, who waits goes on waiting.
     pub(crate) fn operated<R: Wait>(&self, rt: &R, is_change: bool) {
         let mut standing = self.standing.lock(rt);
         let standing = &mut *standing;

@@ -21,7 +21,7 @@ sent_there lane old new after piece was is there h =
     ap (λ s. s.sent) there ∙ sym (own new lane is) ∙ h ∙ ap (λ ps. ps ++ pieces_of lane (queued lane piece ∷ [])) (own old lane was)
     ∙ ap (λ ps. old.sent ++ ps) (one_of lane piece)
 
--- where it told that nothing was sent, nothing was
+-- if it told that nothing was sent, nothing was
 pub none_sent_there : (lane : ℕ) (old new after : LaneSeatIs) → lane ≡ old.lane → lane ≡ new.lane → after ≡ new
     → (if new.lane == lane then new.sent else []) ≡ (if old.lane == lane then old.sent else [])
     → after.sent ≡ old.sent

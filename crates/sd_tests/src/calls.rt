@@ -20,7 +20,7 @@ pub enum Step {
 }
 
 impl Step {
-    // The volume that the step names; any other name where it names none.
+    // The volume that the step names; any other name if it names none.
     fn name(self) -> &'static str {
         match self {
             Step::Create(name) => name,
@@ -161,7 +161,7 @@ impl<D: Driver + Drop> Bench<D> {
     }
 }
 
-/// Takes the steps in order. Tells each with a blank behind it.
+/// Takes the steps in order. Tells each with a blank after it.
 pub fn play<D: Driver + Drop>(
     text: &mut String,
     bench: &mut Bench<D>,

@@ -21,7 +21,7 @@ fn are_read() -> bool {
         && get_i64(&FIELDS, 16) == Ok(-2)
 }
 
-// Whether no field stands at a place.
+// Whether no field is at a place.
 fn is_behind(at: usize) -> bool {
     get_u32(&FIELDS, at) == Err(Short)
         && get_i32(&FIELDS, at) == Err(Short)

@@ -27,7 +27,7 @@ fn case_of(lanes: u32, row: &Row) -> Case {
     }
 }
 
-// What is to come of it: behind what is left there is the rest of the room.
+// What is to come of it: after what is left, there is the rest of the room.
 fn wanted(case: &Case) -> Told {
     Told {
         room: Some(case.capacity),

@@ -29,7 +29,7 @@ fn number_of(reply: &Reply) -> u16 {
     }
 }
 
-// What a new world answers to them: 1 where a drive has nothing to do, 2 where it has synced, or the refusal's number.
+// What a new world answers to them: 1 if a drive has nothing to do, 2 if it has synced, or the refusal's number.
 fn answers(alloc: Global) -> Option<[u16; 4]> {
     let mut world = make_world(alloc)?;
     let replies = world.run(turns(alloc)?).ok()?;

@@ -83,7 +83,7 @@ static KINDS: [(Call, u64); 7] = [
 // One that can't be half done fails before it does anything.
 static WAYS: [When; 3] = [When::Before, When::Half, When::After];
 
-// The history without a failure, and where each call of it in turn fails in each way: a line for each.
+// The history without a failure, and with each call of it in turn failing in each way: a line for each.
 fn tell_all(alloc: Global) -> Result<String, AllocError> {
     let mut text = String::new(alloc);
     text.push_str("no failure: ")?;
@@ -96,7 +96,7 @@ fn tell_all(alloc: Global) -> Result<String, AllocError> {
     Ok(text)
 }
 
-// The history where each call of a kind in turn fails so.
+// The history with each call of a kind in turn failing so.
 fn tell_failing(
     alloc: Global,
     call: Call,
@@ -169,7 +169,7 @@ static TWO_BYTES: [Step; 3] = [Step::Create("A"), Step::Append(&[1, 2]), Step::S
 // One counted call.
 static SYNC_AGAIN: [Step; 2] = [Step::Load("A"), Step::Sync];
 
-// Two stable bytes, and the number of the counted calls; then what a stop behind them leaves, with a tail of one byte.
+// Two stable bytes, and the number of the counted calls; then what a stop after them leaves, with a tail of one byte.
 fn tell_tail(alloc: Global, text: &mut String) -> Result<(), AllocError> {
     let mut bench = make_bench(alloc, &[])?;
     play(text, &mut bench, &TWO_BYTES)?;

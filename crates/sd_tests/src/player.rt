@@ -25,7 +25,7 @@ pub struct Case {
 /// What a case came to.
 #[derive(Clone, Copy, Debug, PartialEq)]
 pub struct Told {
-    /// How many pieces went in before one was refused, at first and behind the join.
+    /// How many pieces went in before one was refused, at first and after the join.
     pub room: Option<usize>,
     pub room_behind: Option<usize>,
     /// How many pieces came that weren't the next of their lane.

@@ -49,7 +49,7 @@ fn push_one<R: Wait + Clock + Drop>(
     false
 }
 
-// Pushes so many pieces of a lane, behind those that it sent before.
+// Pushes so many pieces of a lane, after those that it sent before.
 fn push_each<R: Wait + Clock + Drop>(
     rt: &R,
     alloc: Global,

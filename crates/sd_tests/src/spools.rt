@@ -41,7 +41,7 @@ fn tell_body(text: &mut String, body: &Body) -> Result<(), AllocError> {
     write!(text, "{same} of {number}, ")
 }
 
-// Takes all bodies out, each once more where that failed.
+// Takes all bodies out, each once more if that failed.
 fn drain(text: &mut String, spool: &mut JobSpool<MemSpool>) -> Result<(), AllocError> {
     for _ in 0..100 {
         match spool.next_body() {
@@ -53,7 +53,7 @@ fn drain(text: &mut String, spool: &mut JobSpool<MemSpool>) -> Result<(), AllocE
     Ok(())
 }
 
-// Puts a body in. Where that failed or the spool is full, takes all others out first.
+// Puts a body in. If that failed or the spool is full, takes all others out first.
 fn put(text: &mut String, spool: &mut JobSpool<MemSpool>, body: &Body) -> Result<(), AllocError> {
     for _ in 0..4 {
         match spool.put_body(body) {
@@ -86,7 +86,7 @@ fn cleared(alloc: Global, store: MemSpool) -> Option<JobSpool<MemSpool>> {
     }
 }
 
-// How often the store failed on the way of the bodies through it; `None` where they came out otherwise.
+// How often the store failed on the way of the bodies through it; `None` if they came out otherwise.
 fn failures_of(alloc: Global, plan: Vec<SpoolFail>) -> Option<u64> {
     let mut spool = cleared(alloc, MemSpool::with_plan(alloc, plan))?;
     let mut text = String::new(alloc);

@@ -1,7 +1,7 @@
 // The expected values are zlib's.
 use sd_crc::{crc32, crc32_by_table};
 
-// What `crc32` and its yardstick say, where they agree.
+// What `crc32` and its yardstick say, if they agree.
 fn sum(bytes: &[u8]) -> Option<u32> {
     let sum = crc32(bytes);
     (sum == crc32_by_table(bytes)).then_some(sum)

@@ -20,7 +20,7 @@ fields_of-none (c ∷ text) e = elim (is_blank c) as (λ b. cond (not b) (1 + po
       | false ↦ λ same. ap (onto_first c) (fields_of-none text (omega arith))
     ] e
 
--- a text with a blank is its first field and the fields of what stands behind the blank
+-- a text with a blank is its first field and the fields of what comes after the blank
 pub fields_of-first : (text field behind : List ℕ) → field ≡ before_first is_blank text → behind ≡ after_first is_blank text
     → position_or_len is_blank text < length text → fields_of text ≡ field ∷ fields_of behind
 fields_of-first text field behind before after within =
@@ -52,6 +52,6 @@ fields_of-joined f [] plain = slice_split_none is_blank f (passes_not f plain.0)
 fields_of-joined f (g ∷ fs) plain =
     slice_split_at is_blank f 32 (joined (g ∷ fs)) (passes_not f plain.0) refl ∙ ap (λ rest. f ∷ rest) (fields_of-joined g fs plain.1)
 
--- the same with a last field that may hold blanks
+-- a field without blanks and, after a blank, a text that may hold some have that field and the fields of the text
 pub fields_of-behind : (f : List ℕ) (text : List ℕ) → HasNoBlank f → fields_of (f ++ 32 ∷ text) ≡ f ∷ fields_of text
 fields_of-behind f text plain = slice_split_at is_blank f 32 text (passes_not f plain) refl

@@ -9,11 +9,11 @@ use Rattle.std.proofs.lemmas.List.Elements.{All-head, All-tail, All-from_recursi
 use Rattle.std.proofs.lemmas.List.Sums.{split_at_first, fails_before_first, passes_at_first}
 use Rattle.sd_text.specs.Lines.{line, is_newline, lines_of}
 
--- no newline stands in the text
+-- there is no newline in the text
 abbrev pub HasNoNewline : List ℕ → Type 0
 HasNoNewline text = AllByRecursion (λ c. c ≢ 10) text
 
--- a line that is ended, and those behind it
+-- a line that is ended, and those after it
 lines_of-at : (l : List ℕ) (y : ℕ) (rest : List ℕ) → All (λ c. is_newline c ≡ false) l → is_newline y ≡ true → lines_of (l ++ y ∷ rest) ≡ l ∷ lines_of rest
 lines_of-at [] y rest plain ends = cond-true (is_newline y) _ _ ends
 lines_of-at (c ∷ l) y rest plain ends =
@@ -41,7 +41,7 @@ pub lines_of-all : (ls : List (List ℕ)) → AllByRecursion HasNoNewline ls →
 lines_of-all [] plain = refl
 lines_of-all (l ∷ ls) plain = lines_of-ended l (flat_map line ls) plain.0 ∙ ap (λ rest. l ∷ rest) (lines_of-all ls plain.1)
 
--- the same where the last one lacks its newline
+-- lines that are written one after another, if the last one lacks its newline
 lines_of-joined : (l : List ℕ) (ls : List (List ℕ)) → AllByRecursion HasNoNewline (l ∷ ls) → AllByRecursion (λ m. 0 < length m) (l ∷ ls)
     → lines_of (join_with_byte 10 (l ∷ ls)) ≡ l ∷ ls
 lines_of-joined l [] plain some_there = lines_of-last l plain.0 some_there.0

@@ -42,12 +42,12 @@ says_then a b c x y p q = says_then_by a.written b.written c.written a.failed b.
 pub says_then_nothing : (a b c : SaidView) (x : List ℕ) → Says a b x → Says b c [] → Says a c x
 says_then_nothing a b c x p q = rw append-nil at (says_then a b c x [] p q)
 
--- where it fails, nothing of what was to come is written
+-- if it fails, nothing of what was to come is written
 pub says_dropped : (written : Option (List ℕ)) (failed : Bool) (bytes : List ℕ) → SaysBy written written failed true bytes
 says_dropped written false bytes = (bytes, sends_none written bytes)
 says_dropped written true bytes = refl
 
--- where it fails with nothing written, all of it is left
+-- if it fails with nothing written, all of it is left
 pub cuts_dropped : (written : Option (List ℕ)) (failed : Bool) (bytes : List ℕ) → 0 < length bytes → CutsShortBy written written failed true bytes
 cuts_dropped written false bytes some_there = (bytes, some_there, sends_none written bytes)
 cuts_dropped written true bytes some_there = tt
@@ -62,12 +62,12 @@ line_written took contents appends w v None empty writes = tt
 line_written took contents appends w v (Some said) empty writes =
     contents_after_writes took contents appends w (said ++ 10 ∷ []) v writes ∙ ap (λ l. l ++ (said ++ 10 ∷ [])) empty
 
--- a line was printed where the text that was made for it is its text
+-- a line was printed if the text that was made for it is its text
 pub says_line : (a b : SaidView) (o : Option (List ℕ)) (bytes : List ℕ) → IfSome o (λ said. bytes ≡ line said) → Says a b bytes → IfSome o (λ said. Says a b (line said))
 says_line a b None bytes is says = tt
 says_line a b (Some said) bytes is says = subst (λ (l : List ℕ). Says a b l) is says
 
--- the same of where it was cut short
+-- a line was cut short if the text that was made for it is its text and was cut short
 pub cuts_line : (a b : SaidView) (o : Option (List ℕ)) (bytes : List ℕ) → IfSome o (λ said. bytes ≡ line said) → CutsShort a b bytes → IfSome o (λ said. CutsShort a b (line said))
 cuts_line a b None bytes is cut = tt
 cuts_line a b (Some said) bytes is cut = subst (λ (l : List ℕ). CutsShort a b l) is cut

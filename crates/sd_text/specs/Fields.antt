@@ -3,7 +3,7 @@ use Rattle.std.specs.Prelude.{◌≢◌, ℕ, ◌==◌, Bool, List, [], Option, 
 use Rattle.std.specs.List.{join_with_byte, slice_split}
 use denote.Ref.{Bor}
 
--- a number or a word, and the fields behind it
+-- a number or a word, and the fields after it
 abbrev pub Fields : Type 0
 Fields = List (List ℕ)
 
@@ -15,7 +15,7 @@ is_blank byte = byte == 32
 abbrev pub fields_of : List ℕ → Fields
 fields_of text = slice_split is_blank text
 
--- the fields of the text that is left, or none where the line is read to its end
+-- the fields of the text that is left, or none if the line is read to its end
 abbrev pub fields_left : Option (Bor (List ℕ)) → Fields
 fields_left None = []
 fields_left (Some rest) = fields_of rest.now

@@ -3,12 +3,12 @@ use Rattle.std.specs.Prelude.{◌≡◌, ◌<◌, ℕ, Bool, true, false, List, 
 use Rattle.std.specs.Io.KnownBytes.{Appends}
 use Rattle.sd_text.specs.declared.printer.Printer.{Printer}
 
--- the bytes that the writer holds, where they are known, and whether writing has failed
+-- the bytes that the writer holds, if they are known, and whether writing has failed
 pub record SaidView : Type 0 where
   pub written : Option (List ℕ)
   pub failed : Bool
 
--- the same of a printer, by what is known of its writer
+-- what a printer's writer holds and whether writing has failed, by what is known of the writer
 abbrev pub said_view : {W : Type 0} → (W → Option (List ℕ)) → Printer W → SaidView
 said_view contents p = record { written = contents p.writer; failed = p.failed }
 
@@ -27,9 +27,9 @@ SaysBy old new false true bytes = (rest : List ℕ) × SendsUpTo old new bytes r
 SaysBy old new true false bytes = ⊥
 SaysBy old new true true bytes = new ≡ old
 
--- These bytes were printed: they stand behind what the writer held. Where writing fails, a front of them stands there.
--- From then on nothing more is written, and writing stays failed. Where the writer's bytes aren't known, as those of a
--- process's own output, this tells nothing of them; but also there what failed stays failed.
+-- These bytes were printed: they come after what the writer held. If writing fails, a front of them is there. From
+-- then on nothing more is written, and writing stays failed. If the writer's bytes aren't known, as those of a
+-- process's own output, this tells nothing of them; but then too, what failed stays failed.
 abbrev pub Says : SaidView → SaidView → List ℕ → Type 0
 Says old new bytes = SaysBy old.written new.written old.failed new.failed bytes
 
@@ -38,7 +38,7 @@ abbrev pub CutsShortBy : Option (List ℕ) → Option (List ℕ) → Bool → Bo
 CutsShortBy old new false true bytes = SendsFront old new bytes
 CutsShortBy old new failed fails bytes = ⊤
 
--- Writing these bytes fails only where they were not all written. Where the writer's bytes aren't known, this says only
+-- Writing these bytes fails only if they were not all written. If the writer's bytes aren't known, this says only
 -- that there were some to write.
 abbrev pub CutsShort : SaidView → SaidView → List ℕ → Type 0
 CutsShort old new bytes = CutsShortBy old.written new.written old.failed new.failed bytes

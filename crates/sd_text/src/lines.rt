@@ -28,7 +28,7 @@ impl<'a> Lines<'a> {
         Lines { rest: text }
     }
 
-    /// The next line, or `None` where none is left.
+    /// The next line, or `None` if none is left.
     pub fn next_line(&mut self) -> Option<&'a str>
         ensures { MatchOption result ((self.old ≡ []) × (self.new ≡ []))
             (λ line. self.old ≡ line.now ∷ self.new) }

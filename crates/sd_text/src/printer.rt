@@ -11,7 +11,7 @@ use std::io::Write;
 /// For how many bytes of a line there is room: the longest says four names.
 const LINE_BYTES: usize = 1024;
 
-/// A writer that is printed to. After something that can't be written, nothing more is: what stands in the
+/// A writer that is printed to. After something that can't be written, nothing more is: what is in the
 /// writer then is a front of what was to be printed.
 #[derive(Drop)]
 pub struct Printer<W> {

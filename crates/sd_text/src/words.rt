@@ -50,7 +50,7 @@ impl<'a> Words<'a> {
         }
     }
 
-    /// Reads the next field where it is `word`.
+    /// Reads the next field if it is `word`.
     pub fn known(&mut self, word: &str) -> Result<(), BadField>
         ensures { MatchResult result (λ _. self.old ≡ word.now ∷ self.new)
             (λ _. (rest : Fields) → self.old ≡ word.now ∷ rest → ⊥) }
@@ -126,7 +126,7 @@ impl<'a> Words<'a> {
         }
     }
 
-    /// Refuses where a field is left.
+    /// Refuses if a field is left.
     pub fn end(&self) -> Result<(), BadField>
         ensures { MatchResult result (λ _. self.now ≡ []) (λ _. self.now ≢ []) }
     {
@@ -155,7 +155,7 @@ fn number_of(word: &str, least: u64, most: u64) -> Result<u64, BadField>
     Ok(value)
 }
 
-/// Whether a number may begin so: without a sign, and with a zero only where that is all.
+/// Whether a number may begin so: without a sign, and with a zero only if that is all.
 fn is_plain(word: &str) -> bool
     ensures { IsTrue result ↔ IsPlain word.now }
 {

@@ -9,8 +9,8 @@ use std::io::Write;
 #[derive(Drop)]
 pub struct WriteFault;
 
-/// Writes bytes, in as many writes as the writer needs. Where it fails or takes no byte, a front of them stands in
-/// it, and the rest is not written.
+/// Writes bytes, in as many writes as the writer needs. If it fails or takes no byte, a front of them is in it,
+/// and the rest is not written.
 pub fn write_all<W: Write>(writer: &mut W, bytes: &[u8]) -> Result<(), WriteFault>
     ensures ok { OnOk result (Appends (W.contents writer.old) (W.contents writer.new) bytes.now) }
     ensures err { OnErr result

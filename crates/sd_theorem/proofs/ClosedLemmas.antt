@@ -75,12 +75,12 @@ find_own key shelf scanned ps (v ∷ vs) way found due undamaged complete (here,
 
 -- ---- what is kept of spans
 
--- what stands of a volume up to a place is scanned
+-- what a volume has up to a place is scanned
 abbrev IsScanned : Shelf → Shelf → List ℕ → ℕ → Type 0
 IsScanned shelf scanned name end =
     (bytes : List ℕ) → volumes_on shelf name ≡ Some bytes → (after : List ℕ) × (volumes_on scanned name ≡ Some after) × BeginsWith after (take end bytes)
 
--- and so is it at each placement
+-- and so it is at each placement
 abbrev AtPlace : Shelf → Shelf → Placement → Type 0
 AtPlace shelf scanned p = IsScanned shelf scanned p.volume (p.start + p.length)
 

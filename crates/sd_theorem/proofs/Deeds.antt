@@ -8,7 +8,7 @@ use Rattle.sd_world.specs.Deeds.{Deed, IsDone, LeadsTo}
 use Rattle.sd_world.specs.Steps.{IsStep}
 use Rattle.sd_theorem.specs.Told.{WasGiven}
 
--- the deeds up to the reply, the step that gave it, and those behind it
+-- the deeds up to the reply, the step that gave it, and those after it
 pub record GivenAt {D : Type 0} (meaning : D → Meaning) (old new : WorldView D) (event : Event) (reply : Reply) : Type 0 where
   pub before : List Deed
   pub asked : WorldView D

@@ -17,7 +17,7 @@ pub record IsMadeWith {D : Type 0} (meaning : D → Meaning) (device : D) (d : D
   pub stays : StaysDevice meaning device d.device
   pub stable : IsHonest (meaning device) → LeavesStable (meaning device).shelf
 
--- what is known of a bay that was just made: the drive and the stores that it has stand at its place
+-- what is known of a bay that was just made: the drive and the stores that it has are at its place
 record IsMadeAt {D S Z : Type 0} (store : S → StoreMeaning) (drives : List (DriveIs D)) (spools : List (Vec S Z)) (at : ℕ) (bay : BayView D) : Type 0 where
   d : DriveIs D
   stores : Vec S Z
@@ -90,7 +90,7 @@ module _ {D Q S Z : Type 0} (is : Meanings D Q S) (start : Start D Q S Z) (w : W
       let same : o.device ≡ device = cc (sym o.there ∙ given) in
       subst (λ x. IsMadeWith is.device x d) same o.made
 
-  -- where all that it was made of is honest, so is the world
+  -- if all that it was made of is honest, so is the world
   pub made_honest : StartsHonest is start → AreHonest is.device w
   made_honest honest = record {
     devices = λ drive at bay d on.

@@ -1,4 +1,4 @@
--- The blocks of a volume that is laid out, found one behind another.
+-- The blocks of a volume that is laid out, found one after another.
 use Rattle.std.proofs.Common.{◌≡◌, if◌then◌else◌, inl, inr, ℕ, ◌+◌, Bool, true, false, List, [], ◌∷◌, ◌++◌, length, map, refl, sym, ap, ap₂, subst, subst₂, ◌∙◌, arith, Some}
 use Rattle.std.proofs.lemmas.List.{append_assoc, append-nil, length-append, take_at}
 use Rattle.std.specs.Str.{bytes_eq}
@@ -21,13 +21,13 @@ use Rattle.sd_volume.specs.Image.{AreImages, Block, VolumeImage, images, label_b
 use Rattle.sd_volume.specs.Volume.{VolumeView}
 use Rattle.sd_volume.proofs.ImageLemmas.{AreImages-behind, goes_on_behind, label_in_front, volume_end-more}
 
--- ---- blocks one behind another
+-- ---- blocks one after another
 
 -- with no block it ends where its label block does
 end_of_none : (label : VolumeLabel) → volume_end label [] ≡ length (label_block label)
 end_of_none label = ap length (append-nil (label_block label))
 
--- what is found of blocks, and of others behind them
+-- what is found of blocks, and of others after them
 found_behind : (name : List ℕ) (label : VolumeLabel) (before bs cs : List Block)
     → found_from name (volume_end label before) (bs ++ cs) ≡ found_from name (volume_end label before) bs ++ found_from name (volume_end label (before ++ bs)) cs
 found_behind name label before [] cs = ap (λ (l : List Block). found_from name (volume_end label l) cs) (sym (append-nil before))
@@ -62,7 +62,7 @@ all_on name (p ∷ ps) = from (bytes_eq p.volume name) refl (all_on name ps)
     from true h on = ((bytes_eq-Decides p.volume name).0 h, on)
     from false h on = on
 
--- blocks that lie behind others are found where their placements say
+-- blocks that lie after others are found where their placements say
 lie_found : (shelf : Shelf) (name : List ℕ) (label : VolumeLabel) (earlier : List Block) (ps : List Placement) → AllOn name ps
     → LieBehind label earlier ps (map (block_at shelf) ps) → LieAt (found_from name (volume_end label earlier) (map (block_at shelf) ps)) ps
 lie_found shelf name label earlier [] on lie = tt
@@ -93,7 +93,7 @@ labelled name bytes label blocks tail image same = record {
       (take_at (label_block label) (images 1 blocks ++ tail) (length (label_block label)) refl);
 }
 
--- What is found on a volume, and where that stood: what it had when it came to the drive, and what stands whole in its tail.
+-- What is found on a volume, and where that was: what it had when it came to the drive, and what is whole in its tail.
 pub record FindsLaid (shelf : Shelf) (ps : List Placement) (v : VolumeView) (found : List Found) (laid : IsLaidOut shelf ps v) : Type 0 where
   pub finds : FindsPlaced shelf ps v found
   pub earlier_are : blocks_in finds.earlier ≡ laid.earlier
@@ -136,7 +136,7 @@ found_on_image shelf ps v bytes found end laid image finds =
       tail_is = to.on.rest_is ∙ ap₂ (λ n (l : List Block). images n l ++ finds.tail) next (sym last_are);
     }
 
--- so it is of whatever bytes stand there
+-- so it is of whatever bytes are there
 pub found_laid : (shelf : Shelf) (ps : List Placement) (v : VolumeView) (bytes : List ℕ) (found : List Found) (end : ℕ) → (laid : IsLaidOut shelf ps v)
     → volumes_on shelf v.name ≡ Some bytes → FindsOn v.name bytes found end → FindsLaid shelf ps v found laid
 found_laid shelf ps v bytes found end laid there finds =

@@ -1,4 +1,4 @@
--- What a read gives where spans are claimed for a drive.
+-- What a read gives if spans are claimed for a drive.
 use Rattle.std.proofs.Common.{◌≡◌, ◌≢◌, ℕ, suc, ◌+◌, ◌<◌, ◌^◌, cond, refl, sym, ap, subst, ◌∙◌, inl, inr, arith, zero, true, false, Bool, Option, Some, None, Result, Ok, Err, List, [], ◌∷◌, ◌++◌, length, slice_get}
 use Rattle.std.specs.Prelude.{◌⊎◌, ◌==◌, ◌&&◌, ◌||◌, not, IfOk, IfErr, OnErr}
 use Rattle.std.proofs.lemmas.List.Sums.{AllPass-from_list_all, list_all-from_AllPass}
@@ -63,7 +63,7 @@ due_claimed w key drive at bay s ss claimed number there =
     ∙ ap (λ found. option_map_or (λ (b : BayView _). due_with gone w.desk (suc at) (s ∷ ss) b.drive) found (Some VolumeNotOnShelf)) there
     ∙ ap (λ n. due_with gone w.desk n (s ∷ ss) bay.drive) (sym place)
 
--- none is due of a drive that is online, where nothing that is read is gone
+-- none is due of a drive that is online, if nothing that is read is gone
 none_due : {D : Type 0} (w : WorldView D) (key : SessionKey) (drive at : ℕ) (bay : BayView D) (d : DriveIs D) (s : Span) (ss : List Span) → AreClaimed w.desk drive (s ∷ ss)
     → IsOnline w drive at bay d → is_gone w key (s ∷ ss) ≡ false → read_due w key (s ∷ ss) ≡ None
 none_due w key drive at bay d s ss claimed online here =
@@ -79,7 +79,7 @@ record ReadHere {D : Type 0} (meaning : D → Meaning) (key : SessionKey) (spans
   pub after : DriveIs D
   pub reads : ReadsDrive meaning key spans got got' result d after
 
--- where spans are claimed for a drive that is online, that drive reads them
+-- if spans are claimed for a drive that is online, that drive reads them
 reads_here : {D : Type 0} (meaning : D → Meaning) (w w' : WorldView D) (key : SessionKey) (spans : List Span) (got got' : List Record) (result : Result ReadEnd Refusal)
     (drive at : ℕ) (bay : BayView D) (d : DriveIs D) → spans ≢ [] → AreClaimed w.desk drive spans → IsOnline w drive at bay d
     → is_gone w key spans ≡ false → ReadsWorld meaning key spans got got' result w w' → ReadHere meaning key spans got got' result d
@@ -92,7 +92,7 @@ reads_here {D} meaning w w' key (s ∷ ss) got got' result drive at bay d some c
     let one : r.4 ≡ d = one_drive w drive at r.2 bay r.3 d r.4 online on in
     record { after = r.5; reads = subst (λ (x : DriveIs D). ReadsDrive meaning key (s ∷ ss) got got' result x r.5) one r.7 }
 
--- what a refusal is of a reader that met none but a device's fault or want of memory
+-- what a refusal is of a reader that met none but a device's fault or out of memory
 no_fault : (why : ReadFault) → (why ≡ fault.Device) ⊎ (why ≡ fault.Memory) → (fault_refusal why ≡ DeviceFault) ⊎ (fault_refusal why ≡ Memory)
 no_fault why (inl is) = inl (ap fault_refusal is)
 no_fault why (inr is) = inr (ap fault_refusal is)
@@ -129,7 +129,7 @@ drive_gives {D} meaning key spans records ended got got' result d after honest r
           first = front_of_records volumes key spans got got' records ended (subst H is (rd.handed_over honest)) reads;
         })
 
--- the world gives them, where the spans are claimed for the drive
+-- the world gives them, if the spans are claimed for the drive
 pub world_gives : {D : Type 0} (meaning : D → Meaning) (w w' : WorldView D) (key : SessionKey) (spans : List Span) (records : List Record) (ended : Bool) (got got' : List Record)
     (result : Result ReadEnd Refusal) (drive at : ℕ) (bay : BayView D) (d : DriveIs D) → IsOnline w drive at bay d → AreClaimed w.desk drive spans → IsHonest (meaning d.device)
     → is_gone w key spans ≡ false → Reads (volumes_on (meaning d.device).shelf) key spans records ended → length records < 2 ^ 64 → total_bytes records < 2 ^ 64

@@ -139,7 +139,7 @@ pub record Printed (key : SessionKey) (found : List Found) (spans : List Span) (
   pub found_is : prints.found ≡ found_of report
   pub reads : ReadsTo (bodies_of key found) report.records report.bytes report.ended
 
--- so it does where the session's blocks are found at places that have these spans, one at least
+-- so it does if the session's blocks are found at places that have these spans, one at least
 pub printed : (shelf : Shelf) (volumes : List (List ℕ)) (due : List ℕ) (outcome : Outcome) (key : SessionKey) (spans : List Span)
     → (scans : Scans told.All shelf volumes due outcome) → spans_of key scans.reports_are.placements ≡ spans → spans ≢ [] → Printed key scans.found spans due
 printed shelf volumes due outcome key spans scans same some =

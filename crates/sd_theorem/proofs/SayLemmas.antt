@@ -60,7 +60,7 @@ packed_sent room sent parts Purged records has unfailed unpurged = absurd (unpur
 
 -- ---- placements
 
--- the body that stands at a placement, which says its FileIndexes
+-- the body that lies at a placement, which says its FileIndexes
 abbrev pub placed_body : Shelf → Placement → PackedBody
 placed_body shelf p = (sent_body (item_of p) (block_at shelf p)).body
 

@@ -55,7 +55,7 @@ one_placement f p q lies says is =
     ∙ ap (λ n. record q { key = p.key; volume = p.volume; start = p.start; length = p.length; first = n }) first
     ∙ ap (λ n. record p { last = n }) last
 
--- the placement says the FileIndexes of the body that stands there
+-- the placement says the FileIndexes of the body there
 abbrev pub Says : Shelf → Placement → Type 0
 Says shelf p = SaysIndexes (block_at shelf p).body p
 

@@ -1,4 +1,4 @@
--- How closed sessions stand whose spans were told, where all is honest.
+-- How closed sessions whose spans were told stand, if all is honest.
 use Rattle.std.proofs.Common.{◌≡◌, ◌≢◌, ℕ, sym, ap, subst, ◌∙◌, inl, inr, arith, Some, List, [], slice_get}
 use Rattle.sd_base.specs.declared.number.SessionKey.{SessionKey}
 use Rattle.sd_driver.specs.Meaning.{Meaning}
@@ -91,7 +91,7 @@ told_of {D} meaning asked now key spans sound step =
       claimed = (steps_keep_spans meaning asked now (Media key.id) (Spans spans) sound step).told told.0 told.1;
     }
 
--- the spans that are told of a session that stands are those that it stands with
+-- the spans that are told of a session that stands closed are those that it stands closed with
 one_list : {D : Type 0} (meaning : D → Meaning) (w : WorldView D) (key : SessionKey) (others spans : List Span) → (s : StandsClosed w key others) → SpansAt w s.e spans → others ≡ spans
 one_list {D} meaning w key others spans s told = elim s.holds.3 [
   | inl is ↦ (

@@ -40,7 +40,7 @@ use Rattle.sd_world.proofs.Moves.{moves_keep_closed}
 none_some : {A : Type 0} {a : A} → None ≡ Some a → ⊥
 none_some is = cc is
 
--- Where the drive of a session that stands closed is online, its spans are those that the drive's journal gives.
+-- If the drive of a session that stands closed is online, its spans are those that the drive's journal gives.
 stood_spans : {D : Type 0} (w : WorldView D) (key : SessionKey) (spans : List Span) (e : WorldSession) (at : ℕ) (bay : BayView D) (d : DriveIs D) → StandsClosed w key spans
     → session_at key.id w.sessions ≡ Some e → IsOnline w e.drive at bay d → spans ≡ spans_of key (placements d.journal)
 stood_spans {D} w key spans e at bay d s there online =

@@ -41,7 +41,7 @@ numbered_on : (name : List ℕ) (index : ℕ) (ss : List Span) → list_any (λ 
 numbered_on name index [] = refl
 numbered_on name index (s ∷ ss) = ap (λ b. bytes_eq s.volume name || b) (numbered_on name (index + 1) ss)
 
--- a session has a block on a volume where one of its spans is on it
+-- a session has a block on a volume if one of its spans is on it
 spans_on : (key : SessionKey) (name : List ℕ) (es : List Entry) → list_any (λ (s : Span). bytes_eq s.volume name) (spans_of key (placements es)) ≡ has_on key name es
 spans_on key name es =
     let share : ShareView = record { stretches = stretches (placements_of key (placements es)); counts = counts_of key es; lost = lost_of key es; ready = false } in
@@ -144,7 +144,7 @@ still_closed_of meaning w w' (ReadBack k ss got got' result ∷ deeds) key spans
     let t = read_closed meaning w leads.0 key spans sound (ReadBack k ss got got' result) (leads.0, leads.1, refl) (read_sessions meaning w leads.0 k ss got got' result leads.1.reads) s closed in
     still_closed_of meaning leads.0 w' deeds key spans leads.1.sound leads.2 t.0 t.1 none
 
--- a closed session is closed still, where no deed purged a volume of its spans
+-- a closed session is still closed if no deed purged a volume of its spans
 pub still_closed : {D : Type 0} (meaning : D → Meaning) (w w' : WorldView D) (deeds : List Deed) (key : SessionKey) (spans : List Span) → IsSound meaning w → LeadsTo meaning w deeds w'
     → (s : StandsClosed w key spans) → s.e.session.status ≡ IsClosed → NonePurgesOf spans deeds → (t : StandsClosed w' key spans) × (t.e.session.status ≡ IsClosed)
 still_closed meaning w w' deeds key spans sound leads s closed none =

@@ -54,8 +54,9 @@ PlacementsSay D =
 
 -- ---- complete volumes
 
--- What is scanned of the volume is what stands on the drive's shelf, as the drive's placements say; and it has no block of the
--- session but those that were placed there: none stood there before, and none is whole in what a failed append left behind them.
+-- What is scanned of the volume is what is on the drive's shelf, as the drive's placements say; and it has no block of
+-- the session but those that were placed there: none was there before, and none is whole in what a failed append left
+-- after them.
 pub record IsComplete (key : SessionKey) (shelf scanned : Shelf) (ps : List Placement) (v : VolumeView) : Type 0 where
   pub bytes_are : volumes_on scanned v.name ≡ volumes_on shelf v.name
   pub laid : IsLaidOut shelf ps v
@@ -70,7 +71,7 @@ pub record HaveSession (key : SessionKey) (shelf scanned : Shelf) (ps : List Pla
 
 -- ---- what is printed of sessions
 
--- a line of the session, and behind it the JobMedia text of these spans
+-- a line of the session, and after it the JobMedia text of these spans
 pub record PrintsSpans (key : SessionKey) (spans : List Span) (due : List ℕ) : Type 0 where
   pub found : Found
   pub key_is : found.key ≡ key
@@ -100,7 +101,7 @@ ScanTellsSession D =
 
 -- ---- closed sessions
 
--- what a line says of a session that ended with these records, behind that start label
+-- what a line says of a session that ended with these records, after that start label
 abbrev pub ended_with : SessionKey → Option StartLabel → List Record → Found
 ended_with key start records = record { key = key; start = start; ended = true; records = length records; bytes = total_bytes records }
 
@@ -125,8 +126,9 @@ ScanTellsClosed D =
     → Scans told.All scanned (names vs) due outcome
     → TellsClosed scanned m key spans due
 
--- So it does of every session that a daemon told to be closed with these spans, whatever it did before and since, while the session
--- is closed and its drive online, where all was honest that the daemon was made of; the machine is that of its events and replies.
+-- So it does of every session that a daemon told to be closed with these spans, whatever it did before and since, while
+-- the session is closed and its drive online, if all that the daemon was made of was honest; the machine is that of its
+-- events and replies.
 abbrev pub ScanTellsTold : Type 0 → Type 0 → Type 0 → Type 0 → Type 0
 ScanTellsTold D Q S Z =
     (is : Meanings D Q S) (start : Start D Q S Z) (first w : WorldView D) (deeds : List Deed)

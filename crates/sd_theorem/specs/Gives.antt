@@ -14,8 +14,9 @@ use Rattle.sd_span.specs.declared.span.Span.{Span}
 use Rattle.sd_world.specs.World.{WorldView, BayView, IsOnline}
 use Rattle.sd_world.specs.Kept.{IsRetired}
 
--- A read gave exactly these records, once each and in order; and told their number, their bytes, and whether the session
--- ended. It was refused only where the device failed or memory was wanted, and then it gave the first of them, if any.
+-- A read gave exactly these records, once each and in order; and told their number, their bytes, and whether the
+-- session ended. It was refused only if the device failed or it was out of memory, and then it gave the first of them,
+-- if any.
 pub record GivesAll (records : List Record) (ended : Bool) (got got' : List Record) (result : Result ReadEnd Refusal) : Type 0 where
   pub whole : IfOk result (λ end. (got' ≡ got ++ records) × (end.records ≡ length records)
       × (end.bytes ≡ total_bytes records) × (end.ended ≡ ended))

@@ -13,7 +13,7 @@ use Rattle.sd_span.specs.declared.placement.Placement.{Placement}
 use Rattle.sd_volume.specs.Volume.{VolumeView}
 use Rattle.sd_volume.specs.declared.volume.VolumeStatus.TheVariants.{Append}
 
--- the block is of the placement's session, and stands on its volume, at its start, as long as it says
+-- the block is of the placement's session, and lies on its volume, at its start, as long as it says
 pub record LiesAt (f : Found) (p : Placement) : Type 0 where
   pub key_is : p.key ≡ f.block.key
   pub volume_is : p.volume ≡ f.volume
@@ -27,8 +27,9 @@ LieAt [] (p ∷ ps) = ⊥
 LieAt (f ∷ fs) [] = ⊥
 LieAt (f ∷ fs) (p ∷ ps) = LiesAt f p × LieAt fs ps
 
--- What is found on a volume are blocks that it had when it came to the drive; then those of the placements on it, where these
--- say and in their order; and behind them, only where the volume takes no more, what a failed call may have left whole.
+-- What is found on a volume are blocks that it had when it came to the drive; then those of the placements on it, where
+-- these say and in their order; and after them, only if the volume takes no more, what a failed call may have left
+-- whole.
 pub record FindsPlaced (shelf : Shelf) (ps : List Placement) (v : VolumeView) (found : List Found) : Type 0 where
   pub earlier : List Found
   pub own : List Found
@@ -53,7 +54,7 @@ pub record SaysIndexes (body : List ℕ) (p : Placement) : Type 0 where
   pub first_is : p.first ≡ first_file_index fragments
   pub last_is : p.last ≡ last_file_index fragments
 
--- so does each placement of the session, of the body that stands there
+-- so does each placement of the session, of the body there
 abbrev pub SayIndexes : SessionKey → Shelf → List Placement → Type 0
 SayIndexes key shelf ps = All (λ (p : Placement). SaysIndexes (block_at shelf p).body p) (placements_of key ps)
 
@@ -74,8 +75,8 @@ abbrev pub placements_over : SessionKey → List Placement → List VolumeView �
 placements_over key ps [] = []
 placements_over key ps (v ∷ vs) = placements_of key (placements_on v.name ps) ++ placements_over key ps vs
 
--- Where the volumes come in the order in which the session's blocks were placed on them, and its placements say the FileIndexes of
--- their bodies, the spans that a scan tells of it are those of the placements.
+-- If the volumes come in the order in which the session's blocks were placed on them, and its placements say the
+-- FileIndexes of their bodies, the spans that a scan tells of it are those of the placements.
 abbrev pub ScanTellsSpans : Type 0
 ScanTellsSpans = (key : SessionKey) (shelf : Shelf) (ps qs : List Placement) (vs : List VolumeView) (found : List Found)
     → FindOwn key shelf ps vs found → SayIndexes key shelf ps → placements_over key ps vs ≡ placements_of key ps → ArePlacements found qs

@@ -14,10 +14,11 @@ use Rattle.sd_theorem.specs.Runs.{RunsOn, RunsStop, NonePurgesOf}
 use Rattle.sd_theorem.specs.Start.{Meanings}
 use Rattle.sd_theorem.specs.Told.{WereAdopted}
 
--- A session was closed with these spans when its device had the one shelf, and now it has the other. From then on the low mark of
--- each volume of the spans is at least where the span ends. What any stop leaves, also one inside a call, and the stops of later
--- runs that purged no volume of the spans, reads to exactly these records. So does a later run, of a greater time, that adopted
--- the volumes and purged none of them: it gives them, and is refused only where the device failed or memory was wanted.
+-- A session was closed with these spans when its device had the one shelf, and now it has the other. From then on the
+-- low mark of each volume of the spans is at least where the span ends. What any stop leaves, also one inside a call,
+-- and the stops of later runs that purged no volume of the spans, reads to exactly these records. So does a later run,
+-- of a greater time, that adopted the volumes and purged none of them: it gives them, and is refused only if the device
+-- failed or it was out of memory.
 pub record Returns {D Q S : Type 0} (Z : Type 0) (is : Meanings D Q S) (key : SessionKey) (spans : List Span) (records : List Record) (then now : Shelf) : Type 0 where
   pub mark : All (λ (s : Span). s.end ≤ low_mark now then.moment s.volume) spans
   pub survives : (left last : Shelf) (others : List Shelf)

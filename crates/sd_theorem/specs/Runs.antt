@@ -1,4 +1,4 @@
--- Runs of the daemon, one after another, with a stop behind each.
+-- Runs of the daemon, one after another, with a stop after each.
 use Rattle.std.specs.Prelude.{◌≡◌, ℕ, ◌+◌, All, Some, List, [], ◌∷◌, slice_get}
 use Rattle.sd_driver.specs.Meaning.{IsHonest}
 use Rattle.sd_driver.specs.Shelf.{Shelf, AfterStop}

@@ -33,15 +33,16 @@ WereToldOfClosed began receipts key spans deeds =
     (HasStatus began key Closed × (HasReceipt key spans receipts ⊎ WereAsked key spans deeds))
     ⊎ WereToldClosed key spans deeds
 
--- These spans were told of the session of this key, closed or not: when they were asked for in these deeds; or by a receipt, where
--- the machine had the session.
+-- These spans were told of the session of this key, closed or not: when they were asked for in these deeds; or by a
+-- receipt, if the machine had the session.
 abbrev pub WereToldOf : Machine → List ReceiptIs → SessionKey → List Span → List Deed → Type 0
 WereToldOf began receipts key spans deeds = WereAsked key spans deeds ⊎ (HasSession began key × HasReceipt key spans receipts)
 
--- The events of these deeds and the replies to them are a run of the list machine, from the one that the first world matches to one
--- that the world matches now. While every device and every store of the first world is honest, a closed session is read to its
--- records, and a cancelled one to the first of them. Of a new world, which matches the empty machine, and with no receipts
--- this is what `IsOfLists` says: there was no session before its deeds, and the world is honest where all is that it was made of.
+-- The events of these deeds and the replies to them are a run of the list machine, from the one that the first world
+-- matches to one that the world matches now. While every device and every store of the first world is honest, a closed
+-- session is read to its records, and a cancelled one to the first of them. Of a new world, which matches the empty
+-- machine, and with no receipts this is what `IsOfLists` says: there was no session before its deeds, and the world is
+-- honest if all that it was made of is.
 pub record IsOfListsSince {D : Type 0} (meaning : D → Meaning) (first : WorldView D) (began : Machine) (receipts : List ReceiptIs)
     (deeds : List Deed) (w : WorldView D) : Type 0 where
   pub m : Machine

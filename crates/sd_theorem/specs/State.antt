@@ -14,9 +14,10 @@ use Rattle.sd_hub.specs.Worlds.{bay_of, machine_of}
 use Rattle.sd_world.specs.Matches.{IsOutstanding, Matches}
 use Rattle.sd_world.specs.World.{WorldSession, WorldView, session_at}
 
--- The state. The sessions that were told are those of the ends of the lanes 1, 2 and on, each once, by rising number. The world is of
--- the line's run, and matches the list machine that has each of them with its key, with exactly the records that its part took, in
--- order, and with its status; it is failed where it went on while the drive lost a block of it.
+-- The state. The sessions that were told are those of the ends of the lanes 1, 2 and on, each once, in ascending order
+-- of number. The world is of the line's run, and matches the list machine that has each of them with its key, with
+-- exactly the records that its part took, in order, and with its status; it is failed if it went on while the drive
+-- lost a block of it.
 pub record HasState {D : Type 0} (meaning : D → Meaning) (time : ℕ → ℕ) (line : LineIs) (ends : List EndIs) (settled : SettledIs D)
     (told : List ToldSession) (w : WorldView D) : Type 0 where
   pub all : IsPermutation (sessions_to line.no (length settled.lanes) ends) told
@@ -25,13 +26,13 @@ pub record HasState {D : Type 0} (meaning : D → Meaning) (time : ℕ → ℕ) 
   pub run_is : w.limits.time ≡ time line.no
   pub matches : Matches meaning w (machine_of settled told)
 
--- The pieces. The world has one bay, with the drive and what its queue still holds. The drive took some pieces from the queue:
--- its journal and then its hand have, in order, the key, the indexes and the length of each of them; and while its device is
--- honest, the block that stands at each placement has that piece's key and body. Each piece came by one of the lanes. The end of
--- each lane is among those that were handed in, and what the drive took of that lane, followed by what the queue holds of it, is
--- exactly what the lane's seat sent, in order, each piece once (`follows`). What the seat sent is what the sessions of the end
--- sent, each its own; and where the lane's store is honest, what was sent of each and what its part still holds are a cutting of
--- the records that it took, or begin one where it was cancelled (`keeps`).
+-- The pieces. The world has one bay, with the drive and what its queue still holds. The drive took some pieces from the
+-- queue: its journal and then its hand have, in order, the key, the indexes and the length of each of them; and while
+-- its device is honest, the block at each placement has that piece's key and body. Each piece came by one of the lanes.
+-- The end of each lane is among those that were handed in, and what the drive took of that lane, followed by what the
+-- queue holds of it, is exactly what the lane's seat sent, in order, each piece once (`follows`). What the seat sent is
+-- what the sessions of the end sent, each its own; and if the lane's store is honest, what was sent of each and what
+-- its part still holds are a cutting of the records that it took, or begin one if it was cancelled (`keeps`).
 pub record HasPieces {D : Type 0} (meaning : D → Meaning) (time : ℕ → ℕ) (line : LineIs) (ends : List EndIs) (settled : SettledIs D)
     (w : WorldView D) : Type 0 where
   pub bays_are : w.bays ≡ bay_of settled ∷ []

@@ -53,8 +53,9 @@ pub record WasClosedSince {D : Type 0} (meaning : D → Meaning) (first : WorldV
   pub d : DriveIs D
   pub online : IsOnline w e.drive at bay d
 
--- The deeds are a run of the list machine, from that of the first world, to one in which the session is closed; its drive was
--- online at the close, or, where it was closed before, in the first world, and from that moment on its records return.
+-- The deeds are a run of the list machine, from that of the first world, to one in which the session is closed; its
+-- drive was online at the close, or, if it was closed before, in the first world, and from that moment on its records
+-- return.
 pub record ComesBackSince {D Q S : Type 0} (Z : Type 0) (is : Meanings D Q S) (first : WorldView D) (began : Machine) (receipts : List ReceiptIs)
     (key : SessionKey) (spans : List Span) (w : WorldView D) (c : WasClosedSince is.device first began receipts key spans w) : Type 0 where
   pub m : Machine

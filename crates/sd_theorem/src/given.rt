@@ -25,8 +25,8 @@ pub struct Told {
     pub end: Result<ReadEnd, Refusal>,
 }
 
-/// Makes a world, gives it the events, and reads a session back by these spans. `None` where memory is wanted for the
-/// world or for the replies. The replies are those of the list machine; and if the spans were told of a session that was
+/// Makes a world, gives it the events, and reads a session back by these spans. `None` if out of memory for the world
+/// or for the replies. The replies are those of the list machine; and if the spans were told of a session that was
 /// closed, the sink got its list, all of it, once and in order; or the read told that it was purged.
 #[allow(clippy::too_many_arguments)]
 pub fn run_and_read<K: Sink>(

@@ -1,9 +1,9 @@
-//! The theorems, as laws without code, and as a caller has them, through public calls alone. The session theorem and the
-//! stop theorem: what the daemon acknowledged comes back, once and in order, however many sessions shared a drive and
-//! whenever it was stopped; their premises are what a world was made of and what it did since. The same for running
-//! threads, whose premises are what settling hands out; what a scan of volumes finds of it; and that what is packed
-//! comes back. The callers are a world over devices in memory, any world behind a port, and a session that was closed
-//! before a stop.
+//! The theorems, as laws without code, and as a caller has them, through public calls alone. The session theorem and
+//! the stop theorem: what the daemon acknowledged comes back, once and in order, however many sessions shared a drive
+//! and whenever it was stopped; their premises are what a world was made of and what it did since. Both theorems for
+//! running threads, whose premises are what settling hands out; what a scan of volumes finds of it; and that what is
+//! packed comes back. The callers are a world over devices in memory, any world behind a port, and a session that was
+//! closed before a stop.
 #![tactic(auto)]
 
 mod behind;

@@ -2,9 +2,9 @@
 ghost use Rattle.sd_theorem.specs.ThreadStops.{ThreadStopTheorem};
 ghost use Rattle.sd_theorem.specs.Threads.{ThreadTheorem};
 
-/// The theorem of running threads: whatever threads did, the world of a settled line is that of a list machine, in which each
-/// lane's pieces stand as its seat sent them and each receipt as the journal gives it; and from there on the session theorem
-/// holds.
+/// The theorem of running threads: whatever threads did, the world of a settled line is that of a list machine, in
+/// which each lane's pieces are as its seat sent them and each receipt is as the journal gives it; and from there on
+/// the session theorem holds.
 pub fn thread_theorem<D>()
     ensures { ThreadTheorem D }
 {}

@@ -3,14 +3,14 @@ ghost use Rattle.sd_theorem.specs.Closed.{PlacementsSay, ScanTellsClosed, ScanTe
 ghost use Rattle.sd_theorem.specs.Placed.{PlacedBlocksAreFound, ScanTellsSpans};
 
 /// What a scan finds on a volume of a drive before all damage has in it the blocks of the journal:
-/// at their places, in their order, one behind another.
+/// at their places, in their order, one after another.
 pub fn placed_blocks_are_found()
     ensures { PlacedBlocksAreFound }
 {}
 
-/// The spans that a scan tells of a session are those of its placements, where these say the
-/// FileIndexes of its bodies, no other block of it stands on the volumes, and they come in the order
-/// in which its blocks were placed on them.
+/// The spans that a scan tells of a session are those of its placements, if these say the
+/// FileIndexes of its bodies, no other block of it is on the volumes, and they come in the order in
+/// which its blocks were placed on them.
 pub fn scan_tells_spans()
     ensures { ScanTellsSpans }
 {}

@@ -22,7 +22,7 @@ use sd_memdrive::MemDrive;
 use sd_spool::MemSpool;
 use std::alloc::{AllocError, Global};
 
-/// The device after a stop that came after the first `calls` of its changes, with `tail` behind what lasted of each
+/// The device after a stop that came after the first `calls` of its changes, with `tail` after what lasted of each
 /// volume. If a session was closed on it by then, its spans still read to its list.
 pub fn leave(
     alloc: Global,

@@ -6,7 +6,7 @@ use Rattle.sd_tool.specs.Lines.{ComesFirst, came_with}
 use Rattle.sd_tool.specs.declared.lines.Next.{Next}
 use Rattle.sd_tool.specs.declared.lines.Next.TheVariants as next
 
--- nothing was read yet; or the first line that came is that of the input, where this is known
+-- nothing was read yet; or the first line that came is that of the input, if this is known
 abbrev pub Began : Option (List ℕ) → Option (List ℕ) → List (List ℕ) → Type 0
 Began old now [] = now ≡ old
 Began old now (line ∷ later) = IfSome old (λ input. ComesFirst input next.Line line)

@@ -12,7 +12,7 @@ none_left : (n : ℕ) (xs : List ℕ) → take (suc n) xs ≡ [] → xs ≡ []
 none_left n [] is = refl
 none_left n (x ∷ xs) is = absurd (cc is)
 
--- nothing is left where not even one byte more is
+-- nothing is left if there is not even one byte more
 pub at_end : (o : Option (List ℕ)) (limit n : ℕ) → limit ≡ suc n → IsAtEnd (option_map (take limit) o) → IfSome o (λ xs. xs ≡ [])
 at_end None limit n is ends = tt
 at_end (Some xs) limit n is ends = none_left n xs (subst (λ m. take m xs ≡ []) is ends)

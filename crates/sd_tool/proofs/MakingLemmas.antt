@@ -37,14 +37,14 @@ none_found : {A : Type 0} (found : Bool) (one : A) (others : Option A) → (if f
 none_found true one others none = absurd cc
 none_found false one others none = (refl, none)
 
--- a spool, where there is one, has room for a block
+-- a spool, if there is one, has room for a block
 spool_fits : (spool block : ℕ) → is_spool_short spool block ≡ false → spool ≢ 0 → block ≤ spool
 spool_fits spool block fits some = elim (cases_lt spool block) [
   | inl short ↦ absurd (let clash = rw (lt-ltb 0 spool (omega (arith, some)), lt-ltb spool block short) at fits in cc)
   | inr fit ↦ fit
 ]
 
--- what is so of each drive that was given, and of the one where none was, is so of all
+-- what is so of each drive that was given, and of the usual one if none was, is so of all
 all_drives : (P : List ℕ × ℕ → Type 0) (v : ValuesView) → All P v.drives → P (codes "File", 4) → All P (drives_of v)
 all_drives P v given usual = elim (cases_Bool (nat_lt 0 (length v.drives))) [
   | inl some ↦ rw some given

@@ -26,7 +26,7 @@ pub values_more : (v : ValuesView) (ss : List Setting) (s : Setting) → values_
 values_more v [] s = refl
 values_more v (x ∷ ss) s = values_more (values_with v x) ss s
 
--- where there is none, that tells something else too
+-- if there is none, that tells something else too
 pub none_tells : {A X Y : Type 0} (o : Option A) → (X → Y) → IfNone o X → IfNone o Y
 none_tells None tells h = tells h
 none_tells (Some a) tells h = tt
@@ -59,7 +59,7 @@ given_else drive before cs n bytes c is within told other =
 
 -- Calls that fail.
 
--- the call, where it is of the drive
+-- the call, if it is of the drive
 abbrev pub one_fail : ℕ → ℕ × Fail Call → List (Fail Call)
 one_fail drive f = if f.0 == drive then f.1 ∷ [] else []
 

@@ -35,7 +35,7 @@ use Rattle.sd_tool.specs.declared.restart.Restart.{Restart}
 pub moves_limits : {D : Type 0} (meaning : D → Meaning) (w w' : WorldView D) (event : Event) (reply : Reply) → Moves meaning w event reply w' → w'.limits ≡ w.limits
 moves_limits meaning w w' event reply m = (leaves meaning w w' event reply m).limits
 
--- where it is no retirement, the drives stay as they are
+-- if it is no retirement, the drives stay as they are
 pub moves_online : {D : Type 0} (meaning : D → Meaning) (w w' : WorldView D) (event : Event) (reply : Reply) → (reply ≡ Retired → ⊥) → Moves meaning w event reply w'
     → online_flags w' ≡ online_flags w
 moves_online meaning w w' event Retired other m = absurd (other refl)
@@ -104,7 +104,7 @@ forbids : (b : Bool) (result : Option Refusal) → result ≡ cond b (Some NoSuc
 forbids true result is none = none NoSuchDrive is
 forbids false result is none = none DriveOffline is
 
--- where nothing forbids a new world no drive was retired
+-- if nothing forbids a new world, no drive was retired
 pub unfit_none : (count : ℕ) (retired : Bool) (tail : Option Tail) (result : Option Refusal) → result ≡ unfit count retired tail
     → ((why : Refusal) → result ≡ Some why → ⊥) → retired ≡ false
 unfit_none count false tail result is none = refl
@@ -141,7 +141,7 @@ handed_as {D} meaning v w tail refused old mid new values devices handed =
     subst (λ (ds : List D). HandsOn meaning (capacity_for w) tail refused ds new) devices
     (subst (λ (x : ValuesView). HandsOn meaning (capacity_for x) tail refused mid new) values handed)
 
--- where nothing forbids a new world the drive of the tail is there
+-- if nothing forbids a new world, the drive of the tail is there
 pub tail_there : (count : ℕ) (retired : Bool) (tail : Option Tail) → unfit count retired tail ≡ None → IsThere count tail
 tail_there count retired None none = tt
 tail_there count retired (Some tail) none = elim (cases_lt count tail.drive) [

@@ -1,4 +1,4 @@
--- What a device is left as that was to put bytes behind a volume.
+-- How a device that was to put bytes after a volume is left.
 use Rattle.std.proofs.Common.{◌≡◌, ◌≢◌, ℕ, suc, ◌≤◌, inl, inr, refl, sym, ap, ◌∙◌, subst, arith, List, [], append-nil, Option, Some, None, Result, Ok, Err}
 use Rattle.std.specs.Prelude.{IsErrOf, IsTrue, IsSome, IfErr, OnOk, OnErr}
 use Rattle.sd_driver.specs.declared.driver.DriverFault.{DriverFault}
@@ -19,7 +19,7 @@ pub record Looks (old new : Meaning) : Type 0 where
 honest_still : (old new : Meaning) → new.honest ≡ old.honest → IsHonest old → IsHonest new
 honest_still old new e honest = subst IsTrue (sym e) honest
 
--- where nothing changed, no call was counted
+-- if nothing changed, no call was counted
 moment_same : (old new : Shelf) → Passes old new → SameShelf old new → new.moment ≡ old.moment
 moment_same old new passes same = elim passes.moments [ inl s ↦ s.1 | inr o ↦ absurd (o.0.1 (same o.0.0)) ]
 

@@ -68,7 +68,7 @@ abbrev pub GivesSome : {D : Type 0} → (D → Meaning) → Option Event → Scr
 GivesSome meaning None old new = Prints old new []
 GivesSome meaning (Some e) old new = Gives meaning e plain_words old new
 
--- A record is given to a session. Where there was no memory for its bytes it is refused for that, behind what the
+-- A record is given to a session. If there was no memory for its bytes, it is refused for that, after what the
 -- session's status says; and what is no record is none.
 abbrev pub GivesRecord : {D : Type 0} → (D → Meaning) → ℕ → Record → ScriptView D → ScriptView D → Type 0
 GivesRecord meaning ticket rec old new =
@@ -88,7 +88,7 @@ abbrev pub closed_with : Option Closed → List Closed → List Closed
 closed_with None before = before
 closed_with (Some closed) before = before ++ closed ∷ []
 
--- A session is closed, and its JobMedia text is printed and kept. Where there is no memory to keep it nothing is closed.
+-- A session is closed, and its JobMedia text is printed and kept. If there is no memory to keep it, nothing is closed.
 abbrev pub Closes : {D : Type 0} → (D → Meaning) → ℕ → ScriptView D → ScriptView D → Type 0
 Closes meaning ticket old new =
     ((reply : Reply) × StageMoves meaning (event.Close ticket) reply old.stage new.stage
@@ -108,7 +108,7 @@ ReadsOut meaning key spans old new result before after =
     (records : List Record) × IsRead meaning key spans [] records result old.world new.world × KeepsStage old new
     × Says before after (records_lines records)
 
--- it does, and how that ended is printed behind them
+-- it does, and how that ended is printed after them
 abbrev pub ReadsOn : {D : Type 0} → (D → Meaning) → SessionKey → List Span → StageView D → StageView D → SaidView → SaidView → Type 0
 ReadsOn meaning key spans old new before after =
     (result : Result ReadEnd Refusal) × (between : SaidView) × ReadsOut meaning key spans old new result before between
@@ -118,19 +118,19 @@ ReadsOn meaning key spans old new before after =
 abbrev pub ReadsBack : {D : Type 0} → (D → Meaning) → SessionKey → List Span → ScriptView D → ScriptView D → Type 0
 ReadsBack meaning key spans old new = ReadsOn meaning key spans old.stage new.stage old.said new.said × KeepsRest old new
 
--- by the spans of this reply, where it has some; and else the reply is printed
+-- by the spans of this reply, if it has some; and else the reply is printed
 abbrev pub ReadsReply : {D : Type 0} → (D → Meaning) → SessionKey → Reply → ScriptView D → ScriptView D → Type 0
 ReadsReply meaning key (reply.Media spans) old new = ReadsBack meaning key spans old new
 ReadsReply meaning key other old new = Prints old new (plain_words other)
 
--- it is refused where this says why; and else its spans are asked for, and by them it is read back
+-- it is refused if this says why; and else its spans are asked for, and by them it is read back
 abbrev pub ReadsUnless : {D : Type 0} → (D → Meaning) → ℕ → Option Refusal → ScriptView D → ScriptView D → Type 0
 ReadsUnless meaning ticket (Some why) old new = Prints old new (refused_line why)
 ReadsUnless {D} meaning ticket None old new =
     (r : Reply) × (between : StageView D) × StageMoves meaning (event.Media ticket) r old.stage between
     × ReadsReply meaning (key_at old.stage ticket) r (record old { stage = between }) new
 
--- by what was printed of it last, where something was; and else it is refused
+-- by what was printed of it last, if something was; and else it is refused
 abbrev pub ReadsPrintedOn : {D : Type 0} → (D → Meaning) → SessionKey → Option Closed → StageView D → StageView D → SaidView → SaidView → Type 0
 ReadsPrintedOn meaning key None old new before after = (new ≡ old) × Says before after (refused_line refusal.SessionNotOpen)
 ReadsPrintedOn meaning key (Some closed) old new before after = ReadsOn meaning key closed.spans old new before after
@@ -142,7 +142,7 @@ ReadsPrinted meaning key old new =
 
 -- Draining.
 
--- rounds are played until nothing moves, and how many blocks were placed is printed; or memory lacked on the way
+-- rounds are played until nothing moves, and how many blocks were placed is printed; or memory ran out on the way
 abbrev pub DrainsAll : {D : Type 0} → (D → Meaning) → ScriptView D → ScriptView D → Type 0
 DrainsAll meaning old new =
     KeepsStage old.stage new.stage × KeepsRest old new

@@ -1,4 +1,4 @@
--- Why a line about a session is refused where the world's own reply doesn't say it.
+-- Why a line about a session is refused if the world's own reply doesn't say it.
 use Rattle.std.specs.Prelude.{Option, Some, None}
 use Rattle.sd_base.specs.declared.refusal.Refusal.{Refusal}
 use Rattle.sd_base.specs.declared.refusal.Refusal.TheVariants as refusal
@@ -6,7 +6,7 @@ use Rattle.sd_session.specs.Session.{status_refusal}
 use Rattle.sd_session.specs.declared.status.Status.{Status}
 use Rattle.sd_session.specs.declared.status.Status.TheVariants as status
 
--- why a session can't be read back, where its status says so
+-- why a session can't be read back, if its status says so
 abbrev pub unread_refusal : Option Status → Option Refusal
 unread_refusal None = Some refusal.SessionNotOpen
 unread_refusal (Some status.Active) = Some refusal.NotYet

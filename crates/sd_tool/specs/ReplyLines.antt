@@ -25,7 +25,7 @@ refused_line why = line (refusal_text why)
 
 -- Records and readings.
 
--- the first bytes of a record, in hexadecimal digits; a dash where there are none
+-- the first bytes of a record, in hexadecimal digits; a dash if there are none
 abbrev pub shown_text : List ℕ → List ℕ
 shown_text [] = codes "-"
 shown_text (b ∷ bs) = encode_lower (take 16 (b ∷ bs))

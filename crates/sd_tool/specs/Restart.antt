@@ -42,13 +42,13 @@ pub record PutsOn {D : Type 0} (meaning : D → Meaning) (room : ℕ) (tail : Ta
   pub puts : PutsTail room tail refused (meaning before) (meaning after)
   pub others : (at : ℕ) → at + 1 ≢ tail.drive → slice_get new at ≡ slice_get old at
 
--- The devices of drives with so much room a volume are handed on: as they are where there is no tail, and nothing is refused
--- then; and else with the tail's bytes.
+-- The devices of drives with so much room a volume are handed on: as they are if there is no tail, and nothing is
+-- refused then; and else with the tail's bytes.
 abbrev pub HandsOn : {D : Type 0} → (D → Meaning) → (ℕ → ℕ) → Option Tail → Option Refusal → List D → List D → Type 0
 HandsOn meaning room None refused old new = (new ≡ old) × (refused ≡ None)
 HandsOn meaning room (Some tail) refused old new = PutsOn meaning (room tail.drive) tail refused old new
 
--- a new world of the same settings, of that time, over the devices of the old one, where this was refused of the tail
+-- a new world of the same settings, of that time, over the devices of the old one, and this was refused of the tail
 pub record StartsAnew {D : Type 0} (meaning : D → Meaning) (tail : Option Tail) (refused : Option Refusal) (old : StageView D) (time : ℕ) (new : StageView D) : Type 0 where
   pub values : new.values ≡ old.values
   pub retired : new.retired ≡ false
@@ -56,13 +56,13 @@ pub record StartsAnew {D : Type 0} (meaning : D → Meaning) (tail : Option Tail
   pub handed_on : HandsOn meaning (capacity_for old.values) tail refused (devices_of old.world.bays) devices
   pub starts : StartsAs meaning old.values time devices new.world
 
--- where this forbids it the old world stands, and else a new one does, if memory lasts
+-- if this forbids it, the old world stays; and else a new one starts, if memory lasts
 abbrev pub RestartsBy : {D : Type 0} → (D → Meaning) → Option Refusal → Option Tail → StageView D → ℕ → StageView D → Option Refusal → Type 0
 RestartsBy meaning (Some why) tail old time new refused = (new ≡ old) × (refused ≡ Some why)
 RestartsBy meaning None tail old time new refused = ((new ≡ old) × (refused ≡ Some Memory)) ⊎ StartsAnew meaning tail refused old time new
 
--- What stands behind a `restart` line. The old world stands where there can't be a new one, and the line is refused for
--- that; it may stand for want of memory too. Else a new one of that time stands, also where its tail is refused.
+-- What is there after a `restart` line. The old world stays if there can't be a new one, and the line is refused for
+-- that; it may stay, too, if out of memory. Else a new one of that time starts, also if its tail is refused.
 abbrev pub RestartsAs : {D : Type 0} → (D → Meaning) → StageView D → Restart → StageView D → Option Refusal → Type 0
 RestartsAs meaning old restart new refused =
     RestartsBy meaning (unfit (drive_count old.values) old.retired restart.tail) restart.tail old restart.time new refused

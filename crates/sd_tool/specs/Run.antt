@@ -30,7 +30,7 @@ use Rattle.sd_tool.specs.declared.run.Script.{Script}
 
 -- One line.
 
--- A new world stands, or the old one where there can't be a new one; which, is printed.
+-- A new world starts, or the old one stays if there can't be a new one; which of them it is, is printed.
 abbrev pub Restarts : {D : Type 0} → (D → Meaning) → Restart → ScriptView D → ScriptView D → Type 0
 Restarts meaning restart old new =
     (refused : Option Refusal) × RestartsAs meaning old.stage restart new.stage refused
@@ -46,7 +46,7 @@ abbrev pub IsNoLine : Part → List ℕ → LineFault → Type 0
 IsNoLine part bytes fault.BadName = (l : ScriptLine) × HasShape bytes l × StandsIn part l × (AreNames l → ⊥)
 IsNoLine part bytes fault.BadCommand = (l : ScriptLine) → HasShape bytes l → StandsIn part l → ⊥
 
--- the line that these bytes are is obeyed; where they are none, they are refused
+-- the line that these bytes are is obeyed; if they are none, they are refused
 abbrev pub ObeysBytes : {D : Type 0} → (D → Meaning) → Part → List ℕ → ScriptView D → ScriptView D → Type 0
 ObeysBytes meaning part bytes old new =
     ((l : ScriptLine) × HasForm bytes l × StandsIn part l × Obeys meaning l old new)
@@ -59,14 +59,14 @@ ObeysNext meaning part next.TooLong bytes old new = Prints old new (refused_line
 ObeysNext meaning part next.NoMemory bytes old new = Prints old new (refused_line refusal.Memory)
 ObeysNext meaning part other bytes old new = ⊥
 
--- It is shown at once, and the script goes on where that could be written.
+-- It is shown at once, and the script goes on if that could be written.
 abbrev pub GoesOn : {D : Type 0} → (D → Meaning) → Part → Next → List ℕ → ScriptView D → ScriptView D → Type 0
 GoesOn {D} meaning part came bytes old new =
     (between : ScriptView D) × ObeysNext meaning part came bytes old between × Prints between new []
     × (new.said.failed ≡ false)
 
--- with what the run ends where nothing was done for what came: at the end of the input, at one that can't be read, and
--- where there is no memory for a new world once the old one is gone
+-- what the run ends with if nothing was done for what came: at the end of the input, at one that can't be read, and if
+-- there is no memory for a new world once the old one is gone
 abbrev pub EndsAt : SaidView → Next → List ℕ → SaidView → ℕ → Type 0
 EndsAt old next.End bytes new status = (new ≡ old) × (status ≡ 0)
 EndsAt old next.Fault bytes new status = Says old new (as_line no_input_text) × (status ≡ 1)
@@ -88,8 +88,8 @@ Comes contents meaning part came bytes old (On s) = GoesOn meaning part came byt
 Comes contents meaning part came bytes old (Over ran) =
     Ends meaning part came bytes old (said_view contents ran.out) ran.status
 
--- What is to be shown, behind a line that was done, is shown: the script goes on where that could be written, and else
--- the run is over.
+-- What is to be shown after a line that was done is shown: the script goes on if that could be written, and else the
+-- run is over.
 abbrev pub Shown : {D Q W : Type 0} → (W → Option (List ℕ)) → ScriptView D → Came D Q W → Type 0
 Shown contents done (On s) = Prints done (script_view contents s) [] × ((script_view contents s).said.failed ≡ false)
 Shown contents done (Over ran) =
@@ -143,8 +143,8 @@ pub record Begins {D : Type 0} (meaning : D → Meaning) (v : ValuesView) (devic
   pub none_closed : s.closed ≡ []
   pub said_is : s.said ≡ said
 
--- A script of these settings is run over these devices and queues of this kind. Where they don't go together, that is printed, and nothing is run; nor is it where
--- there is no memory for its world.
+-- A script of these settings is run over these devices and queues of this kind. If the settings don't go together, that
+-- is printed, and nothing is run; nor is anything if there is no memory for its world.
 abbrev pub RunsScript : {D W : Type 0} → (Q : Type 0) → (W → Option (List ℕ)) → (D → Meaning) → ValuesView → List D → LineCame → SaidView → Ran W → Type 0
 RunsScript {D} Q contents meaning v devices first said ran =
     ((m : Misfit) × (misfit_of v ≡ Some m) × Says said (said_view contents ran.out) (as_line (misfit_text m)) × (ran.status ≡ 1))

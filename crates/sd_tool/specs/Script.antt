@@ -12,7 +12,7 @@ pub record ScriptView (D : Type 0) : Type 0 where
   pub closed : List Closed
   pub said : SaidView
 
--- the same of a script, by what is known of its writer
+-- a script as such a view, by what is known of its writer
 abbrev pub script_view : {D Q W : Type 0} → (W → Option (List ℕ)) → Script D Q W → ScriptView D
 script_view contents s = record {
   stage = s.stage;

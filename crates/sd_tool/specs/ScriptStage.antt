@@ -15,12 +15,12 @@ pub record StageView (D : Type 0) : Type 0 where
   pub values : ValuesView
   pub retired : Bool
 
--- The settings go together; and where no drive was retired, theirs are there, and online.
+-- The settings go together; and if no drive was retired, theirs are there, and online.
 pub record IsStage {D : Type 0} (s : StageView D) : Type 0 where
   pub fits : misfit_of s.values ≡ None
   pub online : s.retired ≡ false → online_flags s.world ≡ replicate (drive_count s.values) true
 
--- whether a drive was retired, behind this reply
+-- whether a drive was retired, after this reply
 abbrev pub retired_after : Reply → Bool → Bool
 retired_after Retired before = true
 retired_after reply before = before

@@ -108,7 +108,7 @@ abbrev pub drives_due_with : Option Misfit → ValuesView → ℕ
 drives_due_with None v = drive_count v
 drives_due_with (Some m) v = 0
 
--- how many drives are made: none where the settings don't go together
+-- how many drives are made: none if the settings don't go together
 abbrev pub drives_due : ValuesView → ℕ
 drives_due v = drives_due_with (misfit_of v) v
 

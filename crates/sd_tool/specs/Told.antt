@@ -27,7 +27,7 @@ told_text told.Restarted = codes "ok restarted"
 told_text told.NoInput = no_input_text
 told_text (told.Unfit m) = misfit_text m
 
--- a new world stands, or why none does or what of its tail was refused
+-- a new world started, or why none did or what of its tail was refused
 abbrev pub restarted_text : Option Refusal → List ℕ
 restarted_text None = codes "ok restarted"
 restarted_text (Some why) = refusal_text why

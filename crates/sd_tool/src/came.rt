@@ -18,7 +18,7 @@ use sd_text::Printer;
 use std::io::Write;
 
 impl<D: Driver + Drop, Q: Lanes + Drop, W: Write + Drop> Script<D, Q, W> {
-    /// Does what came is for, where a line stands in `bytes`, and prints what it comes to.
+    /// Does what came is for, with the line in `bytes` if it is one, and prints what it comes to.
     pub(crate) fn come(self, part: Part, next: Next, bytes: &[u8]) -> Came<D, Q, W>
         ensures { Comes W.contents (λ d. D.meaning d) part next bytes.now
             (script_view W.contents self) result }
@@ -96,8 +96,8 @@ impl<D: Driver + Drop, Q: Lanes + Drop, W: Write + Drop> Script<D, Q, W> {
         self.shown()
     }
 
-    // The script behind a line that makes a new world. It is over where there is no memory for that world once the old
-    // one is gone.
+    // The script after a line that makes a new world. It is over if there is no memory for that world once the old one
+    // is gone.
     fn restarted(self, restart: Restart) -> Came<D, Q, W>
         requires time_least { 1 ≤ restart.time }
         requires time_most { restart.time ≤ most_number }
@@ -140,7 +140,7 @@ impl<D: Driver + Drop, Q: Lanes + Drop, W: Write + Drop> Script<D, Q, W> {
         }
     }
 
-    // The script behind a line that reads nothing back.
+    // The script after a line that reads nothing back.
     fn acted(mut self, line: ScriptLine<'_>) -> Self
         ensures { Acts (λ d. D.meaning d) line.entry (script_view W.contents self)
             (script_view W.contents result) }

@@ -8,7 +8,7 @@ use sd_base::DriveNo;
 use sd_memdrive::MemDrive;
 use std::alloc::{AllocError, Global};
 
-/// A drive in memory for each drive of the settings, in their order; none where the settings don't go together.
+/// A drive in memory for each drive of the settings, in their order; none if the settings don't go together.
 pub fn memory_drives(alloc: Global, values: &Values) -> Result<Vec<MemDrive>, AllocError>
     ensures count { IfOk result (λ drives. length drives.items ≡ drives_due values.now) }
     ensures set_up { IfOk result (λ drives. AreSetUp values.now drives.items) }

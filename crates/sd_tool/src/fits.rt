@@ -7,7 +7,7 @@ use sd_base::{DriveNo, MOST_DRIVES};
 use sd_script::Fail;
 use std::alloc::{AllocError, Global};
 
-/// For how many bytes a volume has room where the script doesn't set it.
+/// For how many bytes a volume has room if the script doesn't set it.
 const USUAL_CAPACITY: u64 = 1_048_576;
 
 /// A setting that doesn't go with the others.

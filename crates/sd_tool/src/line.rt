@@ -2,7 +2,7 @@
 use sd_base::SessionKey;
 use std::fmt;
 
-/// Which session the spans behind it are of. Displays its line without the newline.
+/// Which session the spans after it are of. Displays its line without the newline.
 #[derive(Drop)]
 pub(crate) struct SessionLine(pub(crate) SessionKey);
 

@@ -18,7 +18,7 @@ const MOST_READ: u64 = LONGEST_LINE as u64 + 1;
 /// How the next line came.
 #[derive(Clone, Copy, Debug, PartialEq, Eq)]
 pub enum Next {
-    /// It stands in the bytes.
+    /// It is in the bytes.
     Line,
     /// It was longer than any line that has a form, and was passed over.
     TooLong,
@@ -61,7 +61,7 @@ impl Lines {
         }
     }
 
-    /// The bytes of the line, without the newline behind it.
+    /// The bytes of the line, without the newline after it.
     pub fn bytes(&self) -> &[u8]
         ensures { result.now ≡ self.now.bytes }
     {
@@ -124,7 +124,7 @@ fn ends_with_newline(bytes: &[u8]) -> bool
     count > 0 && bytes[count - 1] == b'\n'
 }
 
-/// Reads on behind the next newline, or to the end of the input. A read fault is told in place of `next`.
+/// Reads on past the next newline, or to the end of the input. A read fault is reported in place of `next`.
 fn pass_over<R: BufRead>(reader: &mut R, next: Next) -> Next
     ensures { (result ≡ next) ⊎ (result ≡ Next.Fault) }
 {

@@ -96,7 +96,7 @@ impl<D: Driver + Drop, Q: Lanes + Drop, W: Write + Drop> Script<D, Q, W> {
     }
 }
 
-// Reads a session back by what was printed of it, where something was.
+// Reads a session back by what was printed of it, if something was.
 fn read_printed<D: Driver + Drop, Q: Lanes + Drop, W: Write>(
     stage: &mut ScriptStage<D, Q>,
     key: SessionKey,
@@ -157,7 +157,7 @@ fn read_out<K: Before, D: Driver + Drop, Q: Lanes + Drop, W: Write>(
     }
 }
 
-/// Why a session can't be read back, where its status says so.
+/// Why a session can't be read back, if its status says so.
 fn unread(status: Option<Status>) -> Option<Refusal>
     ensures { result ≡ unread_refusal status }
 {

@@ -52,7 +52,7 @@ fn print_number<W: Write>(number: usize, out: &mut Printer<W>)
     out.bytes(digits.format(number).as_bytes());
 }
 
-// Prints the first bytes, in hexadecimal digits; a dash where there are none.
+// Prints the first bytes, in hexadecimal digits; a dash if there are none.
 fn print_shown<W: Write>(bytes: &[u8], out: &mut Printer<W>)
     ensures { Says (said_view W.contents out.old) (said_view W.contents out.new)
         (shown_text bytes.now) }

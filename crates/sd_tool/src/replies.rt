@@ -28,7 +28,7 @@ pub(crate) fn print_reply<W: Write>(reply: &Reply, out: &mut Printer<W>)
     out.line(ReplyLine(reply));
 }
 
-/// Prints the JobMedia text of the session with this key where the reply has its spans, and else the reply's line.
+/// Prints the JobMedia text of the session with this key if the reply has its spans, and else the reply's line.
 pub(crate) fn print_media<W: Write>(key: SessionKey, reply: &Reply, out: &mut Printer<W>)
     ensures { Says (said_view W.contents out.old) (said_view W.contents out.new)
         (media_words key reply.now) }
@@ -50,7 +50,7 @@ pub(crate) fn print_mounted<W: Write>(reply: &Reply, out: &mut Printer<W>)
     }
 }
 
-/// Prints the line of a reply to a close, and behind it the JobMedia text where the session was closed.
+/// Prints the line of a reply to a close, and after it the JobMedia text if the session was closed.
 pub(crate) fn print_closed<W: Write>(reply: &Reply, out: &mut Printer<W>)
     ensures { Says (said_view W.contents out.old) (said_view W.contents out.new)
         (closed_words reply.now) }

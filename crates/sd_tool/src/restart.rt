@@ -21,7 +21,7 @@ pub struct Restart {
     pub tail: Option<Tail>,
 }
 
-/// What a `restart` line came to: the world that stands now, and why the line was refused, if it was.
+/// What a `restart` line came to: the world that is there now, and why the line was refused, if it was.
 #[derive(Drop)]
 pub struct Restarted<D: Driver, Q: Lanes> {
     pub stage: ScriptStage<D, Q>,
@@ -29,9 +29,9 @@ pub struct Restarted<D: Driver, Q: Lanes> {
 }
 
 impl<D: Driver + Drop, Q: Lanes + Drop> ScriptStage<D, Q> {
-    /// A new world of that time over the same drives, with the bytes of the tail appended before. Where the drive of the
-    /// tail isn't there, or a drive was retired, or for want of memory, the old world stands; where the appending alone is
-    /// refused the new one does. An `Err` comes where memory is wanted once the old world is gone.
+    /// A new world of that time over the same drives, with the bytes of the tail appended before. If the drive of the
+    /// tail isn't there, or a drive was retired, or it is out of memory, the old world stays; if the appending alone is
+    /// refused, the new one starts. An `Err` is returned if out of memory once the old world is gone.
     pub fn restarted(self, alloc: Global, restart: Restart) -> Result<Restarted<D, Q>, AllocError>
         requires time_least { 1 ≤ restart.time }
         requires time_most { restart.time ≤ most_number }
@@ -77,7 +77,7 @@ impl<D: Driver + Drop, Q: Lanes + Drop> ScriptStage<D, Q> {
         Ok(Restarted { stage, refused })
     }
 
-    // The world stands, and the line is refused.
+    // The world stays, and the line is refused.
     fn refused(self, why: Refusal) -> Restarted<D, Q>
         ensures { result ≡ record { stage = self; refused = Some why } }
     {
@@ -104,7 +104,7 @@ impl<D: Driver + Drop, Q: Lanes + Drop> ScriptStage<D, Q> {
     }
 }
 
-// Hands the devices on, with the bytes of the tail, and says why not where these are refused.
+// Hands the devices on, with the bytes of the tail, and says why not if these are refused.
 fn append_tail<D: Driver>(
     alloc: Global,
     values: &Values,

@@ -77,10 +77,10 @@ pub fn run_lines<D: Driver + Drop, Q: Lanes + Drop, R: BufRead, W: Write + Drop>
     status
 }
 
-/// Runs the script whose settings were read, from the line that they ended at to the end of the input,
-/// and prints what each line comes to. There is a driver for each drive of the settings, and none where they don't go
-/// together: then the fault is printed and nothing is run. The queues of its worlds are like the one given. The status is 0 where the script came to its end, whatever
-/// was refused in it, and else 1.
+/// Runs the script whose settings were read, from the line that they ended at to the end of the input, and prints what
+/// each line comes to. There is a driver for each drive of the settings, and none if they don't go together: then the
+/// fault is printed and nothing is run. The queues of its worlds are like the one given. The status is 0 if the script
+/// came to its end, whatever was refused in it, and else 1.
 pub fn run_script<D: Driver + Drop, Q: Lanes + Drop, R: BufRead, W: Write + Drop>(
     alloc: Global,
     settings: Settings,

@@ -12,7 +12,7 @@ use sd_script::{Part, ScriptLine, Setting, read_line};
 use std::alloc::Global;
 use std::io::BufRead;
 
-/// The settings that stand at the head of a script, and the first other line.
+/// The settings at the head of a script, and the first other line.
 #[derive(Drop)]
 pub struct Settings {
     pub values: Values,
@@ -53,7 +53,7 @@ pub fn read_settings<R: BufRead>(alloc: Global, reader: &mut R) -> Settings
     }
 }
 
-/// The setting that was read, where what was read is one.
+/// The setting that was read, if what was read is one.
 fn setting_of(lines: &Lines, read: Next) -> Option<Setting>
     ensures found { IfSome result (λ setting. HasForm lines.now.bytes (Set setting)) }
     ensures line { IfSome result (λ _. read ≡ Next.Line) }
@@ -68,7 +68,7 @@ fn setting_of(lines: &Lines, read: Next) -> Option<Setting>
     }
 }
 
-/// The setting of a line, where it is one.
+/// The setting of a line, if it is one.
 fn setting_in(line: ScriptLine<'_>) -> Option<Setting>
     ensures found { IfSome result (λ setting. line.entry ≡ Set setting) }
     ensures none { IfNone result ((setting : SpecSetting) → line.entry ≡ Set setting → ⊥) }

@@ -1,4 +1,4 @@
-// Bytes behind a volume, as a stop may leave them.
+// Bytes after a volume, as a stop may leave them.
 ghost use Rattle.std.specs.Prelude.{◌≡◌};
 ghost use Rattle.sd_tool.specs.Tail.{PutsBehind, PutsTail, fault_refusal};
 
@@ -7,9 +7,9 @@ use sd_driver::{Driver, DriverFault};
 use sd_script::Tail;
 use std::alloc::Global;
 
-/// Puts the zero bytes of a tail behind its volume on a device whose volumes have room for `room` bytes, and says why not
-/// where that is refused. Of more bytes than one past that room only so many are asked for: the device refuses them as it
-/// would refuse all, and they take no more memory.
+/// Puts the zero bytes of a tail after its volume on a device whose volumes have room for `room` bytes, and says why
+/// not if that is refused. Of more bytes than one past that room only so many are asked for: the device refuses them as
+/// it would refuse all, and they take no more memory.
 pub fn put_tail<D: Driver>(alloc: Global, driver: &mut D, room: u64, tail: &Tail) -> Option<Refusal>
     ensures { PutsTail room tail.now result (D.meaning driver.old) (D.meaning driver.new) }
 {
@@ -24,7 +24,7 @@ pub fn put_tail<D: Driver>(alloc: Global, driver: &mut D, room: u64, tail: &Tail
     }
 }
 
-// Puts these bytes behind a volume.
+// Puts these bytes after a volume.
 fn put_behind<D: Driver>(driver: &mut D, volume: &VolName, bytes: &[u8]) -> Result<(), DriverFault>
     ensures { PutsBehind volume.now bytes.now result (D.meaning driver.old) (D.meaning driver.new) }
 {

@@ -7,7 +7,7 @@ use std::fmt;
 pub enum Told {
     /// So many blocks were placed.
     Drained(u64),
-    /// A new world stands.
+    /// A new world has started.
     Restarted,
     /// The input can't be read.
     NoInput,

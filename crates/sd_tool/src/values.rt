@@ -31,7 +31,7 @@ pub struct Values {
     pub queue: usize,
     /// The time of the run, in seconds.
     pub time: u32,
-    /// The host that the labels of new volumes say, where one is set.
+    /// The host that the labels of new volumes say, if one is set.
     pub host: Option<HostName>,
     /// The media and the number of lanes of each drive, as they were given.
     pub drives: Vec<(MediaName, u32)>,

@@ -59,7 +59,7 @@ brings_more fs records bytes body at next old new f b below s step =
       stands = subst (λ l. Stands l records new) (append_assoc fs b.front (f ∷ [])) (step (fs ++ b.front) b.stands);
     }
 
--- what stands next begins the bytes there
+-- what comes next begins the bytes there
 pub stands_first : (body : List ℕ) (at next : ℕ) (f : Fragment) → StandsAt body at f next → BeginsBytes f (drop at body) (drop next body)
 stands_first body at next f s = record {
   fragment_is = s.fragment;
@@ -82,7 +82,7 @@ brings_damage fs records bytes body at batch damage b below stops = record {
   stops = stops;
 }
 
--- a fragment that stands in a body ends in it, twelve bytes or more behind its place
+-- a fragment that lies in a body ends in it, twelve bytes or more after its place
 pub stands_within : (body : List ℕ) (at next : ℕ) (f : Fragment) → StandsAt body at f next → (at + 12 ≤ next) × (next ≤ length body)
 stands_within body at next f s =
     let long : length body - at ≡ 12 + length f.part + (length body - next) =

@@ -1,4 +1,4 @@
--- Bodies of fragments, and what stands at the place where a body is damaged.
+-- Bodies of fragments, and what is at the place where a body is damaged.
 use Rattle.std.proofs.Common.{◌≡◌, ◌≢◌, inl, inr, ℕ, refl, sym, ap, subst, ◌∙◌, List, [], ◌∷◌, ◌++◌, map}
 use Rattle.std.specs.Prelude.{Some}
 use Rattle.std.proofs.lemmas.List.{append_assoc, append-nil, map-append, append_cancel_left}
@@ -48,7 +48,7 @@ bytes_of_some : (gs : List Fragment) → gs ≢ [] → fragments_bytes gs ≡ []
 bytes_of_some [] some e = some refl
 bytes_of_some (g ∷ gs) some e = never_empty g gs e
 
--- where the rest can't stand, no fragments of a session are the rest
+-- if the rest can't come next, no fragments of a session are the rest
 rest_cant : (damage : Damage) (stage : Stage) (fs more : List Fragment) (records records' : List Record) (so_far rest : List ℕ) (standing : Standing)
     → Reaches stage fs records so_far → CantStand damage stage records rest → FitTogether more → more ≢ [] → fragments_bytes more ≡ rest
     → IsSession (fs ++ more) records' standing → ⊥
@@ -63,7 +63,7 @@ rest_cant damage stage fs (g ∷ more) records records' so_far rest standing r c
           (subst (λ x. IsSession (fs ++ x ∷ more) records' standing) (sym same.0) t)
     ]
 
--- where a body's fragments stop, no session has it
+-- if a body's fragments stop, no session has it
 stops_no_session : (fs gs : List Fragment) (body : List ℕ) (damage : Damage) (records : List Record) (standing : Standing) → StopsAt fs body damage
     → FitTogether gs → fragments_bytes gs ≡ body → IsSession (fs ++ gs) records standing → ⊥
 stops_no_session fs gs body damage records standing s fit e t =
@@ -86,7 +86,7 @@ AreBodies-back : (xs ys : List (List Fragment)) → AreBodies (xs ++ ys) → Are
 AreBodies-back [] ys are = are
 AreBodies-back (x ∷ xs) ys are = AreBodies-back xs ys are.2
 
--- the last body's fragments, where there is one last body
+-- the last body's fragments, if there is one last body
 last_is_one : (back : List (List Fragment)) (body : List ℕ) → map fragments_bytes back ≡ body ∷ [] → (fs : List Fragment) × (back ≡ fs ∷ []) × (fragments_bytes fs ≡ body)
 last_is_one [] body e = absurd (cc e)
 last_is_one (fs ∷ []) body e = (fs, refl, first_same (fragments_bytes fs) body [] [] e)
@@ -159,7 +159,7 @@ unpacked_whole bodies taken view standing u e = record {
   };
 }
 
--- where a session stands, the stage says so
+-- the stage says what standing a session has
 stage_of : (stage : Stage) (bodies : List (List ℕ)) (records taken : List Record) (view : Unpacking) (standing : Standing) → view.stage ≡ stage → Unpacks bodies taken view
     → Holds bodies records standing → (records ≡ taken ++ view.ready) × (standing_at stage ≡ Some standing)
 stage_of Fresh bodies records taken view standing is u h =

@@ -68,7 +68,7 @@ pub totals_past : (f : Fragment) (bytes : List ℕ) (label : SessionLabel) (reco
 totals_past f bytes label records fits is read there past =
     (label, is, label_stands f label fits is (sym there ∙ read), no_such_totals label records is past)
 
--- what stands behind whole records has the index of a record or of an end label
+-- what comes after whole records has the index of a record or of an end label
 next_index : {P : Type 0} (records : List Record) (f : Fragment) → BeginsRecord f ⊎ EndsSession records f → ((n : ℕ) → 1 ≤ n → f.index ≡ pos n → P)
     → (f.index ≡ end_label_index → P) → P
 next_index records f next record_case end_case = elim next [
@@ -94,7 +94,7 @@ end_below_one z high e = let high' : pos 1 ≤ℤ end_label_index = subst (λ x.
 below_zero : (z : ℤ) (n : ℕ) → z <ℤ pos 0 → z ≡ pos n → ⊥
 below_zero z n low e = let low' : pos n <ℤ pos 0 = subst (λ x. x <ℤ pos 0) e low in omega (arith, ints)
 
--- where a fragment can't follow, no session goes on with it
+-- if a fragment can't follow, no session goes on with it
 pub cant_follow : (damage : Damage) (stage : Stage) (fs : List Fragment) (records records' : List Record) (so_far : List ℕ) (standing : Standing) (f : Fragment) (more : List Fragment)
     → Reaches stage fs records so_far → CantFollow damage stage records f → IsSession (fs ++ f ∷ more) records' standing → ⊥
 cant_follow NoStart Fresh fs records records' so_far standing f more r c t =

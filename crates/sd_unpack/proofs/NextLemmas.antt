@@ -1,4 +1,4 @@
--- What may stand next, and so that nothing else may.
+-- What may come next, and thus that nothing else may.
 use Rattle.std.proofs.Common.{◌≡◌, ◌≢◌, ◌⊎◌, inl, inr, ℕ, ◌-◌, ◌≤◌, refl, sym, ap, subst, ◌∙◌, arith, List, [], ◌∷◌, ◌++◌, drop, length, replicate}
 use Rattle.std.specs.Prelude.{ℤ, pos, neg_ℤ}
 use Rattle.std.proofs.lemmas.List.{append_assoc, append-nil, append_cancel_left, length-drop, length-replicate}
@@ -15,7 +15,7 @@ use Rattle.sd_unpack.specs.Stage.{due_record, Opens, IsPartway}
 use Rattle.sd_unpack.specs.Damage.{Continues}
 use Rattle.sd_unpack.proofs.StageLemmas.{due_record_is, last_continues}
 
--- what is left of a session's fragments behind those of its first records
+-- what is left of a session's fragments after those of its first records
 record Later (all rs rs' : List Record) (standing : Standing) (tail behind' : List Fragment) : Type 0 where
   more : List Record
   parts : List Fragment
@@ -48,7 +48,7 @@ later all (r ∷ rs) (s ∷ rs') standing parts parts' tail behind' c d b e =
       order = rest.order;
     }
 
--- Behind whole records.
+-- After whole records.
 
 -- the fragment is the first of a record
 pub record BeginsRecord (f : Fragment) : Type 0 where
@@ -56,7 +56,7 @@ pub record BeginsRecord (f : Fragment) : Type 0 where
   pub record_is : IsRecord begun
   pub data_begin : BeginsData f (pos begun.index) (pos begun.stream) begun.bytes
 
--- the fragment is an end label behind these records
+-- the fragment is an end label after these records
 abbrev pub EndsSession : List Record → Fragment → Type 0
 EndsSession records f = (label : SessionLabel) × IsEnd label records × (f ≡ session_label_fragment label)
 
@@ -81,14 +81,14 @@ next_of all records [] Within parts behind f fs split are c b e =
 next_of all records [] AtEnd parts behind f fs split are c b e =
     inr (b.0, subst (IsEnd b.0) (split ∙ append-nil records) b.1, first_same f (session_label_fragment b.0) fs [] (e ∙ ap (λ l. l ++ behind) c ∙ b.2))
 
--- two sessions of which one begins the other agree behind the start label
+-- two sessions of which one begins the other agree after the start label
 labels_off : (start start' : SessionLabel) (fs parts behind parts' behind' tail : List Fragment) → fs ≡ session_label_fragment start ∷ (parts ++ behind)
     → fs ++ tail ≡ session_label_fragment start' ∷ (parts' ++ behind') → parts ++ (behind ++ tail) ≡ parts' ++ behind'
 labels_off start start' fs parts behind parts' behind' tail order order' =
     sym (append_assoc parts behind tail)
     ∙ rest_same (session_label_fragment start) (session_label_fragment start') ((parts ++ behind) ++ tail) (parts' ++ behind') (sym (ap (λ l. l ++ tail) order) ∙ order')
 
--- behind whole records stands the first fragment of one more, or their end label
+-- after whole records comes the first fragment of one more, or their end label
 pub next_whole : (fs : List Fragment) (records records' : List Record) (standing : Standing) (f : Fragment) (more : List Fragment) → IsSession fs records Between
     → IsSession (fs ++ f ∷ more) records' standing → BeginsRecord f ⊎ EndsSession records f
 next_whole fs records records' standing f more s t =
@@ -98,7 +98,7 @@ next_whole fs records records' standing f more s t =
     next_of records' records l.more standing l.parts t.behind f more l.records_split
     (records-back records l.more (subst (AllByRecursion IsRecord) l.records_split t.records_are)) l.parts_are t.behind_is l.order
 
--- Behind a record's first fragments.
+-- After a record's first fragments.
 
 -- fragments that go on with the same fragments say the same
 continue_same : (i i' s s' : ℤ) (left left' : List ℕ) (pre : List Fragment) (f g : Fragment) (fs gs : List Fragment) → i ≡ i' → s ≡ s' → length left ≡ length left'
@@ -167,7 +167,7 @@ opens_next behind due so_far r f fs opens c =
       some_there = same.3;
     }
 
--- the rest of a record's fragments, where the first of them are these
+-- the rest of a record's fragments, if the first of them are these
 next_in_record : (behind : List Fragment) (due : Due) (so_far : List ℕ) (r : Record) (more : List Fragment) (f : Fragment) (fs xs : List Fragment) → Opens behind due so_far
     → Fragments r (behind ++ more) → more ≢ [] → f ∷ fs ≡ more ++ xs → Continues due f
 next_in_record behind due so_far r [] f fs xs opens c some e = absurd (some refl)
@@ -197,7 +197,7 @@ next_due all [] Within parts behind' behind due so_far f fs opens c b e =
 next_due all [] AtEnd parts behind' behind due so_far f fs opens c b e =
     absurd (label_alone behind f fs b.0 (opens_unfinished behind due so_far opens) (e ∙ ap (λ l. l ++ behind') c ∙ b.2))
 
--- behind a record's first fragments stands one that goes on with it
+-- after a record's first fragments comes one that goes on with it
 pub next_partway : (fs : List Fragment) (records records' : List Record) (due : Due) (so_far : List ℕ) (standing : Standing) (f : Fragment) (more : List Fragment)
     → IsPartway fs records due so_far → IsSession (fs ++ f ∷ more) records' standing → Continues due f
 next_partway fs records records' due so_far standing f more s t =
@@ -205,7 +205,7 @@ next_partway fs records records' due so_far standing f more s t =
     let l = later records' records records' standing s.parts t.parts (s.behind ++ f ∷ more) t.behind s.parts_are t.parts_are t.behind_is flat in
     next_due records' l.more standing l.parts t.behind s.behind due so_far f more s.behind_is l.parts_are t.behind_is l.order
 
--- Behind the end label.
+-- After the end label.
 
 label_begins_none : (label : SessionLabel) → BeginsRecord (session_label_fragment label) → ⊥
 label_begins_none label b = label_is_no_record label b.begun.index b.data_begin.index_is
@@ -221,7 +221,7 @@ none_after all [] Within parts behind label f fs are c b e =
 none_after all [] AtEnd parts behind label f fs are c b e =
     cc (rest_same (session_label_fragment label) (session_label_fragment b.0) (f ∷ fs) [] (e ∙ ap (λ l. l ++ behind) c ∙ b.2))
 
--- behind the end label stands nothing
+-- after the end label comes nothing
 pub next_closed : (fs : List Fragment) (records records' : List Record) (standing : Standing) (f : Fragment) (more : List Fragment) → IsSession fs records AtEnd
     → IsSession (fs ++ f ∷ more) records' standing → ⊥
 next_closed fs records records' standing f more s t =

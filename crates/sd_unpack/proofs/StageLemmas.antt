@@ -1,4 +1,4 @@
--- A fragment that may stand next takes the session on.
+-- A fragment that may come next takes the session on.
 use Rattle.std.proofs.Common.{◌≡◌, ℕ, ◌+◌, ◌-◌, ◌<◌, refl, sym, ap, subst, ◌∙◌, arith, List, [], ◌∷◌, ◌++◌, length}
 use Rattle.std.specs.Prelude.{ℤ, pos, neg_ℤ}
 use Rattle.std.proofs.lemmas.List.{append_assoc, append-nil, length-append, drop_at, drop_all}
@@ -13,7 +13,7 @@ use Rattle.sd_unpack.specs.declared.stage.Due.{Due}
 use Rattle.sd_unpack.specs.Stage.{CouldBeRecord, due_record, Opens, IsPartway}
 use Rattle.sd_unpack.specs.Damage.{Continues}
 
--- a fragment behind the others, where nothing else is
+-- a fragment after the others, if nothing else is there
 behind_none : {X : Type 0} (parts behind tail : List X) → behind ≡ [] → (parts ++ behind) ++ tail ≡ parts ++ tail
 behind_none parts behind tail none =
     ap (λ b. (parts ++ b) ++ tail) none ∙ ap (λ l. l ++ tail) (append-nil parts)
@@ -42,7 +42,7 @@ session_record fs records r f s is c = record {
   behind_is = refl;
 }
 
--- a header's part begins the part and what comes behind it
+-- a header's part begins the part and what comes after it
 begins_with : (f : Fragment) (index stream : ℤ) (rest : List ℕ) → f.index ≡ index → f.stream ≡ stream → f.size ≡ length f.part + length rest
     → BeginsData f index stream (f.part ++ rest)
 begins_with f index stream rest i s n = record {
@@ -72,7 +72,7 @@ whole_fragments due f starts long = (
   drop_all (length f.part) f.part (omega arith),
 )
 
--- what is due behind a part
+-- what is due after a part
 abbrev pub due_after : Due → List ℕ → Due
 due_after due part = record due { left = due.left - length part }
 
@@ -105,7 +105,7 @@ more_opens behind due so_far f opens goes short =
           (subst (Fragments (due_record due (so_far ++ (f.part ++ rest)))) (sym (append_assoc behind (f ∷ []) more)) all));
     }
 
--- a later part behind which more is due
+-- a later part after which more is due
 pub partway_more : (fs : List Fragment) (records : List Record) (due : Due) (so_far : List ℕ) (f : Fragment) → IsPartway fs records due so_far
     → Continues due f → length f.part < due.left → IsPartway (fs ++ f ∷ []) records (due_after due f.part) (so_far ++ f.part)
 partway_more fs records due so_far f s goes short = record {

@@ -28,7 +28,7 @@ empty_damaged bodies taken old body u none = record {
   stops = inl (none, refl);
 }
 
--- what stands first in the body can't
+-- what comes first in the body can't come there
 pub first_damaged : (bodies : List (List ℕ)) (taken : List Record) (old : Unpacking) (body : List ℕ) (damage : Damage) → Unpacks bodies taken old → body ≢ []
     → CantStand damage old.stage (taken ++ old.ready) body → IsDamaged bodies body damage
 first_damaged bodies taken old body damage u some stops = record {
@@ -49,7 +49,7 @@ first_damaged bodies taken old body damage u some stops = record {
   });
 }
 
--- where no record is unfinished, no data have come of one
+-- if no record is unfinished, no data have come of one
 at_rest_any : (stage : Stage) (fs : List Fragment) (records : List Record) (so_far other : List ℕ) → IsAtRest stage → Reaches stage fs records so_far → Reaches stage fs records other
 at_rest_any Fresh fs records so_far other rest r = r
 at_rest_any Whole fs records so_far other rest r = r
@@ -105,7 +105,7 @@ keeps_part bodies taken old body due next f u is some s goes short =
 whole_part : (due : Due) (f : Fragment) → Continues due f → length f.part ≡ due.left → GoesOn f → ⊥
 whole_part due f goes long more = let size = goes.size_is in omega arith
 
--- the record that the part makes whole stands behind those before it
+-- the record that the part makes whole comes after those before it
 finished : (bodies : List (List ℕ)) (taken : List Record) (old : Unpacking) (due : Due) (f : Fragment) → (u : Unpacks bodies taken old) → old.stage ≡ Partway due
     → Continues due f → length f.part ≡ due.left
     → IsSession (joined u.fragments ++ f ∷ []) ((taken ++ old.ready) ++ due_record due (old.so_far ++ f.part) ∷ []) Between

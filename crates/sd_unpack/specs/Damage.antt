@@ -32,8 +32,8 @@ pub record Continues (due : Due) (f : Fragment) : Type 0 where
   pub size_is : f.size ≡ due.left
   pub some_there : f.part ≢ []
 
--- which damage it is where this fragment stands next, at this stage and behind these records: none where
--- it may stand there
+-- which damage it is if this fragment comes next, at this stage and after these records: none if it may
+-- come there
 abbrev pub CantFollow : Damage → Stage → List Record → Fragment → Type 0
 CantFollow NoStart Fresh records f = f.index ≢ start_label_index
 CantFollow BadFragment Fresh records f = (f.index ≡ start_label_index) × IsNoLabel f
@@ -49,7 +49,7 @@ CantFollow BadContinuation (Partway due) records f = Continues due f → ⊥
 CantFollow AfterEnd Closed records f = Unit {0}
 CantFollow damage stage records f = ⊥
 
--- this fragment is the first of these bytes: where it goes on, it is all of them
+-- this fragment is the first of these bytes: if it goes on, it is all of them
 pub record BeginsBytes (f : Fragment) (bytes after : List ℕ) : Type 0 where
   pub fragment_is : IsFragment f
   pub bytes_are : bytes ≡ fragment_bytes f ++ after
@@ -59,7 +59,7 @@ pub record BeginsBytes (f : Fragment) (bytes after : List ℕ) : Type 0 where
 abbrev pub BeginsWithNone : List ℕ → Type 0
 BeginsWithNone bytes = (f : Fragment) (after : List ℕ) → BeginsBytes f bytes after → ⊥
 
--- these bytes can't stand next: they begin with no fragment, or with one that can't
+-- these bytes can't come next: they begin with no fragment, or with one that can't
 abbrev pub CantStand : Damage → Stage → List Record → List ℕ → Type 0
 CantStand damage stage records bytes =
     ((damage ≡ BadFragment) × BeginsWithNone bytes)
@@ -71,7 +71,7 @@ abbrev pub AreWhole : List Fragment → Type 0
 AreWhole [] = Unit {0}
 AreWhole (f ∷ fs) = IsFragment f × (GoesOn f → ⊥) × AreWhole fs
 
--- Behind these fragments, the first of the bytes go on with the session, and what follows them can't.
+-- After these fragments, the first of the bytes go on with the session, and what follows them can't.
 pub record StopsAt (fs : List Fragment) (bytes : List ℕ) (damage : Damage) : Type 0 where
   pub front : List Fragment
   pub rest : List ℕ
@@ -84,14 +84,14 @@ pub record StopsAt (fs : List Fragment) (bytes : List ℕ) (damage : Damage) : T
   pub rest_left : rest ≢ []
   pub stops : CantStand damage stage records rest
 
--- behind these bodies, the body is damaged so: there is nothing in it, or its fragments stop
+-- after these bodies, the body is damaged so: there is nothing in it, or its fragments stop
 pub record IsDamaged (bodies : List (List ℕ)) (body : List ℕ) (damage : Damage) : Type 0 where
   pub fragments : List (List Fragment)
   pub bytes_are : bodies ≡ map fragments_bytes fragments
   pub bodies_are : AreBodies fragments
   pub stops : ((body ≡ []) × (damage ≡ BadFragment)) ⊎ StopsAt (joined fragments) body damage
 
--- the damage, where that is the answer
+-- the damage, if that is the answer
 abbrev pub IfDamaged : {X : Type 0} → Result X AddFault → (Damage → Type 0) → Type 0
 IfDamaged (Ok x) P = Unit {0}
 IfDamaged (Err (Damaged damage)) P = P damage

@@ -54,7 +54,7 @@ Reaches Whole fs records so_far = IsSession fs records Between
 Reaches (Partway due) fs records so_far = IsPartway fs records due so_far
 Reaches Closed fs records so_far = IsSession fs records AtEnd
 
--- where a session stands at this stage, once its start label is there
+-- the standing of a session at this stage, once its start label is there
 abbrev pub standing_at : Stage → Option Standing
 standing_at Fresh = None
 standing_at Whole = Some Between
@@ -75,7 +75,7 @@ IsStage Whole so_far = Unit {0}
 IsStage (Partway due) so_far = CouldBeRecord due so_far
 IsStage Closed so_far = Unit {0}
 
--- the totals of the records; none where they are more than an end label can hold
+-- the totals of the records; none if they are more than an end label can hold
 abbrev pub AreTotalsOf : Option Totals → List Record → Type 0
 AreTotalsOf None records = (2 ^ 64 ≤ length records) ⊎ (2 ^ 64 ≤ total_bytes records)
 AreTotalsOf (Some totals) records =

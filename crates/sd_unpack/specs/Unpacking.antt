@@ -29,8 +29,8 @@ pub record Unpacks (bodies : List (List ℕ)) (taken : List Record) (view : Unpa
 
 -- Laws.
 
--- the records taken and those that wait are the whole records of the bodies, which stand as the
--- stage says
+-- the records taken and those that wait are the whole records of the bodies, whose standing is as
+-- the stage says
 abbrev pub UnpackedAreWhole : Type 0
 UnpackedAreWhole = (bodies : List (List ℕ)) (taken : List Record) (view : Unpacking)
     (standing : Standing)

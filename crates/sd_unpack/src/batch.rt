@@ -18,7 +18,7 @@ use std::alloc::{AllocError, Global};
 use std::collections::VecDeque;
 
 /// What the fragments of a body bring: the records that begin and end in it, the data of one that goes
-/// on behind it, and the session's stage and totals then.
+/// on after it, and the session's stage and totals then.
 #[derive(Drop)]
 pub(crate) struct Batch {
     pub(crate) records: VecDeque<Rec>,
@@ -27,7 +27,7 @@ pub(crate) struct Batch {
     pub(crate) so_far: Vec<u8>,
 }
 
-/// Reads the fragments from `from` on, where the session stands at `stage` with these totals before.
+/// Reads the fragments from `from` on, when the session is at `stage` with these totals before.
 pub(crate) fn read_fragments(
     alloc: Global,
     body: &[u8],

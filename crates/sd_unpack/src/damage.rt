@@ -10,18 +10,18 @@ use std::alloc::{AllocError, AllocFailed};
 pub enum Damage {
     /// The first fragment isn't that of a start label.
     NoStart,
-    /// A start label stands behind another.
+    /// A start label comes after another.
     LabelAgain,
     /// The index is 0, or negative and not that of a session label.
     BadIndex,
-    /// No fragment stands there, its size is above `MOST_DATA`, or a label isn't whole or isn't one of
+    /// No fragment is there, its size is above `MOST_DATA`, or a label isn't whole or isn't one of
     /// this profile. A body with nothing in it is damaged so too.
     BadFragment,
-    /// A record goes on and something else stands there, or none goes on.
+    /// A record goes on and something else is there, or none goes on.
     BadContinuation,
     /// The end label's totals aren't those of the records.
     BadTotals,
-    /// Something stands behind the end label.
+    /// Something comes after the end label.
     AfterEnd,
 }
 

@@ -17,7 +17,7 @@ use sd_base::MOST_DATA;
 use sd_label::{NotOurs, START_LABEL, Totals, read_session_label};
 use sd_record::{Fragment, next_fragment};
 
-/// The fragment at `at` and the place behind it, or `None` at the body's end.
+/// The fragment at `at` and the place after it, or `None` at the body's end.
 pub(crate) fn fragment_at(body: &[u8], at: usize) -> Result<Option<(Fragment<'_>, usize)>, Damage>
     ensures end { (result ≡ Ok None) ↔ (length body.now ≤ at) }
     ensures found { IfOk result

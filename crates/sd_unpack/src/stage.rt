@@ -14,7 +14,7 @@ pub(crate) struct Due {
 }
 
 impl Due {
-    /// What is due behind `taken` bytes more.
+    /// What is due after `taken` bytes more.
     pub(crate) fn after(self, taken: usize) -> Self
         requires { taken ≤ self.left }
         ensures { result ≡ record self { left = self.left - taken } }
@@ -40,7 +40,7 @@ pub(crate) enum Stage {
     Closed,
 }
 
-/// The totals with one record more of `size` data bytes, or none where a label can't hold them.
+/// The totals with one record more of `size` data bytes, or none if a label can't hold them.
 pub(crate) fn totals_with(totals: Option<Totals>, size: usize) -> Option<Totals>
     ensures { (records : List Record) (one : Record) → AreTotalsOf totals records
         → size ≡ length one.bytes → AreTotalsOf result (records ++ one ∷ []) }

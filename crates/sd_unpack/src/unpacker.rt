@@ -162,7 +162,7 @@ impl Unpacker {
         Ok(())
     }
 
-    /// Makes the unfinished record whole by its last part, and keeps what stands behind it.
+    /// Makes the unfinished record whole by its last part, and keeps what comes after it.
     fn finish(&mut self, due: Due, part: &[u8], mut batch: Batch) -> Result<(), AllocError>
         requires stage { self.old.stage ≡ Partway due }
         requires part { length part.now ≡ due.left }

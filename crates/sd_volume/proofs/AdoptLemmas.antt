@@ -21,7 +21,7 @@ one_block_begins bytes key key' number number' body body' is is' =
     (one_block_there (record { key = key; body = body }) (record { key = key'; body = body' }) number number' _ _ (own_image _ key number body is) (own_image _ key' number' body' is')
     (sym (block_and_behind bytes key number body is) ∙ block_and_behind bytes key' number' body' is')).number_is
 
--- a block that was shown stands there
+-- a block that was shown is there
 pub shown_stands : (bytes shown : List ℕ) (at : ℕ) (head : Head) → shown ≡ take head.size (drop at bytes) → IsBlockOf shown head → BlockStandsAt at head.number bytes head
 shown_stands bytes shown at head is block =
     let long : head.size ≡ 24 + length block.body = block.size_is ∙ length-image shown head.key head.number block.body block.image in

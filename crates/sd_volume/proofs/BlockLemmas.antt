@@ -30,7 +30,7 @@ pub size_of_front : (bytes : List ℕ) (head : Head) (key : SessionKey) (number 
 size_of_front bytes head key number body is begins =
     ap (λ (h : Head). h.size) (SaysFields-same (take 24 bytes) head _ is.fields (head_of_front bytes key number body begins).fields)
 
--- where the bytes of that size are no block, none stands there
+-- if the bytes of that size are no block, none is there
 pub none_there : (bytes shown : List ℕ) (head : Head) → IsHeadOf most_block (take 24 bytes) head → shown ≡ take head.size bytes
     → ((key : SessionKey) (number : ℕ) (body : List ℕ) → ¬ IsBlockImage most_block shown key number body)
     → (key : SessionKey) (number : ℕ) (body : List ℕ) → ¬ BeginsWithBlock bytes key number body
@@ -51,14 +51,14 @@ on_none : {X : Type 0} (o : Option X) (P Q : Type 0) → (P → Q) → IfNone o 
 on_none None P Q weaker p = weaker p
 on_none (Some x) P Q weaker p = tt
 
--- a block that was shown is shown as it stands
+-- a block that was shown is shown as it is
 pub block_shown : (found : Option Head) (at size : ℕ) (reader : ReaderView) (shelf : Shelf) (shown : List ℕ) → shown ≡ reader.shown → ShowsPart at size reader shelf
     → IfSome found (IsBlockOf shown) → IfSome found (λ head. ShowsPart at head.size reader shelf)
 block_shown found at size reader shelf shown same part is =
     on_some found (IsBlockOf shown) (λ head. ShowsPart at head.size reader shelf)
     (λ head block held there. shown_all (drop at held.bytes) reader.shown size head.size (part held there) (block.size_is ∙ ap length same)) is
 
--- where what was shown is no block, none stands there
+-- if what was shown is no block, none is there
 pub no_block_shown : (found : Option Head) (at : ℕ) (name : List ℕ) (shelf : Shelf) (shown : List ℕ) (head : Head)
     → ((held : Held) → shelf.volume name ≡ Some held → IsHeadOf most_block (take 24 (drop at held.bytes)) head × (shown ≡ take head.size (drop at held.bytes)))
     → IfNone found ((key : SessionKey) (number : ℕ) (body : List ℕ) → ¬ IsBlockImage most_block shown key number body)

@@ -47,7 +47,7 @@ counted_call result old new counts passes = record {
   not_told = λ none. counts.told ∙ told_same result old.told none;
 }
 
--- the same said of other answers
+-- what was counted, said of other answers
 pub Counted-as : (fault fault' no_room no_room' : Type 0) (old new : Meaning) → (fault → fault') → (fault' → fault) → (no_room → no_room') → (no_room' → no_room)
     → Counted fault no_room old new → Counted fault' no_room' old new
 Counted-as fault fault' no_room no_room' old new to from full_to full_from counted = record {
@@ -68,7 +68,7 @@ SameCounts-of fault no_room old new no_fault not_full counted = record {
   told = counted.not_told not_full;
 }
 
--- a call behind others that counted nothing
+-- a call after others that counted nothing
 pub Counted-behind : (fault no_room : Type 0) (a b c : Meaning) → SameCounts a b → a.shelf.moment ≤ b.shelf.moment → Counted fault no_room b c → Counted fault no_room a c
 Counted-behind fault no_room a b c first moment then = record {
   honest = then.honest ∙ first.honest;
@@ -109,7 +109,7 @@ OnlyReads-as fault fault' old new to from reads = record {
   same = reads.same;
 }
 
--- a call behind one that was answered
+-- a call after one that was answered
 pub OnlyReads-trans : (first fault : Type 0) (a b c : Meaning) → ¬ first → OnlyReads first a b → OnlyReads fault b c → OnlyReads fault a c
 OnlyReads-trans first fault a b c answered one then = record {
   counted = Counted-behind fault ⊥ a b c (SameCounts-of first ⊥ a b answered (λ n. n) one.counted) one.counted.moment then.counted;

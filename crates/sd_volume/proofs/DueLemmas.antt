@@ -134,7 +134,7 @@ one_due BlocksOfThisRun Memory name media start shelf a b = absurd b
 one_due Device other name media start shelf a b = absurd a
 one_due Memory other name media start shelf a b = absurd a
 
--- so where it is answered at all, it is that one, or the device or memory failed
+-- so if it is answered at all, it is that one, or the device or memory failed
 pub refuses_due : (answer fault : AdoptFault) (name media : List ℕ) (start : ℕ) (shelf : Shelf) → (answer ≢ Device → answer ≢ Memory → IsDue answer name media start shelf)
     → IsDue fault name media start shelf → (answer ≡ fault) ⊎ (answer ≡ Device) ⊎ (answer ≡ Memory)
 refuses_due NotOnShelf fault name media start shelf due is = inl (one_due NotOnShelf fault name media start shelf (due (λ e. cc) (λ e. cc)) is)
@@ -242,7 +242,7 @@ same_bytes shelf name held other label blocks tail there here is =
     let same = ap (λ (h : Held). h.bytes) (same_held shelf name held other there here) in
     subst (λ bytes. VolumeImage bytes label blocks tail) same is
 
--- where nothing changed, whole blocks are kept
+-- if nothing changed, whole blocks are kept
 pub KeepsWholeBlocks-same : (name : List ℕ) (old new : Shelf) → SameShelf old new → StillLasts old new → KeepsWholeBlocks name old new
 KeepsWholeBlocks-same name old new same still held there label blocks tail is =
     (KeepsUpTo-same (volume_end label blocks) name old new same, StillLastsBelow-of (volume_end label blocks) name old new still)

@@ -1,4 +1,4 @@
--- Blocks one behind the other on a volume: where they are parted, that their bytes tell them, and one block more.
+-- Blocks one after the other on a volume: where they are parted, that their bytes tell them, and one block more.
 use Rattle.std.proofs.Common.{◌≡◌, ℕ, suc, ◌+◌, ◌≤◌, List, [], ◌∷◌, ◌++◌, length, take, drop, refl, ap, ap₂, sym, ◌∙◌, subst, arith, add-zero}
 use Rattle.std.proofs.lemmas.List.{append_assoc, append-nil, length-append, take_at, drop_at, take-append-drop}
 use Rattle.sd_base.specs.declared.number.SessionKey.{SessionKey}
@@ -23,7 +23,7 @@ pub own_image : (image : List ℕ) (key : SessionKey) (number : ℕ) (body : Lis
     → IsBlockImage most_block (block_image key number body) key number body
 own_image image key number body is = record { image_is = refl; fits = is.fits; least = is.least; most = is.most }
 
--- bytes that are an image and what stands behind it begin with its block
+-- bytes that are an image and what comes after it begin with its block
 pub begins_with_block : (bytes behind : List ℕ) (key : SessionKey) (number : ℕ) (body : List ℕ)
     → IsBlockImage most_block (block_image key number body) key number body → bytes ≡ block_image key number body ++ behind
     → BeginsWithBlock bytes key number body
@@ -62,9 +62,9 @@ label_block-least label = omega (arith, length-label_block label, length-volume_
 IsImage-of : (image : List ℕ) (key : SessionKey) (number : ℕ) (body : List ℕ) → IsBlockImage most_block image key number body → IsImage most_block image
 IsImage-of image key number body is = record { key = key; number = number; body = body; block = is }
 
--- Blocks behind blocks.
+-- Blocks after blocks.
 
--- the number behind one block and n more
+-- the number after one block and n more
 suc_number : (number n : ℕ) → number + 1 + n ≡ number + suc n
 suc_number number n = omega arith
 
@@ -84,7 +84,7 @@ pub AreImages-behind : (number : ℕ) (bs cs : List Block) → AreImages number 
 AreImages-behind number [] cs are = subst (λ n. AreImages n cs) (sym (add-zero number)) are
 AreImages-behind number (b ∷ bs) cs are = subst (λ n. AreImages n cs) (suc_number number (length bs)) (AreImages-behind (number + 1) bs cs are.1)
 
--- Images that stand at one place.
+-- Images at one place.
 
 -- a block by its parts
 block_of : SessionKey → List ℕ → Block
@@ -112,7 +112,7 @@ one_block_there b c n m behind behind' is is' e =
       behind_is = same.1;
     }
 
--- blocks with nothing next behind them begin with those that are done, and what is left are the images of the others
+-- blocks with nothing next after them begin with those that are done, and what is left are the images of the others
 pub record GoesOnWith (number : ℕ) (done all : List Block) (rest tail : List ℕ) : Type 0 where
   pub more : List Block
   pub all_are : all ≡ done ++ more
@@ -142,7 +142,7 @@ images_go_on number (d ∷ ds) (b ∷ bs) rest tail are are' none e =
 
 -- Volumes.
 
--- a label block at one place is of one label, and what stands behind it is the same
+-- a label block at one place is of one label, and what comes after it is the same
 pub one_label : (label other : VolumeLabel) (behind behind' : List ℕ) → IsVolumeLabel label → IsVolumeLabel other
     → label_block label ++ behind ≡ label_block other ++ behind' → (label ≡ other) × (behind ≡ behind')
 one_label label other behind behind' is is' e =
@@ -153,7 +153,7 @@ one_label label other behind behind' is is' e =
     let parts = one_block most_block most_block (label_block label) no_session no_session 0 0 (volume_label_bytes label) (volume_label_bytes other) image there in
     (volume_labels_apart label other is is' parts.2, same.1)
 
--- the bytes as the label block and what stands behind it
+-- the bytes as the label block and what comes after it
 pub label_in_front : (bytes : List ℕ) (label : VolumeLabel) (blocks : List Block) (tail : List ℕ) → VolumeImage bytes label blocks tail
     → bytes ≡ label_block label ++ (images 1 blocks ++ tail)
 label_in_front bytes label blocks tail is = is.bytes_are ∙ append_assoc (label_block label) (images 1 blocks) tail
@@ -179,7 +179,7 @@ whole_image_goes_on bytes label other blocks all rest tail is whole =
     let to = goes_on_behind bytes label other blocks all rest tail is whole in
     (to.label_is, (to.on.more, to.on.all_are))
 
--- nothing goes on behind a whole image
+-- nothing goes on after a whole image
 nothing_more : (number : ℕ) (more : List Block) (rest tail : List ℕ) → NoBlockNext number rest → AreImages number more → rest ≡ images number more ++ tail → more ≡ []
 nothing_more number [] rest tail none are e = refl
 nothing_more number (b ∷ bs) rest tail none are e =

@@ -15,7 +15,7 @@ take_front : {A : Type 0} (xs ys : List A) → take (length xs) (xs ++ ys) ≡ x
 take_front [] ys = refl
 take_front (x ∷ xs) ys = ap (λ l. x ∷ l) (take_front xs ys)
 
--- the label block alone, and all else behind it
+-- the label block alone, and all else after it
 label_alone : (bytes : List ℕ) (label : VolumeLabel) (blocks : List Block) (tail : List ℕ) → VolumeImage bytes label blocks tail → VolumeImage bytes label [] (images 1 blocks ++ tail)
 label_alone bytes label blocks tail is = record {
   label_is = is.label_is;
@@ -53,7 +53,7 @@ label_left v w old new is cuts label blocks tail stands =
       no_tail = λ status. refl;
     })
 
--- so it is where the cut succeeded
+-- so it is if the cut succeeded
 pub left_of : {T E : Type 0} (r : Result T E) (v w : VolumeView) (old new : Shelf) → OnOk r (w ≡ emptied Append v) → OnOk r (CutsAt v.first v.name old new) → OnOk r (LeavesLabel v old w new)
 left_of (Ok x) v w old new is cuts = label_left v w old new is cuts
 left_of (Err e) v w old new is cuts = tt

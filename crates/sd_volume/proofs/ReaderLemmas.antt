@@ -9,7 +9,7 @@ use Rattle.sd_driver.specs.Meaning.{TellsBytes}
 use Rattle.sd_volume.specs.Reader.{ReaderView, Shows}
 use Rattle.sd_driver.proofs.Lasting.{BeginsWith-length}
 
--- what is kept, and what was read behind it
+-- what is kept, and what was read after it
 pub refilled : (bytes kept part : List ℕ) (at room count most : ℕ) → BeginsWith (drop at bytes) kept → length kept + room ≡ most
     → count ≡ min room (length bytes - (at + length kept)) → take count part ≡ take count (drop (at + length kept) bytes)
     → kept ++ take count part ≡ take most (drop at bytes)
@@ -33,7 +33,7 @@ part_of_held bytes held from at count begins low high =
     let there : drop skip rest ≡ drop at bytes = drop-drop skip from bytes ∙ ap (λ n. drop n bytes) (omega arith) in
     ap (λ (l : List ℕ). take count (drop skip l)) held_is ∙ ap (take count) (drop-take skip more rest) ∙ take-take count more (drop skip rest) (omega arith) ∙ ap (take count) there
 
--- what is held from a place on stands there
+-- what is held from a place on is there
 pub held_from : (bytes held kept : List ℕ) (from at : ℕ) → BeginsWith (drop from bytes) held → from ≤ at → at ≤ from + length held
     → kept ≡ drop (at - from) held → BeginsWith (drop at bytes) kept
 held_from bytes held kept from at begins low high is =
@@ -71,11 +71,11 @@ moved_front buffer after held kept within fits is =
     let behind : drop skip (take held buffer) ≡ part = ap (λ n. drop skip (take n buffer)) (omega arith) ∙ drop-take skip kept buffer in
     ap (take kept) after_is ∙ take_at part (drop (0 + kept) buffer) kept long ∙ sym behind
 
--- what stands behind a front
+-- what comes after a front
 take_behind : (xs ys : List ℕ) (n k : ℕ) → k ≡ length xs → take (k + n) (xs ++ ys) ≡ xs ++ take n ys
 take_behind xs ys n k is = take-add k n (xs ++ ys) ∙ ap₂ (λ (a b : List ℕ). a ++ take n b) (take_at xs ys k (sym is)) (drop_at xs ys k (sym is))
 
--- what the device read behind the bytes that are held
+-- what the device read after the bytes that are held
 pub read_there : (name : List ℕ) (shelf : Shelf) (volume : Held) (buffer part post : List ℕ) (at held room count : ℕ)
     → shelf.volume name ≡ Some volume → held ≤ length buffer → room ≡ length buffer - held → length part ≡ room
     → BeginsWith (drop at volume.bytes) (take held buffer) → TellsBytes name (at + held) room count part shelf

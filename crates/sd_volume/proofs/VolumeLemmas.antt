@@ -45,7 +45,7 @@ block_added v after old new loaded label blocks block image size is block_is siz
       no_tail = λ status. refl;
     })
 
--- bytes behind the tail are more of the tail
+-- bytes after the tail are more of the tail
 pub tail_added : (bytes more : List ℕ) (label : VolumeLabel) (blocks : List Block) (tail : List ℕ) → VolumeImage bytes label blocks tail → VolumeImage (bytes ++ more) label blocks (tail ++ more)
 tail_added bytes more label blocks tail is = record {
   label_is = is.label_is;

@@ -35,7 +35,7 @@ pub record IsVolumeOf (name bytes : List ℕ) (label : VolumeLabel) : Type 0 whe
 abbrev pub AreEarlier : ℕ → List Block → Type 0
 AreEarlier start = All (λ block. block.key.time < start)
 
--- among the blocks that stand in order behind the label there is one that is of no earlier run
+-- among the blocks that come in order after the label there is one that is of no earlier run
 pub record HasBlockOfThisRun (start : ℕ) (bytes : List ℕ) (label : VolumeLabel) : Type 0 where
   pub before : List Block
   pub block : Block
@@ -43,7 +43,7 @@ pub record HasBlockOfThisRun (start : ℕ) (bytes : List ℕ) (label : VolumeLab
   pub image : VolumeImage bytes label (before ++ block ∷ []) tail
   pub time : start ≤ block.key.time
 
--- Which refusal of an adoption is due, by what stands on the shelf: the first in this order.
+-- Which refusal of an adoption is due, by what is on the shelf: the first in this order.
 abbrev pub IsDue : AdoptFault → List ℕ → List ℕ → ℕ → Shelf → Type 0
 IsDue NotOnShelf name media start shelf = shelf.volume name ≡ None
 IsDue NotOurVolume name media start shelf =
@@ -60,7 +60,7 @@ IsDue Device name media start shelf = ⊥
 IsDue Memory name media start shelf = ⊥
 
 -- The bytes are a volume of this name and media type, all of whose blocks are of earlier runs, and this is known
--- of it: where its blocks end, so that no block with the next number stands there, and what that number is.
+-- of it: where its blocks end, so that no block with the next number is there, and what that number is.
 pub record IsAdoptable (name media : List ℕ) (start : ℕ) (bytes : List ℕ) (v : VolumeView) : Type 0 where
   pub label : VolumeLabel
   pub blocks : List Block
@@ -74,7 +74,7 @@ pub record IsAdoptable (name media : List ℕ) (start : ℕ) (bytes : List ℕ) 
   pub next_is : v.next_number ≡ 1 + length blocks
   pub first_is : v.first ≡ length (label_block label)
 
--- The volume was there and adoptable. It was cut where its blocks end and nowhere else, stands there with those
+-- The volume was there and adoptable. It was cut where its blocks end and nowhere else, is there with those
 -- blocks, and all of it lasts from now on; all other volumes stay.
 pub record Adopts (name media : List ℕ) (start : ℕ) (v : VolumeView) (old new : Shelf) : Type 0 where
   pub held : Held
@@ -89,15 +89,16 @@ pub record Adopts (name media : List ℕ) (start : ℕ) (v : VolumeView) (old ne
 abbrev pub status_at : ℕ → ℕ → VolumeStatus
 status_at limit end = if nat_le limit end then Full else Append
 
--- the bytes of the volume up to a place are as they were, whatever stands behind, and so are all other volumes
+-- the bytes of the volume up to a place are as they were, whatever comes after, and so are all other volumes
 pub record KeepsUpTo (to : ℕ) (name : List ℕ) (old new : Shelf) : Type 0 where
   pub here : (held : Held) → old.volume name ≡ Some held
       → (after : Held) × (new.volume name ≡ Some after)
       × BeginsWith after.bytes (take to held.bytes)
   pub others : (other : List ℕ) → other ≢ name → new.volume other ≡ old.volume other
 
--- A volume keeps its whole blocks, whatever becomes of what stands behind them: up to where its label block ends, and any blocks
--- that stand in order behind it, its bytes are as they were, and what lasted of them still lasts. All other volumes stay.
+-- A volume keeps its whole blocks, whatever becomes of what is after them: up to where its label block ends, and any
+-- blocks that come in order after it, its bytes are as they were, and what lasted of them still lasts. All other
+-- volumes stay.
 abbrev pub KeepsWholeBlocks : List ℕ → Shelf → Shelf → Type 0
 KeepsWholeBlocks name old new = (held : Held) → old.volume name ≡ Some held
     → (label : VolumeLabel) (blocks : List Block) (tail : List ℕ) → VolumeImage held.bytes label blocks tail
@@ -112,7 +113,7 @@ pub record CutsAt (to : ℕ) (name : List ℕ) (old new : Shelf) : Type 0 where
       → Lasts new.moment name (take to held.bytes) new
   pub others : (other : List ℕ) → other ≢ name → new.volume other ≡ old.volume other
 
--- the blocks that stand in order behind the label, all of earlier runs, up to a place where the next number is due
+-- the blocks that come in order after the label, all of earlier runs, up to a place where the next number is due
 pub record GoesUpTo (start : ℕ) (bytes : List ℕ) (label : VolumeLabel) (end next : ℕ) : Type 0 where
   pub blocks : List Block
   pub image : VolumeImage bytes label blocks (drop end bytes)
@@ -120,7 +121,7 @@ pub record GoesUpTo (start : ℕ) (bytes : List ℕ) (label : VolumeLabel) (end 
   pub next_is : next ≡ 1 + length blocks
   pub earlier : AreEarlier start blocks
 
--- at that place stands the block with this head and that number
+-- at that place is the block with this head and that number
 abbrev pub BlockStandsAt : ℕ → ℕ → List ℕ → Head → Type 0
 BlockStandsAt at number bytes head =
     (body : List ℕ) × BeginsWithBlock (drop at bytes) head.key number body

@@ -8,14 +8,14 @@ use Rattle.sd_volume.specs.declared.append.Appended.TheVariants.{At, NoRoom, Fau
 use Rattle.sd_volume.specs.Image.{Block}
 use Rattle.sd_volume.specs.Volume.{VolumeView, StandsOn}
 
--- P of where the block was placed, where it was
+-- P of where the block was placed, if it was
 abbrev pub IfPlaced : Appended → (ℕ → ℕ → Type 0) → Type 0
 IfPlaced (At start size) P = P start size
 IfPlaced NoRoom P = Unit {0}
 IfPlaced Fault P = Unit {0}
 IfPlaced Memory P = Unit {0}
 
--- P where the block was not placed
+-- P if the block was not placed
 abbrev pub IfNotPlaced : Appended → Type 0 → Type 0
 IfNotPlaced (At start size) P = Unit {0}
 IfNotPlaced NoRoom P = P
@@ -26,13 +26,13 @@ IfNotPlaced Memory P = P
 abbrev pub end_with : VolumeView → List ℕ → ℕ
 end_with v body = v.end + (block_header + length body)
 
--- whatever volume stood there without a tail, that volume with this block more stands there now
+-- whatever volume was there without a tail, that volume with this block more is there now
 abbrev pub AddsBlock : Block → VolumeView → Shelf → VolumeView → Shelf → Type 0
 AddsBlock block before old after new =
     (label : VolumeLabel) (blocks : List Block) → StandsOn before old label blocks []
     → StandsOn after new label (blocks ++ block ∷ []) []
 
--- whatever volume stood there, its label and blocks stand there still, and perhaps a tail behind them
+-- whatever volume was there, its label and blocks are there still, and perhaps a tail after them
 abbrev pub KeepsBlocks : VolumeView → Shelf → VolumeView → Shelf → Type 0
 KeepsBlocks before old after new =
     (label : VolumeLabel) (blocks : List Block) (tail : List ℕ)

@@ -4,9 +4,9 @@ use Rattle.sd_driver.specs.Shelf.{Shelf, SameShelf, StillLasts, Changes, BeginsW
 use Rattle.sd_base.specs.Count.{Rose}
 use Rattle.sd_driver.specs.Meaning.{Meaning, IsHonest}
 
--- No call changes whether the device is honest, and its moment doesn't fall. Where a fault of the device is answered,
--- its failures rose or stand at their greatest; else they are as they were. Where it is answered that the device has
--- no room, it told so: `told` rose or stands at its greatest; else that is as it was.
+-- No call changes whether the device is honest, and its moment doesn't fall. If a fault of the device is answered,
+-- its failures rose or are at their greatest; else they are as they were. If it is answered that the device has no
+-- room, it told so: `told` rose or is at its greatest; else that is as it was.
 pub record Counted (fault no_room : Type 0) (old new : Meaning) : Type 0 where
   pub honest : new.honest ≡ old.honest
   pub moment : old.shelf.moment ≤ new.shelf.moment
@@ -42,6 +42,6 @@ abbrev pub CutsLoaded : ℕ → Option (List ℕ) → Shelf → Shelf → Type 0
 CutsLoaded to = Changes
     (λ held after. after ≡ record { bytes = take to held.bytes; stable = length (take to held.bytes) })
 
--- the bytes of the loaded volume up to a place are as they were, whatever stands behind
+-- the bytes of the loaded volume up to a place are as they were, whatever comes after
 abbrev pub KeepsLoaded : ℕ → Option (List ℕ) → Shelf → Shelf → Type 0
 KeepsLoaded to = Changes (λ held after. BeginsWith after.bytes (take to held.bytes))

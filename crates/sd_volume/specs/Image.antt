@@ -6,12 +6,12 @@ use Rattle.sd_block.specs.Image.{block_image, IsBlockImage}
 use Rattle.sd_label.specs.declared.label.VolumeLabel.{VolumeLabel}
 use Rattle.sd_label.specs.Label.{IsVolumeLabel, volume_label_bytes}
 
--- a block of a session, as it stands on a volume
+-- a block of a session, as it lies on a volume
 pub record Block : Type 0 where
   pub key : SessionKey
   pub body : List ℕ
 
--- the images of blocks, one behind the other, numbered from `number` on
+-- the images of blocks, one after the other, numbered from `number` on
 abbrev pub images : ℕ → List Block → List ℕ
 images number [] = []
 images number (b ∷ bs) = block_image b.key number b.body ++ images (number + 1) bs
@@ -41,7 +41,7 @@ no_session = record { time = 0; id = 0 }
 abbrev pub label_block : VolumeLabel → List ℕ
 label_block label = block_image no_session 0 (volume_label_bytes label)
 
--- the label block and these blocks behind it, which are numbered from 1 on
+-- the label block and these blocks after it, which are numbered from 1 on
 abbrev pub label_and_blocks : VolumeLabel → List Block → List ℕ
 label_and_blocks label blocks = label_block label ++ images 1 blocks
 

@@ -33,7 +33,7 @@ pub record Labels (label : VolumeLabel) (old new : Shelf) : Type 0 where
   pub lasts : Lasts new.moment label.name (label_block label) new
   pub others : (other : List ℕ) → other ≢ label.name → new.volume other ≡ old.volume other
 
--- nothing changes, but that a name which the shelf lacked may stand now, with no byte
+-- nothing changes, but that a name which the shelf lacked may be there now, with no byte
 pub record MayCreateEmpty (name : List ℕ) (old new : Shelf) : Type 0 where
   pub here : (new.volume name ≡ old.volume name)
       ⊎ ((old.volume name ≡ None) × (new.volume name ≡ Some (record { bytes = []; stable = 0 })))

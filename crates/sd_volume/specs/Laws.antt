@@ -22,7 +22,7 @@ WholeImageGoesOn =
     → WholeImage bytes other all tail
     → (label ≡ other) × ((more : List Block) × (all ≡ blocks ++ more))
 
--- what keeps the bytes of a volume up to the end of its blocks, whatever stands behind, is a volume with these blocks
+-- what keeps the bytes of a volume up to the end of its blocks, whatever comes after, is a volume with these blocks
 abbrev pub KeptBlocksStand : Type 0
 KeptBlocksStand =
     (bytes left : List ℕ) (label : VolumeLabel) (blocks : List Block) (tail : List ℕ)
@@ -30,7 +30,7 @@ KeptBlocksStand =
     → BeginsWith left (take (volume_end label blocks) bytes)
     → VolumeImage left label blocks (drop (volume_end label blocks) left)
 
--- where the tail begins with the next block, that block is one block more
+-- if the tail begins with the next block, that block is one block more
 abbrev pub OneBlockMore : Type 0
 OneBlockMore =
     (bytes : List ℕ) (label : VolumeLabel) (blocks : List Block) (tail : List ℕ) (block : Block)
@@ -38,7 +38,7 @@ OneBlockMore =
     → BeginsWithBlock tail block.key (1 + length blocks) block.body
     → VolumeImage bytes label (blocks ++ block ∷ []) (drop (block_header + length block.body) tail)
 
--- the image of each block stands where those before it end
+-- the image of each block begins where those before it end
 abbrev pub PlacedBlockStands : Type 0
 PlacedBlockStands =
     (bytes : List ℕ) (label : VolumeLabel)
@@ -47,7 +47,7 @@ PlacedBlockStands =
     → BeginsWithBlock (drop (volume_end label before) bytes)
     block.key (1 + length before) block.body
 
--- what is known of a volume stays so where its bytes stay, whatever else changes on the shelf
+-- what is known of a volume stays so if its bytes stay, whatever else changes on the shelf
 abbrev pub StandsByItsBytes : Type 0
 StandsByItsBytes =
     (v : VolumeView) (old new : Shelf) (held after : Held)

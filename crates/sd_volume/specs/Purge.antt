@@ -6,18 +6,18 @@ use Rattle.sd_volume.specs.declared.volume.VolumeStatus.{VolumeStatus}
 use Rattle.sd_volume.specs.Image.{Block}
 use Rattle.sd_volume.specs.Volume.{VolumeView, StandsOn}
 
--- the volume with no block: its next block is the first, right behind its label block
+-- the volume with no block: its next block is the first, right after its label block
 abbrev pub emptied : VolumeStatus → VolumeView → VolumeView
 emptied status v = record v { status = status; end = v.first; next_number = 1 }
 
--- whatever volume stood there, its label block alone stands there now
+-- whatever volume was there, its label block alone is there now
 abbrev pub LeavesLabel : VolumeView → Shelf → VolumeView → Shelf → Type 0
 LeavesLabel before old after new =
     (label : VolumeLabel) (blocks : List Block) (tail : List ℕ)
     → StandsOn before old label blocks tail
     → StandsOn after new label [] []
 
--- whatever volume stood there, its label block stands there still, and perhaps a tail behind it
+-- whatever volume was there, its label block is there still, and perhaps a tail after it
 abbrev pub KeepsLabel : VolumeView → Shelf → VolumeView → Shelf → Type 0
 KeepsLabel before old after new =
     (label : VolumeLabel) (blocks : List Block) (tail : List ℕ)

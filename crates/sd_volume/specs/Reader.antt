@@ -15,7 +15,7 @@ pub record ReaderView : Type 0 where
   pub bytes : List ℕ
   pub shown : List ℕ
 
--- what it holds is what stands at its place of the volume, where there is such a volume
+-- what it holds is what lies at its place of the volume, if there is such a volume
 abbrev pub Shows : ReaderView → Shelf → Type 0
 Shows reader shelf =
     (held : Held) → shelf.volume reader.name ≡ Some held
@@ -43,7 +43,7 @@ pub record IsBlockOf (bytes : List ℕ) (head : Head) : Type 0 where
   pub image : IsBlockImage most_block bytes head.key head.number body
   pub size_is : head.size ≡ length bytes
 
--- no whole block stands at that place of the volume, whatever its number
+-- no whole block is at that place of the volume, whatever its number
 abbrev pub NoBlockAt : ℕ → List ℕ → Shelf → Type 0
 NoBlockAt at name shelf =
     (held : Held) → shelf.volume name ≡ Some held

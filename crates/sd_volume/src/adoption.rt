@@ -17,9 +17,9 @@ use sd_driver::Driver;
 use std::alloc::Global;
 
 /// Takes over the volume of that name, which is to be of that media type: reads its label and its blocks one
-/// after another up to the first place where no whole block with the next number stands, cuts it there, and
-/// makes it last. All its blocks are to be of runs before the one that began at `start_time`. It is full where it
-/// ends at `limit` or past it. Where a refusal is due the device is only read, also if it fails in between.
+/// after another up to the first place where there is no whole block with the next number, cuts it there, and
+/// makes it last. All its blocks are to be of runs before the one that began at `start_time`. It is full if it
+/// ends at `limit` or past it. If a refusal is due, the device is only read, also if it fails in between.
 ///
 /// Calls len once, then reads, each byte once; then load, cut, sync and unload, in this order. Holds one buffer
 /// of a block's greatest length, whatever the volume's, which it takes before it calls the device.
@@ -73,7 +73,7 @@ pub fn adopt<D: Driver>(
     Ok(volume)
 }
 
-// What stands under the reader's name, as it will be known once it is cut.
+// The volume under the reader's name, as it will be known once it is cut.
 fn survey<D: Driver>(
     driver: &mut D,
     reader: &mut VolumeReader,
@@ -104,7 +104,7 @@ fn survey<D: Driver>(
     find_volume(driver, reader, name, media, start_time, limit, size)
 }
 
-// What stands under the reader's name, which has that size, as it will be known once it is cut.
+// The volume under the reader's name, which has that size, as it will be known once it is cut.
 fn find_volume<D: Driver>(
     driver: &mut D,
     reader: &mut VolumeReader,

@@ -16,18 +16,18 @@ use sd_driver::{Driver, DriverFault};
 /// What became of a block that was to be added to a volume.
 #[derive(Clone, Copy, Debug, PartialEq, Eq)]
 pub enum Appended {
-    /// It stands there, with so many bytes, its header included.
+    /// It is there, with so many bytes, its header included.
     At { start: u64, length: u64 },
     /// It would pass the limit, or the device is full. The volume is full from now on.
     NoRoom,
-    /// The device failed. What stands behind the volume's blocks may be anything from now on.
+    /// The device failed. What comes after the volume's blocks may be anything from now on.
     Fault,
-    /// Memory was wanted. All is as before, and the block may be added again.
+    /// Out of memory. All is as before, and the block may be added again.
     Memory,
 }
 
-/// Adds the next block, with `body` of the session `key`, at the end of the loaded volume. Where it would end
-/// past `limit`, the device is asked for nothing; else the block is sealed where its body is, and the device is called
+/// Adds the next block, with `body` of the session `key`, at the end of the loaded volume. If it would end past
+/// `limit`, the device is asked for nothing; else the block is sealed where its body is, and the device is called
 /// once. Takes no memory of its own.
 pub fn append_block<D: Driver>(
     driver: &mut D,
@@ -97,7 +97,7 @@ pub fn append_block<D: Driver>(
 }
 
 impl Volume {
-    // A block of that size has come to stand at the end. Answers where it begins.
+    // A block of that size was added at the end. Answers where it begins.
     fn advance(&mut self, size: u64) -> u64
         requires least { least_block ≤ size }
         requires most { self.old.end + size ≤ most_volume }

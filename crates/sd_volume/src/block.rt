@@ -1,4 +1,4 @@
-// The block that stands at a place of a volume.
+// The block at a place of a volume.
 ghost use Rattle.std.specs.Prelude.{◌≡◌, ◌≢◌, ℕ, List, IfOk, IfErr, IfSome, IfNone, IsErrOf, None};
 ghost use Rattle.sd_base.specs.Limits.{most_block};
 ghost use Rattle.sd_base.specs.declared.number.SessionKey.{SessionKey as SpecKey};
@@ -12,8 +12,8 @@ use sd_base::{BLOCK_HEADER, MOST_BLOCK};
 use sd_block::{Head, open_block, read_head};
 use sd_driver::{Driver, DriverFault};
 
-/// The block that stands at a place of the reader's volume, whatever its number, or `None` where no whole
-/// block stands there. The label block stands at 0. After `Some` the reader shows the block, all of it.
+/// The block at a place of the reader's volume, whatever its number, or `None` if no whole block is
+/// there. The label block is at 0. After `Some` the reader shows the block, all of it.
 pub fn next_block<D: Driver>(
     driver: &mut D,
     reader: &mut VolumeReader,

@@ -9,13 +9,13 @@ use std::alloc::AllocError;
 /// Why a volume was not labelled.
 #[derive(Clone, Copy, Debug, PartialEq, Eq)]
 pub enum LabelFault {
-    /// A volume of that name stands on the shelf already.
+    /// A volume of that name is on the shelf already.
     AlreadyLabelled,
-    /// The device is full. The name may stand on the shelf now, with any bytes.
+    /// The device is full. The name may be on the shelf now, with any bytes.
     NoRoom,
-    /// The device failed. The name may stand on the shelf now, with any bytes.
+    /// The device failed. The name may be on the shelf now, with any bytes.
     Device,
-    /// Memory was wanted. Where the device wanted it, the name may stand on the shelf now, with no byte.
+    /// Out of memory. If it was the device that ran out, the name may be on the shelf now, with no byte.
     Memory,
 }
 
@@ -23,7 +23,7 @@ pub enum LabelFault {
 /// two.
 #[derive(Clone, Copy, Debug, PartialEq, Eq)]
 pub enum AdoptFault {
-    /// No volume of that name stands on the shelf.
+    /// No volume of that name is on the shelf.
     NotOnShelf,
     /// It begins with no label block of this profile, its label has another name, or it is longer than a
     /// volume may be.
@@ -34,7 +34,7 @@ pub enum AdoptFault {
     BlocksOfThisRun,
     /// The device failed. The volume may have been cut past its last whole block, and may be adopted again.
     Device,
-    /// Memory was wanted, and nothing was changed.
+    /// Out of memory, and nothing was changed.
     Memory,
 }
 

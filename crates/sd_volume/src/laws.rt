@@ -6,12 +6,12 @@ pub fn one_whole_image()
     ensures { OneWholeImage }
 {}
 
-/// A whole image begins with every block that stands in order behind the label.
+/// A whole image begins with every block that comes in order after the label.
 pub fn whole_image_goes_on()
     ensures { WholeImageGoesOn }
 {}
 
-/// Blocks whose bytes are kept stand, whatever stands behind them.
+/// Blocks whose bytes are kept stay, whatever comes after them.
 pub fn kept_blocks_stand()
     ensures { KeptBlocksStand }
 {}
@@ -21,12 +21,12 @@ pub fn one_block_more()
     ensures { OneBlockMore }
 {}
 
-/// A block of a volume stands where those before it end.
+/// A block of a volume begins where those before it end.
 pub fn placed_block_stands()
     ensures { PlacedBlockStands }
 {}
 
-/// A volume stands as long as its bytes do.
+/// A volume stays as long as its bytes do.
 pub fn stands_by_its_bytes()
     ensures { StandsByItsBytes }
 {}

@@ -13,9 +13,9 @@ use crate::volume::{Volume, VolumeStatus};
 use sd_driver::Driver;
 
 /// Takes all blocks from a volume: cuts it to the end of its label block, and makes that last. Then it takes blocks
-/// again, from number 1 on. After a fault of the device it has status `Error` and no block: what stands behind its label
-/// block may be anything. The other faults are those of a load, not on the shelf and memory, or memory wanted by the
-/// cut; they change nothing.
+/// again, from number 1 on. After a fault of the device it has status `Error` and no block: what comes after its label
+/// block may be anything. The other faults are those of a load, not on the shelf and out of memory, or out of memory
+/// in the cut; they change nothing.
 ///
 /// Calls load, cut, sync and unload, in this order.
 pub fn purge<D: Driver>(driver: &mut D, volume: &mut Volume) -> Result<(), AdoptFault>

@@ -75,7 +75,7 @@ impl VolumeReader {
     }
 
     /// Makes the `count` bytes from `at` on be shown, or as many as there are before the volume's end. Asks
-    /// the device for nothing where it holds them already, else once.
+    /// the device for nothing if it holds them already, else once.
     pub fn fill<D: Driver>(
         &mut self,
         driver: &mut D,
@@ -176,7 +176,7 @@ impl VolumeReader {
         self.count = 0;
     }
 
-    // How many of the bytes that it holds stand at `at` or behind.
+    // How many of the bytes that it holds are at `at` or after it.
     fn kept_from(&self, at: u64) -> usize
         ensures most { result ≤ length self.now.bytes }
         ensures there { (result ≡ 0)
@@ -202,8 +202,8 @@ impl VolumeReader {
     }
 }
 
-// Reads behind the first `held` bytes of the buffer what stands behind them on the volume, and says how many
-// bytes that were.
+// Reads into the buffer, after its first `held` bytes, what comes after them on the volume, and says how
+// many bytes that were.
 fn read_behind<D: Driver>(
     driver: &mut D,
     name: &VolName,

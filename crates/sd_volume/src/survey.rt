@@ -1,4 +1,4 @@
-// What stands on a volume: its label, and its blocks one after another. Nothing is changed.
+// What is on a volume: its label, and its blocks one after another. Nothing is changed.
 ghost use Rattle.std.specs.Prelude.{◌≡◌, ◌≢◌, ◌*◌, ◌+◌, ◌≤◌, ◌<◌, ℕ, List, [], length, drop, IfOk, IfErr, IfSome, IfNone, IsErrOf, IsTrue, ◌↔◌, None, Some};
 ghost use Rattle.sd_base.specs.Limits.{least_block, most_volume};
 ghost use Rattle.sd_driver.specs.Meaning.{IsHonest};
@@ -33,7 +33,7 @@ pub(crate) struct End {
     pub(crate) next_number: u32,
 }
 
-/// The label of a volume of that size, which is to have that name, or `None` where no label block of that name
+/// The label of a volume of that size, which is to have that name, or `None` if no label block of that name
 /// begins it.
 pub fn read_label<D: Driver>(
     driver: &mut D,
@@ -79,7 +79,7 @@ pub fn read_label<D: Driver>(
     Ok(Some(Labelled { label, first }))
 }
 
-// The label that a block holds, where it is a label block with that name.
+// The label that a block holds, if it is a label block with that name.
 fn label_of(name: &VolName, head: &Head, block: &[u8]) -> Option<VolumeLabel>
     requires { IsBlockOf block.now head.now }
     ensures some { IfSome result (IsLabelOf name.now block.now) }
@@ -105,7 +105,7 @@ fn is_label_head(head: &Head) -> bool
     head.number == 0 && head.key == NO_SESSION
 }
 
-/// Where the blocks behind the label of a volume of that size end. All of them are to be of earlier runs
+/// Where the blocks after the label of a volume of that size end. All of them are to be of earlier runs
 /// than the one that began at `start_time`.
 pub(crate) fn find_end<D: Driver>(
     driver: &mut D,
@@ -156,8 +156,7 @@ pub(crate) fn find_end<D: Driver>(
     Ok(End { end, next_number })
 }
 
-/// The block with that number at a place of a volume of that size, or `None` where no such block stands there
-/// whole.
+/// The block with that number at a place of a volume of that size, or `None` if no such whole block is there.
 pub fn numbered_block<D: Driver>(
     driver: &mut D,
     reader: &mut VolumeReader,

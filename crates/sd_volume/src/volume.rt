@@ -11,7 +11,7 @@ pub enum VolumeStatus {
     Append,
     /// A block found no room.
     Full,
-    /// The device failed a write of it. What stands behind its blocks may be anything.
+    /// The device failed a write of it. What comes after its blocks may be anything.
     Error,
 }
 
@@ -112,7 +112,7 @@ impl Volume {
         self.status == VolumeStatus::Append && self.pool.is_same(pool)
     }
 
-    /// It has no block any more: its next one is the first, right behind its label block.
+    /// It has no block any more: its next one is the first, right after its label block.
     pub(crate) fn empty(&mut self, status: VolumeStatus)
         ensures { self.new ≡ emptied status self.old }
     {

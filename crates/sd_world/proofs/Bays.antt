@@ -36,7 +36,7 @@ pub online_in : {D : Type 0} (w : WorldView D) (drive at : ℕ) (bay : BayView D
     → IsBayAt w drive at bay → bay.drive ≡ Some d → IsOnline w drive at bay d
 online_in w drive at bay d read on = record { number = read.number; there = read.there; online = on }
 
--- there is none in it, and nothing changes where the bay is put back
+-- there is none in it, and nothing changes if the bay is put back
 pub offline_in : {D : Type 0} (w : WorldView D) (drive at : ℕ) (bay : BayView D)
     → IsBayAt w drive at bay → bay.drive ≡ None → (DriveMissing w drive DriveOffline) × (with_bay at bay w ≡ w)
 offline_in w drive at bay read off = ((at, read.number, inr (bay, read.there, off, refl)), bay_stays w at bay read.there)

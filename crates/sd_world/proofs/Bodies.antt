@@ -60,7 +60,7 @@ sent_front shelf (e ∷ es) is bs = from (sent_front shelf es is bs) (is_purged 
     from rest true = rest
     from rest false = ap (λ l. sent_body (item_of e.placement) (block_at shelf e.placement) ∷ l) rest
 
--- one piece behind those placed
+-- one piece after those placed
 sent_bodies_more : (shelf : Shelf) (es : List Entry) (piece : Piece)
     → sent_bodies (items_of (placements es) ++ item_of_piece piece ∷ []) (map (block_of_entry shelf) es ++ Some (block_of_piece piece) ∷ [])
     ≡ sent_bodies (items_of (placements es) ++ []) (map (block_of_entry shelf) es ++ []) ++ body_of_piece piece ∷ []

@@ -25,7 +25,7 @@ pub none_of : {X : Type 0} (xs : List X) → (xs ≢ [] → ⊥) → xs ≡ []
 none_of [] some_not = refl
 none_of (x ∷ xs) some_not = absurd (some_not (λ e. cc e))
 
--- the one list is empty where the other is
+-- the one list is empty exactly if the other is
 abbrev pub AreAlike : {X Y : Type 0} → List X → List Y → Type 0
 AreAlike xs ys = (xs ≡ [] → ys ≡ []) × (ys ≡ [] → xs ≡ [])
 
@@ -71,7 +71,7 @@ live_bodies key shelf (e ∷ es) none =
         ap (λ b. all (if b then live es else e.placement ∷ live es)) is
         ∙ ap (λ l. if is_key key e.placement.key then (sent_body (item_of e.placement) (block_at shelf e.placement)).body ∷ l else l) rest
 
--- a session has a block there exactly where it has a placement
+-- a session has a block there exactly if it has a placement
 pub placed_alike : (key : SessionKey) (shelf : Shelf) (ps : List Placement) → AreAlike (blocks_of key (map (block_at shelf) ps)) (placements_of key ps)
 placed_alike key shelf [] = ((λ e. refl), (λ e. refl))
 placed_alike key shelf (p ∷ ps) =
@@ -108,7 +108,7 @@ none_gone key es all = from (has_purged key es) refl
     from true is = let fewer = (counting key es).gone is in absurd (omega arith)
     from false is = is
 
--- where none of a session awaits a sync or is lost, all of its blocks are synced
+-- if none of a session awaits a sync or is lost, all of its blocks are synced
 pub all_synced : (key : SessionKey) (es : List Entry) → (IsUnsynced es key → ⊥) → synced_of key es ≡ placed_of key es
 all_synced key es none =
     (counting key es).whole.1 (All-from_recursion (λ (e : Entry). IsTrue (is_key key e.placement.key) → e.mark ≡ Synced) es (all_marked key es none))

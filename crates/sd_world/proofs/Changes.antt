@@ -96,7 +96,7 @@ may_take_same : (count bytes last count' bytes' last' : ℕ) (r : Record) → co
 may_take_same count bytes last count' bytes' last' r c b l h =
     subst (λ n. MayTake n bytes' last' r) c (subst (λ n. MayTake count n last' r) b (subst (λ n. MayTake count bytes n r) l h))
 
--- the machine's session may take a record exactly where the world's may
+-- the machine's session may take a record exactly if the world's may
 pub machine_may_take : {D : Type 0} (meaning : D → Meaning) (w : WorldView D) (e : WorldSession) (s : MachineSession) (r : Record) → SessionMatches meaning w e s
     → MayTake e.session.count e.session.bytes e.session.last r → SessionMayTake s r
 machine_may_take meaning w e s r h may = may_take_same _ _ _ _ _ _ r (sym h.count_is) (sym h.bytes_are) (sym h.last_is) may
@@ -198,7 +198,7 @@ parts_moved meaning w e v s moves running parts h = record {
       (subst IsRunning (sym h.status_is) running) moves.room_is (ap (λ l. sent ++ l) (parts honest)) b;
 }
 
--- where the store is honest so is the spool
+-- if the store is honest, so is the spool
 spool_in : (store : Option StoreState) (spool : Option JobView) → StoreIsTrue (home_of store spool) → SpoolIsHonest spool
 spool_in store None h = tt
 spool_in store (Some j) h = h

@@ -64,7 +64,7 @@ no_length : {A : Type 0} (xs : List A) → length xs ≡ 0 → xs ≡ []
 no_length [] h = refl
 no_length (x ∷ xs) h = absurd (omega (arith, h))
 
--- where as many blocks are placed as there are pieces, none is on the way
+-- if as many blocks are placed as there are pieces, none is on the way
 none_on_the_way : {D : Type 0} (d : DriveIs D) (queue : LanesView) (key : SessionKey) → placed_of key d.journal ≡ length (items_with key (items_before d queue)) → IsOnTheWay d queue key → ⊥
 none_on_the_way d queue key all way =
     let hand = map body_of_piece (option_to_list d.hand) in
@@ -106,7 +106,7 @@ none_unsynced key (e ∷ es) none =
     one true Synced h is = refl
     one true m h is = absurd (cc h)
 
--- where as many blocks are synced as pieces there are, nothing is unsettled
+-- if as many blocks are synced as there are pieces, nothing is unsettled
 all_settled : {D : Type 0} (d : DriveIs D) (queue : LanesView) (key : SessionKey) → synced_of key d.journal ≡ length (items_with key (items_before d queue)) → IsUnsettled d queue key → ⊥
 all_settled d queue key all u =
     let low = within key d.journal in
@@ -132,7 +132,7 @@ sent_before w ticket at e bay d rules has on =
     seat.sent_is d (ap (λ (b : BayView _). b.drive) seated ∙ on.online)
     ∙ ap (λ (b : BayView _). length (items_with e.session.key (items_before d b.queue))) seated
 
--- where nothing is left of a session by the counts of its drive, nothing is outstanding
+-- if nothing is left of a session by the counts of its drive, nothing is outstanding
 none_outstanding : {D : Type 0} (w : WorldView D) (ticket at : ℕ) (e : WorldSession) (bay : BayView D) (d : DriveIs D) → IsWorld w → HasTicket w ticket e → IsOnline w e.drive at bay d
     → parts_of e.session ≡ [] → synced_of e.session.key d.journal ≡ e.session.sent → IsOutstanding w e → ⊥
 none_outstanding w ticket at e bay d rules has on none synced (inl parts) = parts none
@@ -142,7 +142,7 @@ none_outstanding w ticket at e bay d rules has on none synced (inr out) =
     all_settled d bay.queue e.session.key (synced ∙ sent_before w ticket at e bay d rules has on)
     (subst (λ (z : DriveIs _). IsUnsettled z bay.queue e.session.key) drive (subst (λ (b : BayView _). IsUnsettled out.2 b.queue e.session.key) there out.4))
 
--- and where something is left, something is
+-- and if something is left, something is
 some_outstanding : {D : Type 0} (w : WorldView D) (ticket at : ℕ) (e : WorldSession) (bay : BayView D) (d : DriveIs D) → IsWorld w → HasTicket w ticket e → IsOnline w e.drive at bay d
     → (parts_of e.session ≢ []) ⊎ (synced_of e.session.key d.journal ≢ e.session.sent) → IsOutstanding w e
 some_outstanding w ticket at e bay d rules has on (inl parts) = inl parts

@@ -111,7 +111,7 @@ sent_on meaning d queue queue' q old new held own key parts =
     ∙ append_assoc (bodies_with old.key sent) (q.piece.body ∷ []) (parts_of new)
     ∙ ap (λ l. bodies_with old.key sent ++ l) (sym parts)
 
--- the session matches where one of its bodies was sent
+-- the session matches if one of its bodies was sent
 own_sent : {D : Type 0} (meaning : D → Meaning) (old w' : WorldView D) (ticket at : ℕ) (bay : BayView D) (d : DriveIs D) (queue : LanesView) (q : Queued)
     (e : WorldSession) (v : SessionView) (s : MachineSession) → IsOnline old e.drive at bay d → w'.bays ≡ slice_set old.bays at (record bay { queue = queue })
     → (IsHonestAt meaning w' at (record bay { queue = queue }) d → IsHonestAt meaning old at bay d)

@@ -1,4 +1,4 @@
--- A world keeps its rules where a drive is called, and where a sync of it fails.
+-- A world keeps its rules when a drive is called, and when a sync of it fails.
 use Rattle.std.proofs.Common.{◌≡◌, ◌≢◌, ℕ, ◌+◌, ◌==◌, refl, sym, ap, ap₂, subst, ◌∙◌, inl, inr, true, false, true≢false, Bool, Option, Some, None, List}
 use Rattle.std.specs.Prelude.{◌||◌, ◌&&◌}
 use Rattle.std.proofs.lemmas.Bool.{eq-eqb}

@@ -37,7 +37,7 @@ use Rattle.sd_world.proofs.Views.{failed_not_running, running_is}
 abbrev HasCause : {D : Type 0} → WorldView D → Event → Reply → WorldView D → WorldSession → Type 0
 HasCause w event reply w' e = IsRunning e.session.status × (SpoolFailed event reply e ⊎ SyncFailed w event reply w' e)
 
--- where a session has failed, it had, or it has a cause
+-- if a session has failed, it had, or it has a cause
 abbrev IsCaused : {D : Type 0} → WorldView D → Event → Reply → WorldView D → WorldSession → SessionView → Type 0
 IsCaused w event reply w' e t = t.status ≡ Failed → (e.session.status ≡ Failed) ⊎ HasCause w event reply w' e
 
@@ -61,7 +61,7 @@ or_true false b is = is
 module _ {D : Type 0} (meaning : D → Meaning) (w w' : WorldView D) (event : Event) (reply : Reply) where
   -- Who fails has a cause.
 
-  -- where what becomes of each session is known
+  -- if what becomes of each session is known
   known_caused : (R : WorldSession → WorldSession → Type 0)
       → ((ticket : ℕ) (e : WorldSession) → session_at ticket w.sessions ≡ Some e → (y : WorldSession) × (session_at ticket w'.sessions ≡ Some y) × R e y)
       → ((x y : WorldSession) → R x y → IsCaused w event reply w' x y.session) → AllCaused w event reply w'
@@ -70,7 +70,7 @@ module _ {D : Type 0} (meaning : D → Meaning) (w w' : WorldView D) (event : Ev
       let is : p.0 ≡ e' = cc (sym p.1 ∙ at') in
       subst (λ (y : WorldSession). IsCaused w event reply w' e y.session) is (tells e p.0 p.2)
 
-  -- where sessions keep their status
+  -- if sessions keep their status
   status_caused : (x y : WorldSession) → y.session.status ≡ x.session.status → IsCaused w event reply w' x y.session
   status_caused x y same failed = inl (sym same ∙ failed)
 

@@ -61,11 +61,11 @@ module _ {D : Type 0} {meaning : D → Meaning} {w w' : WorldView D} {drive : �
   abbrev leaves : Outcome D → List WorldSession → WorldView D
   leaves o sessions = record w { sessions = sessions; bays = slice_set w.bays a.at (record a.bay { drive = Some o.drive; queue = o.queue }); desk = o.desk }
 
-  -- what the world is then, where it is known what was left
+  -- what the world is then, if it is known what was left
   framed : (o : Outcome D) → a.outcome ≡ o → (w' ≡ leaves o a.sessions) × FailBy drive a.d.journal o.lost w.sessions a.sessions
   framed o is = subst (λ (x : Outcome D). (w' ≡ leaves x a.sessions) × FailBy drive a.d.journal x.lost w.sessions a.sessions) is (a.new_is, a.fail)
 
-  -- where nothing was lost no session fails
+  -- if nothing was lost, no session fails
   calm : (o : Outcome D) → a.outcome ≡ o → o.lost ≡ None → w' ≡ leaves o w.sessions
   calm o is none =
       let f = framed o is in

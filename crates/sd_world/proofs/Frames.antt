@@ -20,7 +20,7 @@ pub record WasSent {D : Type 0} (meaning : D → Meaning) (w : WorldView D) (dri
   pub honest : IsHonestAt meaning w at bay d
   pub sent_is : bodies_with key (sent_to (meaning d.device).shelf d bay.queue) ≡ sent
 
--- where the drive is online and honest it was so before, and the same bodies of the session were sent to it
+-- if the drive is online and honest, it was so before, and the same bodies of the session were sent to it
 abbrev pub BodiesStay : {D : Type 0} → (D → Meaning) → WorldView D → WorldView D → ℕ → SessionKey → Type 0
 BodiesStay {D} meaning w w' drive key = (at : ℕ) (bay : BayView D) (d : DriveIs D) → IsOnline w' drive at bay d → IsHonestAt meaning w' at bay d
     → WasSent meaning w drive key (bodies_with key (sent_to (meaning d.device).shelf d bay.queue))
@@ -48,7 +48,7 @@ same_session meaning w w' x y frame h = record {
 abbrev pub HonestBack : {D : Type 0} → (D → Meaning) → WorldView D → WorldView D → Type 0
 HonestBack {D} meaning w w' = (at : ℕ) (bay : BayView D) (d : DriveIs D) → IsHonestAt meaning w' at bay d → IsHonestAt meaning w at bay d
 
--- Where no bay changes.
+-- If no bay changes.
 
 pub online_back : {D : Type 0} (w w' : WorldView D) → w'.bays ≡ w.bays → (drive at : ℕ) (bay : BayView D) (d : DriveIs D) → IsOnline w' drive at bay d → IsOnline w drive at bay d
 online_back w w' bays drive at bay d h = record { number = h.number; there = ap (λ bs. slice_get bs at) (sym bays) ∙ h.there; online = h.online }
@@ -73,9 +73,10 @@ pub frame_unmoved : {D : Type 0} (meaning : D → Meaning) (w w' : WorldView D) 
 frame_unmoved meaning w w' x bays back =
     record { bodies = bodies_unmoved meaning w w' x.drive x.session.key bays back; outstanding = outstanding_unmoved w w' x bays }
 
--- Where one bay changes.
+-- If one bay changes.
 
--- a bay whose drive is online is another now, whose drive is online; where it is honest now it was before, and so elsewhere
+-- a bay whose drive is online is another now, whose drive is online; if it is honest now, it was before, and so
+-- elsewhere
 pub record BayChange {D : Type 0} (meaning : D → Meaning) (w w' : WorldView D) (at : ℕ) (bay bay' : BayView D) (d d' : DriveIs D) : Type 0 where
   pub there : slice_get w.bays at ≡ Some bay
   pub online : bay.drive ≡ Some d

@@ -138,7 +138,7 @@ going_on_joins meaning keeps keeps' old middle new first second drive at bay d o
     let q = first drive at p.0 p.1 p.2 in
     (q.0, q.1, q.2, goes_on-trans keeps keeps' (meaning q.1.device) (meaning p.1.device) (meaning d.device) q.3 p.3)
 
--- the devices go on, where fewer volumes are to keep their blocks
+-- the devices go on, if fewer volumes are to keep their blocks
 pub devices_as : {D : Type 0} (meaning : D → Meaning) (keeps fewer : List ℕ → Type 0) (w w' : WorldView D) → ((name : List ℕ) → fewer name → keeps name)
     → DevicesGoOn meaning keeps w w' → DevicesGoOn meaning fewer w w'
 devices_as meaning keeps fewer w w' tells all drive at bay d online =

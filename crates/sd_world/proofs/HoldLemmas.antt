@@ -25,7 +25,7 @@ pub AreImages-front : (number : ℕ) (bs cs : List Block) → AreImages number (
 AreImages-front number [] cs are = tt
 AreImages-front number (b ∷ bs) cs are = (are.0, AreImages-front (number + 1) bs cs are.1)
 
--- the label block and blocks, and blocks behind them
+-- the label block and blocks, and blocks after them
 pub blocks_behind : (label : VolumeLabel) (bs cs : List Block) → label_and_blocks label (bs ++ cs) ≡ label_and_blocks label bs ++ images (1 + length bs) cs
 blocks_behind label bs cs = ap (λ (l : List ℕ). label_block label ++ l) (images-append 1 bs cs) ∙ sym (append_assoc (label_block label) (images 1 bs) (images (1 + length bs) cs))
 

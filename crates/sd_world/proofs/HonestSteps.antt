@@ -36,7 +36,7 @@ StoresAreTrue es = (ticket : ℕ) (e : WorldSession) → session_at ticket es �
 same_true : (x y : WorldSession) → y ≡ x → StaysTrue x.session y.session
 same_true x y same honest = subst (λ (z : WorldSession). StoreIsTrue (store_of z.session)) (sym same) honest
 
--- so they are where each was, and stayed so
+-- so they are if each was, and stayed so
 pairs_true : (R : WorldSession → WorldSession → Type 0) (es es' : List WorldSession) → ((ticket : ℕ) → PairAt R es es' ticket)
     → ((x y : WorldSession) → R x y → StaysTrue x.session y.session) → StoresAreTrue es → StoresAreTrue es'
 pairs_true R es es' pairs tells h ticket y there =

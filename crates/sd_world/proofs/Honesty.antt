@@ -1,4 +1,4 @@
--- Where a store that a session has is honest now, it was before.
+-- If a store that a session has is honest now, it was before.
 use Rattle.std.specs.Prelude.{IsTrue}
 use Rattle.std.proofs.Common.{◌≡◌, ℕ, ◌+◌, ◌==◌, cond, refl, sym, ap, subst, ◌∙◌, inl, inr, true, false, Bool, Some, List, [], ◌∷◌, slice_get}
 use Rattle.sd_base.specs.declared.number.SessionKey.{SessionKey}
@@ -16,7 +16,7 @@ use Rattle.sd_world.proofs.Frames.{HonestBack}
 abbrev pub AreTrueAt : List WorldSession → ℕ → Type 0
 AreTrueAt es at = (ticket : ℕ) (e : WorldSession) → session_at ticket es ≡ Some e → e.drive ≡ at + 1 → StoreIsTrue (store_of e.session)
 
--- they were, where they are now
+-- they were, if they are now
 abbrev pub StoresBack : List WorldSession → List WorldSession → Type 0
 StoresBack es es' = (at : ℕ) → AreTrueAt es' at → AreTrueAt es at
 
@@ -68,7 +68,7 @@ fail_stores loses es es' h at honest t x here on =
     let f = failed_at loses es es' t x h here in
     subst StoreIsTrue f.2.store_is (honest t f.0 f.1 (f.2.drive_is ∙ on))
 
--- the same honesty in a world with other sessions
+-- honesty that was there before, in a world with other sessions
 pub honest_back : {D : Type 0} (meaning : D → Meaning) (w w' : WorldView D) → StoresBack w.sessions w'.sessions → HonestBack meaning w w'
 honest_back meaning w w' stores at bay d h = record { device = h.device; lanes = h.lanes; sessions = stores at h.sessions }
 

@@ -70,7 +70,7 @@ length_before key d queue =
 pub placed_most : {D : Type 0} (key : SessionKey) (d : DriveIs D) (queue : LanesView) → placed_of key d.journal ≤ length (items_with key (items_before d queue))
 placed_most key d queue = let a = length_before key d queue in omega (arith, a)
 
--- where all is placed nothing is in the hand
+-- if all is placed, nothing is in the hand
 pub none_in_hand : {D : Type 0} (key : SessionKey) (d : DriveIs D) (queue : LanesView) (piece : Piece) → placed_of key d.journal ≡ length (items_with key (items_before d queue))
     → d.hand ≡ Some piece → is_key key piece.key ≡ true → ⊥
 none_in_hand key d queue piece all hand own =

@@ -1,4 +1,4 @@
--- What a move leaves of closed and purged sessions, where sessions change, or one bay, or both.
+-- What a move leaves of closed and purged sessions, when sessions change, or one bay, or both.
 use Rattle.std.proofs.Common.{◌≡◌, ◌⊎◌, ℕ, ◌+◌, refl, sym, ap, subst, ◌∙◌, arith, inl, inr, Some, None, List, slice_get, slice_set}
 use Rattle.sd_base.specs.declared.number.SessionKey.{SessionKey}
 use Rattle.sd_drive.specs.View.{DriveIs}
@@ -81,18 +81,18 @@ same_closed e closed = record { key_is = refl; stands = closed; drive_is = refl 
 pub all_there : (es : List WorldSession) → ClosedAreThere es es
 all_there es ticket e found closed = (e, found, same_closed e closed)
 
--- where pairs stay
+-- if pairs stay
 pub pairs_there : (R : WorldSession → WorldSession → Type 0) (es es' : List WorldSession) → ((ticket : ℕ) → PairAt R es es' ticket)
     → ((x y : WorldSession) → R x y → IsClosedOrPurged x.session.status → IsSameClosed x y) → ClosedAreThere es es'
 pairs_there R es es' pairs tells ticket e found closed =
     let p = pair_after R (session_at ticket es) (session_at ticket es') e (pairs ticket) found in (p.0, p.1, tells e p.0 p.2 closed)
 
--- a session that stays, stands as it did
+-- a session that stays is as it was
 pub stands_still : (x y : WorldSession) → y.drive ≡ x.drive → SessionStays x.session y.session → IsClosedOrPurged x.session.status → IsSameClosed x y
 stands_still x y drive stays (inl closed) = record { key_is = stays.key_is; stands = inl (stays.stays_closed closed); drive_is = drive }
 stands_still x y drive stays (inr purged) = record { key_is = stays.key_is; stands = inr (stays.stays_purged purged); drive_is = drive }
 
--- where one changes that was neither closed nor purged
+-- if one changes that was neither closed nor purged
 pub one_there : (es : List WorldSession) (ticket : ℕ) (e f : WorldSession) → session_at ticket es ≡ Some e → f.session.key ≡ e.session.key
     → (IsClosedOrPurged e.session.status → ⊥) → ClosedAreThere es (with_session f es)
 one_there es ticket e f found key open_yet =
@@ -107,7 +107,7 @@ one_there es ticket e f found key open_yet =
 pub all_placed_there : {D : Type 0} (w w' : WorldView D) → w'.bays ≡ w.bays → PlacedAreThere w w'
 all_placed_there w w' same ticket e at bay d found closed on there online = inl (bay, d, ap (λ bs. slice_get bs at) same ∙ there, online, refl)
 
--- where one bay changes
+-- if one bay changes
 pub bay_there : {D : Type 0} (w w' : WorldView D) (place : ℕ) (bay bay' : BayView D) → slice_get w.bays place ≡ Some bay → w'.bays ≡ slice_set w.bays place bay'
     → ((ticket : ℕ) (e : WorldSession) (d : DriveIs D) → session_at ticket w.sessions ≡ Some e → IsClosedOrPurged e.session.status → e.drive ≡ place + 1
     → bay.drive ≡ Some d → ((d' : DriveIs D) × (bay'.drive ≡ Some d') × (placements_of e.session.key (placements d'.journal) ≡ placements_of e.session.key (placements d.journal)))
@@ -161,7 +161,7 @@ drive_there {D} w w' place bay d after h stood online stays bays =
           ∙ ap (λ (y : DriveIs D). placements_of e.session.key (placements y.journal)) one,
     ))
 
--- where the journal of the one drive stays
+-- if the journal of the one drive stays
 pub journal_there : {D : Type 0} (w w' : WorldView D) (place : ℕ) (bay bay' : BayView D) (d after : DriveIs D) → slice_get w.bays place ≡ Some bay → bay.drive ≡ Some d
     → bay'.drive ≡ Some after → after.journal ≡ d.journal → w'.bays ≡ slice_set w.bays place bay' → PlacedAreThere w w'
 journal_there {D} w w' place bay bay' d after stood online now same bays =

@@ -73,7 +73,7 @@ Lodges x y = (y.drive ≡ x.drive) × (y.session.lane ≡ x.session.lane) × Sto
 pub lodges_same : (x y : WorldSession) → y ≡ x → Lodges x y
 lodges_same x y same = subst (Lodges x) (sym same) (refl, refl, λ h. h)
 
--- lanes stay where all lodge on
+-- lanes stay if all lodge on
 pub lanes_lodge : (R : WorldSession → WorldSession → Type 0) (es es' : List WorldSession) (drive : ℕ) (lanes : List LaneView) → ((ticket : ℕ) → PairAt R es es' ticket)
     → ((x y : WorldSession) → R x y → Lodges x y) → AreLanes es drive lanes → AreLanes es' drive lanes
 lanes_lodge R es es' drive lanes pairs lodge h place lane there =

@@ -32,7 +32,7 @@ use Rattle.sd_world.proofs.ReachLemmas.{of_if}
 
 -- ---- whole blocks
 
--- a label block and blocks behind it are some bytes
+-- a label block and blocks after it are some bytes
 image_length : (bytes : List ℕ) (label : VolumeLabel) (blocks : List Block) → VolumeImage bytes label blocks [] → length bytes ≡ volume_end label blocks
 image_length bytes label blocks is = ap length (is.bytes_are ∙ append-nil (label_and_blocks label blocks))
 

@@ -48,7 +48,7 @@ session_at-other ticket new (x ∷ es) other =
     (λ n. chosen (λ o. session_at ticket es ≡ o) x.session.key.id ticket (Some x) (session_at ticket es) (λ q. absurd (other (sym p ∙ q))) (λ m. refl)))
     (λ n. ap (cond (x.session.key.id == ticket) (Some x)) (session_at-other ticket new es other))
 
--- a session that is found stays so when one comes behind
+-- a session that is found stays so when one comes after it
 pub session_at-front : (ticket : ℕ) (es more : List WorldSession) (e : WorldSession) → session_at ticket es ≡ Some e → session_at ticket (es ++ more) ≡ Some e
 session_at-front ticket [] more e at = absurd (cc at)
 session_at-front ticket (x ∷ es) more e at =
@@ -57,7 +57,7 @@ session_at-front ticket (x ∷ es) more e at =
       | false ↦ λ later. session_at-front ticket es more e later
     ]) at
 
--- where no session was found, the one that comes behind is found by its ticket
+-- if no session was found, the one that comes after the others is found by its ticket
 pub session_at-behind : (ticket : ℕ) (es : List WorldSession) (new : WorldSession) → session_at ticket es ≡ None → new.session.key.id ≡ ticket
     → session_at ticket (es ++ new ∷ []) ≡ Some new
 session_at-behind ticket [] new none id = chosen (λ o. o ≡ Some new) new.session.key.id ticket (Some new) None (λ p. refl) (λ n. absurd (n id))
@@ -67,7 +67,7 @@ session_at-behind ticket (x ∷ es) new none id =
       | false ↦ λ later. session_at-behind ticket es new later id
     ]) none
 
--- who is found where one came behind was found before, or is that one
+-- if one came after the others, who is found was found before, or is that one
 pub session_at-push : (ticket : ℕ) (es : List WorldSession) (new e : WorldSession) → session_at ticket (es ++ new ∷ []) ≡ Some e
     → (session_at ticket es ≡ Some e) ⊎ (e ≡ new)
 session_at-push ticket [] new e at =
@@ -81,11 +81,11 @@ session_at-push ticket (x ∷ es) new e at =
 
 -- Places.
 
--- what is written stands there
+-- what is written is there
 pub get_set-same : {A : Type 0} → (xs : List A) (at : ℕ) (x y : A) → slice_get xs at ≡ Some y → slice_get (slice_set xs at x) at ≡ Some x
 get_set-same xs at x y there = get_set_here xs at y x there
 
--- what stands in a list after a write was written, or stood there
+-- what is in a list after a write is what was written, or was there
 pub get_set-tells : {A : Type 0} → (xs : List A) (at place : ℕ) (x y : A) → slice_get (slice_set xs at x) place ≡ Some y
     → ((place ≡ at) × (y ≡ x)) ⊎ ((place ≢ at) × (slice_get xs place ≡ Some y))
 get_set-tells [] at place x y there = absurd (cc there)
@@ -97,7 +97,7 @@ get_set-tells (z ∷ xs) (suc k) (suc m) x y there = elim (get_set-tells xs k m 
   | inr p ↦ inr ((λ e. p.0 (cc e)), p.1)
 ]
 
--- what stands in a list with one element more stood there, or is that one
+-- what is in a list with one element more was there, or is that one
 pub get_push-tells : {A : Type 0} → (xs : List A) (place : ℕ) (x y : A) → slice_get (xs ++ x ∷ []) place ≡ Some y
     → (slice_get xs place ≡ Some y) ⊎ (y ≡ x)
 get_push-tells [] zero x y there = inr (cc there)
@@ -145,7 +145,7 @@ changed_by_number time least next (x ∷ es) (suc k) e new rise there same =
     (λ p. absurd (omega (arith, later, same, p)))
     (λ n. ap (λ l. x ∷ l) (changed_by_number time (x.session.key.id + 1) next es k e new rise.2 there same))
 
--- a ticket that stands at no place is no session's
+-- a ticket that is at no place is no session's
 pub none_found : (ticket : ℕ) (es : List WorldSession)
     → ((at : ℕ) (e : WorldSession) → slice_get es at ≡ Some e → e.session.key.id ≢ ticket) → session_at ticket es ≡ None
 none_found ticket [] none = refl

@@ -139,7 +139,7 @@ may_strike_none m (Label drive name pool media moment) own reply is = refl
 may_strike_none m (Adopt drive name) own reply is = refl
 may_strike_none m event own reply is = absurd is
 
--- or any that go on, where a sync failed
+-- or any that go on, if a sync failed
 sync_may_strike : (m : Machine) (event : Event) (own : ℕ) (strikes : List Strike) → IsOfSync event own → StrikeWith Failed IsRunning m strikes → MayStrike m event (Refused DeviceFault) strikes
 sync_may_strike m (Sync drive) own strikes is are = are
 sync_may_strike m (Mount drive name) own strikes is are = are

@@ -76,7 +76,7 @@ started_home : (limit : ℕ) (store : StoreState) → home_of (unused_store limi
 started_home zero store = refl
 started_home (suc n) store = refl
 
--- a world in which the session stands behind the others, on a drive of which nothing else changed
+-- a world in which the session comes after the others, on a drive of which nothing else changed
 abbrev OpenedWorld : {D : Type 0} → (old : WorldView D) (job : ℕ) (pool media : List ℕ) (moment : ℤ) (ticket drive : ℕ) (new : WorldView D)
     → OpensSession old job pool media moment ticket drive new → WorldView D
 OpenedWorld old job pool media moment ticket drive new o = record old {

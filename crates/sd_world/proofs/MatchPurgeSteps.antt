@@ -57,7 +57,7 @@ none_on key name e es = from (is_key key e.placement.key)
     from true none = let parts = or_none (bytes_eq e.placement.volume name) (has_on key name es) none in (λ own. parts.0, parts.1)
     from false none = (λ own. absurd (true≢false (sym own)), none)
 
--- its bodies at the first entry and behind it
+-- its bodies at the first entry and after it
 abbrev front : SessionKey → Shelf → Entry → List Entry → Type 0
 front key shelf e es = bodies_with key (placed_bodies shelf (live (e ∷ es))) ≡ bodies_with key (placed_bodies shelf (live es))
 

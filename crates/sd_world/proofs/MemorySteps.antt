@@ -1,4 +1,4 @@
--- Want of memory changes no session, and is not the answer of an event that takes none.
+-- 'Out of memory' changes no session, and is not the answer of an event that takes none.
 use Rattle.std.proofs.Common.{◌≡◌, ℕ, refl, sym, ap, subst, ◌∙◌, inl, inr, Option, Some, None, List}
 use Rattle.sd_base.specs.declared.number.SessionKey.{SessionKey}
 use Rattle.sd_base.specs.declared.refusal.Refusal.{Refusal}

@@ -1,4 +1,4 @@
--- A world keeps its rules where a session is opened, and where one isn't for want of memory or of its lane's store.
+-- A world keeps its rules when a session is opened, and when one isn't, for lack of memory or of its lane's store.
 use Rattle.std.proofs.Common.{◌≡◌, ℕ, zero, suc, ◌+◌, refl, sym, ap, subst, ◌∙◌, arith, inl, inr, true, false, Bool, true≢false, Some, None, IsSome, List, [], ◌∷◌, ◌++◌, length, slice_get, slice_set, option_map}
 use Rattle.std.proofs.lemmas.List.{length-set}
 use Rattle.std.proofs.lemmas.Option.{IfSome_then, MatchOption-at_some, slice_get-map}

@@ -1,4 +1,4 @@
--- The sessions of a ticket before and after a move: there before exactly where there after.
+-- The sessions of a ticket before and after a move: there before exactly if there after.
 use Rattle.std.proofs.Common.{◌≡◌, ◌≢◌, ◌⊎◌, ℕ, ◌+◌, ◌≤◌, ◌<◌, ◌==◌, cond, refl, sym, ap, subst, ◌∙◌, inl, inr, true, false, Bool, Option, Some, None, List, [], ◌∷◌, ◌++◌, arith}
 use Rattle.sd_base.specs.declared.number.SessionKey.{SessionKey}
 use Rattle.sd_machine.proofs.Lookups.{chosen}
@@ -32,7 +32,7 @@ pair_before R o o' e' (inl p) at = absurd (cc (sym at ∙ p.1))
 pair_before R o o' e' (inr p) at =
     let is : p.1 ≡ e' = cc (sym p.3 ∙ at) in (p.0, p.2, subst (λ x. R p.0 x) is p.4)
 
--- where the session after is the one before
+-- if the session after is the one before
 pub same_pair : (R : WorldSession → WorldSession → Type 0) (o o' : Option WorldSession) → o' ≡ o
     → ((e : WorldSession) → o ≡ Some e → R e e) → PairOf R o o'
 same_pair R None o' same all = inl (refl, same)

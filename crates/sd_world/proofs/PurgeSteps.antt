@@ -140,7 +140,7 @@ not_kept true true false none is at = absurd (true≢false none)
 not_kept true false done none is at = absurd (true≢false (sym at))
 not_kept false on done none is at = absurd (true≢false (sym is))
 
--- where a purge isn't refused, a session of the drive that has a block on the volume is done
+-- if a purge isn't refused, a session of the drive that has a block on the volume is done
 pub on_done : {D : Type 0} (sessions : List WorldSession) (drive : ℕ) (d : DriveIs D) (name : List ℕ) (ticket : ℕ) (e : WorldSession)
     → purge_due_in sessions drive d name ≡ None → session_at ticket sessions ≡ Some e → e.drive ≡ drive
     → has_on e.session.key name d.journal ≡ true → is_done d.journal e.session ≡ true

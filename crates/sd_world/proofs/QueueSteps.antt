@@ -1,4 +1,4 @@
--- A world keeps its rules where a piece is sent or taken, where a session is closed, and where a drive is retired.
+-- A world keeps its rules when a piece is sent or taken, when a session is closed, and when a drive is retired.
 use Rattle.std.proofs.Common.{◌≡◌, ℕ, ◌+◌, ◌≤◌, ◌<◌, refl, sym, ap, subst, ◌∙◌, arith, inl, inr, false, Some, None, IsSome, List, [], ◌∷◌, ◌++◌, length, slice_get, slice_set}
 use Rattle.sd_base.specs.Key.{is_key}
 use Rattle.sd_base.specs.declared.number.SessionKey.{SessionKey}
@@ -64,7 +64,7 @@ takes_piece {D} w w' drive ticket seq h t =
 
 -- Sending.
 
--- the lane's store stays where a body leaves
+-- the lane's store stays when a body leaves
 pub next_store : (body : _) (s : SessionView) (between : Stations) → TakesNext body (stations_of s) between
     → IsSome (home_of s.store s.spool) → IsSome (home_of s.store between.spool)
 next_store body s between (inl h) some = subst (λ (b : Stations). IsSome (home_of s.store b.spool)) (sym h.1) some
@@ -209,7 +209,7 @@ unsent {D} w at bay queue' es' there same =
 
 -- Closing.
 
--- where nothing is outstanding, each piece that was sent is placed
+-- if nothing is outstanding, each piece that was sent is placed
 all_placed : {D : Type 0} (s t : SessionView) (d : DriveIs D) (queue : LanesView) → ClosesSession s (progress_of s.key d.journal) t
     → s.sent ≡ length (items_with s.key (items_before d queue)) → placed_of s.key d.journal ≡ s.sent
 all_placed s t d queue closes sent =

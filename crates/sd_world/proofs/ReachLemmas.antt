@@ -14,7 +14,7 @@ use Rattle.sd_span.specs.declared.placement.Placement.{Placement}
 use Rattle.sd_span.specs.declared.span.Span.{Span}
 use Rattle.sd_span.proofs.SpanLemmas.{placements_of-append}
 
--- the stretch reaches from the first of these placements, which stand on its volume behind those before, to the last
+-- the stretch reaches from the first of these placements, which lie on its volume after those before, to the last
 pub record Reaches (all : List Placement) (s : Span) (before own : List Placement) : Type 0 where
   pub after : List Placement
   pub parted : placements_on s.volume all ≡ before ++ (own ++ after)
@@ -34,7 +34,8 @@ AllReach all [] (own ∷ owns) = ⊥
 AllReach all (s ∷ ss) [] = ⊥
 AllReach all (s ∷ ss) (own ∷ owns) = ((before : List Placement) × Reaches all s before own) × AllReach all ss owns
 
--- the same, and between those that came earlier and the first stretch no placement on its volume is the session's
+-- each stretch reaches over its own, and between those that came earlier and the first stretch no placement on its
+-- volume is the session's
 abbrev pub ReachFrom : SessionKey → List Placement → List Placement → List Span → List (List Placement) → Type 0
 ReachFrom key all earlier [] [] = Unit {0}
 ReachFrom key all earlier [] (own ∷ owns) = ⊥

@@ -143,7 +143,7 @@ closed_reads meaning w m key spans at bay d pairs c h =
           (placed_read device d.volumes d.loaded d.journal key ps [] t.s.records true h.kept h.honest.device (sym (append-nil ps)) t.some (none_gone key d.journal t.synced) t.whole);
     }
 
--- what stands behind an end label is countable
+-- what comes before an end label is countable
 ended_counts : (records : List Record) (standing : Standing) (fs : List Fragment) → Behind records standing fs → true ≡ is_ended standing → AreCountable records
 ended_counts records Between fs b is = absurd (cc is)
 ended_counts records Within fs b is = absurd (cc is)

@@ -31,7 +31,7 @@ same_seat e e' same = record { key_is = ap (λ (x : WorldSession). x.session.key
 same_sessions : {D : Type 0} (w w' : WorldView D) → w'.sessions ≡ w.sessions → SeatsStay w w'
 same_sessions w w' same ticket e there = (e, ap (session_at ticket) same ∙ there, same_seat e e refl)
 
--- where pairs keep their seats
+-- if pairs keep their seats
 pairs_stay : {D : Type 0} (R : WorldSession → WorldSession → Type 0) (w w' : WorldView D) → ((ticket : ℕ) → PairAt R w.sessions w'.sessions ticket)
     → ((x y : WorldSession) → R x y → HasSeat x y) → SeatsStay w w'
 pairs_stay R w w' pairs tells ticket e there =

@@ -20,7 +20,7 @@ use Rattle.sd_world.specs.Matches.{SentBody, sent_body, sent_bodies, given_to, b
 use Rattle.sd_world.proofs.Bodies.{bodies_with-append, sent_front}
 pub use Rattle.sd_world.proofs.Bodies.{placed_bodies}
 
--- those at more placements stand behind
+-- those at more placements come after
 pub placed_more : (shelf : Shelf) (ps more : List Placement) → placed_bodies shelf (ps ++ more) ≡ placed_bodies shelf ps ++ placed_bodies shelf more
 placed_more shelf ps more = map-append (λ p. sent_body (item_of p) (block_at shelf p)) ps more
 

@@ -37,7 +37,7 @@ use Rattle.sd_world.proofs.Sessions.{FoundSession, found_session, no_session_fou
 pub found : {D : Type 0} (meaning : D → Meaning) (old : WorldView D) (m : Machine) (ticket : ℕ) (e : WorldSession) → Matches meaning old m → HasTicket old ticket e → FoundSession meaning old ticket m.sessions e
 found meaning old m ticket e h there = found_session meaning old ticket old.sessions m.sessions e h.sessions there
 
--- What follows where a ticket is refused: from that it is unknown, or from the machine's session and the causes.
+-- What follows if a ticket is refused: from that it is unknown, or from the machine's session and the causes.
 pub ticket_refused : {D : Type 0} (meaning : D → Meaning) (R : Type 0) (old : WorldView D) (m : Machine) (ticket : ℕ) (why : Refusal) (causes : WorldSession → Type 0) → Matches meaning old m
     → (session_of ticket m.sessions ≡ None → why ≡ SessionNotOpen → R)
     → ((e : WorldSession) (s : MachineSession) → HasSession m ticket s → SessionMatches meaning old e s → causes e → R)
@@ -223,7 +223,7 @@ session_stays meaning old new m ticket e v event reply rules h there is same run
     parts_step meaning old new m ticket e v event reply rules h there is (same_bodies e.session v same) running
     (subst StoreIsTrue (ap store_of same)) (λ honest. ap parts_of same) turns fail
 
--- the same where the event is refused, whoever goes on
+-- nothing changes if the event is refused, whoever goes on
 pub session_same : {D : Type 0} (old new : WorldView D) (ticket : ℕ) (e : WorldSession) (v : SessionView) → HasTicket old ticket e → new ≡ session_world old e v → v ≡ e.session → new ≡ old
 session_same {D} old new ticket e v there is same =
     is ∙ ap (λ (x : SessionView). session_world old e x) same ∙ ap (λ es. record old { sessions = es }) (put_back ticket old.sessions e there)
@@ -308,7 +308,7 @@ spool_fails {D} meaning old new m ticket e v job event rules h there is spool fa
     (turns g.session g.there (subst IsRunning (sym g.matches.status_is) fails.drops.running), refl)
     (fail (newly_struck old.sessions (with_session f old.sessions)) told) h)
 
--- why a step of spooling or of sending is refused: the status; a fault of the spool's store; want of memory
+-- why a step of spooling or of sending is refused: the status; a fault of the spool's store; out of memory
 abbrev pub SpoolCauses : Refusal → WorldSession → SessionView → Type 0
 SpoolCauses why e v =
     (NotRunning e.session why × (v ≡ e.session))

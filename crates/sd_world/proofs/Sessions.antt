@@ -81,7 +81,7 @@ put_back ticket (x ∷ es) e at =
 abbrev pub OthersFramed : {D : Type 0} → (D → Meaning) → WorldView D → WorldView D → ℕ → Type 0
 OthersFramed meaning w w' ticket = (x : WorldSession) → x.session.key.id ≢ ticket → Framed meaning w w' x
 
--- the sessions behind one session
+-- the sessions after one session
 sessions_behind : {D : Type 0} (meaning : D → Meaning) (w w' : WorldView D) (ticket time least next : ℕ) (es : List WorldSession) (ss : List MachineSession) → ticket < least
     → OthersFramed meaning w w' ticket → NumbersRise time least next es → SessionsMatch meaning w es ss → SessionsMatch meaning w' es ss
 sessions_behind meaning w w' ticket time least next [] [] above others rise h = tt
@@ -137,7 +137,7 @@ all_same meaning w w' m limits next sessions frames h = record {
   sessions = subst (λ es. SessionsMatch meaning w' es m.sessions) (sym sessions) (sessions_same meaning w w' w.sessions m.sessions frames h.sessions);
 }
 
--- the world matches the machine again, where one session changes in both
+-- the world matches the machine again, if one session changes in both
 pub one_changed : {D : Type 0} (meaning : D → Meaning) (w w' : WorldView D) (m : Machine) (ticket : ℕ) (f : WorldSession) (s : MachineSession)
     → w'.limits ≡ w.limits → w'.next ≡ w.next → w'.sessions ≡ with_session f w.sessions → NumbersRise w.limits.time 1 w.next w.sessions
     → f.session.key.id ≡ ticket → SessionMatches meaning w' f s → OthersFramed meaning w w' ticket → Matches meaning w m → Matches meaning w' (changed m s)

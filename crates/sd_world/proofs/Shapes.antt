@@ -37,7 +37,7 @@ use Rattle.sd_world.proofs.Views.{StaysWhole, alike_stays, same_whole, takes_rec
 
 -- Shapes.
 
--- where the session has failed, it had, or its own spool did; and want of memory changes nothing of it
+-- if the session has failed, it had, or its own spool did; and 'out of memory' changes nothing of it
 pub record Tells (event : Event) (reply : Reply) (ticket : ℕ) (s t : SessionView) : Type 0 where
   pub cause : t.status ≡ status.Failed
       → (s.status ≡ status.Failed) ⊎ (IsRunning s.status × IsOfSpool event ticket × (reply ≡ Refused SpoolFault))

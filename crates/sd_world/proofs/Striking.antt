@@ -55,7 +55,7 @@ pub unstruck_stay : (es : List WorldSession) → newly_struck es es ≡ []
 unstruck_stay [] = refl
 unstruck_stay (x ∷ es) = ap₂ (λ xs ys. xs ++ ys) (none_struck x.session.key.id x.session.status) (unstruck_stay es)
 
--- where one session changes, just it can be struck
+-- if one session changes, just it can be struck
 pub strikes_with : (e f : WorldSession) (ticket : ℕ) (es more : List WorldSession) → session_at ticket es ≡ Some e
     → f.session.key.id ≡ ticket
     → newly_struck es (with_session f es ++ more) ≡ strikes_of ticket e.session.status f.session.status
@@ -73,7 +73,7 @@ strikes_with e f ticket (x ∷ es) more at id =
     (λ m r. ap₂ (λ xs ys. xs ++ ys) (none_struck x.session.key.id x.session.status) (strikes_with e f ticket es more r id))
     at)
 
--- where one session changes that isn't struck, none is
+-- if one session changes that isn't struck, none is
 pub unstruck_with : (e f : WorldSession) (ticket : ℕ) (es : List WorldSession) → session_at ticket es ≡ Some e
     → f.session.key.id ≡ ticket → IsUnstruck f.session.status
     → newly_struck es (with_session f es) ≡ []
@@ -197,14 +197,15 @@ StruckOrStay P meaning w w' [] (e' ∷ es') = ⊥
 StruckOrStay P meaning w w' (e ∷ es) [] = ⊥
 StruckOrStay P meaning w w' (e ∷ es) (e' ∷ es') = (Struck P e e' ⊎ ((e' ≡ e) × Framed meaning w w' e)) × StruckOrStay P meaning w w' es es'
 
--- where none is struck
+-- if none is struck
 pub all_stay : {D : Type 0} (P : Strike → WorldSession → Type 0) (meaning : D
     → Meaning) (w w' : WorldView D) (es : List WorldSession)
     → ((x : WorldSession) → Framed meaning w w' x) → StruckOrStay P meaning w w' es es
 all_stay P meaning w w' [] frames = tt
 all_stay P meaning w w' (x ∷ es) frames = (inr (refl, frames x), all_stay P meaning w w' es frames)
 
--- the same, where these strikes lead from each status to the other
+-- of each pair: these strikes lead from the one status to the other; and it is struck, or it stays, and the world
+-- around it lets it match
 abbrev pub StruckAsTold : {D : Type 0} → (Strike → WorldSession → Type 0) → (D → Meaning) → WorldView D → WorldView D
     → List Strike → List WorldSession → List WorldSession → Type 0
 StruckAsTold P meaning w w' strikes [] [] = Unit {0}

@@ -40,7 +40,7 @@ none_or_some (x ∷ xs) = inr (λ h. cc h)
 abbrev pub without_store : SessionView → SessionView
 without_store s = record s { store = None; spool = None }
 
--- where it has no bodies, it has none then
+-- if it has no bodies, it has none then
 parts_none : (s : SessionView) → parts_of s ≡ [] → parts_of (without_store s) ≡ []
 parts_none s none =
     let p = append_none (option_to_list s.ready) (spooled_in s.spool ++ bodies_of s.packer) none in
@@ -150,14 +150,14 @@ taken_stays old at place bay lane store es' (inr k) rules there lane_there t x h
       | inr apart ↦ inl (ap (session_at t) k.7 ∙ session_at-other t (entry_with e k.3) old.sessions (λ p. apart (sym p ∙ id)) ∙ here)
     ]
 
--- the lane's store was true where the one taken is
+-- the lane's store was true if the one taken is
 pub taken_lane : (lane : LaneView) (es : List WorldSession) (store : StoreState) (es' : List WorldSession) → TakesStore lane es store es' → IsTrue store.honest → StoreIsTrue lane.store
 taken_lane lane es store es' (inl t) h = subst StoreIsTrue (sym t.0) h
 taken_lane lane es store es' (inr t) h = subst StoreIsTrue (sym t.0) tt
 
 -- Honesty.
 
--- where the store taken is true, the lanes' stores and the sessions' were
+-- if the store taken is true, the lanes' stores and the sessions' were
 pub honest_taken : {D : Type 0} (meaning : D → Meaning) (old : WorldView D) (at place : ℕ) (bay : BayView D) (d : DriveIs D) (lane : LaneView) (store : StoreState) (es' : List WorldSession)
     → TakesStore lane old.sessions store es' → IsWorld old → slice_get old.bays at ≡ Some bay → slice_get bay.lanes place ≡ Some lane
     → IsTrue store.honest → IsHonest (meaning d.device)
@@ -178,7 +178,7 @@ honest_taken meaning old at place bay d lane store es' takes rules there lane_th
   ];
 }
 
--- at another drive the stores were true where they are
+-- at another drive the stores were true if they are
 pub honest_elsewhere : {D : Type 0} (meaning : D → Meaning) (old w' : WorldView D) (at place : ℕ) (bay : BayView D) (lane : LaneView) (store : StoreState) (es' : List WorldSession)
     → TakesStore lane old.sessions store es' → IsWorld old → slice_get old.bays at ≡ Some bay → slice_get bay.lanes place ≡ Some lane
     → ((t : ℕ) (x : WorldSession) → session_at t es' ≡ Some x → session_at t w'.sessions ≡ Some x)

@@ -75,7 +75,7 @@ pub record SessionStays (s t : SessionView) : Type 0 where
 abbrev pub StoreStays : SessionView → SessionView → Type 0
 StoreStays s t = IsSome (store_of s) → IsSome (store_of t)
 
--- where the store was true that it has, so is the one that it has now
+-- if the store was true that it had, so is the one that it has now
 abbrev pub StaysTrue : SessionView → SessionView → Type 0
 StaysTrue s t = StoreIsTrue (store_of s) → StoreIsTrue (store_of t)
 

@@ -1,4 +1,4 @@
--- A world keeps its rules where sessions change, or one bay, or both.
+-- A world keeps its rules when sessions change, or one bay, or both.
 use Rattle.std.proofs.Common.{◌≡◌, ◌≢◌, ℕ, ◌+◌, ◌≤◌, refl, sym, ap, subst, ◌∙◌, arith, inl, inr, Option, Some, List, length, slice_get, slice_set}
 use Rattle.std.proofs.lemmas.List.{length-set}
 use Rattle.sd_base.specs.Limits.{most_drives, most_number}
@@ -102,7 +102,7 @@ session_world w ticket e f h at own =
 
 -- One drive.
 
--- the session stays whole, and goes on only where it doesn't fail by the drive
+-- the session stays whole, and goes on only if it doesn't fail by the drive
 abbrev pub GoesOnBy : {D : Type 0} → ℕ → DriveIs D → DriveIs D → WorldSession → WorldSession → Type 0
 GoesOnBy at d after x y = Whole x y × (IsRunning y.session.status → x.drive ≡ at + 1 → FailsStay x.session.key d after)
 
@@ -136,7 +136,7 @@ drive_world {D} w at bay d after desk es' h there on drive gone claims claimed p
     (bay_drive w w' at bay d after stays (h.bays at bay there) on drive claimed (lanes_stay w.sessions es' (at + 1) bay.lanes whole (h.bays at bay there).lanes))
     (λ other b apart found. lanes_stay w.sessions es' (other + 1) b.lanes whole (h.bays other b found).lanes)
 
--- the same where no session changes, nor fails by it
+-- one drive changes, and the desk; no session changes, nor fails by it
 pub calm_world : {D : Type 0} (w : WorldView D) (at : ℕ) (bay : BayView D) (d after : DriveIs D) (desk : DeskView)
     → IsWorld w → slice_get w.bays at ≡ Some bay → bay.drive ≡ Some d → DriveStays d after → ((key : SessionKey) → FailsStay key d after) → ((key : SessionKey) → GoneStays key d after)
     → ((name : List ℕ) (drive : ℕ) → claimed_by w.desk name ≡ Some drive → claimed_by desk name ≡ Some drive)

@@ -72,7 +72,7 @@ NonePurges (ReadBack key spans got got' result ∷ deeds) name = NonePurges deed
 abbrev pub RunsTo : {D : Type 0} → (D → Meaning) → Machine → List Event → List Reply → WorldView D → Type 0
 RunsTo meaning m events replies new = (m' : Machine) × Run m events replies m' × Matches meaning new m'
 
--- What a world keeps of an earlier one that did these deeds: closed sessions stay closed, or are purged, and stand with their
+-- What a world keeps of an earlier one that did these deeds: closed sessions stay closed, or are purged, and keep their
 -- spans; sessions keep their keys and drives, and journals their placements; what is claimed stays so, and none is noted as
 -- purged that wasn't; the devices go on, and volumes that weren't purged keep their blocks; and what was honest is.
 pub record StaysFrom {D : Type 0} (meaning : D → Meaning) (deeds : List Deed) (old new : WorldView D) : Type 0 where

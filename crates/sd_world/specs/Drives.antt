@@ -1,4 +1,4 @@
--- What an event of a drive does in the world around it: where no such drive is online; and who fails by a sync that failed.
+-- What an event of a drive does in the world around it: if no such drive is online; and who fails by a failed sync.
 use Rattle.std.specs.Prelude.{◌≡◌, ◌≢◌, ◌⊎◌, ℕ, ◌+◌, Bool, true, false, not, ◌==◌, ◌&&◌, if◌then◌else◌, Option, Some, None, List, [], map, slice_get, slice_set}
 use Rattle.std.specs.List.{list_any, AllZip}
 use Rattle.std.specs.Option.{option_or}
@@ -48,7 +48,7 @@ abbrev pub loses_by : ℕ → List ℕ → List Entry → WorldSession → Bool
 loses_by drive volume journal e =
     (e.drive == drive) && (is_running e.session.status && fails_with e.session.key volume journal)
 
--- where this is so the session fails, else it is as it was
+-- if this is so, the session fails; else it is as it was
 abbrev pub FailsWhere : Bool → WorldSession → WorldSession → Type 0
 FailsWhere true e e' = (s : SessionView) × FailsSession e.session s × (e' ≡ record e { session = s })
 FailsWhere false e e' = e' ≡ e
@@ -92,7 +92,7 @@ pub record AtDrive {D : Type 0} (meaning : D → Meaning) (old : WorldView D) (d
     desk = outcome.desk;
   }
 
--- it is refused where there is no such drive online, and nothing changes; else it happens at the drive
+-- it is refused if no such drive is online, and nothing changes; else it happens at the drive
 abbrev pub MovesDrive : {D : Type 0} → (D → Meaning) → WorldView D → ℕ → Event → Reply → WorldView D → Type 0
 MovesDrive meaning old drive event reply new =
     ((why : Refusal) × (reply ≡ Refused why) × DriveMissing old drive why × (new ≡ old)) ⊎ AtDrive meaning old drive event reply new
@@ -152,7 +152,8 @@ abbrev pub purged_sessions : ℕ → List ℕ → List Entry → List WorldSessi
 purged_sessions drive name journal sessions = map (purged_if_on drive name journal) sessions
 
 -- The drive's volume of this name is emptied, and has this status then, which is Error if the device failed; else an honest device
--- cut it to its label block. What every call leaves of the device it leaves too, but what stood on the volume behind its label block.
+-- cut it to its label block. What every call leaves of the device it leaves too, but what was on the volume after its
+-- label block.
 pub record PurgesNamed {D : Type 0} (meaning : D → Meaning) (fault : Type 0) (status : VolumeStatus) (name : List ℕ) (d after : DriveIs D) : Type 0 where
   pub place : ℕ
   pub volume : VolumeView
@@ -166,7 +167,8 @@ pub record PurgesNamed {D : Type 0} (meaning : D → Meaning) (fault : Type 0) (
   pub cuts : (fault → ⊥) → IsHonest (meaning d.device)
       → CutsAt volume.first name (meaning d.device).shelf (meaning after.device).shelf
 
--- The device of the drive hasn't the volume, which an honest one has, or memory is wanted: the drive stays as it was.
+-- The device of the drive hasn't the volume, which an honest one has, or it is out of memory: the drive stays as it
+-- was.
 pub record PurgesNone {D : Type 0} (meaning : D → Meaning) (why : Refusal) (d after : DriveIs D) : Type 0 where
   pub why_is : (why ≡ VolumeNotOnShelf) ⊎ (why ≡ Memory)
   pub on_shelf : IsHonest (meaning d.device) → why ≢ VolumeNotOnShelf
@@ -203,8 +205,8 @@ pub record LeavesVolume {D : Type 0} (meaning : D → Meaning) (old : WorldView 
   pub none : PurgesNone meaning why d after
   pub new_is : new ≡ with_drive at bay after old
 
--- Why a volume isn't purged: the drive isn't online; a refusal is due before the device is asked; it isn't found, or memory is
--- wanted. Or the device failed, and the volume is emptied all the same.
+-- Why a volume isn't purged: the drive isn't online; a refusal is due before the device is asked; the volume isn't
+-- found, or it is out of memory. Or the device failed, and the volume is emptied all the same.
 abbrev pub PurgeRefused : {D : Type 0} → (D → Meaning) → WorldView D → ℕ → List ℕ → Refusal → WorldView D → Type 0
 PurgeRefused {D} meaning old drive name why new =
     (DriveMissing old drive why × (new ≡ old))

@@ -24,7 +24,7 @@ AllGrow old new = EachDrive (λ d d'. Grows d.journal d'.journal) old new
 
 -- Laws.
 
--- A move takes no placement out of a journal, nor changes one: it may put more behind them; and no drive comes online.
+-- A move takes no placement out of a journal, nor changes one: it may put more after them; and no drive comes online.
 abbrev pub JournalsGrow : Type 0 → Type 0
 JournalsGrow D = (meaning : D → Meaning) (old new : WorldView D) (event : Event) (reply : Reply)
     → Moves meaning old event reply new → AllGrow old new

@@ -21,7 +21,7 @@ use Rattle.sd_world.specs.Rules.{IsWorld}
 abbrev pub IsRetired : {D : Type 0} → WorldView D → ℕ → Type 0
 IsRetired {D} w drive = (at : ℕ) × (bay : BayView D) × (drive ≡ at + 1) × (slice_get w.bays at ≡ Some bay) × (bay.drive ≡ None)
 
--- The session of this key stands so, whatever happened to it since it was closed: this holds of it.
+-- The session of this key is so, whatever happened to it since it was closed: this holds of it.
 pub record Stands {D : Type 0} (w : WorldView D) (key : SessionKey) (so : WorldSession → Type 0) : Type 0 where
   pub e : WorldSession
   pub there : session_at key.id w.sessions ≡ Some e

@@ -14,8 +14,8 @@ use Rattle.sd_volume.specs.Adopt.{KeepsWholeBlocks}
 use Rattle.sd_volume.specs.Image.{Block, VolumeImage}
 use Rattle.sd_volume.specs.Volume.{VolumeView}
 
--- on each volume of a name that keeps its blocks: a label block and whole blocks behind it that lasted since some moment still
--- last
+-- on each volume of a name that keeps its blocks: a label block and whole blocks after it that lasted since some moment
+-- still last
 abbrev pub BlocksStillLast : (List ℕ → Type 0) → Shelf → Shelf → Type 0
 BlocksStillLast keeps old new =
     (since : ℕ) (name bytes : List ℕ) (label : VolumeLabel) (blocks : List Block)

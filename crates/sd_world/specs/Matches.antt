@@ -1,4 +1,4 @@
--- When a world matches a list machine: its sessions' bodies, wherever they stand, are cuttings of the machine's lists.
+-- When a world matches a list machine: its sessions' bodies, wherever they are, are cuttings of the machine's lists.
 use Rattle.std.specs.Prelude.{◌≡◌, ◌≢◌, ◌⊎◌, ℕ, ◌+◌, not, ◌&&◌, if◌then◌else◌, IsTrue, Option, Some, None, List, [], ◌∷◌, ◌++◌, length, map, slice_get}
 use Rattle.std.specs.List.{list_any, AllZip}
 use Rattle.std.specs.Option.{option_to_list}
@@ -24,7 +24,7 @@ use Rattle.sd_volume.specs.Image.{Block}
 use Rattle.sd_world.specs.Honest.{StoreIsTrue}
 use Rattle.sd_world.specs.World.{WorldView, WorldSession, BayView, LaneView, IsOnline, session_at}
 
--- Where the bodies of sessions stand.
+-- Where the bodies of sessions are.
 
 -- a body that was sent of a session
 pub record SentBody : Type 0 where
@@ -95,7 +95,7 @@ pub record IsHonestAt {D : Type 0} (meaning : D → Meaning) (w : WorldView D) (
 
 -- Matching.
 
--- the bodies begin a packed cutting of the list, with its end label or without: those behind them were dropped
+-- the bodies begin a packed cutting of the list, with its end label or without: those after them were dropped
 pub record BeginsPacked (room : ℕ) (bodies : List PackedBody) (records : List Record) : Type 0 where
   pub dropped : List PackedBody
   pub packs : Packs room (bodies ++ dropped) records Between ⊎ Packs room (bodies ++ dropped) records AtEnd
@@ -109,7 +109,7 @@ HasBodies room sent all Closed records = Packs room all records AtEnd
 HasBodies room sent all Cancelled records = BeginsPacked room sent records
 HasBodies room sent all status records = Unit {0}
 
--- The session is that of the machine: its key, its status, its counts. Where its drive is online, and the drive's device
+-- The session is that of the machine: its key, its status, its counts. If its drive is online, and the drive's device
 -- and spools are honest, its bodies are those of the machine's list. Once it is closed, nothing of it is outstanding.
 pub record SessionMatches {D : Type 0} (meaning : D → Meaning) (w : WorldView D) (e : WorldSession) (s : MachineSession) : Type 0 where
   pub key_is : s.key ≡ e.session.key
@@ -122,7 +122,7 @@ pub record SessionMatches {D : Type 0} (meaning : D → Meaning) (w : WorldView 
       (bodies_in (meaning d.device).shelf d bay.queue e.session) s.status s.records
   pub closed : s.status ≡ Closed → IsOutstanding w e → ⊥
 
--- the same sessions in the same order
+-- the sessions of world and machine match one by one, in the same order
 abbrev pub SessionsMatch : {D : Type 0} → (D → Meaning) → WorldView D → List WorldSession → List MachineSession → Type 0
 SessionsMatch meaning w es ss = AllZip (SessionMatches meaning w) es ss
 

@@ -1,4 +1,4 @@
--- What want of memory leaves of a world's sessions.
+-- What being out of memory leaves of a world's sessions.
 use Rattle.std.specs.Prelude.{◌≡◌, ◌≢◌, ℕ, Option, Some, None, List}
 use Rattle.sd_base.specs.declared.refusal.Refusal.TheVariants.{Memory}
 use Rattle.sd_driver.specs.Meaning.{Meaning}
@@ -25,7 +25,7 @@ pub record StaysButStore (old new : WorldSession) : Type 0 where
   pub is : new.session ≡ record old.session { store = new.session.store; spool = new.session.spool }
   pub running : IsRunning old.session.status → new ≡ old
 
--- so it is where there was one, and else there is none
+-- so it is if there was one, and else there is none
 abbrev pub StaysIfThere : Option WorldSession → Option WorldSession → Type 0
 StaysIfThere None None = Unit {0}
 StaysIfThere None (Some new) = ⊥
@@ -36,7 +36,7 @@ StaysIfThere (Some old) (Some new) = StaysButStore old new
 abbrev pub SessionsStay : List WorldSession → List WorldSession → Type 0
 SessionsStay old new = (ticket : ℕ) → StaysIfThere (session_at ticket old) (session_at ticket new)
 
--- an event that is answered with want of memory changes no session
+-- an event that is answered 'out of memory' changes no session
 abbrev pub WantChangesNone : {D : Type 0} → WorldView D → Reply → WorldView D → Type 0
 WantChangesNone old reply new = reply ≡ Refused Memory → SessionsStay old.sessions new.sessions
 
@@ -46,7 +46,7 @@ WantsNone event reply = TakesNoMemory event → reply ≢ Refused Memory
 
 -- Laws.
 
--- a move that is answered with want of memory changes no session, and is of an event that takes memory
+-- a move that is answered 'out of memory' changes no session, and is of an event that takes memory
 abbrev pub MovesWantMemory : Type 0 → Type 0
 MovesWantMemory D = (meaning : D → Meaning) (old new : WorldView D) (event : Event) (reply : Reply)
     → Moves meaning old event reply new → WantChangesNone old reply new × WantsNone event reply

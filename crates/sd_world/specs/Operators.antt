@@ -68,7 +68,7 @@ pub record LabelsVolume {D : Type 0} (meaning : D → Meaning) (own : ℕ) (name
       → Labels (label_of s.drive.limits.host name pool media moment) (meaning s.drive.device).shelf (meaning o.drive.device).shelf
   pub is : o ≡ record (stays s) { drive = o.drive; desk = o.desk }
 
--- A new volume isn't labelled: by what the device answered, or for want of memory. The name is in no table.
+-- A new volume isn't labelled: by what the device answered, or because it was out of memory. The name is in no table.
 pub record LabelFails {D : Type 0} (meaning : D → Meaning) (name media : List ℕ) (why : Refusal) (s : Station D) (o : Outcome D) : Type 0 where
   pub media_is : media ≡ s.drive.media
   pub none_loaded : s.drive.loaded ≡ None
@@ -109,7 +109,8 @@ pub record AdoptsAt {D : Type 0} (meaning : D → Meaning) (own : ℕ) (name : L
   pub calls : CallsAdopting meaning ⊥ name s.drive o.drive
   pub is : o ≡ record (stays s) { drive = o.drive; desk = o.desk }
 
--- A volume isn't adopted: by what the device answered, by what stands on it, or for want of memory. The name is in no table.
+-- A volume isn't adopted: by what the device answered, by what is on it, or because it was out of memory. The name is
+-- in no table.
 pub record AdoptFails {D : Type 0} (meaning : D → Meaning) (name : List ℕ) (why : Refusal) (s : Station D) (o : Outcome D) : Type 0 where
   pub none_loaded : s.drive.loaded ≡ None
   pub unclaimed : claimed_by s.desk name ≡ None
@@ -173,7 +174,8 @@ pub record AsksFor {D : Type 0} (own : ℕ) (s : Station D) (o : Outcome D) : Ty
   pub asks : AsksOnce (record { drive = own; pool = pool; media = s.drive.media }) s.desk o.desk
   pub is : o ≡ record (stays s) { desk = o.desk }
 
--- why a drive finds no volume: memory is wanted for its request, where it has none yet; or the mount of the next one fails
+-- why a drive finds no volume: it is out of memory for its request, if it has none yet; or the mount of the next one
+-- fails
 abbrev pub SeekRefused : {D : Type 0} → (D → Meaning) → ℕ → Refusal → Station D → Outcome D → Type 0
 SeekRefused meaning own why s o =
     (((pool : List ℕ) × HasNoNext pool s.drive) × HasNotAsked own s.desk.requests × (why ≡ Memory) × StaysKnowing s o)

@@ -44,13 +44,13 @@ abbrev pub is_gone : {D : Type 0} → WorldView D → SessionKey → List Span �
 is_gone w key spans =
     is_purged_session key (session_at key.id w.sessions) || (not (key.time == w.limits.time) && any_purged_at w.desk spans)
 
--- which refusal is due where the first span is at this drive, if it is online, and what is read was purged, or not
+-- which refusal is due when the first span is at this drive, if it is online, and what is read was purged, or not
 abbrev pub due_with : {D : Type 0} → Bool → DeskView → ℕ → List Span → Option (DriveIs D) → Option Refusal
 due_with gone desk drive spans None = Some DriveOffline
 due_with gone desk drive spans (Some d) =
     if gone then Some VolumePurged else if are_at_drive desk drive spans then None else Some VolumeNotOnShelf
 
--- which is due where the first span's volume is at the drive of this number, if any; drives are numbered from 1
+-- which is due when the first span's volume is at the drive of this number, if any; drives are numbered from 1
 abbrev pub due_at : {D : Type 0} → WorldView D → SessionKey → List Span → Option ℕ → Option Refusal
 due_at w key spans (Some (suc at)) =
     option_map_or (λ bay. due_with (is_gone w key spans) w.desk (suc at) spans bay.drive) (slice_get w.bays at) (Some VolumeNotOnShelf)
@@ -88,7 +88,7 @@ pub record ReadsDrive {D : Type 0} (meaning : D → Meaning) (key : SessionKey) 
   pub handed_over : IsHonest (meaning old.device) → OnErr answer
       (HandsOverFront (volumes_on (meaning old.device).shelf) key spans got got')
 
--- A session is read back: where a refusal is due it is answered, and nothing changes; else the drive of the first span's
+-- A session is read back: if a refusal is due, it is answered, and nothing changes; else the drive of the first span's
 -- volume reads, on which all spans are, and nothing of the world changes but its device.
 abbrev pub ReadsWorld : {D : Type 0} → (D → Meaning) → SessionKey → List Span → List Record → List Record
     → Result ReadEnd Refusal → WorldView D → WorldView D → Type 0

@@ -28,7 +28,8 @@ pub record StandsAmong (shelf : Shelf) (p : Placement) : Type 0 where
 
 -- Laws.
 
--- while a drive's device is honest, each placement of its journal whose block isn't gone stands among the blocks of its volume
+-- while a drive's device is honest, each placement of its journal whose block isn't gone is among the blocks of its
+-- volume
 abbrev pub PlacedAmongBlocks : Type 0
 PlacedAmongBlocks =
     (device : Meaning) (volumes : List VolumeView) (loaded : Option ℕ) (journal : List Entry)

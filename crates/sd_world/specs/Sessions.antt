@@ -104,8 +104,8 @@ NoneReserved w pool media why =
     ⊎ ((NoneOf (TakesMedia media) (drives_for w) → ⊥) × NoneOf (IsOnlineFor media) (drives_for w) × (why ≡ DriveOffline))
     ⊎ ((NoneOf (IsOnlineFor media) (drives_for w) → ⊥) × NoneOf (IsCandidate pool media) (drives_for w) × (why ≡ NoFreeLane))
 
--- A drive and a lane were found, and the session isn't opened: for want of memory, or the lane's store could not be cleared. The
--- store lies in the lane now, and nothing else changes but the room that was made for a first placement.
+-- A drive and a lane were found, and the session isn't opened: it was out of memory, or the lane's store could not be
+-- cleared. The store lies in the lane now, and nothing else changes but the room that was made for a first placement.
 pub record OpensNot {D : Type 0} (old : WorldView D) (pool media : List ℕ) (why : Refusal) (new : WorldView D) : Type 0 where
   pub drive : ℕ
   pub at : ℕ
@@ -127,7 +127,8 @@ pub record OpensNot {D : Type 0} (old : WorldView D) (pool media : List ℕ) (wh
     });
   }
 
--- Why no session is opened, in this order: no number is left; no drive takes it; want of memory; the spool can't be cleared.
+-- Why no session is opened, in this order: no number is left; no drive takes it; out of memory; the spool can't be
+-- cleared.
 abbrev pub OpenRefused : {D : Type 0} → WorldView D → List ℕ → List ℕ → Refusal → WorldView D → Type 0
 OpenRefused {D} old pool media why new =
     ((most_number < old.next) × (why ≡ NoSessionNumberLeft) × (new ≡ old))
@@ -164,7 +165,7 @@ pub record DespoolsSession {D : Type 0} (answer : Despooled) (old : WorldView D)
 
 -- Closing, and asking for spans.
 
--- a session is closed, exactly where nothing of it is outstanding; the reply has its key and its spans
+-- a session is closed, exactly if nothing of it is outstanding; the reply has its key and its spans
 pub record ClosesAt {D : Type 0} (old : WorldView D) (ticket : ℕ) (key : SessionKey) (spans : List Span) (new : WorldView D) : Type 0 where
   pub e : WorldSession
   pub has : HasTicket old ticket e
@@ -178,7 +179,7 @@ pub record ClosesAt {D : Type 0} (old : WorldView D) (ticket : ℕ) (key : Sessi
   pub spans_are : spans ≡ spans_of key (placements d.journal)
   pub new_is : new ≡ record old { sessions = with_session (record e { session = session }) old.sessions }
 
--- why a session isn't closed: the status; its volume failed; something is outstanding; want of memory
+-- why a session isn't closed: the status; its volume failed; something is outstanding; out of memory
 abbrev pub CloseCauses : {D : Type 0} → WorldView D → Refusal → WorldSession → Type 0
 CloseCauses {D} w why e =
     ((e.session.status ≢ IsEnded) × (why ≡ status_refusal e.session.status))
@@ -191,7 +192,7 @@ abbrev pub SpansAt : {D : Type 0} → WorldView D → WorldSession → List Span
 SpansAt {D} w e spans = (at : ℕ) × (bay : BayView D) × (d : DriveIs D) × IsOnline w e.drive at bay d
     × (spans ≡ spans_of e.session.key (placements d.journal))
 
--- why no spans are told: the session's drive is offline for good; want of memory
+-- why no spans are told: the session's drive is offline for good; out of memory
 abbrev pub MediaCauses : {D : Type 0} → WorldView D → Refusal → WorldSession → Type 0
 MediaCauses {D} w why e =
     ((at : ℕ) × (bay : BayView D) × (e.drive ≡ at + 1) × (slice_get w.bays at ≡ Some bay) × (bay.drive ≡ None) × (why ≡ DriveOffline))

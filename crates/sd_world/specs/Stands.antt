@@ -1,4 +1,4 @@
--- How closed sessions stand: their spans, whatever happens afterwards.
+-- What closed sessions keep: their spans, whatever happens afterwards.
 use Rattle.std.specs.Prelude.{◌≡◌, ◌≢◌, ◌⊎◌, Some, List, []}
 use Rattle.sd_base.specs.declared.number.SessionKey.{SessionKey}
 use Rattle.sd_driver.specs.Meaning.{Meaning}
@@ -34,8 +34,8 @@ abbrev pub ToldAreClaimed : {D : Type 0} → WorldView D → Event → Reply →
 ToldAreClaimed w (Media ticket) (Spans spans) = (e : WorldSession) → session_at ticket w.sessions ≡ Some e → AreClaimed w.desk e.drive spans
 ToldAreClaimed w event reply = Unit {0}
 
--- What a step keeps of spans: those of closed sessions stand, those of the session that it closed too, and the volumes of
--- spans that it tells are claimed.
+-- What a step keeps of spans: those of closed sessions stay, those of the session that it closed too, and the volumes
+-- of spans that it tells are claimed.
 pub record KeepsSpans {D : Type 0} (old : WorldView D) (event : Event) (reply : Reply) (new : WorldView D) : Type 0 where
   pub closed_last : ClosedLast old new
   pub stands : ReplyStands new reply

@@ -20,7 +20,7 @@ pub record Station (D : Type 0) : Type 0 where
   pub queue : LanesView
   pub desk : DeskView
 
--- What an event leaves there; and the volume whose blocks that weren't synced are lost, where a sync failed.
+-- What an event leaves there; and the volume whose blocks that weren't synced are lost, if a sync failed.
 pub record Outcome (D : Type 0) : Type 0 where
   pub drive : DriveIs D
   pub queue : LanesView

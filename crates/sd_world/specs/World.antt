@@ -75,7 +75,7 @@ with_bay at bay w = record w { bays = slice_set w.bays at bay }
 abbrev pub with_drive : {D : Type 0} → ℕ → BayView D → DriveIs D → WorldView D → WorldView D
 with_drive at bay d w = with_bay at (record bay { drive = Some d }) w
 
--- the journal of a drive; empty where it is retired
+-- the journal of a drive; empty if it is retired
 abbrev pub journal_of : {D : Type 0} → Option (DriveIs D) → List Entry
 journal_of None = []
 journal_of (Some d) = d.journal
@@ -131,6 +131,6 @@ bay_for sessions bay = record {
   lanes = length bay.lanes;
 }
 
--- the same of all drives, by their numbers
+-- what decides of each drive whether it takes a session, by the drives' numbers
 abbrev pub drives_for : {D : Type 0} → WorldView D → List DriveView
 drives_for w = map (bay_for w.sessions) w.bays

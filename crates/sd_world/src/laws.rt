@@ -37,7 +37,7 @@ pub fn moves_purge_by_cause<D>()
     ensures { MovesPurgeByCause D }
 {}
 
-/// A move that is answered with want of memory changes no session, and is of an event that takes memory.
+/// A move that is answered 'out of memory' changes no session, and is of an event that takes memory.
 pub fn moves_want_memory<D>()
     ensures { MovesWantMemory D }
 {}
@@ -102,7 +102,7 @@ pub fn closed_is_found<D>()
     ensures { ClosedIsFound D }
 {}
 
-/// A move takes no placement out of a journal, nor changes one: it may put more behind them;
+/// A move takes no placement out of a journal, nor changes one: it may put more after them;
 /// and it brings no drive online.
 pub fn journals_grow<D>()
     ensures { JournalsGrow D }

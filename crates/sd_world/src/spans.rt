@@ -3,7 +3,7 @@ ghost use Rattle.sd_world.specs.Ends.{PlacedEndWithBlocks, KeptSpansEndWithBlock
 ghost use Rattle.sd_world.specs.Lasting.{AdoptionKeepsLasting, SyncedSpansLast, LastingSpansStay, LastingSpansMark, LastingSpansKept, LastingSpansSurvive};
 ghost use Rattle.sd_world.specs.Restore.{PlacedAmongBlocks, PlacedRead};
 
-/// Each placement is where a block of its volume begins and ends, behind the label and whole blocks.
+/// Each placement is where a block of its volume begins and ends, after the label and whole blocks.
 pub fn placed_among_blocks()
     ensures { PlacedAmongBlocks }
 {}
@@ -19,7 +19,7 @@ pub fn placed_end_with_blocks()
     ensures { PlacedEndWithBlocks }
 {}
 
-/// Spans whose bytes stand still end where whole blocks do.
+/// Spans whose bytes are kept still end where whole blocks do.
 pub fn kept_spans_end_with_blocks()
     ensures { KeptSpansEndWithBlocks }
 {}
@@ -34,7 +34,7 @@ pub fn adoption_keeps_lasting()
     ensures { AdoptionKeepsLasting }
 {}
 
-/// Where all blocks of a session are synced, its spans last from that moment on.
+/// If all blocks of a session are synced, its spans last from that moment on.
 pub fn synced_spans_last()
     ensures { SyncedSpansLast }
 {}

@@ -90,7 +90,7 @@ fn read(rt: &HostRuntime, spans: &str, folder: &str, progress: ShownProgress) ->
     ExitCode::from(status)
 }
 
-/// Finds the sessions on these volumes of a folder, or on all of them where none is named.
+/// Finds the sessions on these volumes of a folder, or on all of them if none is named.
 fn scan(rt: &HostRuntime, folder: &str, volumes: &[&str], progress: ShownProgress) -> ExitCode {
     let Ok(writer) = BufWriter::new(rt.alloc(), io::writer(rt)) else {
         return without_memory(rt);

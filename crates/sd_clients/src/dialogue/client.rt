@@ -27,16 +27,16 @@ static REST: [u8; 101] = *b"\x00\x00\x00\x0dappend data 1\
 \xff\xff\xff\xfb\
 \xff\xff\xff\xfc";
 
-/// Where the digits of the session stand in it.
+/// Where the digits of the session are in it.
 const TICKETS: [usize; 3] = [16, 66, 92];
 
-/// What is heard behind the ticket, up to the line of the session, which has the time of the run.
+/// What is heard after the ticket, up to the line of the session, which has the time of the run.
 static FRONT: &[u8] = b"\n\x00\x00\x00\x0d3000 OK data\n\
 \x00\x00\x00\x143000 OK append data\n\
 \x00\x00\x00\x0c3000 OK end\n\
 \x00\x00\x00\x1a3000 OK close Status = 84\n";
 
-/// What is heard behind that, by the place of the session's block: the span, and the answer to the poll.
+/// What is heard after that, by the place of the session's block: the span, and the answer to the poll.
 static FIRST: &[u8] = b"\x00\x00\x00\x1bspan Vol-0001 1 1 1 92 259\n\
 \xff\xff\xff\xff\
 \xff\xff\xff\xf9";
@@ -60,8 +60,8 @@ struct Told {
     is_first: bool,
 }
 
-/// Whether two clients at once are answered as they should be: the one labels a volume, then each backs up a session. The
-/// sessions are numbers 1 and 2, and their blocks lie one behind the other, in either order.
+/// Whether two clients at once are answered as they should be: the one labels a volume, then each backs up a session.
+/// The sessions are numbers 1 and 2, and their blocks lie one after the other, in either order.
 pub fn play<W: Threads + Wait + Sync>(rt: &HostRuntime, wait: &W) -> io::Result<bool> {
     let one = connect(rt)?;
     if !is_labelled(&one)? {
@@ -88,7 +88,7 @@ fn is_labelled(stream: &TcpStream) -> io::Result<bool> {
     Ok(heard.as_slice() == LABELLED)
 }
 
-// A session is opened, and by its ticket a record is appended and the session closed. None where anything is answered that
+// A session is opened, and by its ticket a record is appended and the session closed. None if anything is answered that
 // should not be.
 fn back_up(rt: &HostRuntime, stream: &TcpStream) -> io::Result<Option<Told>> {
     let mut both = stream;
@@ -100,7 +100,7 @@ fn back_up(rt: &HostRuntime, stream: &TcpStream) -> io::Result<Option<Told>> {
     }
     let ticket = opened[26];
     both.write_all(&rest_of(ticket))?;
-    // The daemon ends the talk behind its answers.
+    // The daemon ends the talk after its answers.
     let mut heard = Vec::new(rt.alloc());
     both.read_to_end(&mut heard)?;
     Ok(told_by(ticket, heard.as_slice()))

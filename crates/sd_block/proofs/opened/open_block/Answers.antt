@@ -11,14 +11,14 @@ use Rattle.sd_block.proofs.HeaderLemmas.{SaysSize-same, SaysFields-same}
 use Rattle.sd_block.proofs.ImageLemmas.{IsHeadOf-image, HasSum-image, image_from_fields, one_block}
 use Rattle.sd_block.proofs.opened.open_block.Goals as goal
 
--- what is known where `read_head` found a fault
+-- what is known if `read_head` found a fault
 record IsFaultOf (max : ℕ) (bytes : List ℕ) (fault : BlockFault) : Type 0 where
   short : fault ≡ Short → IsShort bytes
   bad_id : fault ≡ BadId → HasBadId bytes
   bad_size : fault ≡ BadSize → HasBadSize max bytes
   no_sum : fault ≢ BadSum
 
--- it finds none where the header, the form and the size are right
+-- it finds none if the header, the form and the size are right
 right_header : (max : ℕ) (bytes : List ℕ) (fault : BlockFault) → IsFaultOf max bytes fault → HasHeader bytes → HasId bytes → HasRightSize max bytes → ⊥
 right_header max bytes Short is long form size = let few = is.short refl in omega arith
 right_header max bytes BadId is long form size = is.bad_id refl form

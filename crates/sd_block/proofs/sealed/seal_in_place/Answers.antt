@@ -28,7 +28,7 @@ sealed_image key number sum body header joined image header_is joined_is sum_is 
     let right : sum ≡ crc32_of (summed_bytes key number body) = sum_is ∙ ap crc32_of (take_rest joined 4 ∙ summed) in
     image_is ∙ ap₂ (λ s (behind : List ℕ). u32_bytes s ++ behind) right summed
 
--- the body stands there as before
+-- the body is there as before
 body_stays : (sum : ℕ) (block header joined image : List ℕ) → length header ≡ 24
     → joined ≡ header ++ drop 24 block
     → image ≡ u32_bytes sum ++ drop 4 joined

@@ -4,7 +4,7 @@ use Rattle.sd_span.specs.declared.jobmedia.JobMediaFault.TheVariants as media
 use Rattle.sd_files.specs.declared.input.SpansFault.TheVariants.{File, Text}
 use Rattle.sd_files.proofs.read_file.read_back.Goals as goal
 
--- an input may fail at any text, and so may memory lack
+-- an input may fail at any text, and memory may run out at any
 any_text : {A : Type 0} (o : Option A) → IfSome o (λ x. Unit {0})
 any_text None = tt
 any_text (Some x) = tt

@@ -4,7 +4,7 @@ use Rattle.sd_pack.specs.KeptPacker.{AreWithin}
 use Rattle.sd_base.specs.Limits.{most_body}
 use Rattle.sd_pack.proofs.record_parts.close_all.Given as goal
 
--- what is closed, open and to come stands in one order throughout
+-- what is closed, open and to come stays in one order throughout
 abbrev pub invariant-loop-body : goal.invariant-loop-body
 invariant-loop-body l =
     ((l.waiting.items ++ l.open_body ∷ []) ++ l.later.items ≡ (l.initial.waiting.items ++ l.initial.open_body ∷ []) ++ l.initial.later.items)

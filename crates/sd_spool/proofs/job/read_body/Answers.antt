@@ -2,7 +2,7 @@ use Rattle.std.proofs.Common.{◌≡◌, ℕ, ◌+◌, ◌-◌, List, ◌++◌, 
 use Rattle.std.proofs.lemmas.List.{append_assoc, take_at, drop_at, length-append, length-drop, length-take, length-take-le}
 use Rattle.sd_spool.proofs.job.read_body.Goals as goal
 
--- behind the room for a header stands what was read there
+-- after the room for a header comes what was read there
 body_read : (size end : ℕ) (room read after rest : List ℕ) → length room ≡ 24 → length read ≡ size → end ≡ 24 + size
     → drop 24 (take end ((room ++ (read ++ after)) ++ rest)) ≡ read
 body_read size end room read after rest room_is read_is end_is =

@@ -5,7 +5,7 @@ use Rattle.sd_unpack.specs.Stage.{Reaches, AreTotalsOf, IsAtRest, IsStage}
 use Rattle.sd_unpack.specs.Batch.{Brings}
 use Rattle.sd_unpack.proofs.batch.read_fragments.Given as goal
 
--- the batch is what the fragments before `at` bring, and where more stand no record is unfinished
+-- the batch is what the fragments before `at` bring, and if more are there, no record is unfinished
 abbrev pub invariant-loop-batch : goal.invariant-loop-batch
 invariant-loop-batch l =
     IsStage l.batch.stage l.batch.so_far.items

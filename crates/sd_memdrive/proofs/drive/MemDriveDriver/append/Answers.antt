@@ -6,7 +6,7 @@ use Rattle.sd_memdrive.specs.Drive.{HasRoom, LacksRoom}
 use Rattle.sd_memdrive.proofs.Changes.{read_at}
 use Rattle.sd_memdrive.proofs.drive.MemDriveDriver.append.Goals as goal
 
--- what stands under the loaded name is one volume
+-- what lies under the loaded name is one volume
 same_held : (vs : List Volume) (loaded : Option (List ℕ)) (own name : List ℕ) (first held : Held) → loaded ≡ Some own → loaded ≡ Some name → volume_of vs own ≡ Some first → volume_of vs name ≡ Some held → first ≡ held
 same_held vs loaded own name first held a b there here = (let e : own ≡ name = cc in let f = ap (volume_of vs) e in cc)
 
@@ -14,7 +14,7 @@ on_ok : {T E : Type 0} (r : Result T E) (P : Type 0) → P → OnOk r P
 on_ok (Ok value) P p = p
 on_ok (Err error) P p = tt
 
--- the volume lacks room where the test says so
+-- the volume lacks room if the test says so
 lacks : goal.returns-then-not-has_room-clause-no_room
 lacks c = λ e name held loaded there.
     let here = read_at _ _ _ _ c.loaded_place-name.ensures.place c.index.ensures in
