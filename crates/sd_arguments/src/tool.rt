@@ -1,10 +1,10 @@
 // The command line of the tool.
 ghost use Rattle.std.specs.Prelude.{◌≡◌, IfErr, IfOk, Some, [], codes, false, map, string_bytes};
-ghost use Rattle.clap.specs.Words.{HasKind, app_of, fault_of, first_of, found_of, one_of, rows_of, rule_of, shape_of};
+ghost use Rattle.clap.specs.Words.{HasKind, app_of, fault_of, first_of, found_of, rows_of, rule_of, shape_of};
 ghost use Rattle.clap.specs.declared.builder.command.Command.TheViews.{out-Command as fields_of};
-ghost use Rattle.sd_arguments.specs.Lines.{IsFlagOf, IsGiven, command_shape, flag_rule, required_rule};
-ghost use Rattle.sd_arguments.specs.Tool.{AsksTool, HasItsWords, IsToolCommand, IsToolTask, list_shape, read_shape};
-ghost use Rattle.sd_arguments.specs.Tool.{scan_shape, texts_at, tool_line, verify_shape, volumes_rule};
+ghost use Rattle.sd_arguments.specs.Lines.{IsGiven, command_shape, flag_rule, required_rule};
+ghost use Rattle.sd_arguments.specs.Tool.{AsksTool, HasItsWords, IsProgress, IsToolCommand, IsToolTask, list_shape};
+ghost use Rattle.sd_arguments.specs.Tool.{read_shape, scan_shape, texts_at, tool_line, verify_shape, volumes_rule};
 
 use crate::status::lacks_memory;
 use clap::{Arg, ArgAction, ArgMatches, Command, Error};
@@ -130,7 +130,7 @@ fn words_of<'a>(
 }
 
 fn progress_of(given: &ArgMatches<'_>) -> bool
-    ensures { IsFlagOf (one_of (codes "progress") (rows_of (found_of given.now))) result }
+    ensures { IsProgress (rows_of (found_of given.now)) result }
 {
     given.get_flag(PROGRESS)
 }

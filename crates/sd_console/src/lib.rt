@@ -4,7 +4,7 @@
 
 mod adopted;
 mod answer;
-mod line;
+mod commands;
 mod lines;
 mod reply;
 mod requests;
@@ -13,7 +13,7 @@ mod watched;
 
 pub use adopted::AdoptedLine;
 pub use answer::tell;
-pub use line::command;
+pub use commands::command;
 pub use lines::{one_line, show};
 pub use reply::{ReplyLine, reply_text};
 pub use requests::requests_text;

@@ -17,7 +17,7 @@ use sd_machine::{Event, Reply};
 use sd_spool::SpoolStore;
 
 /// Answers one event; and what is known then of the drives.
-pub(crate) fn answer<D: Driver + Drop, Q: Lanes, S: SpoolStore + Drop>(
+pub(crate) fn answer_event<D: Driver + Drop, Q: Lanes, S: SpoolStore + Drop>(
     parts: &mut Parts<D, Q, S>,
     event: Event,
 ) -> Reply

@@ -20,7 +20,7 @@ use crate::leaving::take_devices;
 use crate::listing::list_running;
 use crate::reading::read_knowing;
 use crate::showing::{show_drives, show_sessions, show_volumes};
-use crate::stepping::{answer, answer_append};
+use crate::stepping::{answer_append, answer_event};
 use crate::view::View;
 use sd_base::{Rec, Refusal, SessionKey, Ticket};
 use sd_desk::{Desk, Request};
@@ -160,7 +160,7 @@ impl<D: Driver + Drop, Q: Lanes, S: SpoolStore + Drop> World<D, Q, S> {
     pub fn step(&mut self, event: Event) -> Reply
         ensures { IsStep (λ d. D.meaning d) self.old event result self.new }
     {
-        answer(&mut self.parts, event)
+        answer_event(&mut self.parts, event)
     }
 
     /// The event `Append`, of a record that stays with the caller: who appends again once a body was sent needs no copy.

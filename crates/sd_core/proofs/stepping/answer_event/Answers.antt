@@ -4,7 +4,7 @@ use Rattle.sd_world.specs.Steps.{DrivesKeep}
 use Rattle.sd_machine.specs.declared.reply.Reply.{Reply}
 use Rattle.sd_world.specs.Moves.{Moves}
 use Rattle.sd_events.specs.View.{world_of}
-use Rattle.sd_core.proofs.stepping.answer.Goals as goal
+use Rattle.sd_core.proofs.stepping.answer_event.Goals as goal
 
 pub returns-clause-drives : goal.returns-clause-drives
 returns-clause-drives g c = subst (λ (bays : List (BayView _)). DrivesKeep (λ d. g.D.Driver.meaning d) bays) c.deref.ensures.value c.know_drives.ensures
