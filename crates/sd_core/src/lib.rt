@@ -4,17 +4,17 @@
 #![tactic(auto)]
 
 mod conf;
-mod filling;
+mod drivers;
+mod events;
 mod headway;
-mod knowing;
-mod leaving;
+mod kept;
 mod listing;
-mod making;
+mod new_bays;
+mod new_drives;
 mod reading;
 mod rounds;
 mod sending;
-mod showing;
-mod stepping;
+mod status;
 mod syncing;
 mod tries;
 mod turns;

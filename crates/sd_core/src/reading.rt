@@ -11,7 +11,7 @@ ghost use Rattle.sd_world.specs.Steps.{DrivesKeep};
 ghost use Rattle.sd_desk.specs.Desk.{claimed_by};
 ghost use Rattle.sd_core.specs.Numbers.{NumbersAreTickets};
 
-use crate::knowing::{know_counts, know_drives};
+use crate::kept::{know_counts, know_drives};
 use sd_base::{DriveNo, Refusal, SessionKey, Ticket, VolName};
 use sd_desk::Desk;
 use sd_drive::Drive;

@@ -14,13 +14,13 @@ ghost use Rattle.sd_core.specs.Fresh.{IsFresh, StaysDevice};
 ghost use Rattle.sd_core.specs.View.{status_at, devices_of, running_tickets, view_of};
 
 use crate::conf::{NotMade, WorldConf};
-use crate::filling::fill_bays;
-use crate::knowing::know_drives;
-use crate::leaving::take_devices;
+use crate::drivers::take_devices;
+use crate::events::{answer_append, answer_event};
+use crate::kept::know_drives;
 use crate::listing::list_running;
+use crate::new_bays::fill_bays;
 use crate::reading::read_knowing;
-use crate::showing::{show_drives, show_sessions, show_volumes};
-use crate::stepping::{answer_append, answer_event};
+use crate::status::{show_drives, show_sessions, show_volumes};
 use crate::view::View;
 use sd_base::{Rec, Refusal, SessionKey, Ticket};
 use sd_desk::{Desk, Request};

@@ -6,17 +6,17 @@
 //! closed before a stop.
 #![tactic(auto)]
 
-mod behind;
 mod given;
 mod laws;
+mod port;
 mod round_trip;
 mod running;
 mod scanned;
 mod stopped;
 
-pub use behind::know_lists;
 pub use given::{Told, run_and_read};
 pub use laws::{headline, stop_theorem};
+pub use port::know_lists;
 pub use round_trip::packed_comes_back;
 pub use running::{thread_stop_theorem, thread_theorem};
 pub use scanned::{
