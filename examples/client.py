@@ -9,7 +9,7 @@ a client with. docs/PROTOCOL.md has what it says, and what its records hold.
     sdd-client console WORD ..         gives a line of the operator, and prints the answer
     sdd-client adopt-all CONF          adopts the volumes in the folders of the daemon's configuration
 
-Options stand before the command; --help has them. With --volumes FOLDER restore and read need no daemon: they read the
+Options come before the command; --help has them. With --volumes FOLDER restore and read need no daemon: they read the
 volumes in that folder by sdtool. FILE and the SPANS of append and read are paths, or - for the standard input or
 output. What goes wrong is told on standard error in a line, and by the status:
 
@@ -102,7 +102,7 @@ class Talk:
             raise Lost(f"the daemon ended the talk: {why.strerror or why}") from why
 
     def send(self, *packets):
-        """Sends packets one behind the other."""
+        """Sends packets one after the other."""
         with self._told():
             self.socket.sendall(b"".join(packets))
 
@@ -132,7 +132,7 @@ class Talk:
             yield packet.decode(errors="replace").rstrip("\n")
 
     def console(self, line):
-        """The lines that answer a line of the operator. A refusal, behind which there is no end of data, is raised."""
+        """The lines that answer a line of the operator. A refusal, after which there is no end of data, is raised."""
         answer = [self.ask(f"console {line}")]
         answer += self.lines()
         return answer
@@ -169,8 +169,8 @@ def open_session(talk, job, pool, media):
 
 
 def append_packets(talk, ticket, packets, index=1, stream=2):
-    """Appends records, each given as its packet, of that FileIndex and Stream: in one phase, or where they are many in
-    several, so that a refusal is told before all of them are sent."""
+    """Appends records, each given as its packet, of that FileIndex and Stream: in one phase, or, if they are many,
+    in several, so that a refusal is told before all of them are sent."""
     waiting = iter(packets)
     is_more = True
     while is_more:
@@ -218,12 +218,12 @@ def records_of(file, sizes):
 
 def read_session(talk, lines, take):
     """Reads back the session with these lines, those of its close. `take` is given each record: its FileIndex, its
-    Stream and its data. A session without an end is told as `Refused`, behind its records."""
+    Stream and its data. A session without an end is reported as `Refused`, after its records."""
     session, spans = fields_of(lines)
     talk.send(text_packet("read session Time={} Id={}".format(*session)))
     talk.send(*map(text_packet, spans), signal(END_OF_DATA))
     while (header := talk.receive()) != END_OF_DATA:
-        # A refusal may stand here. Its number alone doesn't tell it: a FileIndex may be 3901.
+        # There may be a refusal here. Its number alone doesn't tell it: a FileIndex may be 3901.
         if isinstance(header, int):
             raise Lost(f"a signal {header} in place of a header")
         if not (fields := HEADER.fullmatch(header)):
@@ -241,7 +241,8 @@ def read_session(talk, lines, take):
 
 
 def read_volumes(folder, lines, take):
-    """The same without the daemon: by `sdtool read`, from the volumes in a folder."""
+    """Reads a session back as `read_session` does, but without the daemon: by `sdtool read`, from the volumes in a
+    folder."""
     fields_of(lines)
     command = ["sdtool", "read", "/dev/stdin", folder]
     with subprocess.Popen(command, stdin=subprocess.PIPE, stdout=subprocess.PIPE) as tool:
@@ -389,7 +390,7 @@ def plain_file(path, left_out):
 
 
 def closed(talk, ticket):
-    """Closes a job. Where that waits for a volume, the volume is told."""
+    """Closes a job. If that waits for a volume, the volume is reported."""
     try:
         return close_session(talk, ticket)
     except Refused as why:
@@ -597,7 +598,7 @@ def arguments():
 
 
 def connected(asked):
-    """The talk, where there is one. Before all volumes are adopted the daemon may still be on its way to its port."""
+    """The talk, if there is one. Before all volumes are adopted the daemon may still be on its way to its port."""
     if asked.volumes:
         return contextlib.nullcontext()
     if asked.work is not adopt_all:

@@ -11,14 +11,14 @@ from yardsticks import sync_seconds
 
 STREAMS, RECORD = 3, 65536
 # So many small jobs, for so many seconds at most; with fewer than the least nothing is said of a twentieth of them. A stream
-# has so many jobs' bytes, and is broken off behind the last small job.
+# has so many jobs' bytes, and is broken off after the last small job.
 CLOSES, SECONDS, LEAST_CLOSES, LONG = 100, 20, 20, 4
 LIMIT = 0.050
 # In the run whose syncs are counted: streams, small jobs, and volumes, of which the streams fill more than one; and records of
 # a client that sends one in so many seconds.
 COUNTED_STREAMS, COUNTED_CLOSES, VOLUMES, FILLED = 4, 20, 6, 3
 SLOW_RECORDS, PAUSE = 200, 0.005
-# What the daemon does at rest it has done so long behind its last client, in seconds.
+# What the daemon does at rest it has done so long after its last client, in seconds.
 RESTS = 0.5
 # A talk, a close, and a mount by the drive itself.
 EVENT = re.compile(r"talk \d+ begins|talk \d+: session \d+ closed .*|drive \d+: volume \S+ is mounted")

@@ -135,7 +135,7 @@ def small(port, most, seconds, size=1000):
 
 
 def slow(port, records, pause, size=65536):
-    """A client with a job of so many records and a pause behind each."""
+    """A client with a job of so many records and a pause after each."""
     def work(begin):
         one = client.packet(b"x" * size)
 
@@ -159,7 +159,7 @@ class Failed(Exception):
 
 
 class Clients:
-    """Clients that begin at once. What still goes on is ended where this is left."""
+    """Clients that begin at once. What still goes on is ended when this is left."""
 
     def __init__(self, works):
         context = multiprocessing.get_context("fork")

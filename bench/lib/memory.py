@@ -28,8 +28,8 @@ def of_talks(bench, drives):
 
 
 def of_a_block(bench):
-    """Bytes that a placed block adds to the greatest memory. Both places at which that is taken are behind a power of two, so
-    that a list that doubles has done so just before; the second has eight times the blocks of the first."""
+    """Bytes that a placed block adds to the greatest memory. Both places at which that is taken are past a power of
+    two, so that a list that doubles has done so just before; the second has eight times the blocks of the first."""
     each = math.ceil(JOB * LONGEST / LEAST_BLOCK)
     power = 2 ** int(math.log2(bench.total / LEAST_BLOCK / 1.05))
     few, many = (math.ceil(1.05 * blocks / each) for blocks in (power / 8, power))

@@ -20,7 +20,7 @@ SPARE = 2_000_000_000
 MEMORY = pathlib.Path("/dev/shm")
 
 # A line of a result: of which number in the table of aims, what was done, what came of it, what was wanted, and whether it
-# came; None where that can't be said.
+# came; None if that can't be said.
 Figure = namedtuple("Figure", "number work measured aim met")
 
 
@@ -73,8 +73,8 @@ class Bench:
 
     @contextlib.contextmanager
     def told(self, *settings, **options):
-        """The same of a daemon that tells its syncs: with it comes a call that gives the beginning and the end of each, in
-        seconds of the clock of clients."""
+        """Serves as `serving` does, by a daemon that tells its syncs: with it comes a call that gives the beginning and
+        the end of each, in seconds of the clock of clients."""
         with tempfile.TemporaryDirectory(dir=self.folder) as made:
             file = pathlib.Path(made) / "syncs"
             with self.serving(*settings, env=environment(LD_PRELOAD=self.syncs, SYNCS=file), **options) as daemon:
@@ -83,7 +83,7 @@ class Bench:
 
 @contextlib.contextmanager
 def serving(place, program, settings="", drives=1, lanes=4, volumes=1, **options):
-    """A daemon with so many drives, each with so many volumes, in a new folder, which is removed behind it."""
+    """A daemon with so many drives, each with so many volumes, in a new folder, which is removed after it."""
     with tempfile.TemporaryDirectory(dir=place) as made:
         folder, labels, text = pathlib.Path(made), [], settings
         for number in range(1, drives + 1):
@@ -108,7 +108,7 @@ def took(daemon, works, size):
 
 
 def has_room(folder, size):
-    """Whether there is so much room, and memory too where the folder's files are kept in that."""
+    """Whether there is so much room, and memory too if the folder's files are kept in that."""
     room = shutil.disk_usage(folder).free
     if file_system(folder) == "tmpfs":
         room = min(room, int(field("/proc/meminfo", "MemAvailable").split()[0]) * 1024)

@@ -19,7 +19,7 @@ class NoCompiler(Exception):
 
 
 def compiled(name, folder, *options):
-    """Makes a program, or a library, of a C file here. CC names the compiler, cc where it isn't set."""
+    """Makes a program, or a library, of a C file here. CC names the compiler, cc if it isn't set."""
     made = folder / name
     command = [*shlex.split(os.environ.get("CC", "cc")), "-O2", "-Wall", "-Werror", *options]
     try:
@@ -70,7 +70,7 @@ def copy(folder, total):
 
 
 def sync_seconds(folder):
-    """What one sync of a file takes to which a block was added, where nothing else goes on: the median."""
+    """What one sync takes of a file to which a block was added, if nothing else goes on: the median."""
     took = []
     with (folder / "synced").open("wb", buffering=0) as file:
         for _ in range(SYNCS):

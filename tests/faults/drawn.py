@@ -1,6 +1,6 @@
-"""Scripts that are drawn from a seed, line by line, as the model of tests/faults/script_model.py stands then: sessions step by
-step, the choice of drives, lanes and volumes, and volumes that are purged. The program's answers are compared with the
-model's.
+"""Scripts that are drawn from a seed, line by line, by the state that the model of tests/faults/script_model.py has
+then: sessions step by step, the choice of drives, lanes and volumes, and volumes that are purged. The program's answers
+are compared with the model's.
 """
 import collections
 import random
@@ -56,7 +56,7 @@ def drawn_label(numbers, world):
 
 
 def drawn_place(numbers, world):
-    """Mostly a volume is sought first where one is needed."""
+    """Mostly a volume is sought first if one is needed."""
     number = drawn_drive(numbers, world)
     drive = world.drives[number - 1] if number <= len(world.drives) else None
     needs = drive and drive.hand and not drive.takes_pool()
@@ -64,7 +64,7 @@ def drawn_place(numbers, world):
 
 
 def drawn_adopt(numbers, world):
-    """Mostly a volume that stands on the drive's shelf."""
+    """Mostly a volume that is on the drive's shelf."""
     number = drawn_drive(numbers, world)
     shelf = list(world.devices[number - 1].volumes) if number <= len(world.devices) else []
     return f"adopt {number} {numbers.choice(shelf if shelf and numbers.random() < 0.8 else NAMES)}"
@@ -94,7 +94,7 @@ def freeing(numbers, session, number, drive):
 
 
 def drawn_if_full(numbers, world):
-    """A purge where there is mostly something to purge; else what brings a session on, and so fills a volume."""
+    """A purge for which there is mostly something to purge; else what brings a session on, and so fills a volume."""
     is_full = any(volume.status == "full" for drive in world.drives for volume in drive.volumes if drive.online)
     return (drawn_purge if is_full or numbers.random() < 0.05 else drawn_onward)(numbers, world)
 
@@ -136,7 +136,7 @@ def unclaimed(world, number):
 
 
 def drawn_takeover(numbers, world):
-    """An adoption where there is mostly something to adopt."""
+    """An adoption for which there is mostly something to adopt."""
     number = numbers.randint(1, len(world.drives))
     volumes = unclaimed(world, number)
     if world.drives[number - 1].loaded and volumes:
@@ -194,7 +194,7 @@ CHOICES = [
     (0.8, of_drive("retire")), (1, just("requests")), (1.5, just("status")), (0.5, drawn_restart), (3, drawn_adopt),
     (1, of_ticket("read")), (1, of_ticket("jobmedia")), (0.7, drawn_printed), (1.2, drawn_purge),
 ]
-# The same where volumes are to be filled, purged and used anew, in one run after another.
+# How often which lines are drawn if volumes are to be filled, purged and used anew, in one run after another.
 PURGES = [
     (12, drawn_onward), (5, drawn_if_full), (2, drawn_takeover), (3, drawn_printed), (0.5, drawn_restart), (1, of_any("read")),
     (0.5, drawn_record), (0.3, of_ticket("end")), (0.3, of_ticket("cancel")), (0.5, of_ticket("close")), (0.5, just("drain")),
@@ -275,7 +275,8 @@ def compared(name, settings, lines, wanted):
 
 
 def read_whole(name, settings, lines, wanted):
-    """The same; and what was closed reads whole, unless a volume of it was purged."""
+    """The program answers a script as the model does; and what was closed reads whole, unless a volume of it was
+    purged."""
     got = list(answers(lines, run(settings, lines)))
     yield from differing(f"{name} of {settings.lines()}", lines, got, wanted)
     records, closed, gone = taken(lines, got), {}, set()

@@ -1,7 +1,7 @@
 """A plain model of a drive over a device in memory, of which calls fail as a plan says; tests/faults compares with it.
 
 Volumes are bytes, as docs/FORMATS.md has them. What each step of a drive asks of its device, and what a call that fails
-leaves, stands in docs/SCRIPT.md; what each refusal leaves, in docs/REFUSALS.md.
+leaves, is in docs/SCRIPT.md; what each refusal leaves, in docs/REFUSALS.md.
 """
 import collections
 import struct
@@ -53,7 +53,7 @@ def texts(*words):
 
 
 def label_block(name, pool, media, moment=0, host=None):
-    """The label block of a volume that is labelled at that moment, with the host that labels it, where one is said."""
+    """The label block of a volume that is labelled at that moment, with the host that labels it, if one is said."""
     hosts = [] if host is None else [host]
     data = PROFILE + struct.pack(">Iq", 1 + len(hosts), moment) + texts(name, pool, media, *hosts)
     return seal((0, 0), 0, fragment(VOLUME_LABEL, 1, data))
@@ -125,7 +125,7 @@ class Device:
         return part
 
     def append(self, data):
-        """Where there is no room, no byte is written."""
+        """If there is no room, no byte is written."""
         way = self.begin("append")
         volume = self.volumes[self.loaded]
         if len(volume) + len(data) > self.capacity:
@@ -143,7 +143,7 @@ class Device:
 
 
 class Reader:
-    """Shows the bytes of a volume. It reads as many as a block may have, and more only where it holds too few."""
+    """Shows the bytes of a volume. It reads as many as a block may have, and more only if it holds too few."""
 
     def __init__(self, device, name):
         self.device, self.name = device, name
@@ -157,7 +157,7 @@ class Reader:
         return self.held[at - self.start:at - self.start + count]
 
     def size_at(self, at):
-        """What the header at a place says of its block's size; 0 where none stands there."""
+        """What the header at a place says of its block's size; 0 if there is none."""
         head = self.show(at, HEADER)
         if len(head) < HEADER or head[12:16] != b"BB02":
             return 0
@@ -236,7 +236,7 @@ class Drive:
         return volume.end, volume.number
 
     def survey(self, name, size):
-        """What stands on a volume of that size: its label, and its blocks one after another."""
+        """What is on a volume of that size: its label, and its blocks one after another."""
         reader = Reader(self.device, name)
         label = reader.block(0)
         if not label or label.number or label.key != (0, 0) or label.size > size:
@@ -254,7 +254,7 @@ class Drive:
         return Volume(name, pool, label.size, end, number, "full" if end >= self.limit else "append")
 
     def purge(self, volume):
-        """Loads, cuts behind the label block, syncs and unloads. Where that fails there is no block either, and none is
+        """Loads, cuts after the label block, syncs and unloads. If that fails, there is no block either, and none is
         added."""
         try:
             self.device.load(volume.name)
@@ -294,7 +294,7 @@ class Drive:
         self.loaded = None
 
     def sync(self):
-        """Calls the device only where a block awaits it. Where that fails those blocks are lost, and the volume is out."""
+        """Calls the device only if a block awaits it. If that fails, those blocks are lost, and the volume is out."""
         if not self.unsynced:
             return
         waiting, self.unsynced = self.unsynced, []
@@ -319,7 +319,7 @@ class Drive:
         return next(open_, None)
 
     def place(self):
-        """Appends the piece in the hand once, or not at all where the volume's limit forbids it. Gives the answer."""
+        """Appends the piece in the hand once, or not at all if the volume's limit forbids it. Gives the answer."""
         if not self.hand:
             return "idle"
         if not self.takes_pool():
@@ -379,8 +379,8 @@ class Drive:
 
 
 def read_span(reader, key, at, end, unpacker):
-    """The records of the blocks that make up a span; a span that they don't make up is bad, and a place where none stands
-    is damaged."""
+    """The records of the blocks that make up a span; a span that they don't make up is bad, and a place where there is
+    none is damaged."""
     due = None
     while at < end:
         if end - at < LEAST_BLOCK:
@@ -422,7 +422,7 @@ class Unpacker:
         return whole
 
     def takes(self, index, stream, size, part):
-        """Takes a label, a record or a part of one, where that is due."""
+        """Takes a label, a record or a part of one, if that is due."""
         if self.due:
             is_next = (index, stream, size) == (self.begun[0], -self.begun[1], self.due) and part != b""
             return is_next and self.put(part)

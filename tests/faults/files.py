@@ -30,7 +30,7 @@ LOAD_CALLS = ["look V", "open V", "stat V"]
 READ_CALLS = [*LOAD_CALLS, "stat V", "read V", "read V"]
 SYNC_CALLS = ["datasync V", "open .", "sync ."]
 
-# What a label answers where one of its calls fails: the call's kind, which of the kind, how, and the system's error; what
+# What a label answers if one of its calls fails: the call's kind, which of the kind, how, and the system's error; what
 # the same label answers then, and how much of the label the file has.
 LABELS = [
     *(("open", 1, "fail", number, FAULT, OK_LABEL, "whole") for number in (
@@ -46,7 +46,8 @@ LABELS = [
     *(("open", 2, "fail", number, FAULT, LABELLED, "whole") for number in (errno.EMFILE, errno.EACCES)),
     ("sync", 1, "fail", errno.EIO, FAULT, LABELLED, "whole"),
 ]
-# The same where a file of that name stands already.
+# What a label answers if a file of that name is there already: the call's kind, which of the kind, how, the system's
+# error, and the answer.
 STANDING = [
     ("none", 1, "fail", 0, LABELLED), ("look", 1, "fail", errno.EACCES, FAULT), ("look", 1, "fail", errno.ENOENT, FAULT),
 ]
@@ -57,7 +58,7 @@ LOADS = [
     ("open", "fail", errno.ENOENT, NOT_THERE), ("open", "fail", errno.EACCES, FAULT), ("open", "fail", errno.EIO, FAULT),
     ("stat", "fail", errno.EIO, FAULT),
 ]
-# What an adoption answers where another of its calls fails. A volume is read to its end, and once more there.
+# What an adoption answers if another of its calls fails. A volume is read to its end, and once more there.
 ADOPTIONS = [
     ("stat", 2, "fail", errno.EIO, FAULT), ("read", 1, "fail", errno.EIO, FAULT), ("read", 2, "fail", errno.EIO, FAULT),
     ("read", 1, "fail", errno.EINTR, None), ("read", 1, "short", 0, None), ("stat", 4, "fail", errno.EIO, FAULT),
@@ -65,12 +66,12 @@ ADOPTIONS = [
     ("datasync", 1, "fail", errno.EIO, FAULT), ("datasync", 1, "fail", errno.ENOSPC, FAULT),
     ("open", 3, "fail", errno.EACCES, FAULT), ("sync", 1, "fail", errno.EIO, FAULT),
 ]
-# What a reading answers where another of its calls fails; None where it goes on.
+# What a reading answers if another of its calls fails; None if it goes on.
 READINGS = [
     ("stat", 2, "fail", errno.EIO, FAULT), ("read", 1, "fail", errno.EIO, FAULT), ("read", 2, "fail", errno.EIO, FAULT),
     ("read", 1, "fail", errno.EINTR, None), ("read", 1, "short", 0, None),
 ]
-# Where the three blocks of a job lie, of two volumes of its pool, and the status of the first one then, where a call
+# Where the three blocks of a job lie, of two volumes of its pool, and the status of the first one then, if a call
 # fails. `lost` is a job that isn't closed, since a block of it may not last.
 JOBS = [
     ("none", 1, "fail", 0, "A", "append"),
@@ -170,7 +171,7 @@ def mounts(site):
 
 
 def adoptions(site):
-    """An adoption whose calls fail in turn, and then the same one. The volume is cut behind its last whole block."""
+    """An adoption whose calls fail in turn, and then the same one. The volume is cut after its last whole block."""
     rows = [(kind, nth, *rest) for kind, *rest in LOADS for nth in (1, 3 if kind == "stat" else 2)]
     for at, (*call, answer) in enumerate(rows + ADOPTIONS):
         name = f"Adopt-{at}"
@@ -358,7 +359,7 @@ def modes(site):
 
 
 def readers(folder, shim):
-    """`sdtool ls` and `sdtool read` where a call on the volume fails: what was printed before stands."""
+    """`sdtool ls` and `sdtool read` if a call on the volume fails: what was printed before stays."""
     site = Site(folder, shim)
     bytes_ = volume_of("Vol-0001", [session_body([b"hello"])])
     (site.volumes / "Vol-0001").write_bytes(bytes_)

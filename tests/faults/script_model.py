@@ -23,7 +23,7 @@ class Settings:
         ]
 
     def failing(self, *plan):
-        """The same with this plan."""
+        """These settings, but with this plan."""
         return Settings(**{**vars(self), "plan": plan})
 
 
@@ -86,7 +86,7 @@ class World:
         return sum(not self.is_free(drive, ticket) for ticket in drive.lanes)
 
     def losing(self, drive, act):
-        """Does what may sync. Where that fails, the sessions that go on and lost a block are failed."""
+        """Does what may sync. If that fails, the sessions that go on and lost a block are failed."""
         try:
             return act()
         except Refused:

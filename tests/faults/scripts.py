@@ -55,11 +55,12 @@ ALLOWED = {
     "restart": {3930, 3939, 3940}, "fill": {3905}, "rec": {3905}, "end": {3905}, "cancel": {3905}, "spool": {3905},
     "despool": {3905},
 }
-# The same where a volume is purged. Then a session whose volume it was may be gone, also where the purge met the fault.
+# The refusals that a fault may bring to each line, besides those that come without one, if a volume is purged. Then a
+# session whose volume it was may be gone, also if the purge met the fault.
 ALLOWED_PURGED = {**ALLOWED, "purge": {3930, 3933, 3940, 3954}, "close": {3902, 3905, 3907}, "end": {3902, 3905},
                   "cancel": {3902, 3905}, "read": {3905, 3907, 3940, 3950, 3953},
                   "again": {3902, 3930, 3940, 3950, 3951, 3952, 3953}}
-# Of the kinds of answers to the lines of a word, how many there must be in all where a call fails.
+# Of the kinds of answers to the lines of a word, how many there must be in all if a call fails.
 PLAN_FLOORS = {
     "label: 3940": 50, "mount: 3940": 2, "unmount: 3940": 1, "sync: 3940": 2, "adopt: 3940": 50, "adopt: 3930": 5,
     "adopt: 3931": 10, "read: 3940": 20, "again: 3940": 20, "restart: 3940": 5, "close: 3905": 10, "close: 3907": 20,
@@ -67,7 +68,7 @@ PLAN_FLOORS = {
     "again: ok read ended": 1000, "end: ok ended": 1000, "cancel: ok cancelled": 500, "purge: ok purged": 100,
     "purge: 3940": 9, "purge: 3954": 100, "purge: 3930": 10, "purge: 3933": 20, "read: 3953": 200, "again: 3952": 400,
 }
-# And how many where a purge is stopped.
+# And how many if a purge is stopped.
 STOP_FLOORS = {
     "purge: 3940": 100, "purge: ok purged": 1200, "purge: 3930": 200, "purge: 3933": 300, "purge: 3954": 500,
     "adopt: 3940": 150, "adopt: ok adopted": 2000, "again: 3950": 2000, "again: 3952": 2000, "again: 3953": 1200,
@@ -156,7 +157,7 @@ def beside(lines):
 
 
 def left(lines):
-    """Behind a run each session is read twice, ended and cancelled."""
+    """After a run each session is read twice, ended and cancelled."""
     opened = 0
     for line in [*lines, "restart"]:
         if line.startswith("restart"):
@@ -168,7 +169,7 @@ def left(lines):
 
 
 def later(lines):
-    """In a later run the volumes are adopted, where that fails at a second time, and each session is read twice."""
+    """In a later run the volumes are adopted, at a second time if the first fails, and each session is read twice."""
     yield f"restart {LATER}"
     for volume in VOLUMES:
         yield from 2 * [f"adopt 1 {volume}"]
@@ -247,7 +248,7 @@ def is_purging(answer):
 
 
 def not_read(lines, got):
-    """What was closed reads whole, at another time where one reading met the fault; also behind the restart. What was
+    """What was closed reads whole, at another time if one reading met the fault; also after the restart. What was
     purged isn't read in that run, and in another one never as something else."""
     time, closed, wanted = 1000, {}, taken(lines, got)
     # The time of the run in which each session was purged.
@@ -429,7 +430,7 @@ again 1500 2
 again 1000 2
 status
 """.split("\n")[1:-1]
-# A volume that is labelled, written, left with bytes behind its blocks and adopted.
+# A volume that is labelled, written, left with bytes after its blocks and adopted.
 LEFT_OVER = """
 label 1 Vol-0001 Default File
 open 7 Default File
@@ -556,8 +557,8 @@ HISTORIES = {
 
 
 def measured(settings, lines):
-    """Behind the lines each volume is filled to its last byte, by a stop that leaves so many zero bytes; so its length is
-    seen. One byte more finds no room."""
+    """After the lines each volume is filled to its last byte, by a stop that leaves so many zero bytes; so its length
+    is seen. One byte more finds no room."""
     world = World(settings)
     for line in lines:
         world.answer(line)
@@ -581,7 +582,7 @@ def beside_model(name, settings, lines):
     yield from differing(f"{name}, {settings.plan}", lines, got, wanted)
 
 
-# Two sessions on two volumes, of which one is purged and used anew, and one that begins behind that.
+# Two sessions on two volumes, of which one is purged and used anew, and one that begins after that.
 STOPPED = """
 label 1 Vol-0001 Default File
 label 1 Vol-0002 Default File
@@ -598,7 +599,7 @@ close 2
 unmount 1
 purge 1 Vol-0001
 """.split("\n")[1:-1]
-# What the run goes on with behind the purge: nothing, another session, or one that fills the volume as the first one did.
+# What the run goes on with after the purge: nothing, another session, or one that fills the volume as the first did.
 BEHIND = ([], ["open 9 Default File", "rec 3 1 2 abc", "end 3", "drain", "close 3"],
           ["open 9 Default File", "fill 3 1 2 1850", "end 3", "drain", "close 3"])
 # Bytes that a stop leaves on a volume: fewer than a block may have, just below that, and more.
@@ -607,8 +608,8 @@ TAILS = (1, 35, 500)
 
 def purge_stops():
     """A purge that is stopped: each call of the run fails in each way, and the run ends there, with a tail on either volume.
-    A later run adopts both, at a second time where that met the fault, and reads: the session of the other volume whole,
-    and what was purged never as something else. Then it goes on."""
+    A later run adopts both, at a second time if the first met the fault, and reads: the session of the other volume
+    whole, and what was purged never as something else. Then it goes on."""
     settings, seen = Settings(volume=2130), []
     cases = []
     for behind in BEHIND:
@@ -635,7 +636,7 @@ def stopped_purge(settings, lines, seen):
 
 
 def several_faults():
-    """The same with several calls that fail, drawn from a seed."""
+    """Histories and scenarios beside the model, with several calls that fail, drawn from a seed."""
     numbers = random.Random(11)
     cases = []
     for name, (settings, lines) in {**HISTORIES, **SCENARIOS}.items():

@@ -94,7 +94,7 @@ class Session:
         return "cancelled"
 
     def spool(self):
-        """The body that has waited longest goes into the spool. Where it would pass the limit, the spool is emptied from
+        """The body that has waited longest goes into the spool. If it would pass the limit, the spool is emptied from
         then on."""
         self.must_be("active", "ended")
         if not self.limit:
@@ -112,7 +112,7 @@ class Session:
         return "spooled"
 
     def despool(self, queue, room):
-        """The next body goes to the queue before the drive. Where that has no room, the body stays ready."""
+        """The next body goes to the queue before the drive. If that has no room, the body stays ready."""
         self.must_be("active", "ended")
         if self.limit and not self.despooling and (self.status == "active" or self.waiting):
             return "not due"

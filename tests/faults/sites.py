@@ -98,14 +98,14 @@ class Site:
             return records, never_wanting(talk.receive().decode()).rstrip("\n")
 
     def status(self, volume):
-        """The status of a volume, or None where it isn't known."""
+        """The status of a volume, or None if it isn't known."""
         for line in self.say("status").splitlines():
             if line.startswith(f"volume {volume} "):
                 return line.split(" ")[4]
         return None
 
     def tool(self, *words):
-        """What `sdtool` prints, where calls fail, and its status."""
+        """What `sdtool` prints if calls fail, and its status."""
         done = subprocess.run([SDTOOL, *words], capture_output=True, timeout=WAIT, env=self.env(1000))
         return never_wanting(done.stdout.decode()), done.returncode
 

@@ -85,7 +85,7 @@ def first_day(site):
 
 
 def second_day(site, closed):
-    """The volumes are adopted, where that fails at a second time; what was closed is read; another job is closed."""
+    """The volumes are adopted, at a second time if the first fails; what was closed is read; another job is closed."""
     day = Day(site)
     day.closed = dict(closed)
     for volume in VOLUMES:
@@ -108,7 +108,7 @@ ALLOWED = {
 
 
 def not_allowed(day, call):
-    """A refusal is one that the line may have; and none comes where the call doesn't really fail."""
+    """A refusal is one that the line may have; and none comes if the call doesn't really fail."""
     harmless = call is None or call[2:] in HARMLESS
     for line, answer in day.answers:
         word = line.split(" ")[0]
@@ -138,7 +138,7 @@ def fails_first(shim, call):
 
 
 def fails_second(shim, folder, closed, call):
-    """A call fails in the second day, behind a first one without a fault."""
+    """A call fails in the second day, after a first one without a fault."""
     with tempfile.TemporaryDirectory() as copy:
         site = Site(pathlib.Path(copy), shim)
         shutil.copytree(folder, site.volumes, dirs_exist_ok=True)
@@ -290,7 +290,7 @@ def bodies_of(records):
 
 
 # What becomes of a spool's file: what an earlier run left in its place, what takes that place before the daemon ends,
-# which call fails then; and what stands there in the end: nothing, some file, or one of these bytes.
+# which call fails then; and what is there in the end: nothing, some file, or one of these bytes.
 SPOOL_FILES = {
     "made": (None, None, None, "nothing"), "left": (b"an earlier run" * 999, None, None, "some file"),
     "replaced": (None, b"another file", None, b"another file"), "kept": (None, None, ("unlink", 1), "some file"),
@@ -300,7 +300,7 @@ SPOOL_FILES = {
 
 def spool_files(folder, shim):
     """A spool's file goes with the daemon that made it. One that an earlier run left is emptied and stays, one that took
-    its place stays as it is; where the file can't be removed the daemon ends all the same."""
+    its place stays as it is; if the file can't be removed, the daemon ends all the same."""
     for name, (before, between, call, wanted) in SPOOL_FILES.items():
         site = Site(made_in(folder, name), shim, "spools", SPOOLING)
         path = site.spools / "spool~1~1"
@@ -329,7 +329,7 @@ FINDS = [("open", 1, errno.EIO), ("open", 1, errno.EACCES), ("look", 1, errno.EA
 
 
 def spool_opens(folder, shim):
-    """Where a spool's file can't be found or emptied no session is opened. The next one is."""
+    """If a spool's file can't be found or emptied, no session is opened. The next one is."""
     for at, (kind, nth, number) in enumerate(FINDS):
         site = Site(made_in(folder, str(at)), shim, "spools", SPOOLING)
         (site.spools / "spool~1~1").write_bytes(b"an earlier run")
@@ -342,7 +342,8 @@ def spool_opens(folder, shim):
 
 
 def spool_opens_again(folder, shim):
-    """The same in a talk that had a session before. The log says it of the job, and not of the session that was closed."""
+    """If a spool's file can't be emptied, no session is opened in a talk that had one before either. The log says it of
+    the job, and not of the session that was closed."""
     site = Site(folder, shim, "spools", SPOOLING)
     site.well()
     with site.daemon(1000) as daemon:
@@ -366,7 +367,7 @@ def made_in(folder, name):
 
 def spool_places(folder, shim):
     """What is no file under a spool's name, and what is no folder of spools: no session is opened, and nothing becomes of
-    what stands there."""
+    what is there."""
     target = folder / "target"
     target.write_bytes(b"kept")
     for name, make in {
@@ -419,7 +420,7 @@ def spool_lanes(folder, shim):
 
 
 def as_nobody(folder, shim):
-    """By a user who may not write what an adoption or a spool asks for, the device fails. What stands there is kept."""
+    """By a user who may not write what an adoption or a spool asks for, the device fails. What is there is kept."""
     user = {"user": NOBODY, "group": NOBODY, "extra_groups": []} if os.geteuid() == 0 else {}
     for place in (folder, folder.parent):
         place.chmod(0o755)

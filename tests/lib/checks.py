@@ -30,6 +30,6 @@ class Checks:
         self.check(what, got == wanted, difference(got, wanted))
 
     def ended(self):
-        """Says how many passed and failed, and gives the status: 0 where some passed and none failed."""
+        """Says how many passed and failed, and gives the status: 0 if some passed and none failed."""
         print(f"{self.passed} passed, {self.failed} failed")
         return int(self.failed > 0 or self.passed == 0)

@@ -19,7 +19,7 @@ SDTOOL = ROOT / "crates" / "sdtool" / "out" / "sdtool"
 SD_PLAIN = ROOT / "crates" / "sd_plain" / "out" / "sd_plain"
 # Nothing is waited for longer, in seconds.
 WAIT = 30
-# What goes on beside a talk may take so long behind it.
+# What goes on beside a talk may take so long after it.
 SOON = 10
 LISTENS = "0A"
 # A line of the log: its moment, in whole seconds, and its text.
@@ -132,7 +132,7 @@ class Daemon:
         return self.out.read_text(errors="replace")
 
     def memory(self, kind="VmSize"):
-        """How many bytes of memory it has asked for; the most that it had, where the kind is VmPeak."""
+        """How many bytes of memory it has asked for; the most that it had, if the kind is VmPeak."""
         status = pathlib.Path(f"/proc/{self.process.pid}/status").read_text()
         return 1024 * int(re.search(rf"^{kind}:\s+(\d+) kB$", status, re.MULTILINE)[1])
 
@@ -142,7 +142,7 @@ class Daemon:
         self.process.wait(timeout=WAIT)
 
     def wait(self):
-        """Where it ends by itself, what it printed and its status."""
+        """What it printed and its status, if it ends by itself."""
         status = self.process.wait(timeout=WAIT)
         return self.printed(), status
 

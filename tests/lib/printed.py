@@ -5,7 +5,7 @@ RECORD = re.compile(rb"rec \d+ \d+ (\d+)\n")
 
 
 def records_of(printed):
-    """The data of the records that were printed, one behind the other, and the last line."""
+    """The data of the records that were printed, one after the other, and the last line."""
     at, data = 0, []
     while head := RECORD.match(printed, at):
         end = head.end() + int(head[1])

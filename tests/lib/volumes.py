@@ -12,12 +12,12 @@ MOST_DATA, MOST_NUMBER, MOST_VOLUME = 4_000_000, 2_147_483_647, 68_719_476_736
 
 
 def fragment(index, stream, data, size=None):
-    """The header of a record and data behind it; the size where the data aren't all that it announces."""
+    """The header of a record and data after it; the size is given if the data aren't all that it announces."""
     return struct.pack(">iiI", index, stream, len(data) if size is None else size) + data
 
 
 def summed(rest):
-    """The bytes of a block behind its checksum, with the checksum before them."""
+    """The bytes of a block after its checksum, with the checksum before them."""
     return struct.pack(">I", zlib.crc32(rest)) + rest
 
 
@@ -33,7 +33,7 @@ def texts(*words):
 
 
 def volume_data(name, pool=b"Default", media=b"File", moment=0, host=None, version=None):
-    """The data of a volume's label: of version 2 with its host, and of version 1 without one, where none is said."""
+    """The data of a volume's label: of version 2 with its host, and of version 1 without one, if none is said."""
     hosts = [] if host is None else [host]
     said = 1 + len(hosts) if version is None else version
     return PROFILE + struct.pack(">Iq", said, moment) + texts(name, pool, media, *hosts)
@@ -45,7 +45,7 @@ def label(name, pool=b"Default", media=b"File", moment=0, host=None):
 
 
 def daemon_label(name, **words):
-    """The same as the daemon writes it where its configuration names no host."""
+    """The block of a volume's label as the daemon writes it if its configuration names no host."""
     return label(name, host=b"localhost", **words)
 
 
@@ -65,7 +65,7 @@ def end(job, records, count, status=84, **names):
 
 
 class Body(typing.NamedTuple):
-    """What a block of a session holds, and the first and the last FileIndex in it, 0 and 0 where there is none."""
+    """What a block of a session holds, and the first and the last FileIndex in it, 0 and 0 if there is none."""
     data: bytes
     first: int
     last: int
@@ -143,7 +143,7 @@ def jobmedia(key, places):
 
 
 class Shelf:
-    """Volumes that a run of the daemon fills one behind the other, each up to a limit. Its sessions are numbered from
+    """Volumes that a run of the daemon fills one after the other, each up to a limit. Its sessions are numbered from
     1 on."""
 
     def __init__(self, time, limit=MOST_VOLUME):
@@ -162,7 +162,7 @@ class Shelf:
         return jobmedia(key, [self.place_one(key, body) for body in bodies])
 
     def place_one(self, key, body):
-        """Places a body as a block behind the last one of the first volume that isn't full. A volume is full once a
+        """Places a body as a block after the last one of the first volume that isn't full. A volume is full once a
         block would pass the limit."""
         length = BLOCK_HEADER + len(body.data)
         for name, image in self.volumes.items():

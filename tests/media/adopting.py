@@ -15,7 +15,7 @@ THIRD = block(EARLIER, 3, TWELVE)
 NOW, LATER = block((TIME, 1), 3, TWELVE), block((TIME + 1, 1), 3, TWELVE)
 WHOLE = "ok adopted 167 3"
 
-# What stands behind a label of 82 bytes, and what the adoption answers. The bytes up to END stay, or all of them.
+# What comes after a label of 82 bytes, and what the adoption answers. The bytes up to END stay, or all of them.
 ADOPTED = [
     ("a label alone", b"", "ok adopted 82 1"),
     ("two blocks", TWO, WHOLE),
@@ -181,7 +181,7 @@ def order(checks, room, other_system):
 
 def gone_on(checks, room, other_system):
     """Volumes of an earlier run, with the blocks of two sessions among each other: they are adopted, the sessions are
-    read over the socket, and those of this run stand behind them."""
+    read over the socket, and those of this run come after them."""
     numbers, limit, names = random.Random(13), 5000, [f"Vol-{number:04}" for number in range(1, 6)]
     shelf, records, places, bodies = Shelf(EARLIER[0], limit), {}, {1: [], 2: []}, {}
     for name in names:
@@ -241,7 +241,7 @@ def faults(checks, daemon, text, records):
 
 
 def continue_one(checks, room, other_system):
-    """A volume of version 1 is adopted by a daemon with a host: its label stays, what is appended stands behind its
+    """A volume of version 1 is adopted by a daemon with a host: its label stays, what is appended comes after its
     blocks, and a new volume has that host in its label."""
     one, another = "Vol-0001", "Vol-0002"
     earlier, later = [(1, 2, b"hello")], [(1, 2, b"abc")]
@@ -265,9 +265,9 @@ def continue_one(checks, room, other_system):
 
 
 def purged_before(checks, room, other_system):
-    """A volume that an earlier run purged and used anew, with what a stop may leave behind that, is adopted up to the end of
-    its new blocks. The session there is read, and none that stood there before; the next one stands behind it. The daemon
-    itself purges no volume, also none that is full, and does nothing to it."""
+    """A volume that an earlier run purged and used anew, with what a stop may leave after that, is adopted up to the
+    end of its new blocks. The session there is read, and none that was there before; the next one comes after it. The
+    daemon itself purges no volume, also none that is full, and does nothing to it."""
     one, another, limit = "Vol-0001", "Vol-0002", 2130
     before, anew, later = [(1, 2, 1850 * b"x")], [(1, 2, b"hello")], [(1, 2, b"abc")]
     old, shelf, full = Shelf(EARLIER[0]), Shelf(EARLIER[0]), Shelf(EARLIER[0])

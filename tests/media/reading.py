@@ -26,7 +26,7 @@ def refusal(line):
 
 
 def blocks_of(*bodies, key=KEY, first=1):
-    """The blocks of these bodies, numbered one behind the other."""
+    """The blocks of these bodies, numbered one after the other."""
     return b"".join(block(key, number, body) for number, body in enumerate(bodies, first))
 
 
@@ -43,7 +43,7 @@ def read_by(room, text, **environment):
 
 
 def read_blocks(room, blocks):
-    """The same for one span of all these blocks, behind a label."""
+    """What `sdtool read` prints for one span of all these blocks, after a label, and its status."""
     (room / "Vol-0001").write_bytes(LABEL + blocks)
     return read_by(room, asked([("Vol-0001", 1, len(LABEL), len(LABEL + blocks))]))
 
@@ -73,7 +73,7 @@ def compare(checks, room, cases):
 
 
 def listings(checks, room, other_system):
-    """A label that is none, in each way; labels of all names; and volumes with something behind their blocks."""
+    """A label that is none, in each way; labels of all names; and volumes with something after their blocks."""
     path = room / "Vol-0001"
     for why, bad in no_label_blocks(b"Vol-0001"):
         path.write_bytes(bad + blocks_of(START + HELLO + END))
@@ -124,7 +124,7 @@ def names(checks, room, other_system):
 
 
 def checksum_of_zero(key, number):
-    """A block whose checksum is zero: of a record and one of four bytes. Behind any bytes the four that their sum and
+    """A block whose checksum is zero: of a record and one of four bytes. After any bytes the four that their sum and
     that of b"\x9d\x0a\xd9\x6d" give make the sum zero, as those four do by themselves."""
     front = block(key, number, START + HELLO + fragment(2, 2, b"", 4), size=BLOCK_HEADER + len(START + HELLO) + 16)[4:]
     return summed(front + (zlib.crc32(front) ^ 0x6dd90a9d).to_bytes(4, "little"))
@@ -158,7 +158,7 @@ def sessions(checks, room, other_system):
         checks.same(why, read_blocks(room, blocks_of(*bodies)), printed(records, last))
     for why, bodies, records in DAMAGES:
         checks.same(why, read_blocks(room, blocks_of(*bodies)), printed(records, DAMAGE))
-        # All that stands behind the damage is not read.
+        # Nothing that comes after the damage is read.
         checks.same(f"{why}, and more", read_blocks(room, blocks_of(*bodies, HELLO, END)), printed(records, DAMAGE))
     for why, *row in NO_SESSION_LABELS:
         record = label_record(*row)
@@ -292,11 +292,11 @@ def every_place(checks, room, other_system):
     compare(checks, room, cases)
 
 
-# A session that stood on two volumes before one of them was purged, one that stood on the first of them alone, and where.
+# A session that was on two volumes before one of them was purged, one that was on the first of them alone, and where.
 TWO_RECORDS = [(1, 2, 500 * b"a"), (2, 2, 1500 * b"b")]
 BEFORE, ONE_BEFORE = [("Vol-0001", 1, 82, 2130), ("Vol-0002", 2, 82, 280)], [("Vol-0001", 1, 82, 249)]
 # How a volume was used anew, by the sizes of the records of the sessions there, each with one: the sizes of their blocks;
-# and what is said of the two sessions that stood there before.
+# and what is said of the two sessions that were there before.
 ANEW = [
     ([], [], ENDS_EARLY, ENDS_EARLY),
     ([3], [165], ENDS_EARLY, ENDS_EARLY),
@@ -312,7 +312,7 @@ ANEW = [
 
 def purged(checks, room, other_system):
     """A volume that was purged and used anew is its label and blocks from number 1 on. So it is listed, and the sessions
-    there are read; none that stood there before is read as something else, but for the first of its records."""
+    there are read; none that was there before is read as something else, but for the first of its records."""
     bodies = [body.data for body in packed(1024, TWO_RECORDS)]
     first, second = LABEL + blocks_of(*bodies[:2]), label(b"Vol-0002") + blocks_of(*bodies[2:])
     put(room, {"Vol-0001": first, "Vol-0002": second})
@@ -333,7 +333,7 @@ def purged(checks, room, other_system):
     for sizes, count, last in (([], 1, ENDS_EARLY), ([35], 1, ENDS_EARLY), ([36], 1, "ok read 1 500 cut"), ([37], 1, BAD_SPAN)):
         put(room, {"Vol-0002": used_anew(label(b"Vol-0002"), sizes)[0]})
         checks.same(f"{sizes} on the second", read_by(room, asked(BEFORE)), printed(TWO_RECORDS[:count], f"{last}\n"))
-    # What a stop left behind the first block anew may be what stood there.
+    # What a stop left after the first block anew may be what was there.
     put(room, {"Vol-0001": used_anew(LABEL, [1850])[0][:1106] + first[1106:], "Vol-0002": second})
     checks.same("a block of before behind, ls", tool(room, "ls", "Vol-0001"),
                 (LISTED + b"block 1 82 1024 1000 2\nblock 2 1106 1024 1000 1\ntail 0\n", 0))
@@ -341,8 +341,8 @@ def purged(checks, room, other_system):
 
 
 def used_anew(image, sizes):
-    """The bytes of a volume with sessions of one record each behind its label, what `ls` says of their blocks, and of each
-    session its key, its spans and its record. The sessions are those behind the first one of the run."""
+    """The bytes of a volume with sessions of one record each after its label, what `ls` says of their blocks, and of
+    each session its key, its spans and its record. The sessions are those after the first one of the run."""
     name, lines, sessions, number = image[60:68].decode(), [], [], 0
     for ident, size in enumerate(sizes, OTHER_SESSION[1]):
         key, record, start = (KEY[0], ident), (1, 2, size * b"n"), len(image)
@@ -389,7 +389,7 @@ def answer_to(text, volumes):
 
 
 def far_away(checks, room, other_system):
-    """Blocks behind the first four thousand million bytes of a volume, and behind the last place of one."""
+    """Blocks after the first four thousand million bytes of a volume, and after the last place of one."""
     for place in (2**32 - 36, 2**32 + 82, 5_000_000_000, MOST_VOLUME, 2**40):
         with open(room / "Vol-0001", "wb") as volume:
             volume.seek(place)
@@ -434,8 +434,8 @@ def devices(checks, room, other_system):
 
 
 def lengths(checks, room, other_system):
-    """A session of one block up to 10,000 is read whole. Where a bit of its last block is turned, the records before stay,
-    and the damage is told."""
+    """A session of one block up to 10,000 is read whole. If a bit of its last block is turned, the records before stay,
+    and the damage is reported."""
     numbers = random.Random(17)
     for count in (1, 100, 10_000):
         # The first body has the start label, and each other one a record that fills it, or the end label.

@@ -10,10 +10,10 @@ KEY, OTHER_SESSION, OTHER_RUN = (1000, 1), (1000, 2), (1001, 1)
 
 # The parts of small sessions. The totals of END are one record and five bytes.
 START, END = start(7), end(7, 1, 5)
-# The data of the longest record stand in four bodies at least.
+# The data of the longest record lie in four bodies at least.
 MILLION = 1_000_000
 HELLO, EMPTY = fragment(1, 2, b"hello"), fragment(2, 2, b"")
-# The same record as HELLO in two parts.
+# The record of HELLO in two parts.
 HEL, LO = fragment(1, 2, b"hel", 5), fragment(1, -2, b"lo")
 RECORD = (1, 2, b"hello")
 NOTHING = (2, 2, b"")
@@ -219,7 +219,7 @@ DAMAGES = [
       for count in range(1, 12)),
 ]
 
-# Three volumes. Vol-0001 has, behind its label, a block of session 1 from 82 on, one of session 2 from 1106 on and one
+# Three volumes. Vol-0001 has, after its label, a block of session 1 from 82 on, one of session 2 from 1106 on and one
 # of session 1 from 2130 to 3154; Vol-0002 has the last block of session 2 from 82 on and that of session 1 from 756 to
 # 1171; Vol-0003 has session 3, from 82 to 249. Sessions 1, 2 and 3 have records of these sizes.
 RECORDS_ON_SHELF = {
@@ -283,7 +283,7 @@ LINE = b"ten bytes,and again,and again."
 SMALL = [START + HELLO + fragment(2, 3, LINE[:10], 30), fragment(2, -3, LINE[10:20], 20),
          fragment(2, -3, LINE[20:]) + end(7, 2, 35)]
 SMALL_RECORDS, SMALL_LAST = [RECORD, (2, 3, LINE)], "ok read 2 35 ended\n"
-# They lie from 82 to 198, 244 and 363, at least where they have the numbers 1, 2 and 3.
+# They lie from 82 to 198, 244 and 363, at least if they have the numbers 1, 2 and 3.
 SMALL_ENDS = (198, 244, 363)
 
 
@@ -302,7 +302,7 @@ def second(**fields):
 NEXT, LAST_NUMBER = second(), 2**32 - 1
 NO_SUM = bytes(4) + NEXT[4:]
 
-# Why the blocks behind a label may not be read, or may: the blocks, how many records of the small session are read, and
+# Why the blocks after a label may not be read, or may: the blocks, how many records of the small session are read, and
 # the last line. The span is all of them.
 BLOCKS = [
     ("whole", small(), 2, SMALL_LAST),

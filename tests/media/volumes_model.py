@@ -103,7 +103,7 @@ class Session:
 
 
 def head_at(volume, at):
-    """The size, the number and the key of the block whose header stands at a place; none where none can."""
+    """The size, the number and the key of the block whose header is at a place; none if none can be."""
     if len(volume) < at + 24:
         return None
     _, size, number, mark, session, time = struct.unpack_from(">III4sII", volume, at)

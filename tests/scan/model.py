@@ -35,7 +35,7 @@ def whole_block(image, at):
 
 
 def names_in(data, count):
-    """So many texts at the front of the data, each with its zero byte, and what is behind them."""
+    """So many texts at the front of the data, each with its zero byte, and what is after them."""
     texts = []
     for _ in range(count):
         text, zero, data = data.partition(b"\0")
@@ -46,7 +46,7 @@ def names_in(data, count):
 
 
 def label_of(name, image):
-    """The moment of the label block of that name at the front of a file, and its size; none where there is none."""
+    """The moment of the label block of that name at the front of a file, and its size; none if there is none."""
     found = whole_block(image, 0)
     if isinstance(found, str) or found[1] != 0 or found[2] != (0, 0):
         return None
@@ -62,7 +62,7 @@ def label_of(name, image):
 
 
 def session_label(index, stream, data):
-    """The job, the pool and the totals of a session's label, or none where it is none."""
+    """The job, the pool and the totals of a session's label, or none if it is none."""
     if not data.startswith(PROFILE) or len(data) < len(PROFILE) + 16:
         return None
     version, job, _ = struct.unpack_from(">IIq", data, len(PROFILE))
@@ -90,7 +90,7 @@ class Session:
 
     @staticmethod
     def fragments(body):
-        """The fragments at the front of a body: index, stream, size and part. The last is none where it can't be read."""
+        """The fragments at the front of a body: index, stream, size and part. The last is none if it can't be read."""
         found, at = [], 0
         while at < len(body):
             if len(body) - at < RECORD_HEADER:
@@ -117,7 +117,7 @@ class Session:
             self.damaged = True
 
     def follow(self, one):
-        """Goes on with the next fragment, if it may stand there."""
+        """Goes on with the next fragment, if it may come there."""
         if one is None or self.damaged or self.ended:
             self.damaged = True
             return False
@@ -150,7 +150,7 @@ class Session:
 
 
 class Counting(Session):
-    """The same, with the bytes of an unfinished record apart."""
+    """A session, by its bodies as they come, with the bytes of an unfinished record apart."""
 
     def __init__(self, body):
         super().__init__(body)
@@ -170,7 +170,7 @@ class Counting(Session):
 
 
 def take_run(name, image, at, number, sessions):
-    """Takes the blocks that stand one behind another from a place on, and gives their end."""
+    """Takes the blocks that come one after another from a place on, and gives their end."""
     while True:
         found = whole_block(image, at)
         if isinstance(found, str) or found[1] != number:
@@ -194,7 +194,7 @@ def told(key, session, with_spans):
 
 
 def behind(name, image, at, with_spans):
-    """What is told of a volume from a place on where no block that is due stands."""
+    """What is told of a volume from a place on where there is no block that is due."""
     while at < len(image):
         found = whole_block(image, at)
         yield f"damage {name} {at} {found if isinstance(found, str) else 'number'}\n"
@@ -227,7 +227,7 @@ def lines_of(files, names, with_spans):
 
 
 def scanned(files, names=None):
-    """What `sdtool scan` prints of these files, of those that are named where some are."""
+    """What `sdtool scan` prints of these files, of those that are named if some are."""
     return "".join(lines_of(files, names, True))
 
 

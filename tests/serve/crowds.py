@@ -30,8 +30,8 @@ MOST_TALKS, MORE = 8 * 32 + 64, 10
 FEW = 14
 # So long is waited for what must not come, in seconds.
 QUIET = 0.5
-# How a daemon under load is ended, one time behind the other, and how many jobs are closed before that at least; and how often
-# it is stopped and goes on.
+# How a daemon under load is ended, one time after the other, and how many jobs are closed before that at least; and
+# how often it is stopped and goes on.
 ENDS, LEAST_CLOSED, STOPS = (signal.SIGKILL, signal.SIGTERM, signal.SIGKILL), 8, 10
 # A small job is closed within so many seconds, of so many beside so many clients that send without a pause.
 CLOSES_WITHIN, CLOSES, STREAMS = 1, 10, 3
@@ -269,7 +269,8 @@ def closed_in(place):
 
 
 def above_the_bound(checks, folder, _):
-    """As many connections as there may be are served at once, and more wait. Where one of those ends, one more is served."""
+    """As many connections as there may be are served at once, and more wait. When one of those ends, one more is
+    served."""
     place = Place(folder / "above_the_bound")
     with place.daemon(), contextlib.ExitStack() as stack:
         talks = [stack.enter_context(place.talk()) for _ in range(MOST_TALKS)]
@@ -286,7 +287,7 @@ def above_the_bound(checks, folder, _):
 
 
 def answered(talks, wanted):
-    """How many of these have an answer, once as many have as wanted, and a while behind that."""
+    """How many of these have an answer, once as many have as wanted, and a while after that."""
     def ready():
         return len(select.select([talk.socket for talk in talks], [], [], 0)[0])
 
@@ -296,7 +297,7 @@ def answered(talks, wanted):
 
 
 def few_descriptors(checks, folder, _):
-    """Where the system gives a daemon no more descriptors, connections wait, and are served as others end."""
+    """If the system gives a daemon no more descriptors, connections wait, and are served as others end."""
     place = Place(folder / "few_descriptors")
     limit = {"preexec_fn": lambda: resource.setrlimit(resource.RLIMIT_NOFILE, (FEW, FEW))}
     with place.daemon(**limit), contextlib.ExitStack() as stack:

@@ -90,8 +90,8 @@ class Drawn:
 
 
 def drawn(checks, folder, _):
-    """All of them at once. What was closed is read to its records by others, and behind the run by `sdtool read`. No job fails,
-    and both drives are settled."""
+    """All of them at once. What was closed is read to its records by others, and after the run by `sdtool read`. No job
+    fails, and both drives are settled."""
     place = Two(folder / "drawn", "block = 1024\nvolume = 60000\nqueue = 2\n")
     all_ = Drawn(place)
 

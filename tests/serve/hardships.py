@@ -1,6 +1,6 @@
 """What a daemon may meet: clients that take nothing, that send what is dropped; another daemon
-over its folder; want of memory; a log that nobody reads or that isn't wanted; being stopped for a while; a limit of its
-files. No signal is masked here. tests/serve/run runs it.
+over its folder; being out of memory; a log that nobody reads or that isn't wanted; being stopped for a while; a limit
+of its files. No signal is masked here. tests/serve/run runs it.
 """
 import collections
 import concurrent.futures
@@ -26,11 +26,11 @@ WANT = "3960 Want of memory"
 NO_SPANS = (b"no span", b"span Vol-0001 1 1 1 92", b"span Vol-0001 1 1 1 92 259 7", b"span Vol-0001 01 1 1 92 259",
             b"span Vol-0001 1 4294967296 1 92 259", b"span Vol~0001 1 1 1 92 259", b"session 1 1",
             b"span Vol-0001 1 1 1 92 259\nspan Vol-0001 2 1 1 259 300", b"", "span V\u00f6l 1 1 1 92 259".encode())
-# What a client sends behind one of them, and what that may cost: less than a third of it.
+# What a client sends after one of them, and what that may cost: less than a third of it.
 DROPPED = [client.packet(b"x" * 1_000_000)] * 30
 MOST_GROWN = 10_000_000
 HELLO, HELLO_READ = [client.packet(b"hello")], b"rec 1 2 5\nhello\nok read 1 5 ended\n"
-# At least so many allocations come before the daemon listens, and so many in the talks behind that.
+# At least so many allocations come before the daemon listens, and so many in the talks after that.
 LEAST_ALLOCATIONS, LEAST_WANTS = 100, 10
 # Among so many of its last are those of the settling of a drive. How a daemon ends that settles it, and one that can't: what
 # it prints, its status, and the last line of its log.
@@ -75,7 +75,7 @@ class Place:
         return records
 
     def read(self, lines):
-        """The same, one behind the other."""
+        """The data of the records of the session with these lines, one after the other, over a talk of its own."""
         return b"".join(self.records(lines))
 
     def serves(self, checks, what):
@@ -234,7 +234,7 @@ def two_daemons(checks, folder, _):
 
 
 def one_folder(checks, folder, _):
-    """Drives of one folder start, also where it is named in other ways; and no other daemon has it by any of its names."""
+    """Drives of one folder start, even if it is named in other ways; and no other daemon has it by any of its names."""
     place = Place(folder / "one_folder")
     link = place.folder / "link"
     link.symlink_to(place.volumes)
@@ -282,7 +282,8 @@ def volumes_and_spools(checks, folder, _):
 
 
 def without_lock(checks, folder, _):
-    """Where something else than a file has the name of the lock's, it stays as it is, and the daemon serves without a lock."""
+    """If something other than a file has the name of the lock's, it stays as it is, and the daemon serves without a
+    lock."""
     kinds = {"folder": os.mkdir, "pipe": os.mkfifo, "link": lambda path: path.symlink_to("nothing")}
     for kind, make in kinds.items():
         place = Place(folder / f"without_lock-{kind}")
@@ -296,8 +297,8 @@ def without_lock(checks, folder, _):
 
 
 def dropped_spans(checks, folder, _):
-    """Behind a line that is no span, what a client sends of a read is dropped as it comes: the daemon's memory doesn't grow
-    with it. The refusal stands where the reply would, and the talk goes on."""
+    """After a line that is no span, what a client sends of a read is dropped as it comes: the daemon's memory doesn't
+    grow with it. The refusal is where the reply would be, and the talk goes on."""
     place = Place(folder / "dropped_spans")
     with place.daemon() as daemon, place.talk() as talk:
         checks.same("before", talk.console("requests"), ["ok requests 0"])
@@ -353,8 +354,8 @@ def allocations(checks, folder, library):
 
 
 def served(place):
-    """Has a label, a job that is read, and the status; each once more where memory wanted. Gives what came of that, and
-    what is wrong."""
+    """Has a label, a job that is read, and the status; each once more if it was out of memory. Gives what came of that,
+    and what is wrong."""
     came, faults = [], []
     for act in (labelled, closed_and_read, shown):
         for _ in range(2):
@@ -388,7 +389,7 @@ def unsettled(checks, folder, library):
 
 
 def ended(checks, folder, env):
-    """What a daemon prints that ends behind a job, its status, and the last line of its log. What was closed is read."""
+    """What a daemon prints that ends after a job, its status, and the last line of its log. What was closed is read."""
     place, lines = Place(folder), []
     with place.daemon("--talks", "1", env=env) as daemon:
         with contextlib.suppress(client.Failed), place.talk() as talk:

@@ -21,7 +21,8 @@ FILE = "figures.prom"
 # A sample: its name, its labels and its value, a number or seconds to the microsecond.
 SAMPLE = re.compile(r"(sdd_[a-z_]+(?:\{[a-z]+=\"[\w:.-]+\"(?:,[a-z]+=\"[\w:.-]+\")*\})?) (\d+|\d+\.\d{6})")
 HELP, TYPE = re.compile(r"# HELP (sdd_[a-z_]+) \S.*"), re.compile(r"# TYPE (sdd_[a-z_]+) (counter|gauge)")
-# The figures that each drive has one of, of a drive that did nothing, with the lanes that it has where nothing else is said.
+# The figures that each drive has one of, of a drive that did nothing, with the lanes that it has if nothing else is
+# said.
 OF_A_DRIVE = {"sdd_records_total": 0, "sdd_bytes_total": 0, "sdd_blocks_total": 0, "sdd_block_bytes_total": 0,
               "sdd_syncs_total": 0, "sdd_free_lanes": 4, "sdd_queued_blocks": 0, "sdd_volume_waits_total": 0,
               "sdd_waits_for_volume": 0, "sdd_full_volumes_total": 0}
@@ -94,8 +95,9 @@ def settled(checks, place, daemon, wanted):
 
 
 def known_jobs(checks, folder, _):
-    """A job of three records that is closed, one that is cancelled behind a block, and a restore, on the first of two drives: each
-    figure is the number that it has to be, by the lines of the close and those that are told of the cancelled one."""
+    """A job of three records that is closed, one that is cancelled after a block, and a restore, on the first of two
+    drives: each figure is the number that it has to be, by the lines of the close and those that are told of the
+    cancelled one."""
     place = Two(folder / "known_jobs")
     with metered(place, "--talks", "6") as daemon:
         place.labels(checks)
@@ -107,7 +109,7 @@ def known_jobs(checks, folder, _):
             given_up = until(lambda: [line for line in talk.console("status") if line == f"session {ticket} cancelled 2"]
                              and talk.console(f"jobmedia {ticket}"))
         checks.same("its records", place.records(lines), RECORDS)
-        # Each span of these is of blocks that lie one behind the other: of the first job two, and of the second one.
+        # Each span of these is of blocks that lie one after the other: of the first job two, and of the second one.
         checks.check("their blocks", len(lines) == len(given_up) == 2, lines, given_up)
         taken = sum(map(len, RECORDS + GIVEN_UP))
         first = {"sdd_records_total": 5, "sdd_bytes_total": taken, "sdd_blocks_total": 3,
@@ -158,7 +160,7 @@ def waits_and_fills(checks, folder, _):
 
 
 def answered(checks, folder, _):
-    """Behind a volume that a drive had to ask for, it waits no more."""
+    """After a volume that a drive had to ask for, it waits no more."""
     place = Place(folder / "answered")
     with metered(place, "--talks", "2", "--wait", "60") as daemon:
         with place.talk() as talk, place.talk() as operator:
@@ -229,7 +231,7 @@ def unwritable(checks, folder, _):
 
 
 def stays_silent(checks, folder, _):
-    """Where each writing fails, that is told once."""
+    """If each writing fails, that is reported once."""
     place = Place(folder / "stays_silent")
     (place.folder / FILE).mkdir()
     with metered(place, "--talks", "1") as daemon:
@@ -257,8 +259,8 @@ def without_file(checks, folder, _):
 
 
 def want_of_memory(checks, folder, library):
-    """Each allocation of a daemon that writes figures and ends behind a talk is refused in turn. It says so before it listens, or
-    goes on; figures that can't be written for that are told, and those that stand in the file are whole."""
+    """Each allocation of a daemon that writes figures and ends after a talk is refused in turn. It says so before it
+    listens, or goes on; figures that can't be written for that are reported, and those in the file are whole."""
     count, kinds = folder / "metered-count", collections.Counter()
     checks.same("with ample memory", wanting(folder / "metered-ample", loaded(library, COUNT_ALLOC=count)), ("written", ("", 0)))
     counted = sum(map(int, count.read_text().split()))
@@ -289,8 +291,8 @@ def wanting(folder, env):
 
 
 def told_in_documents(checks, folder, _):
-    """Each figure stands in the table of docs/OPERATIONS.md, and nothing else does; and each that a rule of examples/alerts.yml
-    asks for is one of them."""
+    """Each figure is in the table of docs/OPERATIONS.md, and nothing else is; and each that a rule of
+    examples/alerts.yml asks for is one of them."""
     place = Place(folder / "told_in_documents")
     with metered(place, "--talks", "1") as daemon:
         with place.talk() as talk:

@@ -42,7 +42,7 @@ def waits_for_a_volume(checks, folder, _):
 
 
 def waits_for_nothing(checks, folder, _):
-    """Without `--wait`, and with 0 seconds, a record and a close are refused at once where their drive has no volume."""
+    """Without `--wait`, and with 0 seconds, a record and a close are refused at once if their drive has no volume."""
     for number, words in enumerate(([], ["--wait", "0"])):
         place = Place(folder / f"waits_for_nothing-{number}", "queue = 1\n" + SMALL)
         with place.daemon(*words), place.talk() as talk:
@@ -80,7 +80,7 @@ def waits_so_long(checks, folder, _):
 
 @contextlib.contextmanager
 def given_again(place, line):
-    """Meanwhile an operator gives that line again and again, up to a while behind the time that a job may wait."""
+    """Meanwhile an operator gives that line again and again, up to a while after the time that a job may wait."""
     over = threading.Event()
 
     def operator():

@@ -23,7 +23,7 @@ class Stopped(Exception):
 
 
 class Talk(client.Talk):
-    """A connection that doesn't wait for ever. Where the daemon goes away, that is told."""
+    """A connection that doesn't wait for ever. If the daemon goes away, that is reported."""
 
     def __init__(self, port):
         super().__init__(port, timeout=WAIT)
@@ -68,7 +68,7 @@ class Talk(client.Talk):
 
 
 class Volume(typing.NamedTuple):
-    """A volume as it stands, how many of its bytes last through a stop, and whether its name does."""
+    """A volume as it is, how many of its bytes last through a stop, and whether its name does."""
     bytes: bytes
     stable: int
     is_named: bool

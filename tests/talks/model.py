@@ -55,7 +55,7 @@ def packets_of(sent):
     return packets + ([sent[at:]] if at < len(sent) else [])
 
 
-# Talks that only ask how all stands, as they are sent.
+# Talks that only ask how things are, as they are sent.
 LOOKS = [packet(f"console {text}".encode()) for text in ("status", "requests", *(f"jobmedia {at}" for at in range(1, 10)))]
 
 
@@ -77,7 +77,7 @@ class Conversation:
         return said
 
     def only_looks(self):
-        """Whether it asks how all stands, and nothing else."""
+        """Whether it asks how things are, and nothing else."""
         return self.sent() in LOOKS
 
     def ends(self):
@@ -89,7 +89,7 @@ class Conversation:
         return sum(end <= taken for end in self.ends())
 
     def pieces(self, wire, size=None):
-        """How much was read behind each read, where so many bytes come, or all."""
+        """How much was read after each read, if so many bytes come, or all."""
         whole = len(self.sent()) if size is None else size
         return [*range(min(wire.first or whole, whole), whole, wire.most or whole or 1), whole]
 
@@ -105,7 +105,7 @@ class Conversation:
 
 
 def step_of(text, end=""):
-    """The bytes of a signal, of so many letters as `x*9`, or of a text and what stands behind it."""
+    """The bytes of a signal, of so many letters as `x*9`, or of a text and what comes after it."""
     if re.fullmatch(r"-\d+", text):
         return signal(int(text))
     if many := re.fullmatch(r"(\w)\*(\d+)", text):
@@ -117,7 +117,7 @@ def step_of(text, end=""):
 
 def parsed(text):
     """What a text has: lines of the configuration, those of its drive, the most bytes of a file or None, and acts: talks,
-    and pairs of a mark and its text. An item stands in a line or behind ` | `.
+    and pairs of a mark and its text. An item is in a line or after ` | `.
 
     `>` a packet of the client, `>>` bytes of the client in hexadecimal, `<` a line of the daemon or a signal, `<<` a packet
     of the daemon that is no line, `.` how the talk ends, `%` what the log has of it; `?` a line of the operator in a talk
@@ -149,7 +149,7 @@ def add_step(talk, mark, text):
     elif mark == "?":
         talk.steps.append((">", step_of("console " + text)))
     elif mark == "=":
-        # The end of data stands behind the last line, and behind no refusal.
+        # The end of data comes after the last line, and after no refusal.
         talk.steps = [step for step in talk.steps if step != ("<", signal(END_OF_DATA))] + [("<", step_of(text, "\n"))]
         if not re.match(r"39\d\d ", text):
             talk.steps.append(("<", signal(END_OF_DATA)))
@@ -191,7 +191,7 @@ class Dialogues:
 
 
 def fields(form, payload):
-    """The groups of a form in a packet's text, where it has that form. One newline or zero byte at its end is ignored."""
+    """The groups of a form in a packet's text, if it has that form. One newline or zero byte at its end is ignored."""
     text = payload[:-1] if payload[-1:] in (b"\n", b"\0") else payload
     found = text.isascii() and re.fullmatch(form, text.decode(), re.DOTALL)
     return found and found.groups()
@@ -404,7 +404,7 @@ class Talk:
             self.out += signal(HEARTBEAT_RESPONSE)
 
     def finish(self, rest):
-        """The talk ends by -4, or behind bytes that are no whole packet. Says how, in the log's words."""
+        """The talk ends by -4, or after bytes that are no whole packet. Says how, in the log's words."""
         self.give_up()
         if self.over:
             return "finished"
@@ -585,9 +585,9 @@ OPEN, DATA, END, CLOSE = ("say", OPENS), ("own", "data"), ("own", "end session")
 CANCEL, DONE, HEADER, RECORD, SPAN = ("any", "console cancel "), ("say", END_OF_DATA), ("header", "-7"), ("record", ""), ("span", "")
 OTHERS = {("any", f"read session Time={TIME} Id="): 4, ("one_of", "console"): 2, ("any", "console jobmedia "): 1,
           ("one_of", "nonsense"): 1, DONE: 1}
-# What is answered by how a drive stands, or is done to it: that is drawn where nothing is on its way there.
+# What is answered by the state of a drive, or is done to it: that is drawn if nothing is on its way there.
 AT_REST = [act for act in OTHERS if act != DONE and act != ("one_of", "nonsense")]
-# What is due, for a command also how the talk's session stands, and how often which acts are drawn there.
+# What is due, for a command also the state of the talk's session, and how often which acts are drawn there.
 ACTS = {
     "command": {OPEN: 12, ("say", OPENS.replace("File", "Tape")): 1, DATA: 2, END: 1, CLOSE: 1, **OTHERS},
     "active": {OPEN: 1, DATA: 20, END: 8, CLOSE: 1, CANCEL: 1, **OTHERS},
@@ -602,7 +602,7 @@ ACTS = {
     "bad_spans": {SPAN: 1, DONE: 2},
 }
 TOO_LONG = b"\x00\x3d\x09\x01"
-# What stands behind the acts of a talk: nothing, a -4, a packet that is cut off, a length that is cut off or too long.
+# What comes after the acts of a talk: nothing, a -4, a packet that is cut off, a length that is cut off or too long.
 ENDINGS = [b"", b"", signal(TERMINATE), packet(b"hello")[:-2], b"\0", TOO_LONG]
 
 

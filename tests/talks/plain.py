@@ -54,8 +54,8 @@ class Plain(contextlib.AbstractContextManager):
         self.process.communicate()
 
     def hold(self, talk):
-        """What it says in a talk behind which another comes. The client's bytes go out at once, so that one read brings them:
-        once they are answered, the talk has ended. It would take for its own what came together with its end."""
+        """What it says in a talk after which another comes. The client's bytes go out at once, so that one read brings
+        them: once they are answered, the talk has ended. It would take for its own what came together with its end."""
         if len(talk.sent()) > select.PIPE_BUF or talk.steps[-1] != TERMINATED or not talk.said():
             raise ValueError("its end isn't told by what is said")
         self.process.stdin.write(talk.sent())
@@ -68,7 +68,7 @@ class Plain(contextlib.AbstractContextManager):
         return never_wanting(got)
 
     def hold_last(self, sent):
-        """What it says where so much comes and then the input ends, its status, and what it prints as a fault."""
+        """What it says if so much comes and then the input ends, its status, and what it prints as a fault."""
         out, fault = self.process.communicate(sent, timeout=WAIT)
         return never_wanting(out), self.process.returncode, fault
 
@@ -86,7 +86,7 @@ def is_held(run, text, talks):
 
 def talks_of(row):
     """The talks of a row at the time of this run, up to the first that isn't finished: with that the program ends. One that
-    ends with the input ends by -4 where another comes behind it."""
+    ends with the input ends by -4 if another comes after it."""
     text = (ROWS / row).read_text()
     for word in ("session ", "Time="):
         text = text.replace(f"{word}{model.TIME} ", f"{word}{TIME} ")

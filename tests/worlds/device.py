@@ -1,5 +1,5 @@
 """A plain model of the devices of `sdtool run`: volumes are byte strings, and calls fail as a plan says. And how what
-stands on a volume is read: its label, its blocks one after another, and the records of a session in them.
+is on a volume is read: its label, its blocks one after another, and the records of a session in them.
 """
 import struct
 import typing
@@ -99,7 +99,7 @@ class Device:
 
 
 class Reader:
-    """Reads a volume from somewhere on. The device is asked again only where what it gave last doesn't reach."""
+    """Reads a volume from somewhere on. The device is asked again only if what it gave last doesn't reach."""
 
     def __init__(self, device, name):
         self.device, self.name = device, name
@@ -112,7 +112,7 @@ class Reader:
         return self.bytes[at:at + count]
 
     def head(self, at):
-        """The header at a place; None where there is none of a block."""
+        """The header at a place; None if there is none of a block."""
         shown = self.show(at, BLOCK_HEADER)
         if len(shown) < BLOCK_HEADER:
             return None
@@ -120,7 +120,7 @@ class Reader:
         return head if head.mark == b"BB02" and LEAST_BLOCK <= head.size <= MOST_BLOCK else None
 
     def body(self, at, head):
-        """The body of a block with that header; None where not all of it is there, or its checksum is another."""
+        """The body of a block with that header; None if not all of it is there, or its checksum is another."""
         image = self.show(at, head.size)
         return image[BLOCK_HEADER:] if len(image) == head.size and zlib.crc32(image[4:]) == head.sum else None
 
@@ -145,7 +145,7 @@ class Found(typing.NamedTuple):
 
 
 def surveyed(device, name, media, time):
-    """What stands on a volume that a run of that time is to adopt."""
+    """What is on a volume that a run of that time is to adopt."""
     reader = Reader(device, name)
     head = reader.head(0)
     body = head and reader.body(0, head)
@@ -185,7 +185,7 @@ def session_records(device, key, spans):
 
 
 def span_records(reader, key, at, end, unpacker):
-    """The records of the blocks in a span. Their numbers aren't looked at: where the program alone wrote, they follow."""
+    """The records of the blocks in a span. Their numbers aren't looked at: if the program alone wrote, they follow."""
     while at < end:
         if end - at < LEAST_BLOCK:
             raise Refused(3950)

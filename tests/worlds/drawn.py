@@ -1,5 +1,5 @@
-"""Scripts that are drawn from a seed, line by line, as the model of tests/worlds/model.py stands then. Half of the lines
-bring a session or a drive on, so that most come to something.
+"""Scripts that are drawn from a seed, line by line, by the state that the model of tests/worlds/model.py has then. Half
+of the lines bring a session or a drive on, so that most come to something.
 """
 import random
 import string
@@ -25,7 +25,7 @@ KINDS = {
     "other": (6, 6, 6, 6),
 }
 OPERATOR = 3
-# The bytes of the label of most volumes, behind which a volume may be full to its last byte.
+# The bytes of the label of most volumes, after which a volume may be full to its last byte.
 LABEL = 80
 # Sizes of records of a session, the first and all that follow. In the last row each record ends a body.
 SIZES = ((2000, 2000), (2000, 2000, 3000, 0, 5, 863, 923), (5, 2000, 5), (935, 988))
@@ -82,7 +82,7 @@ class Drawn:
         self.answers.append(self.world.answer(line))
 
     def draw(self, count, is_watched):
-        """Adds so many lines; where the script is watched, the status and the requests come behind each of them."""
+        """Adds so many lines; if the script is watched, the status and the requests come after each of them."""
         for _ in range(count):
             self.add(self.line())
             for word in ("status", "requests") if is_watched else ():
@@ -136,7 +136,7 @@ class Drawn:
         return self.numbers.choice(("File", "Tape", "Disk")) if is_any else drives[drive - 1].media
 
     def session_goes_on(self, ticket):
-        """What brings a session on, or opens one where none goes on."""
+        """What brings a session on, or opens one if none goes on."""
         if not any(session.goes_on for session in self.world.sessions):
             return self.open()
         session = self.world.sessions[ticket - 1] if ticket <= len(self.world.sessions) else None
@@ -194,7 +194,7 @@ class Drawn:
         return f"label {at} {name} {self.numbers.choice(POOLS)} {self.media(at)}"
 
     def adopt(self, at=None):
-        """Mostly a volume that stands with the drive."""
+        """Mostly a volume that is with the drive."""
         at = at or self.drive()
         shelf = list(self.world.devices[at - 1].volumes) if at <= len(self.world.devices) else []
         return f"adopt {at} {self.name(at) if not shelf or self.once_in(4) else self.numbers.choice(shelf)}"
@@ -204,7 +204,7 @@ class Drawn:
         return f"mount {at} {self.name(at)}"
 
     def purge(self, at=None):
-        """Mostly of a volume that is full: where there is none the drives go on, and where one is loaded it is taken out."""
+        """Mostly of a volume that is full: if there is none, the drives go on; if one is loaded, it is taken out."""
         at = at or self.drive()
         drive = self.world.drives[at - 1] if at <= len(self.world.drives) else None
         full = [volume.name for volume in drive.volumes if volume.status == "full"] if drive else []
@@ -225,7 +225,7 @@ class Drawn:
         return f"again {time} {ticket}"
 
     def restart(self):
-        """A new run, in which the operator works first; mostly behind a stop that leaves zero bytes on a volume."""
+        """A new run, in which the operator works first; mostly after a stop that leaves zero bytes on a volume."""
         self.mood = OPERATOR
         at, time = self.drive(), self.numbers.choice((*TIMES, self.world.time + 1))
         leaving = f" {at} {self.name(at)} {self.numbers.choice((0, 1, 30, 500, 20_000, 2**40))}"
@@ -270,7 +270,7 @@ class Mistaken(Drawn):
         self.work(turns, last, ending)
 
     def work(self, turns, last, ending=2):
-        """The same with the volumes that there are."""
+        """With the volumes that there are, two sessions take records by turns. So many of them come to their end."""
         for _ in range(2):
             self.add("open 7 Default File")
         sessions = self.world.sessions[-2:]
@@ -315,8 +315,8 @@ def mistaken(seed):
 
 
 class Anew(Mistaken):
-    """A script in which volumes of a drive are filled anew: a session is read by spans that tell of what stood there before.
-    Some volumes are full to their last byte, so that a later run may purge them too."""
+    """A script in which volumes of a drive are filled anew: a session is read by spans that tell of what was there
+    before. Some volumes are full to their last byte, so that a later run may purge them too."""
 
     def __init__(self, seed):
         super().__init__(seed)

@@ -80,7 +80,7 @@ class Drive:
         return f"placed {volume.name} {start} {end}"
 
     def sync(self):
-        """Where the device fails, the volume is out, and those sessions fail that go on and have a block that awaits it."""
+        """If the device fails, the volume is out, and those sessions fail that go on and have a block awaiting it."""
         if not self.unsynced:
             return
         waiting, self.unsynced = self.unsynced, []
@@ -120,7 +120,7 @@ class Drive:
         self.volumes.append(Volume(name, pool, len(image), len(image), 1))
 
     def adopt(self, name, limit, time):
-        """Asks for the length, reads, and then loads, cuts behind the blocks, and syncs."""
+        """Asks for the length, reads, and then loads, cuts after the blocks, and syncs."""
         self.device.len(name)
         found = surveyed(self.device, name, self.media, time)
         try:
@@ -138,8 +138,8 @@ class Drive:
         return next((volume for volume in self.volumes if volume.name == name), None)
 
     def purge(self, volume):
-        """Loads it, cuts it behind its label, and syncs. A device that fails at that may leave any bytes there, so nothing is
-        added to it."""
+        """Loads it, cuts it after its label, and syncs. A device that fails at that may leave any bytes there, so
+        nothing is added to it."""
         try:
             self.device.load(volume.name)
             self.device.cut(volume.label_end)

@@ -68,14 +68,14 @@ class Played:
             self.add(line)
 
     def leave(self):
-        """Each session is read, at a second time where the first met a fault, ended and cancelled."""
+        """Each session is read, at a second time if the first met a fault, ended and cancelled."""
         for ticket in range(1, len(self.world.sessions) + 1):
             for word in ("read", "read", "end", "cancel", "jobmedia"):
                 self.add(f"{word} {ticket}")
         self.add("requests")
 
     def come_back(self):
-        """A later run adopts the volumes, at a second time where the first met a fault, and reads what was closed."""
+        """A later run adopts the volumes, at a second time if the first met a fault, and reads what was closed."""
         self.add(f"restart {LATER} 1 {VOLUMES[0]} 500")
         for volume in VOLUMES:
             for _ in range(2):

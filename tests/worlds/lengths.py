@@ -1,6 +1,6 @@
 """Sessions of 1, of 100 and of 10,000 blocks, one on each of two drives: written, closed, read back whole, and read again
-behind a restart by what their closes printed. Then other volumes stand in the place of theirs, whose last blocks are
-longer: the damage is found behind all that is whole. What is printed is told here from the layout of a block alone, and
+after a restart by what their closes printed. Then other volumes are in the place of theirs, whose last blocks are
+longer: the damage is found after all that is whole. What is printed is told here from the layout of a block alone, and
 never that memory is wanting.
 """
 import volumes
@@ -9,7 +9,7 @@ from model import Settings
 
 LENGTHS = (1, 100, 10_000)
 BLOCK, ROOM, JOB = 1024, 2**26, 7
-# The bytes of a record that fills the first body behind the start label, and those that fill each later one.
+# The bytes of a record that fills the first body after the start label, and those that fill each later one.
 FILLS_BODY = BLOCK - volumes.BLOCK_HEADER - volumes.RECORD_HEADER
 FILLS_FIRST = FILLS_BODY - len(volumes.start(JOB))
 MOST_BODIES = volumes.MOST_DATA // FILLS_BODY
@@ -72,7 +72,7 @@ class Lengths:
         for index, size in enumerate(sizes, 1):
             for ticket in (1, 2):
                 self.add(f"fill {ticket} {index} {ticket} {size}", f"ok taken {index}")
-            # A body that a record fills goes out once something comes behind it.
+            # A body that a record fills goes out once something comes after it.
             whole = self.blocks - 1 if index == len(sizes) else sum(map(bodies_of, sizes[:index])) - 1
             self.add("drain", f"ok drained {2 * (whole - placed)}")
             placed = whole

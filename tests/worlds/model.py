@@ -44,7 +44,7 @@ def one_of(words):
 
 
 def name(word):
-    """Reads what stands in the place of a name: the name, or None where it is none."""
+    """Reads what is in the place of a name: the name, or None if it is none."""
     if not word:
         raise NoForm
     return word if NAME.fullmatch(word) and word not in (".", "..") else None
@@ -57,7 +57,7 @@ def text(word):
 
 
 DRIVE, COUNTED, SIZE = number(1, 8), number(1, MOST_NUMBER), number(0, MOST_DATA)
-# The fields of a line behind its word.
+# The fields of a line after its word.
 SETTINGS = {
     "block": [number(1024, 1_048_576)], "volume": [number(0, MOST_VOLUME)], "spool": [number(0, MOST_VOLUME)],
     "queue": [number(1, 1024)], "time": [COUNTED], "host": [name], "drive": [name, number(1, 32)], "capacity": [DRIVE, number(0, 2**26)],
@@ -108,7 +108,7 @@ class Settings:
             setattr(self, word, fields[0])
 
     def fault(self):
-        """The first key that doesn't go with the others; None where all do."""
+        """The first key that doesn't go with the others; None if all do."""
         self.drives = self.drives or [("File", 4)]
         count = len(self.drives)
         if self.volume < 2 * self.block:
