@@ -26,14 +26,22 @@ talks_rule = count_rule (codes "talks")
 abbrev pub wait_rule : Rule
 wait_rule = count_rule (codes "wait")
 
--- `--metrics FILE`: a word, if it is given
-abbrev pub metrics_rule : Rule
-metrics_rule = record (new_rule (codes "metrics")) { long = Some (codes "metrics"); action = Some Set; value_names = 1 }
+-- `--name FILE`: a word, if it is given
+abbrev pub file_rule : Text → Rule
+file_rule name = record (new_rule name) { long = Some name; action = Some Set; value_names = 1 }
 
--- `serve CONF [--talks N] [--wait SECONDS] [--metrics FILE] [--log]`
+-- `--metrics FILE`
+abbrev pub metrics_rule : Rule
+metrics_rule = file_rule (codes "metrics")
+
+-- `--until FILE`
+abbrev pub until_rule : Rule
+until_rule = file_rule (codes "until")
+
+-- `serve CONF [--talks N] [--wait SECONDS] [--metrics FILE] [--until FILE] [--log]`
 abbrev pub serve_shape : Shape
 serve_shape =
-    command_shape (codes "serve") (required_rule (codes "CONF") ∷ talks_rule ∷ wait_rule ∷ metrics_rule ∷ flag_rule (codes "log") ∷ [])
+    command_shape (codes "serve") (required_rule (codes "CONF") ∷ talks_rule ∷ wait_rule ∷ metrics_rule ∷ until_rule ∷ flag_rule (codes "log") ∷ [])
 
 -- the command line of the daemon
 unfoldable pub daemon_line : App
@@ -45,6 +53,7 @@ pub record IsServing (given : List Row) (asked : Serving) : Type 0 where
   pub talks : IsCountOf (one_of (codes "talks") given) asked.talks
   pub wait : IsCountOf (one_of (codes "wait") given) asked.wait
   pub metrics : option_map (λ file. file.now) asked.metrics ≡ first_of (codes "metrics") given
+  pub until : option_map (λ file. file.now) asked.until ≡ first_of (codes "until") given
   pub log : IsFlagOf (one_of (codes "log") given) asked.log
 
 -- the task that this subcommand stands for

@@ -3,7 +3,7 @@ ghost use Rattle.std.specs.Prelude.{◌≡◌, IfErr, IfOk, [], codes, false, ma
 ghost use Rattle.clap.specs.Words.{HasKind, app_of, fault_of, found_of, rows_of, rule_of, shape_of};
 ghost use Rattle.clap.specs.declared.builder.command.Command.TheViews.{out-Command as fields_of};
 ghost use Rattle.sd_arguments.specs.Lines.{IsGiven, command_shape, flag_rule, required_rule};
-ghost use Rattle.sd_arguments.specs.Daemon.{AsksDaemon, IsServing, daemon_line, metrics_rule, serve_shape, talks_rule, wait_rule};
+ghost use Rattle.sd_arguments.specs.Daemon.{AsksDaemon, IsServing, daemon_line, metrics_rule, serve_shape, talks_rule, until_rule, wait_rule};
 
 use crate::status::lacks_memory;
 use clap::{Arg, ArgAction, ArgMatches, Command, Error};
@@ -33,6 +33,8 @@ pub struct Serving<'a> {
     pub wait: u32,
     /// The file that the daemon's figures are written to.
     pub metrics: Option<&'a str>,
+    /// The file that ends the daemon once it is there.
+    pub until: Option<&'a str>,
     /// Whether a log is written.
     pub log: bool,
 }
@@ -91,6 +93,7 @@ fn serve_command<'a>(alloc: Global) -> Result<Command<'a>, AllocError>
     let talks = talks_argument(alloc);
     let wait = wait_argument(alloc);
     let metrics = metrics_argument(alloc);
+    let until = until_argument(alloc);
     let log = log_argument(alloc);
     Command::new(alloc, "serve")
         .about("Serves clients on 127.0.0.1")
@@ -98,6 +101,7 @@ fn serve_command<'a>(alloc: Global) -> Result<Command<'a>, AllocError>
         .arg(talks)?
         .arg(wait)?
         .arg(metrics)?
+        .arg(until)?
         .arg(log)
 }
 
@@ -147,6 +151,17 @@ fn metrics_argument<'a>(alloc: Global) -> Arg<'a>
         .help("Writes figures to this file every ten seconds, in the text form of Prometheus")
 }
 
+fn until_argument<'a>(alloc: Global) -> Arg<'a>
+    ensures rule { rule_of result ≡ until_rule }
+    ensures local { result.global ≡ false }
+{
+    Arg::new(alloc, "until")
+        .long("until")
+        .value_name("FILE")
+        .action(ArgAction::Set)
+        .help("Takes no client more once this file is there, and ends after those that it has")
+}
+
 fn log_argument<'a>(alloc: Global) -> Arg<'a>
     ensures rule { rule_of result ≡ flag_rule (codes "log") }
     ensures local { result.global ≡ false }
@@ -167,6 +182,7 @@ fn asked_of<'a>(given: &ArgMatches<'a>) -> Serving<'a>
         talks: given.get_one("talks").unwrap_or(0),
         wait: given.get_one("wait").unwrap_or(0),
         metrics: given.get_str("metrics"),
+        until: given.get_str("until"),
         log: given.get_flag("log"),
     }
 }

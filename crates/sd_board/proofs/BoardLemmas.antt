@@ -1,23 +1,19 @@
 -- What a board keeps.
-use Rattle.std.proofs.Common.{◌≡◌, ℕ, ◌+◌, ◌-◌, ◌≤◌, ◌<◌, refl, sym, ap, subst, ◌∙◌, inl, inr, arith, Option, Some, List, [], ◌∷◌, ◌++◌, length, map, slice_get, slice_set}
+use Rattle.std.proofs.Common.{◌≡◌, ℕ, ◌+◌, ◌-◌, ◌≤◌, ◌<◌, refl, sym, ap, subst, ◌∙◌, inl, inr, arith, Option, Some, List, [], ◌∷◌, ◌++◌, length, slice_get, slice_set}
 use Rattle.std.specs.Prelude.{Result, Ok, Err, OnErr, OnOk}
 use Rattle.std.proofs.lemmas.List.{length-append}
 use Rattle.std.proofs.lemmas.Option.{slice_get_within}
 use Rattle.sd_base.proofs.ChoiceLemmas.{same_some}
-use Rattle.sd_base.specs.Choice.{NoneOf}
-use Rattle.sd_base.specs.Limits.{most_drives, most_number}
+use Rattle.sd_base.specs.Limits.{most_drives}
 use Rattle.sd_drive.proofs.Places.{get_more, length_set}
 use Rattle.sd_line.specs.Ends.{EndIs}
-use Rattle.sd_session.specs.declared.status.Status.{Status}
 use Rattle.sd_world.proofs.Lookups.{get_set-tells}
 use Rattle.sd_board.specs.Board.{AreNumbered, BoardIs, KeepsBoard, MayRest, Rests}
-use Rattle.sd_board.specs.Lines.{HasTicket, TicketsRise, last_without, new_line, posted_as, without}
-use Rattle.sd_board.specs.Opening.{OpensLane}
+use Rattle.sd_board.specs.Lines.{LinesIs, next_number, promised_more}
+use Rattle.sd_board.specs.Opening.{ChoosesLane}
 use Rattle.sd_board.specs.Slots.{DriveLanesIs, MayLie, TakesLowest, lies_in}
-use Rattle.sd_board.specs.declared.posted.Posted.{Posted}
 use Rattle.sd_board.specs.declared.seen.DriveSeen.{DriveSeen}
 use Rattle.sd_board.specs.declared.sent.Sent.{Sent}
-use Rattle.sd_board.proofs.LineLemmas.{all_stay, last_most, posted_rise, rise_push, rise_without}
 use Rattle.sd_board.proofs.ViewLemmas.{IsReached}
 
 -- Drives.
@@ -43,8 +39,6 @@ pub keeps_drive : (b : BoardIs) (at : ℕ) (d new : DriveLanesIs) → KeepsBoard
 keeps_drive b at d new h there same = record {
   most = (let long = length_set b.drives at new in let most = h.most in omega (arith, long, most));
   numbered = numbered_set b.drives at d new h.numbered there same;
-  last_most = h.last_most;
-  rise = h.rise;
 }
 
 -- a board with one more drive
@@ -53,7 +47,7 @@ pub keeps_push : (b : BoardIs) (new : DriveLanesIs) (drives : List DriveLanesIs)
 keeps_push b new drives h few own is =
     let long : length (b.drives ++ new ∷ []) ≡ length b.drives + 1 = length-append b.drives (new ∷ []) in
     subst (λ (ds : List DriveLanesIs). KeepsBoard (record b { drives = ds })) (sym is)
-    (record { most = omega (arith, long, few); numbered = numbered_push b.drives new h.numbered own; last_most = h.last_most; rise = h.rise })
+    (record { most = omega (arith, long, few); numbered = numbered_push b.drives new h.numbered own })
 
 -- Ends that rest.
 
@@ -70,8 +64,6 @@ pub keeps_rest : (b : BoardIs) (new : List DriveLanesIs) (e : EndIs) (way : Opti
 keeps_rest b new e way h r = record {
   most = (let long = rests_long b.drives new e way r in let most = h.most in omega (arith, long, most));
   numbered = rests_numbered b.drives new e way h.numbered r;
-  last_most = h.last_most;
-  rise = h.rise;
 }
 
 -- a board on which one rests, or none does
@@ -79,18 +71,6 @@ pub keeps_either : {T E : Type 0} (b : BoardIs) (new : List DriveLanesIs) (e : E
     → OnOk r (Rests b.drives e way new) → OnErr r (new ≡ b.drives) → KeepsBoard (record b { drives = new })
 keeps_either b new e way (Ok x) h ok err = keeps_rest b new e way h ok
 keeps_either b new e way (Err x) h ok err = subst (λ (ds : List DriveLanesIs). KeepsBoard (record b { drives = ds })) (sym err) h
-
--- and from which a number was taken back
-pub keeps_back : (b : BoardIs) (new : List DriveLanesIs) (e : EndIs) (way : Option Sent) (ticket last : ℕ) (sessions : List Posted) → KeepsBoard b → Rests b.drives e way new
-    → last ≡ last_without ticket b.last → sessions ≡ without ticket b.sessions → KeepsBoard (record b { drives = new; last = last; sessions = sessions })
-keeps_back b new e way ticket last sessions h r is are =
-    let k = keeps_rest b new e way h r in
-    record {
-      most = k.most;
-      numbered = k.numbered;
-      last_most = subst (λ (n : ℕ). n ≤ most_number) (sym is) (last_most ticket b.last h.last_most);
-      rise = subst (λ (n : ℕ). TicketsRise 1 n sessions) (sym is) (subst (λ (ps : List Posted). TicketsRise 1 (last_without ticket b.last) ps) (sym are) (rise_without ticket 1 b.last b.sessions h.rise));
-    }
 
 -- An end at its drive.
 module _ (ds : List DriveLanesIs) (e : EndIs) (place : ℕ) (d : DriveLanesIs) (at : place ≡ e.seat.no - 1) (there : slice_get ds place ≡ Some d) where
@@ -112,17 +92,16 @@ rests_nowhere ds e place at past (d, there, may) =
     let within = slice_get_within ds (e.seat.no - 1) d there in
     omega (arith, at, past, within)
 
--- A session is opened.
+-- A lane is chosen.
 
-module _ (b : BoardIs) (seen : List DriveSeen) (pool media : List ℕ) (ticket drive place : ℕ) (read new : DriveLanesIs) (e : EndIs) (line : Posted) (sessions : List Posted)
-    (h : KeepsBoard b) (number : ticket ≡ b.last + 1) (r : IsReached b.drives seen pool media drive place) (there : slice_get b.drives place ≡ Some read)
-    (takes : TakesLowest read e new) (line_is : line ≡ new_line ticket drive e.seat.seat.lane) (more : sessions ≡ b.sessions ++ line ∷ []) where
-  -- the board, with the line
-  abbrev pub opened_board : BoardIs
-  opened_board = record b { drives = slice_set b.drives place new; last = ticket; sessions = sessions }
+module _ (b : BoardIs) (seen : List DriveSeen) (pool media : List ℕ) (ticket drive place : ℕ) (read new : DriveLanesIs) (e : EndIs) (lines : LinesIs)
+    (h : KeepsBoard b) (r : IsReached b.drives seen pool media drive place) (there : slice_get b.drives place ≡ Some read) (takes : TakesLowest read e new) where
+  -- the board without the lane's end
+  abbrev pub chosen_board : BoardIs
+  chosen_board = record b { drives = slice_set b.drives place new; lines = lines }
 
-  pub opens : OpensLane b seen pool media ticket drive e opened_board
-  opens = record {
+  pub chooses : ticket ≡ next_number b.lines → lines ≡ promised_more b.lines → ChoosesLane b seen pool media ticket drive e chosen_board
+  chooses number more = record {
     ticket_is = number;
     place = place;
     drive_is = r.number_is;
@@ -131,34 +110,11 @@ module _ (b : BoardIs) (seen : List DriveSeen) (pool media : List ℕ) (ticket d
     lanes' = new;
     there = there;
     takes = takes;
-    is = ap (λ (ss : List Posted). record b { drives = slice_set b.drives place new; last = ticket; sessions = ss }) (more ∙ ap (λ (l : Posted). b.sessions ++ l ∷ []) line_is);
+    is = ap (λ (l : LinesIs). record b { drives = slice_set b.drives place new; lines = l }) more;
   }
 
-  pub keeps_opened : ticket ≤ most_number → KeepsBoard opened_board
-  keeps_opened most = record {
+  pub keeps_chosen : KeepsBoard chosen_board
+  keeps_chosen = record {
     most = (let long = length_set b.drives place new in let few = h.most in omega (arith, long, few));
     numbered = numbered_set b.drives place read new h.numbered there (ap (λ (d : DriveLanesIs). d.no) takes.is);
-    last_most = most;
-    rise = subst (λ (ss : List Posted). TicketsRise 1 ticket ss) (sym (more ∙ ap (λ (l : Posted). b.sessions ++ l ∷ []) line_is))
-        (rise_push 1 b.last b.sessions (new_line ticket drive e.seat.seat.lane) (omega (arith, number)) (omega (arith, number)) h.rise);
   }
-
-  -- the end is of the drive
-  pub own_drive : e.seat.no ≡ drive
-  own_drive = takes.home.drive_is ∙ h.numbered place read there ∙ sym r.number_is
-
--- Lines.
-
--- A board whose line of a ticket says something else.
-module _ (b : BoardIs) (ticket : ℕ) (status : Status) (records : ℕ) (h : KeepsBoard b) where
-  pub keeps_posted : (sessions : List Posted) → sessions ≡ map (posted_as ticket status records) b.sessions → KeepsBoard (record b { sessions = sessions })
-  keeps_posted sessions is = record {
-    most = h.most;
-    numbered = h.numbered;
-    last_most = h.last_most;
-    rise = subst (λ (ss : List Posted). TicketsRise 1 b.last ss) (sym is) (posted_rise ticket status records 1 b.last b.sessions h.rise);
-  }
-
-  -- none is of the ticket
-  pub not_posted : NoneOf (HasTicket ticket) b.sessions → b ≡ record b { sessions = map (posted_as ticket status records) b.sessions }
-  not_posted none = ap (λ (ss : List Posted). record b { sessions = ss }) (sym (all_stay ticket status records b.sessions none))

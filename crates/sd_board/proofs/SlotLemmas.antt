@@ -12,7 +12,8 @@ use Rattle.sd_base.specs.Limits.{most_lanes}
 use Rattle.sd_drive.proofs.Places.{get_mapped, length_set}
 use Rattle.sd_line.specs.Ends.{EndIs, LastIsOver}
 use Rattle.sd_world.proofs.Lookups.{get_set-tells}
-use Rattle.sd_board.specs.Slots.{AreNew, DriveLanesIs, IsAtHome, IsFree, KeepsLanes, MayLie, SlotIs, TakesLowest, arrived, change_at, ends_in, is_busy, is_free, lies_in, new_lanes, new_slot, slot_with}
+use Rattle.sd_board.specs.Changes.{change_at}
+use Rattle.sd_board.specs.Slots.{AreNew, DriveLanesIs, IsAtHome, IsFree, KeepsLanes, MayLie, SlotIs, TakesLowest, arrived, ends_in, is_busy, is_free, is_what, lies_in, new_lanes, new_slot, slot_with}
 use Rattle.sd_board.specs.declared.sent.Sent.{Sent}
 
 -- Free lanes.
@@ -110,11 +111,19 @@ lies d e way at slot new place there empty over is = (
   ap (λ (s : SlotIs). record d { slots = slice_set d.slots at s }) is ∙ ap (λ (n : ℕ). record d { slots = slice_set d.slots n (slot_with e way) }) place,
 )
 
--- a slot from which all has arrived
-pub keeps_arrived : (d : DriveLanesIs) (at : ℕ) (slot new : SlotIs) → KeepsLanes d → slice_get d.slots at ≡ Some slot → new ≡ arrived slot
+-- the end stays where it is
+end_stays : (sent : Sent) (s : SlotIs) → (arrived sent s).end ≡ s.end
+end_stays sent s = by (is_what sent s.on_its_way)
+  where
+    by : (b : Bool) → (cond b (record s { on_its_way = None }) s).end ≡ s.end
+    by true = refl
+    by false = refl
+
+-- a slot from which something has arrived
+pub keeps_arrived : (d : DriveLanesIs) (sent : Sent) (at : ℕ) (slot new : SlotIs) → KeepsLanes d → slice_get d.slots at ≡ Some slot → new ≡ arrived sent slot
     → KeepsLanes (record d { slots = slice_set d.slots at new })
-keeps_arrived d at slot new h there is =
-    keeps_set d at new h (λ e lies. h.ends at slot e there (sym (ap (λ (s : SlotIs). s.end) is) ∙ lies))
+keeps_arrived d sent at slot new h there is =
+    keeps_set d at new h (λ e lies. h.ends at slot e there (sym (end_stays sent slot) ∙ sym (ap (λ (s : SlotIs). s.end) is) ∙ lies))
 
 -- Slots of new lanes.
 

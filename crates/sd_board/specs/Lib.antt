@@ -1,3 +1,5 @@
+pub mod Changes
+pub mod Names
 pub mod Slots
 pub mod Lines
 pub mod Board

@@ -1,5 +1,5 @@
 -- Which drive and which lane a new session gets.
-use Rattle.std.specs.Prelude.{◌≡◌, ◌≢◌, ◌⊎◌, ℕ, ◌+◌, true, Option, Some, None, List, [], ◌∷◌, ◌++◌, length, slice_get, slice_set}
+use Rattle.std.specs.Prelude.{◌≡◌, ◌≢◌, ◌⊎◌, ℕ, ◌+◌, true, Option, Some, None, List, [], ◌∷◌, length, slice_get, slice_set}
 use Rattle.sd_base.specs.Choice.{FirstOf, NoneOf}
 use Rattle.sd_base.specs.Limits.{most_number}
 use Rattle.sd_base.specs.declared.refusal.Refusal.{Refusal}
@@ -8,7 +8,7 @@ use Rattle.sd_line.specs.Ends.{EndIs}
 use Rattle.sd_reserve.specs.Reserve.{TakesMedia, IsCandidate, Precedes}
 use Rattle.sd_reserve.specs.declared.drive.DriveView.{DriveView}
 use Rattle.sd_board.specs.Board.{BoardIs}
-use Rattle.sd_board.specs.Lines.{new_line}
+use Rattle.sd_board.specs.Lines.{count_of, next_number, promised_more}
 use Rattle.sd_board.specs.Slots.{DriveLanesIs, TakesLowest, busy_lanes}
 use Rattle.sd_board.specs.declared.seen.DriveSeen.{DriveSeen}
 
@@ -50,10 +50,11 @@ NoneTakes views pool media why =
     (NoneOf (TakesMedia media) views × (why ≡ NoDriveOfMedia))
     ⊎ ((NoneOf (TakesMedia media) views → ⊥) × NoneOf (IsCandidate pool media) views × (why ≡ NoFreeLane))
 
--- A session is opened: its ticket is the number after the last one, its drive the first that may take it, its lane the
--- lowest of that drive that is free. The end of the lane leaves its slot, and the session has a line after the others.
-pub record OpensLane (b : BoardIs) (seen : List DriveSeen) (pool media : List ℕ) (ticket drive : ℕ) (e : EndIs) (b' : BoardIs) : Type 0 where
-  pub ticket_is : ticket ≡ b.last + 1
+-- A lane is chosen for a session: its drive is the first that may take the session, its lane the lowest of that drive that is
+-- free. The end of the lane leaves its slot, and the session is promised a line. No number is given: the ticket is the one
+-- that comes next.
+pub record ChoosesLane (b : BoardIs) (seen : List DriveSeen) (pool media : List ℕ) (ticket drive : ℕ) (e : EndIs) (b' : BoardIs) : Type 0 where
+  pub ticket_is : ticket ≡ next_number b.lines
   pub place : ℕ
   pub drive_is : drive ≡ place + 1
   pub first : IsFirst (views_of b.drives seen) pool media place
@@ -63,14 +64,13 @@ pub record OpensLane (b : BoardIs) (seen : List DriveSeen) (pool media : List �
   pub takes : TakesLowest lanes e lanes'
   pub is : b' ≡ record b {
     drives = slice_set b.drives place lanes';
-    last = ticket;
-    sessions = b.sessions ++ new_line ticket drive e.seat.seat.lane ∷ [];
+    lines = promised_more b.lines;
   }
 
--- None is opened: no number is left; or no drive takes it; or one does, and there is no memory for its line. The tests are made
--- in this order.
-abbrev pub OpensNone : BoardIs → List DriveSeen → List ℕ → List ℕ → Refusal → Type 0
-OpensNone b seen pool media why =
-    ((b.last ≡ most_number) × (why ≡ NoSessionNumberLeft))
-    ⊎ ((b.last ≢ most_number) × NoneTakes (views_of b.drives seen) pool media why)
-    ⊎ ((b.last ≢ most_number) × (why ≡ Memory) × (place : ℕ) × IsFirst (views_of b.drives seen) pool media place)
+-- None is chosen: no number is left; or no drive takes the session; or one does, and there is no memory for its line. The tests
+-- are made in this order.
+abbrev pub ChoosesNone : BoardIs → List DriveSeen → List ℕ → List ℕ → Refusal → Type 0
+ChoosesNone b seen pool media why =
+    ((count_of b.lines ≡ most_number) × (why ≡ NoSessionNumberLeft))
+    ⊎ ((count_of b.lines ≢ most_number) × NoneTakes (views_of b.drives seen) pool media why)
+    ⊎ ((count_of b.lines ≢ most_number) × (why ≡ Memory) × (place : ℕ) × IsFirst (views_of b.drives seen) pool media place)

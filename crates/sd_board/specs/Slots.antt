@@ -1,10 +1,11 @@
 -- The lanes of a drive at the desk: where the end of each lies while no session uses it.
-use Rattle.std.specs.Prelude.{◌≡◌, ℕ, zero, suc, ◌+◌, ◌-◌, ◌≤◌, Bool, false, not, ◌&&◌, IsTrue, is_some, Option, Some, None, List, [], ◌∷◌, ◌++◌, length, map, slice_get, slice_set}
+use Rattle.std.specs.Prelude.{◌≡◌, ℕ, ◌+◌, ◌-◌, ◌≤◌, ◌==◌, Bool, false, not, ◌&&◌, if◌then◌else◌, IsTrue, is_some, Option, Some, None, List, [], ◌++◌, ◌∷◌, length, map, slice_get, slice_set}
 use Rattle.std.specs.List.{count_by}
 use Rattle.std.specs.Option.{option_and_then, option_to_list}
 use Rattle.sd_base.specs.Choice.{FirstOf}
 use Rattle.sd_base.specs.Limits.{most_lanes}
 use Rattle.sd_line.specs.Ends.{EndIs, LastIsOver}
+use Rattle.sd_board.specs.Changes.{change_at}
 use Rattle.sd_board.specs.declared.sent.Sent.{Sent}
 
 -- A lane: its end, unless a session uses it; and what its last session sent, while pieces of that may still be on their way
@@ -85,23 +86,26 @@ pub record MayLie (d : DriveLanesIs) (e : EndIs) : Type 0 where
 abbrev pub lies_in : EndIs → Option Sent → DriveLanesIs → DriveLanesIs
 lies_in e way d = record d { slots = slice_set d.slots (e.seat.seat.lane - 1) (slot_with e way) }
 
--- the list with what is at this place changed so, if anything is there
-abbrev pub change_at : {A : Type 0} → (A → A) → ℕ → List A → List A
-change_at f at [] = []
-change_at f zero (x ∷ xs) = f x ∷ xs
-change_at f (suc at) (x ∷ xs) = x ∷ change_at f at xs
+-- it is the same that was sent: by the same session, and as much
+abbrev pub same_sent : Sent → Sent → Bool
+same_sent a b = ((a.key.time == b.key.time) && (a.key.id == b.key.id)) && (a.sent == b.sent)
 
--- the slot once nothing is on its way any more
-abbrev pub arrived : SlotIs → SlotIs
-arrived s = record s { on_its_way = None }
+-- whether this is what is on its way
+abbrev pub is_what : Sent → Option Sent → Bool
+is_what sent None = false
+is_what sent (Some way) = same_sent way sent
+
+-- the slot once this has arrived: if it is what was on its way, nothing is any more; else nothing changes
+abbrev pub arrived : Sent → SlotIs → SlotIs
+arrived sent s = if is_what sent s.on_its_way then record s { on_its_way = None } else s
 
 -- so for this lane of a drive
-abbrev pub arrived_in : ℕ → DriveLanesIs → DriveLanesIs
-arrived_in lane d = record d { slots = change_at arrived (lane - 1) d.slots }
+abbrev pub arrived_in : Sent → ℕ → DriveLanesIs → DriveLanesIs
+arrived_in sent lane d = record d { slots = change_at (arrived sent) (lane - 1) d.slots }
 
 -- so for this lane of this drive
-abbrev pub arrived_at : ℕ → ℕ → List DriveLanesIs → List DriveLanesIs
-arrived_at drive lane ds = change_at (arrived_in lane) (drive - 1) ds
+abbrev pub arrived_at : Sent → ℕ → ℕ → List DriveLanesIs → List DriveLanesIs
+arrived_at sent drive lane ds = change_at (arrived_in sent lane) (drive - 1) ds
 
 -- the slot of this lane of this drive, if there is such a lane
 abbrev pub slot_at : ℕ → ℕ → List DriveLanesIs → Option SlotIs

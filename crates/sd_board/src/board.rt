@@ -2,28 +2,27 @@
 ghost use Rattle.std.specs.Prelude.{◌≡◌, None, []};
 ghost use Rattle.sd_desk.specs.Desk.{claim_of};
 ghost use Rattle.sd_board.specs.Board.{KeepsBoard};
+ghost use Rattle.sd_board.specs.Lines.{KeepsLines};
 
 use crate::lanes::DriveLanes;
-use crate::posted::Posted;
-use sd_desk::Desk;
+use crate::lines::Lines;
+use crate::names::Names;
 use sd_line::Naming;
 use sd_spool::SpoolStore;
 use std::alloc::Global;
 use std::marker::Model;
 
-/// What of a daemon lies under the lock of its desk: the desk; the lanes of each drive, with their ends while no session uses
-/// them; the number that was given last; and a line for each session. In a contract it is a `BoardIs`.
+/// What of a daemon lies under the lock of its desk: the desk, with the names that are being claimed; the lanes of each drive,
+/// with their ends while no session uses them; and the numbers of sessions, with a line for each. In a contract it is a
+/// `BoardIs`.
 ///
-/// Its type keeps what `KeepsBoard` says, and of each drive what `KeepsLanes` says.
+/// Its type keeps what `KeepsBoard` says, of each drive what `KeepsLanes` says, and of the lines what `KeepsLines` says.
 #[derive(Drop)]
 pub struct Board<N: Naming, S: SpoolStore> {
     pub(crate) alloc: Global,
-    pub(crate) desk: Desk,
+    pub(crate) names: Names,
     pub(crate) drives: Vec<DriveLanes<N, S>>,
-    // The number that was given last; 0 if none was.
-    pub(crate) last: u32,
-    // By rising tickets.
-    pub(crate) sessions: Vec<Posted>,
+    pub(crate) lines: Lines,
 }
 
 impl<N: Naming, S: SpoolStore> Model for Board<N, S> {
@@ -31,41 +30,39 @@ impl<N: Naming, S: SpoolStore> Model for Board<N, S> {
 
     ghost Value = { BoardIs };
 
-    ghost view = { λ b. record {
-      desk = b.desk;
-      drives = b.drives.items;
-      last = b.last;
-      sessions = b.sessions.items;
-    } };
+    ghost view = { λ b. record { names = b.names; drives = b.drives.items; lines = b.lines } };
 
     ghost invariant = { λ b. KeepsBoard (record {
-      desk = b.desk;
+      names = b.names;
       drives = b.drives.items;
-      last = b.last;
-      sessions = b.sessions.items;
+      lines = b.lines;
     }) };
 }
 
 impl<N: Naming, S: SpoolStore + Drop> Board<N, S> {
     /// A board without drives and sessions, whose desk knows of no volume and no request. Takes no memory.
     pub fn new(alloc: Global) -> Self
-        ensures none { (result.drives ≡ []) × (result.last ≡ 0) × (result.sessions ≡ []) }
-        ensures no_claim { (name : _) → claim_of result.desk name ≡ None }
-        ensures no_request { result.desk.requests ≡ [] }
+        ensures none { (result.drives ≡ []) × (result.lines ≡ record {
+          sessions = [];
+          promised = 0;
+        }) }
+        ensures no_claim { (name : _) → claim_of result.names.desk name ≡ None }
+        ensures none_coming { (name : _) → claim_of result.names.coming name ≡ None }
+        ensures no_request { result.names.desk.requests ≡ [] }
     {
         Board {
             alloc,
-            desk: Desk::new(alloc),
+            names: Names::new(alloc),
             drives: Vec::new(alloc),
-            last: 0,
-            sessions: Vec::new(alloc),
+            lines: Lines::new(alloc),
         }
     }
 
     /// What its type keeps. Does nothing.
     pub fn know(&self)
-        ensures { KeepsBoard self.now }
+        ensures board { KeepsBoard self.now }
+        ensures lines { KeepsLines self.now.lines }
     {
-        let _ = &self.last;
+        self.lines.know();
     }
 }

@@ -1,65 +1,75 @@
 // The desk of a board.
-ghost use Rattle.std.specs.Prelude.{◌≡◌, ◌≢◌, ◌↔◌, ◌++◌, ◌∷◌, ◌==◌, [], None, Some, IsErrOf, IsOk, OnErr, OnOk, filter, not};
-ghost use Rattle.sd_desk.specs.Desk.{HasNotAsked, OtherClaimsStay, SameClaims, claim_of, claimed_by, new_claim};
+ghost use Rattle.std.specs.Prelude.{◌≡◌, ◌++◌, ◌∷◌, ◌==◌, [], IsOk, OnErr, OnOk, filter, not};
+ghost use Rattle.sd_desk.specs.Desk.{HasNotAsked, SameClaims};
+ghost use Rattle.sd_board.specs.Names.{BeginsClaim, EndsClaim, place_of};
 
 use crate::board::Board;
+use crate::names::{Claiming, VolumePlace};
 use sd_base::{DriveNo, VolName};
-use sd_desk::{ClaimFault, Desk, Request};
+use sd_desk::Request;
 use sd_line::Naming;
 use sd_spool::SpoolStore;
 use std::alloc::AllocError;
 
 impl<N: Naming, S: SpoolStore + Drop> Board<N, S> {
-    /// The desk.
-    pub fn desk(&self) -> &Desk
-        ensures { result.now ≡ self.now.desk }
+    /// Where the volume of a name is. A name that is being claimed is no claim yet.
+    pub fn place_of(&self, name: &VolName) -> VolumePlace
+        ensures { result ≡ place_of name.now self.now.names }
     {
-        &self.desk
+        self.names.place_of(name)
     }
 
-    /// Claims a name that isn't claimed for a drive: as `Desk::claim`.
-    pub fn claim(&mut self, name: &VolName, drive: DriveNo) -> Result<(), ClaimFault>
-        ensures taken { IsErrOf result ClaimFault.AlreadyLabelled
-            ↔ (claimed_by self.old.desk name.now ≢ None) }
-        ensures claimed { OnOk result (claim_of self.new.desk name.now ≡ Some (new_claim drive)) }
-        ensures others { OnOk result (OtherClaimsStay name.now self.old.desk self.new.desk) }
-        ensures err { OnErr result (SameClaims self.old.desk self.new.desk) }
-        ensures requests { self.new.desk.requests ≡ self.old.desk.requests }
-        ensures same { self.new ≡ record self.old { desk = self.new.desk } }
+    /// Begins to claim a name for a drive. Whoever finds that somebody else is claiming it waits for the end of that, and
+    /// begins again.
+    pub fn begin_claim(&mut self, name: &VolName, drive: DriveNo) -> Claiming
+        ensures begins { BeginsClaim result name.now drive self.old.names self.new.names }
+        ensures same { self.new ≡ record self.old { names = self.new.names } }
     {
-        self.desk.claim(name, drive)
+        self.names.begin_claim(name, drive)
     }
 
-    /// Takes a claim away: as `Desk::release`. Takes no memory.
-    pub fn release(&mut self, name: &VolName)
-        ensures released { claim_of self.new.desk name.now ≡ None }
-        ensures others { OtherClaimsStay name.now self.old.desk self.new.desk }
-        ensures requests { self.new.desk.requests ≡ self.old.desk.requests }
-        ensures same { self.new ≡ record self.old { desk = self.new.desk } }
+    /// Ends the claiming of a name, for who began it: if `kept`, the volume is at the drive from now on; else the name is free
+    /// again. Takes no memory.
+    pub fn end_claim(&mut self, name: &VolName, kept: bool)
+        ensures ends { EndsClaim kept name.now self.old.names self.new.names }
+        ensures same { self.new ≡ record self.old { names = self.new.names } }
     {
-        self.desk.release(name);
+        self.names.end_claim(name, kept);
+    }
+
+    /// The requests of the drives, in the order in which they were asked.
+    pub fn requests(&self) -> &[Request]
+        ensures { result.now ≡ self.now.names.desk.requests }
+    {
+        self.names.requests()
     }
 
     /// Notes that a drive needs a volume, unless it asked already: as `Desk::ask`.
     pub fn ask(&mut self, request: Request) -> Result<(), AllocError>
-        ensures again { (HasNotAsked request.drive self.old.desk.requests → ⊥)
-            → IsOk result × (self.new.desk.requests ≡ self.old.desk.requests) }
-        ensures asked { HasNotAsked request.drive self.old.desk.requests
-            → OnOk result (self.new.desk.requests ≡ self.old.desk.requests ++ request ∷ []) }
-        ensures err { OnErr result (self.new.desk.requests ≡ self.old.desk.requests) }
-        ensures claims { SameClaims self.old.desk self.new.desk }
-        ensures same { self.new ≡ record self.old { desk = self.new.desk } }
+        ensures again { (HasNotAsked request.drive self.old.names.desk.requests → ⊥)
+            → IsOk result × (self.new.names.desk.requests ≡ self.old.names.desk.requests) }
+        ensures asked { HasNotAsked request.drive self.old.names.desk.requests
+            → OnOk result
+            (self.new.names.desk.requests ≡ self.old.names.desk.requests ++ request ∷ []) }
+        ensures err { OnErr result
+            (self.new.names.desk.requests ≡ self.old.names.desk.requests) }
+        ensures claims { SameClaims self.old.names.desk self.new.names.desk }
+        ensures same { self.new ≡ record self.old {
+          names = record self.old.names { desk = self.new.names.desk };
+        } }
     {
-        self.desk.ask(request)
+        self.names.ask(request)
     }
 
     /// Takes the drive's request away, if it has one: as `Desk::answered`. Takes no memory.
     pub fn answered(&mut self, drive: DriveNo)
-        ensures requests { self.new.desk.requests ≡ filter
-            (λ r. not (r.drive == drive)) self.old.desk.requests }
-        ensures claims { SameClaims self.old.desk self.new.desk }
-        ensures same { self.new ≡ record self.old { desk = self.new.desk } }
+        ensures requests { self.new.names.desk.requests ≡ filter
+            (λ r. not (r.drive == drive)) self.old.names.desk.requests }
+        ensures claims { SameClaims self.old.names.desk self.new.names.desk }
+        ensures same { self.new ≡ record self.old {
+          names = record self.old.names { desk = self.new.names.desk };
+        } }
     {
-        self.desk.answered(drive);
+        self.names.answered(drive);
     }
 }

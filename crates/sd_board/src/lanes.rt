@@ -121,16 +121,16 @@ impl<N: Naming, S: SpoolStore + Drop> DriveLanes<N, S> {
         Ok(())
     }
 
-    /// Nothing of the session that used the lane last is on its way any more.
-    pub(crate) fn arrived(&mut self, lane: LaneNo)
-        ensures { self.new ≡ arrived_in lane self.old }
+    /// This has arrived: if it is what is on its way by the lane, nothing is any more.
+    pub(crate) fn arrived(&mut self, lane: LaneNo, sent: Sent)
+        ensures { self.new ≡ arrived_in sent lane self.old }
     {
         let at = lane_place(lane);
         if at >= self.slots.len() {
             return;
         }
         let slot = &mut self.slots[at];
-        slot.arrived();
+        slot.arrived(sent);
     }
 
     /// Whether the lane is free, if there is one.

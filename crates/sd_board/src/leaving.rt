@@ -2,7 +2,8 @@
 ghost use Rattle.std.specs.Prelude.{◌≡◌, ◌-◌, ◌≤◌, ◌<◌, ◌++◌, [], length, slice_get, vec_len, IfOk, OnErr, OnOk};
 ghost use Rattle.std.specs.Option.{option_to_list};
 ghost use Rattle.std.specs.Vec.{vec_capacity};
-ghost use Rattle.sd_board.specs.Slots.{change_at, ends_in, ends_of, without_lanes};
+ghost use Rattle.sd_board.specs.Changes.{change_at};
+ghost use Rattle.sd_board.specs.Slots.{ends_in, ends_of, without_lanes};
 
 use crate::board::Board;
 use crate::place::drive_place;

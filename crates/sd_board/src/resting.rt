@@ -38,16 +38,18 @@ impl<N: Naming, S: SpoolStore + Drop> Board<N, S> {
         }
     }
 
-    /// Nothing of the session that used the lane last is on its way any more. Takes no memory.
-    pub fn arrived(&mut self, drive: DriveNo, lane: LaneNo)
-        ensures { self.new ≡ record self.old { drives = arrived_at drive lane self.old.drives } }
+    /// This has arrived: if it is what is on its way by the lane, nothing is any more; else nothing changes. Takes no memory.
+    pub fn arrived(&mut self, drive: DriveNo, lane: LaneNo, sent: Sent)
+        ensures { self.new ≡ record self.old {
+          drives = arrived_at sent drive lane self.old.drives;
+        } }
     {
         let place = drive_place(drive);
         if place >= self.drives.len() {
             return;
         }
         let lanes = &mut self.drives[place];
-        lanes.arrived(lane);
+        lanes.arrived(lane, sent);
     }
 
     /// Whether the lane is free: its end lies here, and nothing of the session that used it last is on its way.

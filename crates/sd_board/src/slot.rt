@@ -80,10 +80,15 @@ impl<N: Naming, S: SpoolStore + Drop> LaneSlot<N, S> {
         self.on_its_way = on_its_way;
     }
 
-    /// Nothing of the session that used the lane last is on its way any more.
-    pub(crate) fn arrived(&mut self)
-        ensures { self.new ≡ arrived self.old }
+    /// This has arrived: if it is what is on its way, nothing is any more.
+    pub(crate) fn arrived(&mut self, sent: Sent)
+        ensures { self.new ≡ arrived sent self.old }
     {
-        self.on_its_way = None;
+        let Some(way) = self.on_its_way else {
+            return;
+        };
+        if way.is_same(sent) {
+            self.on_its_way = None;
+        }
     }
 }

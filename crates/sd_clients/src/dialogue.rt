@@ -24,6 +24,7 @@ fn serve_dialogue(rt: HostRuntime) -> Result<(), Fail> {
         talks: 2,
         wait: 0,
         metrics: None,
+        until: None,
     };
     let (served, played) = thread::join(
         &rt,

@@ -20,7 +20,7 @@ locks_more drives front last locks (Err fault) are zip adds = tt
 -- the folder of one of the first drives is that of one of all
 pub fault_before : (drives front : List DriveConf) (last : DriveConf) (fault : ServeFault) → drives ≡ front ++ last ∷ [] → IsFaultAmong front fault → IsFaultAmong drives fault
 fault_before drives front last Time are among = tt
-fault_before drives front last Port are among = tt
+fault_before drives front last (Port fault) are among = tt
 fault_before drives front last (Folder folder) are among =
     (among.0, subst (λ (ds : List DriveConf). Contains ds among.0) (sym are) (Contains-append_left front (last ∷ []) among.0 among.1), among.2)
 fault_before drives front last Memory are among = tt
@@ -28,7 +28,7 @@ fault_before drives front last Memory are among = tt
 -- and so is that of the last one
 fault_at_last : (drives front : List DriveConf) (last : DriveConf) (fault : ServeFault) → drives ≡ front ++ last ∷ [] → IsFaultAt last.folder fault → IsFaultAmong drives fault
 fault_at_last drives front last Time are is = tt
-fault_at_last drives front last Port are is = tt
+fault_at_last drives front last (Port fault) are is = tt
 fault_at_last drives front last (Folder folder) are is =
     (last, subst (λ (ds : List DriveConf). Contains ds last) (sym are) (Contains-push front last), is)
 fault_at_last drives front last Memory are is = tt

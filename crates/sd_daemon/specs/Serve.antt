@@ -33,7 +33,7 @@ folder_text folder = codes "fault folder " ++ folder ++ codes " locked"
 -- the line of why nothing is served
 abbrev pub unserved_line : ServeFault → List ℕ
 unserved_line serves.Time = line (serve_text says.NoTime)
-unserved_line serves.Port = line (serve_text says.NoPort)
+unserved_line (serves.Port fault) = line (serve_text says.NoPort)
 unserved_line (serves.Folder folder) = line (folder_text folder)
 unserved_line serves.Memory = line (serve_text says.NoMemory)
 

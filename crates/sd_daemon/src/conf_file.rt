@@ -37,21 +37,28 @@ pub enum Outcome {
 }
 
 /// Serves clients as the configuration in a file says, and prints a line for each drive that can't be settled after
-/// that; or prints the line of what is wrong. Answers the status: 0 if clients were served and all drives settled, and
+/// that; or prints the line of what is wrong, and on `errors` what more is known of it. Answers the status: 0 if clients were served and all drives settled, and
 /// else 1.
-pub fn serve_file<R: Threads + Wait + Clock + Sync + Copy + Drop, W: Write, L: Write + Send + Drop>(
+pub fn serve_file<
+    R: Threads + Wait + Clock + Sync + Copy + Drop,
+    W: Write,
+    E: Write,
+    L: Write + Send + Drop,
+>(
     rt: &HostRuntime,
     wait: R,
     path: &str,
     bounds: Bounds<'_>,
     log: &Log<L>,
     out: &mut Printer<W>,
+    errors: &mut Printer<E>,
 ) -> u8
     ensures { PrintsServe (said_view W.contents out.old) (said_view W.contents out.new) result }
 {
     let outcome = outcome_of(rt, wait, path, bounds, log);
     print_outcome(&outcome, out);
     out.flush();
+    print_cause(&outcome, errors);
     status_of(&outcome, out.failed())
 }
 
@@ -115,6 +122,14 @@ fn print_outcome<W: Write>(outcome: &Outcome, out: &mut Printer<W>)
     }
 }
 
+// Prints what more is known of what is wrong.
+fn print_cause<E: Write>(outcome: &Outcome, errors: &mut Printer<E>) {
+    if let Outcome::NotServed(ServeFault::Port(fault)) = outcome {
+        errors.line(*fault);
+        errors.flush();
+    }
+}
+
 // Prints a line for each drive that can't be settled. Calls itself for those before the last one.
 fn print_unsettled<W: Write>(unsettled: &[DriveNo], out: &mut Printer<W>)
     ensures { Says (said_view W.contents out.old) (said_view W.contents out.new)
@@ -133,7 +148,7 @@ fn print_unserved<W: Write>(fault: &ServeFault, out: &mut Printer<W>)
 {
     match fault {
         ServeFault::Time => out.line(ServeLine::NoTime),
-        ServeFault::Port => out.line(ServeLine::NoPort),
+        ServeFault::Port(_) => out.line(ServeLine::NoPort),
         ServeFault::Folder(folder) => print_locked(folder, out),
         ServeFault::Memory => out.line(ServeLine::NoMemory),
     }

@@ -2,6 +2,7 @@
 ghost use Rattle.std.specs.Prelude.{◌≡◌, ◌≤◌, IfErr, IfSome};
 ghost use Rattle.sd_base.specs.Limits.{most_number};
 ghost use Rattle.sd_conf.specs.Conf.{IsWithinLimits};
+ghost use Rattle.sd_conf.specs.declared.conf.Conf.{Conf};
 ghost use Rattle.sd_daemon.specs.Locks.{AreLocksOf, IsFaultIn};
 ghost use Rattle.sd_daemon.specs.Setup.{AreNamed};
 
@@ -10,6 +11,7 @@ use crate::drives::{UnusedFiles, unused_drives};
 use crate::hub::{FileHub, hub_of};
 use crate::locks::{FolderLocks, lock_all};
 use crate::metering::Metering;
+use crate::port_fault::PortFault;
 use crate::settling::settle_drives;
 use crate::shared::share;
 use crate::talks::FileTalks;
@@ -19,11 +21,10 @@ use sd_conf::{Conf, Text};
 use sd_filedrive::FileDrive;
 use sd_line::Naming;
 use sd_lines::shares_hub;
-use sd_serve::{Log, since_1970, time_of};
+use sd_serve::{Connections, Listening, Log, Serving, since_1970, time_of};
 use sd_spool::FileSpool;
-use std::io::Write;
+use std::io::{self, ErrorKind, Write};
 use std::marker::Brand;
-use std::net::TcpListener;
 use std::sync::Wait;
 use std::thread::Threads;
 use std::time::Clock;
@@ -34,7 +35,7 @@ pub enum ServeFault {
     /// The clock's time is no time of a run.
     Time,
     /// The port can't be had.
-    Port,
+    Port(PortFault),
     /// Another process has this folder of a drive, or of the spools, locked.
     Folder(Text),
     /// There is no memory for the locks or for the drives, or no thread for a worker.
@@ -50,11 +51,14 @@ pub struct Bounds<'b> {
     pub wait: u32,
     /// The file that its figures are written to, if any.
     pub metrics: Option<&'b str>,
+    /// The file that ends the daemon once it is there, if any.
+    pub until: Option<&'b str>,
 }
 
 /// Serves clients on the port of the configuration and on 127.0.0.1 alone, each in a thread of its own, over drives of files
 /// that are new: their run's time is the clock's. Meanwhile it has the folders of the drives and of the spools locked. Ends
-/// after so many talks, and then settles the line of each drive; answers which of them can't be settled.
+/// after so many talks, or after those that began before a file was there, and then settles the line of each drive; answers
+/// which of them can't be settled.
 pub fn serve<W: Threads + Wait + Clock + Sync + Copy + Drop, L: Write + Send + Drop>(
     rt: &HostRuntime,
     wait: W,
@@ -68,8 +72,9 @@ pub fn serve<W: Threads + Wait + Clock + Sync + Copy + Drop, L: Write + Send + D
     let Some(time) = time_now(rt) else {
         return Err(ServeFault::Time);
     };
-    let Ok(listener) = TcpListener::bind(rt, address_of(conf)) else {
-        return Err(ServeFault::Port);
+    let listening = match Listening::at(rt, address_of(conf)) {
+        Ok(listening) => listening,
+        Err(fault) => return Err(port_fault(conf.port, &fault)),
     };
     let locks = lock_all(rt, conf)?;
     let Ok(drives) = unused_drives(rt, wait, conf, time) else {
@@ -83,7 +88,7 @@ pub fn serve<W: Threads + Wait + Clock + Sync + Copy + Drop, L: Write + Send + D
         bounds,
         log,
     };
-    serve_drives::<Brand, W, L>(&run, &listener, drives, &locks)
+    serve_drives::<Brand, W, L>(&run, &listening, drives, &locks)
 }
 
 // A run of a daemon.
@@ -104,7 +109,7 @@ fn serve_drives<
     L: Write + Send + Drop,
 >(
     run: &Run<'_, W, L>,
-    listener: &TcpListener,
+    listening: &Listening,
     drives: Vec<UnusedFiles<W>>,
     _locks: &FolderLocks,
 ) -> Result<Vec<DriveNo>, ServeFault>
@@ -117,7 +122,7 @@ fn serve_drives<
     let Ok(hub) = hub_of::<N, W>(run.rt, run.wait, conf, run.time, drives, keeps_receipts) else {
         return Err(ServeFault::Memory);
     };
-    if !hold_all(run, listener, &hub) {
+    if !hold_all(run, listening, &hub) {
         return Err(ServeFault::Memory);
     }
     match settle_drives(hub, run.log) {
@@ -131,7 +136,11 @@ fn hold_all<
     N: Naming + Send + Sync,
     W: Threads + Wait + Clock + Sync + Copy + Drop,
     L: Write + Send + Drop,
->(run: &Run<'_, W, L>, listener: &TcpListener, hub: &FileHub<N, W>) -> bool {
+>(run: &Run<'_, W, L>, listening: &Listening, hub: &FileHub<N, W>) -> bool {
+    let Ok(connections) = Connections::new(run.rt.alloc()) else {
+        return false;
+    };
+    let connections = &connections;
     let metering = Metering::new(run.bounds.metrics);
     let talks = FileTalks {
         rt: run.rt,
@@ -140,6 +149,7 @@ fn hold_all<
         time: run.time,
         hub,
         log: run.log,
+        connections,
         patience: run.bounds.wait,
         metering: &metering,
     };
@@ -148,7 +158,23 @@ fn hold_all<
     share(run.conf);
     share(hub);
     share(run.log);
-    hold_talks(&run.wait, listener, bound_of(run.bounds.talks), &talks)
+    share(connections);
+    let serving = Serving {
+        connections: bound_of(run.bounds.talks),
+        until: run.bounds.until,
+    };
+    hold_talks(run.rt, &run.wait, listening, serving, connections, &talks)
+}
+
+// The fault of a port that can't be had. Out of memory is told as such.
+fn port_fault(port: u16, fault: &io::Error) -> ServeFault
+    ensures { (conf : Conf) → IsFaultIn conf result }
+{
+    let why = fault.kind();
+    if matches!(why, ErrorKind::OutOfMemory) {
+        return ServeFault::Memory;
+    }
+    ServeFault::Port(PortFault { port, why })
 }
 
 // The time of a run that begins now, in seconds.

@@ -1,14 +1,14 @@
 // The figures of a daemon in the text form that Prometheus reads.
 use crate::drive_figure::{DRIVE_FIGURES, DriveFigure};
-use sd_lines::{DriveFigures, Figures};
+use sd_lines::{DriveFigures, Figures, RefusedJobs, Tries, VolumeFaults};
+use sd_serve::ConnectionFigures;
 use std::fmt;
 
 /// The figures of a daemon. Displays them: of each its help, its type, and its values.
 #[derive(Drop)]
 pub(crate) struct FiguresText {
     pub(crate) figures: Figures,
-    pub(crate) talks_held: u64,
-    pub(crate) talks_now: u64,
+    pub(crate) connections: ConnectionFigures,
 }
 
 /// Whether a figure only rises, or goes up and down.
@@ -90,28 +90,56 @@ impl fmt::Display for OfDrives<'_> {
     }
 }
 
-/// How often the devices of the drives failed, for each volume.
+/// A figure of each volume with which something failed at a drive.
 #[derive(Clone, Copy)]
-struct Faults<'a> {
+struct OfVolumes<'a> {
+    kind: VolumeFigure,
     drives: &'a [DriveFigures],
 }
 
-impl Faults<'_> {
-    const HEADING: Heading = Heading {
-        name: "sdd_device_faults_total",
-        kind: Kind::Counter,
-        help: "Times that the device of a drive failed with a volume.",
-    };
+/// What may fail at a drive with a volume.
+#[derive(Clone, Copy)]
+enum VolumeFigure {
+    /// A write or a sync.
+    Device,
+    /// A load.
+    Load,
 }
 
-impl fmt::Display for Faults<'_> {
+impl VolumeFigure {
+    fn heading(self) -> Heading {
+        let kind = Kind::Counter;
+        match self {
+            VolumeFigure::Device => Heading {
+                name: "sdd_device_faults_total",
+                kind,
+                help: "Times that the device of a drive failed with a volume.",
+            },
+            VolumeFigure::Load => Heading {
+                name: "sdd_load_faults_total",
+                kind,
+                help: "Times that a drive needed a volume that couldn't be loaded.",
+            },
+        }
+    }
+
+    fn faults(self, figures: &DriveFigures) -> &[VolumeFaults] {
+        match self {
+            VolumeFigure::Device => figures.faults.as_slice(),
+            VolumeFigure::Load => figures.load_faults.as_slice(),
+        }
+    }
+}
+
+impl fmt::Display for OfVolumes<'_> {
     fn fmt<W: fmt::Write>(&self, f: &mut fmt::Formatter<W>) -> fmt::Result {
-        let heading = Faults::HEADING;
+        let heading = self.kind.heading();
         write!(f, "{heading}")?;
         for figures in self.drives {
             let faults = FaultsOf {
                 name: heading.name,
-                figures,
+                drive: figures.drive.get(),
+                faults: self.kind.faults(figures),
             };
             write!(f, "{faults}")?;
         }
@@ -119,17 +147,18 @@ impl fmt::Display for Faults<'_> {
     }
 }
 
-/// How often the device of a drive failed, for each volume, without the heading.
+/// How often something failed at a drive, for each volume, without the heading.
 #[derive(Clone, Copy)]
 struct FaultsOf<'a> {
     name: &'static str,
-    figures: &'a DriveFigures,
+    drive: u32,
+    faults: &'a [VolumeFaults],
 }
 
 impl fmt::Display for FaultsOf<'_> {
     fn fmt<W: fmt::Write>(&self, f: &mut fmt::Formatter<W>) -> fmt::Result {
-        let (name, drive) = (self.name, self.figures.drive.get());
-        for fault in &self.figures.faults {
+        let (name, drive) = (self.name, self.drive);
+        for fault in self.faults {
             let (volume, faults) = (fault.volume.as_str(), fault.faults);
             write!(
                 f,
@@ -169,6 +198,85 @@ impl fmt::Display for Sessions {
     }
 }
 
+/// How many jobs were refused, by why.
+#[derive(Clone, Copy)]
+struct JobsRefused<'f> {
+    jobs: &'f [RefusedJobs],
+}
+
+impl fmt::Display for JobsRefused<'_> {
+    fn fmt<W: fmt::Write>(&self, f: &mut fmt::Formatter<W>) -> fmt::Result {
+        let name = "sdd_refused_jobs_total";
+        let heading = Heading {
+            name,
+            kind: Kind::Counter,
+            help: "Jobs that were refused when they asked for a session.",
+        };
+        write!(f, "{heading}")?;
+        for refused in self.jobs {
+            let (why, jobs) = (refused.why, refused.jobs);
+            write!(f, "{name}{{why=\"{why}\"}} {jobs}\n")?;
+        }
+        Ok(())
+    }
+}
+
+/// How many volumes were labelled and adopted, and how often that was refused.
+#[derive(Clone, Copy)]
+struct Named {
+    labels: Tries,
+    adoptions: Tries,
+}
+
+impl fmt::Display for Named {
+    fn fmt<W: fmt::Write>(&self, f: &mut fmt::Formatter<W>) -> fmt::Result {
+        let (labels, adoptions) = (self.labels, self.adoptions);
+        let labelled = Single::counter("sdd_labels_total", "Volumes labelled.", labels.done);
+        let not_labelled = Single::counter(
+            "sdd_refused_labels_total",
+            "Labels of volumes that were refused.",
+            labels.refused,
+        );
+        let adopted = Single::counter("sdd_adoptions_total", "Volumes adopted.", adoptions.done);
+        let not_adopted = Single::counter(
+            "sdd_refused_adoptions_total",
+            "Adoptions of volumes that were refused.",
+            adoptions.refused,
+        );
+        write!(f, "{labelled}{not_labelled}{adopted}{not_adopted}")
+    }
+}
+
+/// The connections.
+#[derive(Clone, Copy)]
+struct Talks {
+    connections: ConnectionFigures,
+}
+
+impl fmt::Display for Talks {
+    fn fmt<W: fmt::Write>(&self, f: &mut fmt::Formatter<W>) -> fmt::Result {
+        let connections = self.connections;
+        let held = Single::counter("sdd_talks_total", "Talks held so far.", connections.taken);
+        let now = Single::gauge("sdd_talks", "Talks held now.", connections.open);
+        let with_session = Single::gauge(
+            "sdd_talks_with_session",
+            "Talks held now that have a session open.",
+            connections.with_session,
+        );
+        let bound = Single::gauge(
+            "sdd_talks_bound",
+            "Talks that can be held at once.",
+            connections.most,
+        );
+        let oldest = Single::gauge(
+            "sdd_oldest_talk_seconds",
+            "Seconds since the oldest of the talks held now began.",
+            connections.oldest_age,
+        );
+        write!(f, "{held}{now}{with_session}{bound}{oldest}")
+    }
+}
+
 impl fmt::Display for FiguresText {
     fn fmt<W: fmt::Write>(&self, f: &mut fmt::Formatter<W>) -> fmt::Result {
         let drives = self.figures.drives.as_slice();
@@ -176,11 +284,18 @@ impl fmt::Display for FiguresText {
             let of_drives = OfDrives { figure, drives };
             write!(f, "{of_drives}")?;
         }
-        let faults = Faults { drives };
+        let faults = OfVolumes {
+            kind: VolumeFigure::Device,
+            drives,
+        };
+        let load_faults = OfVolumes {
+            kind: VolumeFigure::Load,
+            drives,
+        };
         let sessions = Sessions {
             standings: self.figures.sessions,
         };
-        write!(f, "{faults}{sessions}")?;
+        write!(f, "{faults}{load_faults}{sessions}")?;
         let given = self.figures.given;
         let records = Single::counter(
             "sdd_restored_records_total",
@@ -192,8 +307,16 @@ impl fmt::Display for FiguresText {
             "Bytes of the records given back in restores.",
             given.bytes,
         );
-        let held = Single::counter("sdd_talks_total", "Talks held so far.", self.talks_held);
-        let now = Single::gauge("sdd_talks", "Talks held now.", self.talks_now);
-        write!(f, "{records}{bytes}{held}{now}")
+        let refused = JobsRefused {
+            jobs: &self.figures.refused_jobs,
+        };
+        let named = Named {
+            labels: self.figures.labels,
+            adoptions: self.figures.adoptions,
+        };
+        let talks = Talks {
+            connections: self.connections,
+        };
+        write!(f, "{records}{bytes}{refused}{named}{talks}")
     }
 }

@@ -145,8 +145,8 @@ fn path_in(alloc: Global, folder: &str) -> Result<String, AllocError>
     format!(in alloc; "{place}/.lock~")
 }
 
-// A folder by its name, which the current one has too if the text is empty.
-fn named(folder: &str) -> &str
+/// A folder by its name, which the current one has too if the text is empty.
+pub(crate) fn named(folder: &str) -> &str
     ensures { result.now ≡ folder_named folder.now }
 {
     if folder.is_empty() { "." } else { folder }

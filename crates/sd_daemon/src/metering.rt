@@ -1,9 +1,8 @@
 // The file that a daemon writes its figures to.
 use crate::figures_text::FiguresText;
-use crate::talk_counts::TalkCounts;
 use crate::talks::FileTalks;
 use sd_line::Naming;
-use sd_serve::{Log, LogLine};
+use sd_serve::{Log, LogLine, ShownPath};
 use std::fs;
 use std::io::{self, Write};
 use std::sync::{Condvar, Mutex, Wait};
@@ -13,11 +12,10 @@ use std::time::{Clock, Duration};
 /// How many seconds go by from one writing of the figures to the next.
 const PERIOD_SECONDS: u64 = 10;
 
-/// Where the figures of a run are written, if anywhere; how many talks were held; and whether the last figures are due.
+/// Where the figures of a run are written, if anywhere, and whether the last figures are due.
 #[derive(Drop)]
 pub(crate) struct Metering<'d> {
     file: Option<&'d str>,
-    pub(crate) talks: TalkCounts,
     ended: Mutex<bool>,
     due: Condvar,
 }
@@ -27,7 +25,6 @@ impl<'d> Metering<'d> {
     pub(crate) fn new(file: Option<&'d str>) -> Self {
         Metering {
             file,
-            talks: TalkCounts::new(),
             ended: Mutex::new(false),
             due: Condvar::new(),
         }
@@ -103,6 +100,7 @@ impl<N: Naming, W: Wait + Clock + Copy + Drop, L: Write> FileTalks<'_, N, W, L> 
         let can = self.try_write_to(file).is_ok();
         if could && !can {
             let log: &Log<L> = self.log;
+            let file = ShownPath(file);
             log.line(&self.hub.rt, LogLine::Unwritten { file });
         }
         can
@@ -113,8 +111,7 @@ impl<N: Naming, W: Wait + Clock + Copy + Drop, L: Write> FileTalks<'_, N, W, L> 
         let alloc = self.rt.alloc();
         let figures = FiguresText {
             figures: self.hub.figures()?,
-            talks_held: self.metering.talks.held(),
-            talks_now: self.metering.talks.now(),
+            connections: self.connections.figures(&self.wait),
         };
         let text = format!(in alloc; "{figures}")?;
         let part = format!(in alloc; "{file}.part")?;

@@ -58,5 +58,5 @@ fn is_settled<N: Naming, W: Wait + Clock + Copy + Drop>(
     let Ok(ends) = front.board.take_ends(line.no()) else {
         return false;
     };
-    settle(alloc, line, ends, receipts.into_inner()).is_ok()
+    settle(alloc, line, ends, receipts.into_inner().into_kept()).is_ok()
 }

@@ -1,23 +1,29 @@
 // The threads of a daemon.
 use crate::metering::{FiguresWriter, start_writer};
 use crate::workers::{DriveWorker, start_workers};
-use sd_serve::{TalkHolder, serve_each};
-use std::net::TcpListener;
+use sd_serve::{Connections, Listening, Serving, TalkHolder, serve_each};
 use std::sync::Wait;
 use std::thread;
 use std::thread::Threads;
 use std::time::Clock;
 
-/// Holds so many talks, while a worker works for each drive, and a thread writes the figures if they are asked for.
+/// Holds the talks of a run, while a worker works for each drive, and a thread writes the figures if they are asked for.
 /// Ends once all talks have ended, all that could be placed is placed, and the last figures are written. If no thread
 /// can be made for a worker or for the figures, no talk is held, and the answer is no.
 pub(crate) fn hold_talks<
     W: Threads + Wait + Clock + Sync,
     K: TalkHolder + DriveWorker + FiguresWriter,
->(rt: &W, listener: &TcpListener, connections: u64, talks: &K) -> bool {
+>(
+    host: &HostRuntime,
+    rt: &W,
+    listening: &Listening,
+    serving: Serving<'_>,
+    connections: &Connections,
+    talks: &K,
+) -> bool {
     thread::scope(thread::scope_env(), rt, move |writers| {
         let all = start_writer(writers, talks)
-            && hold_beside_workers(rt, listener, connections, talks);
+            && hold_beside_workers(host, rt, listening, serving, connections, talks);
         talks.end();
         all
     })
@@ -25,16 +31,18 @@ pub(crate) fn hold_talks<
 
 // Holds them beside the workers.
 fn hold_beside_workers<W: Threads + Wait + Clock + Sync, K: TalkHolder + DriveWorker>(
+    host: &HostRuntime,
     rt: &W,
-    listener: &TcpListener,
-    connections: u64,
+    listening: &Listening,
+    serving: Serving<'_>,
+    connections: &Connections,
     talks: &K,
 ) -> bool {
     thread::scope(thread::scope_env(), rt, move |workers| {
         let all = start_workers(workers, talks);
         if all {
             talks.ready();
-            serve_each(rt, listener, connections, talks);
+            serve_each(host, rt, listening, serving, connections, talks);
         }
         talks.close();
         all

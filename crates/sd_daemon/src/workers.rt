@@ -1,4 +1,5 @@
 // The workers of a daemon's drives.
+use crate::folders::tell_folders;
 use crate::talks::FileTalks;
 use sd_base::DriveNo;
 use sd_line::Naming;
@@ -62,6 +63,7 @@ impl<N: Naming + Send + Sync, W: Wait + Clock + Sync + Copy + Drop, L: Write + S
                 time: self.time,
             },
         );
+        tell_folders(self.rt, &self.wait, self.conf, self.log);
     }
 
     fn close(&self) {
@@ -77,6 +79,17 @@ fn tell<W: Wait + Clock, L: Write>(rt: &W, drive: DriveNo, worked: &Worked, log:
         Worked::Failed(volume) => log.line(rt, LogLine::Failed { drive, volume }),
         Worked::Mounted(volume) => log.line(rt, LogLine::Mounted { drive, volume }),
         Worked::NeedsVolume(pool) => log.line(rt, LogLine::Waits { drive, pool }),
-        Worked::Turned | Worked::Left => {}
+        Worked::LoadFailed { volume, why } => {
+            let refusal = *why;
+            log.line(
+                rt,
+                LogLine::Unloaded {
+                    drive,
+                    volume,
+                    refusal,
+                },
+            );
+        }
+        Worked::Turned | Worked::NeedsNone | Worked::Left => {}
     }
 }

@@ -97,7 +97,7 @@ fn answer<N: Naming, R: Wait + Drop>(
 
 // How far a session is by its drive.
 fn look<N: Naming, R: Wait + Drop>(line: &Line<MemDrive, N, R>, key: SessionKey) -> Option<Came> {
-    let receipt = line.lock()?.drive().receipt(key, 1).ok()?;
+    let receipt = line.lock().drive().receipt(key, 1).ok()?;
     Some(Came::Stands(line.progress(key), receipt.is_some()))
 }
 

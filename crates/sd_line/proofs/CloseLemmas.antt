@@ -1,5 +1,5 @@
 -- What a close comes to, by what the session and its drive say.
-use Rattle.std.proofs.Common.{◌≡◌, ◌≢◌, ℕ, refl, sym, ap, subst, ◌∙◌, inl, inr, List, Ok, Err, Result, Option, Some, None}
+use Rattle.std.proofs.Common.{◌≡◌, ◌≢◌, ℕ, refl, sym, ap, subst, ◌∙◌, inl, inr, List, Ok, Err, Result, Option, Some, None, false}
 use Rattle.std.specs.Prelude.{IsTrue, IfSome, IsSome, ◌↔◌}
 use Rattle.sd_base.specs.declared.refusal.Refusal.{Refusal}
 use Rattle.sd_base.specs.declared.refusal.Refusal.TheVariants.{SessionNotOpen, SessionFailed, NotYet as IsNotYet, Memory}
@@ -11,9 +11,8 @@ use Rattle.sd_session.specs.declared.status.Status.{Status}
 use Rattle.sd_session.specs.declared.status.Status.TheVariants.{Active, Ended, Closed as IsClosed, Cancelled, Failed, Purged}
 use Rattle.sd_span.specs.Spans.{spans_of}
 use Rattle.sd_span.specs.declared.progress.Progress.{Progress}
-use Rattle.sd_line.specs.Closes.{Closes, progress_in}
-use Rattle.sd_line.specs.declared.closing.Closing.{Closing}
-use Rattle.sd_line.specs.declared.closing.Closing.TheVariants.{Closed, NotYet}
+use Rattle.sd_line.specs.Closes.{Closes, IsDue, MayCloseBy, progress_in}
+use Rattle.sd_line.specs.declared.closing.Closing.TheVariants.{Closed}
 
 -- who has failed goes on no more
 status_failed : (status : Status) → SessionFailed ≡ status_refusal status → IsRunning status → ⊥
@@ -21,13 +20,13 @@ status_failed status is (inl active) = let e : SessionFailed ≡ SessionNotOpen 
 status_failed status is (inr ended) = let e : SessionFailed ≡ SessionNotOpen = is ∙ ap status_refusal ended in cc
 
 -- what became of a session that may not be closed for this cause
-pub record Refuses (s v : SessionView) (why : Refusal) (result : Result Closing Refusal) : Type 0 where
-  pub not_yet : why ≡ IsNotYet → (result ≡ Ok NotYet) × (v ≡ s)
+pub record Refuses (s v : SessionView) (why : Refusal) (result : Result (Option ReceiptIs) Refusal) : Type 0 where
+  pub not_yet : why ≡ IsNotYet → (result ≡ Ok None) × (v ≡ s)
   pub failed : why ≡ SessionFailed → (result ≡ Err why) × FailsSession s v
   pub other : why ≢ IsNotYet → why ≢ SessionFailed → (result ≡ Err why) × (v ≡ s)
 
 -- if the cause is the status
-by_status : (journal : List Entry) (s v : SessionView) (status : Status) (why : Refusal) (result : Result Closing Refusal) → s.status ≡ status → status ≢ Ended
+by_status : (journal : List Entry) (s v : SessionView) (status : Status) (why : Refusal) (result : Result (Option ReceiptIs) Refusal) → s.status ≡ status → status ≢ Ended
     → why ≡ status_refusal status → Refuses s v why result → (result ≡ Err why) × (v ≡ s)
 by_status journal s v Active why result is not same h = h.other (λ e. cc (e, same)) (λ e. cc (e, same))
 by_status journal s v Ended why result is not same h = absurd (not refl)
@@ -38,17 +37,17 @@ by_status journal s v Failed why result is not same h =
     (f.0, elim f.1 [ inl runs ↦ absurd (status_failed s.status (ap status_refusal (sym is)) runs.0) | inr stays ↦ stays.1 ])
 by_status journal s v Purged why result is not same h = h.other (λ e. cc (e, same)) (λ e. cc (e, same))
 
-pub refuses : (journal : List Entry) (s v : SessionView) (progress : Progress) (why : Refusal) (result : Result Closing Refusal) → progress ≡ progress_in journal s
-    → CloseRefused s progress why → Refuses s v why result → Closes journal s result v
+pub refuses : (journal : List Entry) (s v : SessionView) (progress : Progress) (why : Refusal) (result : Result (Option ReceiptIs) Refusal) → progress ≡ progress_in journal s
+    → CloseRefused s progress why → Refuses s v why result → IsDue journal s result v
 refuses journal s v progress why result far (inl t) h =
     let d = by_status journal s v s.status why result refl t.0 t.1 h in
-    subst (λ r. Closes journal s r v) (sym d.0) (inl (t.0, t.1, d.1))
+    subst (λ r. IsDue journal s r v) (sym d.0) (inl (t.0, t.1, d.1))
 refuses journal s v progress why result far (inr (inl t)) h =
     let d = h.failed t.2 in
-    subst (λ r. Closes journal s r v) (sym d.0) (inr (inl (t.0, subst (λ (p : Progress). IsTrue p.failed) far t.1, t.2, d.1)))
+    subst (λ r. IsDue journal s r v) (sym d.0) (inr (inl (t.0, subst (λ (p : Progress). IsTrue p.failed) far t.1, t.2, d.1)))
 refuses journal s v progress why result far (inr (inr t)) h =
     let d = h.not_yet t.3 in
-    subst (λ r. Closes journal s r v) (sym d.0) (
+    subst (λ r. IsDue journal s r v) (sym d.0) (
       t.0,
       ap (λ (p : Progress). p.failed) (sym far) ∙ t.1,
       elim t.2 [
@@ -63,7 +62,7 @@ pub wanted : (journal : List Entry) (s : SessionView) (progress : Progress) → 
 wanted journal s progress far may = subst (MayClose s) far may
 
 pub no_memory : (journal : List Entry) (s : SessionView) (progress : Progress) → progress ≡ progress_in journal s → MayClose s progress
-    → placed_of s.key journal ≡ s.sent → Closes journal s (Err Memory) s
+    → placed_of s.key journal ≡ s.sent → IsDue journal s (Err Memory) s
 no_memory journal s progress far may placed = inr (inr (wanted journal s progress far may, placed, refl, refl))
 
 -- what a drive's receipt tells of the session
@@ -78,7 +77,31 @@ receipt_told journal s key blocks (Some x) r is same many exactly tells =
     let made : SessionKey → ℕ → ReceiptIs = λ k n. record { key = k; spans = spans_of k (placements journal); blocks = n } in
     (ap (λ k. placed_of k journal) (sym same) ∙ both.0 ∙ many, sym e ∙ tells ∙ ap (λ k. made k blocks) same ∙ ap (made s.key) many)
 
-pub closes : (journal : List Entry) (s v : SessionView) (progress : Progress) (receipt : ReceiptIs) → progress ≡ progress_in journal s → ClosesSession s progress v
-    → placed_of s.key journal ≡ s.sent → receipt ≡ record { key = s.key; spans = spans_of s.key (placements journal); blocks = s.sent }
+pub due : (journal : List Entry) (s : SessionView) (progress : Progress) (key : SessionKey) (blocks : ℕ) (option : Option ReceiptIs) → progress ≡ progress_in journal s
+    → MayClose s progress → key ≡ s.key → blocks ≡ s.sent → (IsSome option ↔ ((placed_of key journal ≡ blocks) × (synced_of key journal ≡ blocks)))
+    → IfSome option (λ x. x ≡ record { key = key; spans = spans_of key (placements journal); blocks = blocks }) → IsDue journal s (Ok option) s
+due journal s progress key blocks None far may same many exactly tells =
+    let m = wanted journal s progress far may in (
+      m.ended,
+      m.sound,
+      inr (inr (λ placed. (let x = exactly.1 (ap (λ k. placed_of k journal) same ∙ placed ∙ sym many, ap (λ k. synced_of k journal) same ∙ m.all_synced ∙ sym many) in cc x))),
+      refl,
+    )
+due journal s progress key blocks (Some r) far may same many exactly tells =
+    let told = receipt_told journal s key blocks (Some r) r refl same many exactly tells in
+    (record { may = wanted journal s progress far may; placed_are = told.0; receipt_is = told.1 }, refl)
+
+-- A session that may be closed by a receipt, whatever was asked of its progress then.
+
+pub closed_by : (journal : List Entry) (s v : SessionView) (progress : Progress) (receipt : ReceiptIs) → ClosesSession s progress v → MayCloseBy journal s receipt
     → Closes journal s (Ok (Closed receipt)) v
-closes journal s v progress receipt far c placed is = (subst (λ p. ClosesSession s p v) far c, placed, is)
+closed_by journal s v progress receipt c m = (record { may = m.may; is = c.is }, m.placed_are, m.receipt_is)
+
+pub not_refused : (journal : List Entry) (s : SessionView) (progress : Progress) (receipt : ReceiptIs) (why : Refusal) → MayCloseBy journal s receipt
+    → progress.synced ≡ receipt.blocks → progress.failed ≡ false → CloseRefused s progress why → ⊥
+not_refused journal s progress receipt why m synced sound (inl t) = t.0 m.may.ended
+not_refused journal s progress receipt why m synced sound (inr (inl t)) = (let x = t.1 in cc (x, sound))
+not_refused journal s progress receipt why m synced sound (inr (inr t)) = elim t.2 [
+  | inl left ↦ left m.may.none_left
+  | inr apart ↦ apart (synced ∙ ap (λ (r : ReceiptIs). r.blocks) m.receipt_is)
+]

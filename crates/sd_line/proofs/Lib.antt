@@ -6,6 +6,7 @@ pub mod OpenLemmas
 pub mod OperateLemmas
 pub mod PartLemmas
 pub mod PushLemmas
+pub mod RoomLemmas
 pub mod SeatLemmas
 pub mod SeekLemmas
 pub mod Sequences

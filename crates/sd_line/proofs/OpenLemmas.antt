@@ -1,5 +1,5 @@
 -- What becomes of an end at which a session is opened, or isn't.
-use Rattle.std.proofs.Common.{◌≡◌, ℕ, ◌-◌, ◌≤◌, refl, sym, ap, subst, subst₂, ◌∙◌, inl, inr, false, Option, Some, None, List, [], ◌∷◌, ◌++◌}
+use Rattle.std.proofs.Common.{◌≡◌, ℕ, ℤ, ◌-◌, ◌≤◌, refl, sym, ap, subst, subst₂, ◌∙◌, inl, inr, false, Option, Some, None, List, [], ◌∷◌, ◌++◌}
 use Rattle.std.specs.Prelude.{is_some, IsSome, IfSome, IfNone}
 use Rattle.std.specs.Option.{option_map, option_or}
 use Rattle.sd_base.specs.Limits.{block_header, most_number}
@@ -11,7 +11,8 @@ use Rattle.sd_session.specs.declared.opening.Opening.{Opening}
 use Rattle.sd_spool.specs.Job.{StoreState, state_of}
 use Rattle.sd_spool.specs.Meaning.{Meaning}
 use Rattle.sd_line.specs.Ends.{ToldSession, EndIs, KeepsEnd, LastIsOver, LastGivesBack, BringsStore, last_store}
-use Rattle.sd_line.specs.Parts.{PartIs, KeepsPart, OpensAt, OpensNotAt}
+use Rattle.sd_line.specs.Parts.{PartIs, PreparedIs, Prepares, OpensAt, OpensNotAt, OpensPart, opening_at}
+use Rattle.sd_line.specs.Side.{LineIs}
 use Rattle.sd_session.proofs.PartLemmas.{cleared_fails}
 use Rattle.sd_line.proofs.Keeps.{begins, state_keeps, starts_stored}
 use Rattle.sd_line.proofs.Sequences.{last_is_over, last_store_push}
@@ -27,15 +28,6 @@ mapped_some f (Some x) h = h
 
 -- A session at an end that was taken apart: `e` is the end, `f` its parts, and `before` its sessions with room made for
 -- one more.
-
-pub begun : (time : ℕ → ℕ) (e f : EndIs) (before : List ToldSession) (m : Meaning) (opening : Opening) (room limit : ℕ) (s : SessionView)
-    → KeepsEnd time f → f ≡ e → before ≡ f.sessions → f.store ≡ Some (state_of m) → LastIsOver e.sessions → opening.key.time ≡ time e.seat.no
-    → (1 ≤ opening.key.id) × (opening.key.id ≤ most_number) → opening.lane ≡ e.seat.seat.lane → StartsSession opening room limit (state_of m) s
-    → KeepsPart time (record { seat = f.seat; before = before; session = s; told = [] })
-begun time e f before m opening room limit s h is same stored over run id lane starts =
-    subst (λ ss. KeepsPart time (record { seat = f.seat; before = ss; session = s; told = [] })) (sym same)
-    (begins time f (state_of m) opening room limit s h (subst (λ (x : EndIs). LastIsOver x.sessions) (sym is) over) stored
-    (run ∙ ap (λ (x : EndIs). time x.seat.no) (sym is)) id.0 id.1 (lane ∙ ap (λ (x : EndIs). x.seat.seat.lane) (sym is)) starts)
 
 pub opened : (limits : Limits) (e f : EndIs) (before : List ToldSession) (m : Meaning) (opening : Opening) (s : SessionView)
     → f ≡ e → before ≡ f.sessions → f.store ≡ Some (state_of m) → StartsSession opening (limits.block - block_header) limits.spool (state_of m) s
@@ -75,28 +67,17 @@ not_opened limits e f before store store' why is same stored r =
       ];
     })
 
--- or it was out of memory, and the store is as it was
-pub wanting : (limits : Limits) (e f : EndIs) (before : List ToldSession) (store store' : StoreState) → f ≡ e → before ≡ f.sessions → f.store ≡ Some store
-    → store' ≡ store → OpensNotAt limits e Memory (end_with f before store')
-wanting limits e f before store store' is same stored kept =
-    subst (λ x. OpensNotAt limits x Memory (end_with f before store')) is
-    (record {
-      store = store;
-      store' = store';
-      store_is = stored;
-      is = ap (λ ss. end_with f ss store') same;
-      cause = inl (refl, kept);
-    })
-
 pub answered : (limits : Limits) (e : EndIs) (why why' : Refusal) (back back' : EndIs) → OpensNotAt limits e why back → why' ≡ why → back' ≡ back
     → OpensNotAt limits e why' back'
 answered limits e why why' back back' h is same = subst₂ (OpensNotAt limits e) (sym is) (sym same) h
 
--- the store that a new session gave back is the one that it was given
-pub given_back : (opening : Opening) (room limit : ℕ) (m : Meaning) (s : SessionView) (store : StoreState) → StartsSession opening room limit (state_of m) s
-    → store_of s ≡ Some store → store ≡ state_of m
-given_back opening room limit m s store starts is =
-    let e : Some store ≡ Some (state_of m) = sym is ∙ starts_stored opening room limit (state_of m) s starts in cc (e)
+-- the end, put together again with the store that the session was given
+pub end_again : (f : EndIs) (before : List ToldSession) (m : Meaning) (opening : Opening) (room limit : ℕ) (s : SessionView) → before ≡ f.sessions
+    → f.store ≡ Some (state_of m) → StartsSession opening room limit (state_of m) s
+    → ◌≡◌ {A = EndIs} (record { seat = f.seat; store = store_of s; sessions = before }) f
+end_again f before m opening room limit s same stored starts =
+    ap (λ o. let x : EndIs = record { seat = f.seat; store = o; sessions = before } in x) (starts_stored opening room limit (state_of m) s starts ∙ sym stored)
+    ∙ ap (λ ss. let x : EndIs = record { seat = f.seat; store = f.store; sessions = ss } in x) same
 
 -- The last session, which is over and has the store, gives it back.
 pub gave : {A : Type 0} (option : Option A) (all earlier : List ToldSession) (last : ToldSession) (v : SessionView) → all ≡ earlier ++ last ∷ [] → LastIsOver all
@@ -131,3 +112,13 @@ none_mapped f (Some x) not = absurd (cc not)
 
 pub at_last : (here last : Option StoreState) → here ≡ None → IsSome (option_or here last) → IsSome last
 at_last here last none some = subst (λ o. IsSome (option_or o last)) none some
+
+-- A session that was prepared at an end of this line, and began.
+pub opens_part : (line : LineIs) (id job : ℕ) (pool : List ℕ) (moment : ℤ) (e : EndIs) (p : PreparedIs) (part : PartIs) → Prepares line id job pool moment e p
+    → OpensAt p.limits p.opening p.end part → OpensPart line id job pool moment e part
+opens_part line id job pool moment e p part h opens = record {
+  between = p.end;
+  brings = h.brings;
+  opens = subst (λ l. OpensAt l (opening_at line e.seat.seat.lane id job pool moment) p.end part) h.limits_are
+      (subst (λ o. OpensAt p.limits o p.end part) h.opening_is opens);
+}

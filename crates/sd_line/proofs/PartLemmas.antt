@@ -1,6 +1,6 @@
 -- What a part keeps through its calls, whatever they answer.
 use Rattle.std.proofs.Common.{◌≡◌, ℕ, ℤ, sym, subst, inl, inr, List, [], ◌∷◌, ◌++◌}
-use Rattle.std.specs.Prelude.{Result, Ok, Err, OnOk, OnErr, IfOk, IfErr}
+use Rattle.std.specs.Prelude.{Option, Some, None, Result, Ok, Err, OnOk, OnErr, IfOk, IfErr}
 use Rattle.sd_base.specs.Record.{Record}
 use Rattle.sd_base.specs.declared.refusal.Refusal.{Refusal}
 use Rattle.sd_journal.specs.Journal.{Entry}
@@ -11,7 +11,8 @@ use Rattle.sd_session.specs.Spooling.{Spools, SpoolRefused}
 use Rattle.sd_session.specs.declared.answer.Despooled.{Despooled}
 use Rattle.sd_session.specs.declared.answer.Despooled.TheVariants.{Sent, LaneFull, Nothing, NotDue}
 use Rattle.sd_session.specs.declared.answer.Spooling.{Spooling}
-use Rattle.sd_line.specs.Closes.{Closes, progress_in}
+use Rattle.sd_drive.specs.Receipt.{ReceiptIs}
+use Rattle.sd_line.specs.Closes.{Closes, IsDue, progress_in}
 use Rattle.sd_line.specs.Ends.{ToldSession}
 use Rattle.sd_line.specs.Parts.{PartIs, KeepsPart, SendsBy, queue_at}
 use Rattle.sd_line.specs.declared.closing.Closing.{Closing}
@@ -55,6 +56,12 @@ module _ (time : ℕ → ℕ) (seat : SeatIs) (before : List ToldSession) (s v :
   closes_keep journal (Err why) (inl c) h = on (stays s v records c.2) h
   closes_keep journal (Err why) (inr (inl c)) h = on (failed s v records c.3) h
   closes_keep journal (Err why) (inr (inr c)) h = on (stays s v records c.3) h
+
+  pub due_keep : (journal : List Entry) (result : Result (Option ReceiptIs) Refusal) → IsDue journal s result v
+      → KeepsPart time (part_of seat before s records) → KeepsPart time (part_of seat before v records)
+  due_keep journal (Ok (Some receipt)) c h = on (stays s v records c.1) h
+  due_keep journal (Ok None) c h = closes_keep journal (Ok NotYet) c h
+  due_keep journal (Err why) c h = closes_keep journal (Err why) c h
 
   -- by a step of sending that sent nothing
   same_seat : (seat' : SeatIs) → seat' ≡ seat → StepsOn s records v records → KeepsPart time (part_of seat before s records) → KeepsPart time (part_of seat' before v records)

@@ -1,7 +1,8 @@
 -- What a close of a session's part answers, by the journal of its drive.
-use Rattle.std.specs.Prelude.{◌≡◌, ◌≢◌, ◌⊎◌, false, IsTrue, List, [], Result, Ok, Err}
+use Rattle.std.specs.Prelude.{◌≡◌, ◌≢◌, ◌⊎◌, false, IsTrue, List, [], Option, Some, None, Result, Ok, Err}
 use Rattle.sd_base.specs.declared.refusal.Refusal.{Refusal}
 use Rattle.sd_base.specs.declared.refusal.Refusal.TheVariants.{SessionFailed, Memory}
+use Rattle.sd_drive.specs.Receipt.{ReceiptIs}
 use Rattle.sd_journal.specs.Journal.{Entry, placements, placed_of, fails, progress_of}
 use Rattle.sd_line.specs.declared.closing.Closing.{Closing}
 use Rattle.sd_line.specs.declared.closing.Closing.TheVariants.{Closed, NotYet}
@@ -32,3 +33,16 @@ Closes journal s (Err why) new =
     ((s.status ≢ IsEnded) × (why ≡ status_refusal s.status) × (new ≡ s))
     ⊎ ((s.status ≡ IsEnded) × IsTrue (fails s.key journal) × (why ≡ SessionFailed) × FailsSession s new)
     ⊎ (MayClose s (progress_in journal s) × (placed_of s.key journal ≡ s.sent) × (why ≡ Memory) × (new ≡ s))
+
+-- The session may be closed by the journal, with this receipt for all that it sent.
+pub record MayCloseBy (journal : List Entry) (s : SessionView) (receipt : ReceiptIs) : Type 0 where
+  pub may : MayClose s (progress_in journal s)
+  pub placed_are : placed_of s.key journal ≡ s.sent
+  pub receipt_is : receipt ≡ record { key = s.key; spans = spans_of s.key (placements journal); blocks = s.sent }
+
+-- What is answered to who asks for the receipt by which a session may be closed: as a close would be, but that it isn't
+-- closed yet.
+abbrev pub IsDue : List Entry → SessionView → Result (Option ReceiptIs) Refusal → SessionView → Type 0
+IsDue journal s (Ok (Some receipt)) new = MayCloseBy journal s receipt × (new ≡ s)
+IsDue journal s (Ok None) new = Closes journal s (Ok NotYet) new
+IsDue journal s (Err why) new = Closes journal s (Err why) new

@@ -43,11 +43,9 @@ Operates meaning own event reply d after =
     ((operated_at event ≡ Some own) × AnswersAlone meaning own event reply d after)
     ⊎ ((operated_at event ≢ Some own) × (reply ≡ Refused BadCommand) × (after ≡ d))
 
--- what an event may have been answered under a lock: as at some drive of this number; or it was a
--- bad command
+-- what an event may have been answered under a lock: as at some drive of this number
 abbrev pub MayOperate : {D : Type 0} → (D → Meaning) → (own : ℕ) → Event → Reply → Type 0
-MayOperate {D} meaning own event reply =
-    ((d : DriveIs D) × (after : DriveIs D) × Operates meaning own event reply d after) ⊎ (reply ≡ Refused BadCommand)
+MayOperate {D} meaning own event reply = (d : DriveIs D) × (after : DriveIs D) × Operates meaning own event reply d after
 
 -- of each volume of the drive, what lasted still lasts
 abbrev pub OwnLast : {D : Type 0} → DriveIs D → Shelf → Shelf → Type 0

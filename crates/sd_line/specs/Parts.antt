@@ -8,7 +8,7 @@ use Rattle.sd_base.specs.declared.refusal.Refusal.TheVariants.{SpoolFault, Memor
 use Rattle.sd_lane.specs.declared.piece.Piece.{Piece}
 use Rattle.sd_lane.specs.declared.piece.Queued.{Queued}
 use Rattle.sd_lane.specs.Queue.{queued}
-use Rattle.sd_line.specs.Side.{LineIs, SeatIs, sends_one}
+use Rattle.sd_line.specs.Side.{LineIs, SideIs, SeatIs, MayReady, sends_one}
 use Rattle.sd_pack.specs.Body.{PackedBody, empty_body}
 use Rattle.sd_line.specs.Ends.{ToldSession, EndIs, IsOfLane, IsOver, TellsAll, SentBy, BringsStore, pieces_from}
 use Rattle.sd_drive.specs.declared.limits.Limits.{Limits}
@@ -80,6 +80,26 @@ pub record OpensNotAt (limits : Limits) (e : EndIs) (why : Refusal) (e' : EndIs)
   pub store_is : e.store ≡ Some store
   pub is : e' ≡ record e { store = Some store' }
   pub cause : ((why ≡ Memory) × (store' ≡ store)) ⊎ ((limits.spool ≢ 0) × (why ≡ SpoolFault) × HasFailed store store')
+
+-- A session that is prepared: the limits that it is for, what it begins with, and the end of its lane, in which the store
+-- lies until it begins.
+pub record PreparedIs : Type 0 where
+  pub limits : Limits
+  pub opening : Opening
+  pub end : EndIs
+
+-- A session of this number is prepared at the end of a lane of this line. The lane's store lies in that end, wherever it
+-- lay before.
+pub record Prepares (line : LineIs) (id job : ℕ) (pool : List ℕ) (moment : ℤ) (e : EndIs) (p : PreparedIs) : Type 0 where
+  pub brings : BringsStore e p.end
+  pub limits_are : p.limits ≡ line.limits
+  pub opening_is : p.opening ≡ opening_at line e.seat.seat.lane id job pool moment
+
+-- The drive notes a session that begins: its pool is the drive's, and nothing else is another, but for what it may have made
+-- room for.
+pub record Notes {D : Type 0} (opening : Opening) (old new : SideIs D) : Type 0 where
+  pub is : new ≡ record old { drive = record old.drive { pool = Some opening.pool; ready = new.drive.ready } }
+  pub room : MayReady opening.key old.drive.ready new.drive.ready
 
 -- a session of this number begins at the end of a lane of this line, on the lane's store, wherever that lay
 pub record OpensPart (line : LineIs) (id job : ℕ) (pool : List ℕ) (moment : ℤ) (e : EndIs) (p : PartIs) : Type 0 where

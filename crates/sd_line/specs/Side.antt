@@ -1,5 +1,5 @@
 -- What contracts see of a line, and what the value under its lock keeps.
-use Rattle.std.specs.Prelude.{◌≡◌, ◌≤◌, ℕ, false, List, [], ◌∷◌, ◌++◌, map, Option, Some}
+use Rattle.std.specs.Prelude.{◌≡◌, ◌⊎◌, ◌≤◌, ℕ, false, List, [], ◌∷◌, ◌++◌, map, Option, Some}
 use Rattle.atomic_table.specs.Seated.{TableId}
 use Rattle.sd_base.specs.Limits.{most_lanes}
 use Rattle.sd_base.specs.declared.number.SessionKey.{SessionKey}
@@ -8,7 +8,7 @@ use Rattle.sd_drive.specs.Limits.{AreLimits}
 use Rattle.sd_drive.specs.Shelf.{blocks}
 use Rattle.sd_drive.specs.View.{DriveIs, items, item_of_piece, block_of_piece}
 use Rattle.sd_drive.specs.declared.limits.Limits.{Limits}
-use Rattle.sd_journal.specs.Journal.{Item, has_purged}
+use Rattle.sd_journal.specs.Journal.{Item, has_purged, with_key}
 use Rattle.sd_lane.specs.declared.piece.Piece.{Piece}
 use Rattle.sd_lane.specs.declared.piece.Queued.{Queued}
 use Rattle.sd_ruled.specs.Seats.{QueueIs, LaneSeatIs, DriveSeatIs}
@@ -32,6 +32,10 @@ pub record LineIs : Type 0 where
 pub record SeatIs : Type 0 where
   pub no : ℕ
   pub seat : LaneSeatIs
+
+-- there is room for the session's next placement; or, if out of memory, for no more than there was
+abbrev pub MayReady : SessionKey → List SessionKey → List SessionKey → Type 0
+MayReady key old new = (new ≡ with_key key old) ⊎ (new ≡ old)
 
 -- the queue of no line
 abbrev pub no_table : TableId

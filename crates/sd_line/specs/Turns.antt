@@ -57,10 +57,6 @@ pub record Turns {D : Type 0} (meaning : D → Meaning) (did : Turned) (old new 
   pub places : PlacesBy meaning did.place held after
   pub syncs : SyncsBy meaning (is_sync_due did.place) did.sync after new.drive
 
--- nothing was there to take or to place
-abbrev pub nothing : Turned
-nothing = record { took = false; place = Ok Idle; sync = None }
-
--- what a turn may have come to: some side can make it; or nothing was there to do
+-- what a turn may have come to: some side can make it
 abbrev pub MayTurn : {D : Type 0} → (D → Meaning) → Turned → Type 0
-MayTurn {D} meaning did = ((old : SideIs D) × (new : SideIs D) × Turns meaning did old new) ⊎ (did ≡ nothing)
+MayTurn {D} meaning did = (old : SideIs D) × (new : SideIs D) × Turns meaning did old new

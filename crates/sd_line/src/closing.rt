@@ -1,7 +1,8 @@
 // A session is closed by what its drive says of it.
-ghost use Rattle.std.specs.Prelude.{◌≡◌, ◌≢◌, [], Ok, Err};
+ghost use Rattle.std.specs.Prelude.{◌≡◌, ◌≢◌, List, None, Ok, Err};
+ghost use Rattle.sd_journal.specs.Journal.{Entry};
 ghost use Rattle.sd_session.specs.Session.{FailsSession};
-ghost use Rattle.sd_line.specs.Closes.{Closes};
+ghost use Rattle.sd_line.specs.Closes.{Closes, IsDue, MayCloseBy};
 
 use sd_base::Refusal;
 use sd_drive::{Drive, Receipt};
@@ -28,53 +29,70 @@ pub(crate) fn close<D: Driver, S: SpoolStore + Drop>(
 ) -> Result<Closing, Refusal>
     ensures { Closes drive.now.journal session.old result session.new }
 {
+    match receipt(drive, session) {
+        Ok(Some(receipt)) => {
+            close_by(session, &receipt);
+            Ok(Closing::Closed(receipt))
+        }
+        Ok(None) => Ok(Closing::NotYet),
+        Err(why) => Err(why),
+    }
+}
+
+/// The receipt by which the session may be closed; none if something of it is outstanding. A session of which the drive
+/// lost a block fails.
+pub(crate) fn receipt<D: Driver, S: SpoolStore + Drop>(
+    drive: &Drive<D>,
+    session: &mut Session<S>,
+) -> Result<Option<Receipt>, Refusal>
+    ensures { IsDue drive.now.journal session.old result session.new }
+{
     let key = session.key();
     let progress = drive.progress(key);
     if let Err(why) = session.may_close(&progress) {
         return refuse(session, why);
     }
     match drive.receipt(key, session.sent()) {
-        Ok(Some(receipt)) => {
-            session.close(&progress)?;
-            Ok(Closing::Closed(receipt))
-        }
-        Ok(None) => Ok(Closing::NotYet),
+        Ok(receipt) => Ok(receipt),
         Err(AllocError) => Err(Refusal::Memory),
     }
 }
 
-// What a close comes to of a session that may not be closed, and why it may not: if a block of it was lost, it fails.
-fn refuse<S: SpoolStore + Drop>(session: &mut Session<S>, why: Refusal) -> Result<Closing, Refusal>
-    ensures not_yet { why ≡ Refusal.NotYet
-        → (result ≡ Ok Closing.NotYet) × (session.new ≡ session.old) }
+/// Closes the session by that receipt.
+pub(crate) fn close_by<S: SpoolStore + Drop>(session: &mut Session<S>, receipt: &Receipt)
+    requires { (journal : List Entry) × MayCloseBy journal session.old receipt.now }
+    ensures { (journal : List Entry) → MayCloseBy journal session.old receipt.now
+        → Closes journal session.old (Ok (Closing.Closed receipt.now)) session.new }
+{
+    // All that it sent is synced.
+    let progress = Progress {
+        placed: receipt.blocks(),
+        synced: receipt.blocks(),
+        failed: false,
+    };
+    let Err(_) = session.close(&progress) else {
+        return;
+    };
+    unreachable!()
+}
+
+// What is answered of a session that may not be closed, and why it may not: if a block of it was lost, it fails.
+fn refuse<S: SpoolStore + Drop>(
+    session: &mut Session<S>,
+    why: Refusal,
+) -> Result<Option<Receipt>, Refusal>
+    ensures not_yet { why ≡ Refusal.NotYet → (result ≡ Ok None) × (session.new ≡ session.old) }
     ensures failed { why ≡ Refusal.SessionFailed
         → (result ≡ Err why) × FailsSession session.old session.new }
     ensures other { why ≢ Refusal.NotYet → why ≢ Refusal.SessionFailed
         → (result ≡ Err why) × (session.new ≡ session.old) }
 {
     match why {
-        Refusal::NotYet => Ok(Closing::NotYet),
+        Refusal::NotYet => Ok(None),
         Refusal::SessionFailed => {
             session.fail();
             Err(why)
         }
         _ => Err(why),
-    }
-}
-
-/// What a close of the session comes to at a drive that never placed a block of it.
-pub(crate) fn close_nowhere<S: SpoolStore + Drop>(
-    session: &mut Session<S>,
-) -> Result<Closing, Refusal>
-    ensures { Closes [] session.old result session.new }
-{
-    let none = Progress {
-        placed: 0,
-        synced: 0,
-        failed: false,
-    };
-    match session.may_close(&none) {
-        Ok(()) => unreachable!(),
-        Err(why) => refuse(session, why),
     }
 }

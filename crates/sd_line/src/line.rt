@@ -216,13 +216,6 @@ impl<D: Driver, N: Naming, R: Wait + Drop> Line<D, N, R> {
         &self.limits
     }
 
-    /// Notes a session at the drive, with its lock held: as `DriveSide::serve`.
-    pub fn serve(&self, key: SessionKey, pool: &PoolName) -> Result<(), AllocError> {
-        let mut side = self.side.lock(&self.rt);
-        let side: &mut DriveSide<D, N> = &mut side;
-        side.serve(key, pool)
-    }
-
     /// The queue before the line's drive, into which the seats of its lanes push.
     pub fn queue(&self) -> &LaneQueue<R>
         ensures queue { result.now ≡ self.now.queue }
@@ -243,26 +236,25 @@ impl<D: Driver, N: Naming, R: Wait + Drop> Line<D, N, R> {
         seat.push(&self.queue, piece)
     }
 
-    /// Takes the drive's lock. Each line's lock has its number; one that has another isn't handed
-    /// out.
-    pub fn lock(&self) -> Option<MutexGuard<'_, DriveSide<D, N>>>
-        ensures { IfSome result (λ side. (mutex_guard_value side).no ≡ self.now.no) }
+    /// Takes the drive's lock. What lies under it has the line's number: no clause can say which lock a line has, so it
+    /// is looked at here, and nowhere else. One that had another would be waited for without end.
+    pub fn lock(&self) -> MutexGuard<'_, DriveSide<D, N>>
+        ensures { (mutex_guard_value result).no ≡ self.now.no }
     {
-        let side = self.side.lock(&self.rt);
-        if side.no() == self.no {
-            Some(side)
-        } else {
-            None
+        for _taken in self.rt.forever() {
+            let side = self.side.lock(&self.rt);
+            if side.no() == self.no {
+                return side;
+            }
         }
+        unreachable!()
     }
 
     /// A turn of the drive, with its lock held: as `DriveSide::turn_on`.
     pub fn turn<G: Gate>(&self, gate: &G) -> Turned
         ensures { MayTurn (λ d. D.meaning d) result }
     {
-        let Some(mut side) = self.lock() else {
-            return Turned::nothing();
-        };
+        let mut side = self.lock();
         let side: &mut DriveSide<D, N> = &mut side;
         side.turn_on(&self.queue, gate)
     }
@@ -272,9 +264,7 @@ impl<D: Driver, N: Naming, R: Wait + Drop> Line<D, N, R> {
         ensures answers { MayOperate (λ d. D.meaning d) self.now.no event result }
         ensures elsewhere { operated_at event ≢ Some self.now.no → result ≡ Refused BadCommand }
     {
-        let Some(mut side) = self.lock() else {
-            return Reply::Refused(Refusal::BadCommand);
-        };
+        let mut side = self.lock();
         let side: &mut DriveSide<D, N> = &mut side;
         side.operate_on(event)
     }

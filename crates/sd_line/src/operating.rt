@@ -1,5 +1,7 @@
 // What an operator does to the drive of a line, if there is no desk.
-ghost use Rattle.std.specs.Prelude.{◌≡◌, ℕ};
+ghost use Rattle.std.specs.Prelude.{◌≡◌, ℕ, ℤ, List, IfSome, is_some};
+ghost use Rattle.sd_drive.specs.Moves.{index_of};
+ghost use Rattle.sd_machine.specs.declared.reply.Reply.TheVariants.{Refused};
 ghost use Rattle.sd_machine.specs.declared.event.Event.TheVariants.{Sync, Label, Adopt, Mount, Unmount, Seek};
 ghost use Rattle.sd_line.specs.Operates.{Operates, AnswersAlone, operated_at};
 
@@ -8,6 +10,7 @@ use sd_desk::next_volume;
 use sd_drive::Drive;
 use sd_driver::Driver;
 use sd_machine::{Event, Reply};
+use sd_volume::Volume;
 
 /// Answers an event that a line answers at the drive of this number. Any other is a bad command.
 pub(crate) fn operate<D: Driver>(drive: &mut Drive<D>, own: DriveNo, event: &Event) -> Reply
@@ -125,4 +128,74 @@ fn seek<D: Driver>(drive: &mut Drive<D>) -> Reply
         Some(name) => mount(drive, &name),
         None => Reply::Requested,
     }
+}
+
+/// What a label or an adoption of the drive of this number is answered if there is no memory for the volume that it brings.
+pub(crate) fn refusal_without_room<D: Driver>(
+    drive: &Drive<D>,
+    own: DriveNo,
+    event: &Event,
+) -> Option<Reply>
+    ensures { IfSome result (λ reply. Operates (λ d. D.meaning d) own event.now reply
+        drive.now drive.now) }
+{
+    match event {
+        Event::Label {
+            drive: at,
+            name,
+            media,
+            ..
+        } if *at == own => Some(Reply::Refused(label_without_room(drive, name, media))),
+        Event::Adopt { drive: at, name } if *at == own => {
+            Some(Reply::Refused(adopt_without_room(drive, name)))
+        }
+        _ => None,
+    }
+}
+
+// Why a volume isn't labelled, if there is no memory for it.
+fn label_without_room<D: Driver>(drive: &Drive<D>, name: &VolName, media: &MediaName) -> Refusal
+    ensures { (own : ℕ) (pool : List ℕ) (moment : ℤ) → AnswersAlone (λ d. D.meaning d) own
+        (Label own name.now pool media.now moment) (Refused result) drive.now drive.now }
+{
+    if !media.is_same(drive.media()) {
+        return Refusal::OtherPoolOrMedia;
+    }
+    if drive.loaded().is_some() {
+        return Refusal::InUse;
+    }
+    if has_name(drive.volumes(), name) {
+        return Refusal::AlreadyLabelled;
+    }
+    Refusal::Memory
+}
+
+// Why a volume isn't taken over, if there is no memory for it.
+fn adopt_without_room<D: Driver>(drive: &Drive<D>, name: &VolName) -> Refusal
+    ensures { (own : ℕ) → AnswersAlone (λ d. D.meaning d) own
+        (Adopt own name.now) (Refused result) drive.now drive.now }
+{
+    if has_name(drive.volumes(), name) {
+        return Refusal::AlreadyLabelled;
+    }
+    if drive.loaded().is_some() {
+        return Refusal::InUse;
+    }
+    Refusal::Memory
+}
+
+// Whether one of the volumes has that name.
+fn has_name(volumes: &[Volume], name: &VolName) -> bool
+    ensures { result ≡ is_some (index_of volumes.now name.now) }
+{
+    place_of(volumes, name).is_some()
+}
+
+// The place of the volume of that name.
+fn place_of(volumes: &[Volume], name: &VolName) -> Option<usize>
+    ensures { result ≡ index_of volumes.now name.now }
+{
+    volumes
+        .iter()
+        .position(|volume| volume.name().is_same(name))
 }

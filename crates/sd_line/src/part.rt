@@ -5,7 +5,7 @@ ghost use Rattle.sd_lane.specs.Queue.{WasFull};
 ghost use Rattle.sd_session.specs.Session.{TakesRecord, AppendRefused, EndsSession, EndRefused, CancelsSession, NotRunning};
 ghost use Rattle.sd_session.specs.Sending.{DespoolRefused};
 ghost use Rattle.sd_session.specs.Spooling.{Spools, SpoolRefused};
-ghost use Rattle.sd_line.specs.Closes.{Closes};
+ghost use Rattle.sd_line.specs.Closes.{Closes, IsDue, MayCloseBy};
 ghost use Rattle.sd_line.specs.Parts.{KeepsPart, SendsBy, with_session, end_of};
 
 use crate::closing::{self, Closing};
@@ -17,6 +17,7 @@ use crate::seat::Seat;
 use crate::side::DriveSide;
 use crate::told::Told;
 use sd_base::{DriveNo, Rec, Refusal, Seen};
+use sd_drive::Receipt;
 use sd_driver::Driver;
 use sd_session::{Despooled, Session, Spooling};
 use sd_spool::SpoolStore;
@@ -171,19 +172,34 @@ impl<N: Naming, S: SpoolStore + Drop> SessionPart<N, S> {
             × Closes journal self.old.session result self.new.session }
         ensures same { self.new ≡ with_session self.old self.new.session }
     {
-        let Some(side) = line.lock() else {
-            return self.close_nowhere();
-        };
+        let side = line.lock();
         let side: &DriveSide<D, N> = &side;
         self.close_on(side)
     }
 
-    // Closes the session at a drive that placed no block of it.
-    fn close_nowhere(&mut self) -> Result<Closing, Refusal>
-        ensures closes { Closes [] self.old.session result self.new.session }
+    /// The receipt by which a close of the session is due, by what lies under the lock of its line; none if something of it
+    /// is outstanding. It is refused as by `close_on`, and fails as there. It isn't closed yet: for that the lock need not
+    /// be held, since what was synced stays so.
+    pub fn receipt_on<D: Driver>(
+        &mut self,
+        side: &DriveSide<D, N>,
+    ) -> Result<Option<Receipt>, Refusal>
+        requires { self.old.seat.no ≡ side.now.no }
+        ensures due { IsDue side.now.drive.journal self.old.session result self.new.session }
         ensures same { self.new ≡ with_session self.old self.new.session }
     {
-        closing::close_nowhere(&mut self.session)
+        closing::receipt(side.drive(), &mut self.session)
+    }
+
+    /// Closes the session by the receipt that is due. Takes no memory.
+    pub fn close_by(&mut self, receipt: &Receipt)
+        requires { (journal : List Entry)
+            × MayCloseBy journal self.old.session receipt.now }
+        ensures closes { (journal : List Entry) → MayCloseBy journal self.old.session receipt.now
+            → Closes journal self.old.session (Ok (Closing.Closed receipt.now)) self.new.session }
+        ensures same { self.new ≡ with_session self.old self.new.session }
+    {
+        closing::close_by(&mut self.session, receipt)
     }
 
     /// The end of the lane, with the session as it is after those before it. Takes no memory.

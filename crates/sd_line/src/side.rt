@@ -1,11 +1,10 @@
 // What lies under the lock of a line.
-ghost use Rattle.std.specs.Prelude.{◌≡◌, ◌≤◌, Some, OnOk, OnErr};
+ghost use Rattle.std.specs.Prelude.{◌≡◌, ◌≤◌, Some, IfSome};
 ghost use Rattle.sd_base.specs.Limits.{most_lanes};
 ghost use Rattle.sd_driver.specs.Shelf.{StillLasts};
 ghost use Rattle.sd_drive.specs.Shelf.{Kept};
-ghost use Rattle.sd_journal.specs.Journal.{with_key};
 ghost use Rattle.sd_line.specs.Operates.{Operates, OwnLast};
-ghost use Rattle.sd_line.specs.Side.{KeepsSide};
+ghost use Rattle.sd_line.specs.Side.{KeepsSide, MayReady};
 ghost use Rattle.sd_line.specs.Turns.{Turns};
 ghost use Rattle.sd_world.specs.Devices.{GoesOn};
 ghost use Rattle.sd_world.specs.Reading.{ReadsDrive};
@@ -142,18 +141,28 @@ impl<D: Driver, N: Naming> DriveSide<D, N> {
         operating::operate(&mut self.drive, self.no, &event)
     }
 
-    /// Notes a session that was opened by a lane: its pool is the drive's from then on, and there is room for its next
-    /// placement.
-    pub fn serve(&mut self, key: SessionKey, pool: &PoolName) -> Result<(), AllocError>
-        ensures ok { OnOk result (self.new ≡ record self.old {
+    /// What a label or an adoption of this drive is answered if there is no memory for the volume that it brings: what is
+    /// refused without the device, else out of memory. None at any other event.
+    pub fn refusal_without_room(&self, event: &Event) -> Option<Reply>
+        ensures { IfSome result (λ reply. Operates (λ d. D.meaning d) self.now.no event.now reply
+            self.now.drive self.now.drive) }
+    {
+        operating::refusal_without_room(&self.drive, self.no, event)
+    }
+
+    /// Notes a session that begins: its pool is the drive's from then on, and there is room for its next placement. If out
+    /// of memory for that room, its first place makes it.
+    pub fn serve(&mut self, key: SessionKey, pool: &PoolName)
+        ensures serves { self.new ≡ record self.old {
           drive = record self.old.drive {
             pool = Some pool.now;
-            ready = with_key key self.old.drive.ready;
+            ready = self.new.drive.ready;
           };
-        }) }
-        ensures err { OnErr result (self.new ≡ self.old) }
+        } }
+        ensures room { MayReady key self.old.drive.ready self.new.drive.ready }
     {
-        self.drive.serve(key, pool)
+        ready(&mut self.drive, key);
+        self.drive.set_pool(pool);
     }
 
     /// Reads a session back from its spans, as the drive does. Nothing changes but its device, of which no volume does.
@@ -184,5 +193,15 @@ fn read_drive<D: Driver, S: Sink>(
     match drive.read(key, spans, sink) {
         Ok(end) => Ok(end),
         Err(fault) => Err(fault.refusal()),
+    }
+}
+
+// Makes room for a session's next placement, if there is memory.
+fn ready<D: Driver>(drive: &mut Drive<D>, key: SessionKey)
+    ensures same { drive.new ≡ record drive.old { ready = drive.new.ready } }
+    ensures room { MayReady key drive.old.ready drive.new.ready }
+{
+    match drive.ready(key) {
+        Ok(()) | Err(AllocError) => {}
     }
 }

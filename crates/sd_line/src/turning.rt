@@ -1,5 +1,5 @@
 // The three parts of a turn: a take, a place, and a sync.
-ghost use Rattle.sd_line.specs.Turns.{Takes, PlacesBy, SyncsBy, is_sync_due, nothing};
+ghost use Rattle.sd_line.specs.Turns.{Takes, PlacesBy, SyncsBy, is_sync_due};
 ghost use Rattle.std.specs.Prelude.{◌≡◌, IfSome, Some};
 
 use crate::gate::{Gate, Point};
@@ -19,19 +19,6 @@ pub struct Turned {
     pub place: Result<Placed, AllocError>,
     /// What it answered to the sync, if there was one.
     pub sync: Option<Result<(), Refusal>>,
-}
-
-impl Turned {
-    // A turn in which nothing was there to do.
-    pub(crate) fn nothing() -> Self
-        ensures { result ≡ nothing }
-    {
-        Turned {
-            took: false,
-            place: Ok(Placed::Idle),
-            sync: None,
-        }
-    }
 }
 
 // Takes a piece from the queue, if the hand is empty.

@@ -1,21 +1,27 @@
 -- What an event of a talk's session says of the records that it took.
-use Rattle.std.proofs.Common.{◌≡◌, ℕ, ℤ, refl, sym, ap, subst, ◌∙◌, inl, inr, List, [], ◌∷◌, ◌++◌}
+use Rattle.std.proofs.Common.{◌≡◌, ℕ, ℤ, ◌-◌, refl, sym, ap, subst, ◌∙◌, inl, inr, List, [], ◌∷◌, ◌++◌}
 use Rattle.std.proofs.lemmas.List.{append-nil}
 use Rattle.std.specs.Prelude.{Option}
 use Rattle.sd_append.specs.Port.{Exchange, Stepped}
 use Rattle.sd_base.specs.Record.{Record}
 use Rattle.sd_base.specs.declared.number.SessionKey.{SessionKey}
 use Rattle.sd_base.specs.declared.refusal.Refusal.{Refusal}
-use Rattle.sd_base.specs.declared.refusal.Refusal.TheVariants.{SessionNotOpen}
+use Rattle.sd_base.specs.Limits.{block_header}
+use Rattle.sd_base.specs.declared.refusal.Refusal.TheVariants.{Memory, SessionNotOpen}
 use Rattle.sd_drive.specs.Receipt.{ReceiptIs}
 use Rattle.sd_jobs.specs.Jobs.{ClosedBy, GoesOn, IsReceiptOf}
 use Rattle.sd_machine.specs.declared.event.Event.{Event}
 use Rattle.sd_machine.specs.declared.event.Event.TheVariants as events
 use Rattle.sd_machine.specs.declared.reply.Reply.{Reply}
 use Rattle.sd_machine.specs.declared.reply.Reply.TheVariants.{Refused, Opened, Taken, Ended, Closed, Cancelled}
-use Rattle.sd_line.specs.Parts.{PartIs, with_session}
+use Rattle.sd_lane.specs.declared.piece.Piece.{Piece}
+use Rattle.sd_line.specs.Ends.{EndIs}
+use Rattle.sd_line.specs.Parts.{OpensAt, PartIs, PreparedIs, Prepares, with_session}
+use Rattle.sd_line.specs.Side.{LineIs}
+use Rattle.sd_session.specs.declared.opening.Opening.{Opening}
 use Rattle.sd_span.specs.declared.span.Span.{Span}
-use Rattle.sd_lines.specs.Held.{AnswersEvent, AnswersOpen, AnswersOwn, Appends, Cancels, Ends, GivesUpAtMost, Shuts, told_in}
+use Rattle.sd_lines.specs.Opening.{IsNumbered}
+use Rattle.sd_lines.specs.Held.{AnswersEvent, AnswersOpen, AnswersOwn, Appends, Begins, Cancels, Ends, GivesUpAtMost, Shuts, told_in}
 use Rattle.sd_lines.specs.Taken.{taken_behind, taken_by, taken_last}
 use Rattle.sd_lines.proofs.TakenLemmas.{taken_more}
 
@@ -65,10 +71,11 @@ cancels_told ticket Cancelled p q a = told_with p q a.1
 cancels_told ticket (Refused why) p q a = told_equal p q a.1
 cancels_told ticket reply p q a = absurd a
 
-opens_told : (event : Event) (reply : Reply) (old new : Option PartIs) → AnswersOpen reply old new → told_in new ≡ taken_by reply event (told_in old)
-opens_told event (Opened ticket drive) old new a = ap told_in a.1 ∙ a.2.told_is
-opens_told event (Refused why) old new a = ap told_in a
-opens_told event reply old new a = absurd a
+opens_told : (job : ℕ) (pool : List ℕ) (moment : ℤ) (event : Event) (reply : Reply) (old new : Option PartIs) → AnswersOpen job pool moment reply old new
+    → told_in new ≡ taken_by reply event (told_in old)
+opens_told job pool moment event (Opened ticket drive) old new a = ap told_in a.1 ∙ a.2.told_is
+opens_told job pool moment event (Refused why) old new a = ap told_in a
+opens_told job pool moment event reply old new a = absurd a
 
 -- an event that no talk gives
 bad_told : (event : Event) (reply : Reply) (why : Refusal) (old new : Option PartIs) → reply ≡ Refused why → new ≡ old
@@ -76,7 +83,7 @@ bad_told : (event : Event) (reply : Reply) (why : Refusal) (old new : Option Par
 bad_told event reply why old new is same = ap told_in same ∙ sym (refused_none reply why event (told_in old) is)
 
 told_by : (event : Event) (reply : Reply) (old new : Option PartIs) → AnswersEvent event reply old new → told_in new ≡ taken_by reply event (told_in old)
-told_by (events.Open job pool media moment) reply old new a = opens_told _ reply old new a
+told_by (events.Open job pool media moment) reply old new a = opens_told job pool moment _ reply old new a
 told_by (events.Append ticket r) reply old new a = own_told (Appends r) ticket _ reply old new (appends_told ticket r reply) a
 told_by (events.End ticket moment) reply old new a = own_told (Ends moment) ticket _ reply old new (ends_told ticket moment reply) a
 told_by (events.Close ticket) reply old new a = own_told Shuts ticket _ reply old new (shuts_told ticket reply) a
@@ -120,3 +127,48 @@ pub shuts_by : {p q : PartIs} {receipt : ReceiptIs} {key : SessionKey} {spans : 
     → spans ≡ receipt.spans → Shuts (Closed key spans) p q
 shuts_by {q = q} key_is goes_on of spans_are =
     (goes_on, key_is ∙ of.key_is, subst (λ (ss : List Span). ClosedBy q.session ss) (sym spans_are) of.closed_by)
+
+-- without room for its receipt it stays as it was
+
+pub shuts_not : (p : PartIs) → Shuts (Refused Memory) p p
+shuts_not p = (
+  record { more = []; seat_is = ap (λ (l : List Piece). record p.seat { seat = record p.seat.seat { sent = l } }) (sym (append-nil p.seat.seat.sent)); before_is = refl; told_is = sym (append-nil p.told); key_is = refl },
+  λ spool. elim spool [
+    | inl is ↦ absurd (cc is)
+    | inr is ↦ absurd (cc is)
+  ],
+)
+
+-- An open.
+
+-- the number that a prepared session has is one under which it may be
+
+pub numbered_so : (p : PreparedIs) (ticket : ℕ) → p.opening.key.id ≡ ticket → IsNumbered ticket p p
+numbered_so p ticket is = ap (λ (n : ℕ). record p { opening = record p.opening { key = record p.opening.key { id = n } } }) is
+
+-- and so is another
+
+pub numbered_anew : (first old new : PreparedIs) (ticket next : ℕ) → IsNumbered ticket first old → IsNumbered next old new → IsNumbered next first new
+numbered_anew first old new ticket next was is =
+    is ∙ ap (λ (x : PreparedIs). record x { opening = record x.opening { key = record x.opening.key { id = next } } }) was
+
+-- a session that was prepared for this at the end of a lane of this drive, and numbered, begins
+pub begins : {line : LineIs} {id : ℕ} {job : ℕ} {pool : List ℕ} {moment : ℤ} {e : EndIs} {drive : ℕ} {made given : PreparedIs} {ticket : ℕ} {p : PartIs}
+    → Prepares line id job pool moment e made → e.seat.no ≡ drive → IsNumbered ticket made given → OpensAt given.limits given.opening given.end p
+    → Begins job pool moment ticket drive p
+begins {line = line} {id = id} {job = job} {pool = pool} {moment = moment} {e = e} {made = made} {given = given} {ticket = ticket} {p = p} prepares home numbered opens =
+    let opening = ap (λ (x : PreparedIs). x.opening) numbered in
+    let made_is = prepares.opening_is in
+    record {
+      opening = given.opening;
+      room = given.limits.block - block_header;
+      limit = given.limits.spool;
+      store = opens.store;
+      starts = opens.starts;
+      job_is = ap (λ (o : Opening). o.job) opening ∙ ap (λ (o : Opening). o.job) made_is;
+      pool_is = ap (λ (o : Opening). o.pool) opening ∙ ap (λ (o : Opening). o.pool) made_is;
+      moment_is = ap (λ (o : Opening). o.moment) opening ∙ ap (λ (o : Opening). o.moment) made_is;
+      id_is = ap (λ (o : Opening). o.key.id) opening;
+      drive_is = ap (λ (x : PartIs). x.seat.no) opens.is ∙ ap (λ (x : PreparedIs). x.end.seat.no) numbered ∙ ap (λ (x : EndIs). x.seat.no) prepares.brings.is ∙ home;
+      told_is = ap (λ (x : PartIs). x.told) opens.is;
+    }

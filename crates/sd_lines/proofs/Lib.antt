@@ -1,3 +1,4 @@
+pub mod FrontLemmas
 pub mod HeldLemmas
 pub mod SharedLemmas
 pub mod TakenLemmas

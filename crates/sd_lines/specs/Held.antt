@@ -1,5 +1,5 @@
 -- What an event does to the session that a talk opened last.
-use Rattle.std.specs.Prelude.{◌≡◌, ◌⊎◌, ℕ, ℤ, List, [], ◌∷◌, Option, None, Some}
+use Rattle.std.specs.Prelude.{◌≡◌, ◌≢◌, ◌⊎◌, ℕ, ℤ, List, [], ◌∷◌, Option, None, Some}
 use Rattle.std.specs.Option.{option_or}
 use Rattle.sd_base.specs.Record.{Record}
 use Rattle.sd_base.specs.declared.refusal.Refusal.{Refusal}
@@ -11,8 +11,11 @@ use Rattle.sd_machine.specs.declared.event.Event.TheVariants as events
 use Rattle.sd_machine.specs.declared.reply.Reply.{Reply}
 use Rattle.sd_machine.specs.declared.reply.Reply.TheVariants.{Refused, Opened, Taken, Ended, Closed, Cancelled}
 use Rattle.sd_line.specs.Parts.{PartIs, with_session}
-use Rattle.sd_session.specs.Session.{CancelsSession, EndsSession, EndRefused, NotRunning}
-use Rattle.sd_session.specs.declared.status.Status.TheVariants as status
+use Rattle.sd_session.specs.Session.{CancelsSession, EndsSession, EndRefused, NotRunning, SessionView, StartsSession}
+use Rattle.sd_session.specs.declared.opening.Opening.{Opening}
+use Rattle.sd_session.specs.declared.status.Status.TheVariants.{Closed as IsClosed}
+use Rattle.sd_spool.specs.Job.{StoreState}
+use Rattle.sd_board.specs.declared.sent.Sent.{Sent}
 
 -- what a talk has of the session that it opened last: its part, while that goes on; or what its part was at its end
 pub record HeldIs : Type 0 where
@@ -33,18 +36,26 @@ abbrev pub IsLast : ℕ → Option PartIs → Type 0
 IsLast ticket None = ⊥
 IsLast ticket (Some p) = p.session.key.id ≡ ticket
 
--- a session begins with this number at this drive, and took nothing yet
-pub record Begins (ticket drive : ℕ) (p : PartIs) : Type 0 where
-  pub id_is : p.session.key.id ≡ ticket
+-- A session begins with this number at this drive, for this job and pool, with its start label of this moment; it took
+-- nothing yet. (Its media is the drive's.)
+pub record Begins (job : ℕ) (pool : List ℕ) (moment : ℤ) (ticket drive : ℕ) (p : PartIs) : Type 0 where
+  pub opening : Opening
+  pub room : ℕ
+  pub limit : ℕ
+  pub store : StoreState
+  pub starts : StartsSession opening room limit store p.session
+  pub job_is : opening.job ≡ job
+  pub pool_is : opening.pool ≡ pool
+  pub moment_is : opening.moment ≡ moment
+  pub id_is : opening.key.id ≡ ticket
   pub drive_is : p.seat.no ≡ drive
-  pub active : p.session.status ≡ status.Active
   pub told_is : p.told ≡ []
 
 -- what an open comes to: a session begins; or it is refused, and the session opened before it is the last
-abbrev pub AnswersOpen : Reply → Option PartIs → Option PartIs → Type 0
-AnswersOpen (Opened ticket drive) old new = (p : PartIs) × (new ≡ Some p) × Begins ticket drive p
-AnswersOpen (Refused why) old new = new ≡ old
-AnswersOpen reply old new = ⊥
+abbrev pub AnswersOpen : ℕ → List ℕ → ℤ → Reply → Option PartIs → Option PartIs → Type 0
+AnswersOpen job pool moment (Opened ticket drive) old new = (p : PartIs) × (new ≡ Some p) × Begins job pool moment ticket drive p
+AnswersOpen job pool moment (Refused why) old new = new ≡ old
+AnswersOpen job pool moment reply old new = ⊥
 
 -- what a record comes to: it is taken, and is the last of those that were; or it isn't, and the others stay
 abbrev pub Appends : Record → Reply → PartIs → PartIs → Type 0
@@ -86,7 +97,7 @@ AnswersOwn Does ticket reply old new =
 
 -- what an event comes to: an open, or an event of the talk's session; any other is a bad command
 abbrev pub AnswersEvent : Event → Reply → Option PartIs → Option PartIs → Type 0
-AnswersEvent (events.Open job pool media moment) reply old new = AnswersOpen reply old new
+AnswersEvent (events.Open job pool media moment) reply old new = AnswersOpen job pool moment reply old new
 AnswersEvent (events.Append ticket r) reply old new = AnswersOwn (Appends r) ticket reply old new
 AnswersEvent (events.End ticket moment) reply old new = AnswersOwn (Ends moment) ticket reply old new
 AnswersEvent (events.Close ticket) reply old new = AnswersOwn Shuts ticket reply old new
@@ -97,3 +108,9 @@ AnswersEvent event reply old new = (reply ≡ Refused BadCommand) × (new ≡ ol
 abbrev pub GivesUpAtMost : Option PartIs → Option PartIs → Type 0
 GivesUpAtMost old new =
     (new ≡ old) ⊎ ((p : PartIs) × (q : PartIs) × (old ≡ Some p) × (new ≡ Some q) × Cancels Cancelled p q)
+
+-- What is on its way to a volume once a session goes on no more: all that it sent, unless it is closed, since then all is placed,
+-- or sent nothing.
+abbrev pub IsOnItsWay : SessionView → Option Sent → Type 0
+IsOnItsWay s None = (s.status ≡ IsClosed) ⊎ (s.sent ≡ 0)
+IsOnItsWay s (Some way) = (s.status ≢ IsClosed) × (s.sent ≢ 0) × (way ≡ record { key = s.key; sent = s.sent })

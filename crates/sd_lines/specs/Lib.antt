@@ -1,4 +1,6 @@
 pub mod Held
+pub mod Opening
 pub mod Port
+pub mod Receipts
 pub mod Taken
 pub mod Unused

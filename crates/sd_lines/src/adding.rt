@@ -2,8 +2,10 @@
 ghost use Rattle.std.specs.Prelude.{◌≡◌};
 
 use crate::amount::AmountCounter;
+use crate::answers::AnswerCounter;
 use crate::front::Front;
 use crate::hub::{Hub, Post};
+use crate::receipts::Receipts;
 use crate::tally::Tally;
 use crate::unused::UnusedDrive;
 use sd_base::DriveNo;
@@ -14,7 +16,7 @@ use sd_spool::SpoolStore;
 use sd_stations::Station;
 use std::alloc::{AllocError, Global};
 use std::sync::atomic::AtomicU64;
-use std::sync::{Mutex, Wait};
+use std::sync::{Condvar, Mutex, Wait};
 use std::time::Clock;
 
 /// Why a drive does not come to a hub.
@@ -34,7 +36,9 @@ impl<D: Driver + Drop, N: Naming, R: Wait + Clock + Drop, S: SpoolStore + Drop> 
             alloc,
             posts: Vec::new(alloc),
             front: Mutex::new(Front::new(Board::new(alloc))),
+            claimed: Condvar::new(),
             given: AmountCounter::new(),
+            answers: AnswerCounter::new(),
             time,
             keeps_receipts,
         }
@@ -79,9 +83,9 @@ fn new_post<D: Driver + Drop, N: Naming, R: Wait + Clock + Drop>(
         counts.push(AtomicU64::new(0))?;
     }
     Ok(Post {
-        station: Station::new(line),
+        station: Station::new(alloc, line),
         counts,
-        receipts: Mutex::new(Vec::new(alloc)),
+        receipts: Mutex::new(Receipts::new(alloc)),
         tally: Tally::new(alloc),
     })
 }

@@ -13,8 +13,21 @@ use sd_spool::SpoolStore;
 use std::sync::Wait;
 use std::time::Clock;
 
-/// Takes over a volume at a drive, and claims its name. The name is claimed first, and let go if the drive refuses.
+/// Takes over a volume at a drive, and counts that.
 pub(crate) fn adopt<D: Driver, N: Naming, R: Wait + Clock + Drop, S: SpoolStore + Drop>(
+    hub: &Hub<D, N, R, S>,
+    drive: DriveNo,
+    name: &VolName,
+) -> Result<Items<Payload>, Refusal>
+    ensures { IfOk result (λ lines. All IsLine lines) }
+{
+    let answer = try_adopt(hub, drive, name);
+    hub.answers.adoptions.count(answer.is_ok());
+    answer
+}
+
+// Takes over a volume at a drive, and claims its name for the time of that: it is claimed if the drive has the volume then.
+fn try_adopt<D: Driver, N: Naming, R: Wait + Clock + Drop, S: SpoolStore + Drop>(
     hub: &Hub<D, N, R, S>,
     drive: DriveNo,
     name: &VolName,
@@ -27,19 +40,19 @@ pub(crate) fn adopt<D: Driver, N: Naming, R: Wait + Clock + Drop, S: SpoolStore 
     let Ok(room) = AdoptedLine::new(hub.alloc) else {
         return Err(Refusal::Memory);
     };
-    if let Err(why) = hub.claim(name, drive) {
-        return Err(refusal_before(post, why));
+    if let Err(why) = hub.begin_claim(name, drive) {
+        return Err(refusal_before(&hub.rt, post, why));
     }
     let event = Event::Adopt {
         drive,
         name: name.copy(),
     };
-    match post.operate(&hub.rt, event) {
+    let reply = post.station.operate(&hub.rt, event);
+    hub.end_claim(post, name, &reply);
+    post.station.wait_for_rest(&hub.rt);
+    match reply {
         Reply::Adopted { end, next } => Ok(room.tell(end, next)),
-        Reply::Refused(why) => {
-            hub.release(name);
-            Err(why)
-        }
+        Reply::Refused(why) => Err(why),
         _ => Err(Refusal::BadCommand),
     }
 }
@@ -47,10 +60,11 @@ pub(crate) fn adopt<D: Driver, N: Naming, R: Wait + Clock + Drop, S: SpoolStore 
 // Why a volume isn't taken over at a drive, whose name can't be claimed for this cause: out of memory comes after a
 // volume that is loaded, and a claimed name before it.
 fn refusal_before<D: Driver, N: Naming, R: Wait + Clock + Drop>(
+    rt: &R,
     post: &Post<D, N, R>,
     why: Refusal,
 ) -> Refusal {
-    if why == Refusal::Memory && post.is_loaded() {
+    if why == Refusal::Memory && post.is_loaded(rt) {
         return Refusal::InUse;
     }
     why

@@ -87,12 +87,11 @@ pub(crate) fn operate<D: Driver, N: Naming, R: Wait + Clock + Drop, S: SpoolStor
         return Err(Refusal::NoSuchDrive);
     };
     let done = one_line(hub.alloc, words)?;
-    match post.operate(&hub.rt, event) {
+    let reply = post.station.operate(&hub.rt, event);
+    hub.look_at_request(post);
+    post.station.wait_for_rest(&hub.rt);
+    match reply {
         Reply::Refused(why) => Err(why),
-        Reply::Mounted { .. } => {
-            hub.answered(drive);
-            Ok(done)
-        }
         _ => Ok(done),
     }
 }
@@ -168,11 +167,10 @@ fn tell_requests<D: Driver, N: Naming, R: Wait + Clock + Drop, S: SpoolStore + D
 ) -> Result<Items<Payload>, Refusal>
     ensures { IfOk result (λ lines. All IsLine lines) }
 {
-    let text = {
-        let front = hub.front.lock(&hub.rt);
-        requests_text(hub.alloc, front.board.desk().requests())
+    let Ok(requests) = hub.requests() else {
+        return Err(Refusal::Memory);
     };
-    match text {
+    match requests_text(hub.alloc, &requests) {
         Ok(text) => show(hub.alloc, &text),
         Err(_) => Err(Refusal::Memory),
     }

@@ -1,11 +1,14 @@
 // What lies under the lock of the desk.
-ghost use Rattle.std.specs.Prelude.{◌≡◌, IfOk, IfErr, OnErr};
-ghost use Rattle.sd_board.specs.Opening.{OpensLane, OpensNone};
+ghost use Rattle.std.specs.Prelude.{◌≡◌, List, None, IfOk, IfErr, OnErr};
+ghost use Rattle.sd_board.specs.Board.{MayRest, Rests};
+ghost use Rattle.sd_board.specs.Lines.{GivesNumber, posted_in};
+ghost use Rattle.sd_board.specs.Opening.{ChoosesLane, ChoosesNone};
+ghost use Rattle.sd_board.specs.declared.seen.DriveSeen.{DriveSeen};
 ghost use Rattle.sd_line.specs.Ends.{LastIsOver};
 
 use crate::standings::Standings;
-use sd_base::{DriveNo, MOST_DRIVES, MediaName, PoolName, Refusal, Ticket};
-use sd_board::{Board, DriveSeen, Opened};
+use sd_base::{DriveNo, LaneNo, MOST_DRIVES, MediaName, PoolName, Refusal, Ticket};
+use sd_board::{Board, Chosen, DriveSeen, Numbered, Sent};
 use sd_line::{LaneEnd, Naming};
 use sd_session::Status;
 use sd_spool::SpoolStore;
@@ -14,9 +17,9 @@ use std::array;
 /// For how many drives there is room.
 pub(crate) const DRIVES: usize = MOST_DRIVES as usize;
 
-/// The board; of the drives 1, 2 and on the pool of the session that was opened there last; and how many of the board's
-/// sessions have each status. A drive itself learns of the pool a little later, and who opens a session in between must
-/// not be told of the one before.
+/// The board; of the drives 1, 2 and on the pool of the session for which a lane was chosen there last; and how many of the
+/// board's sessions have each status. A drive itself learns of the pool a little later, and who opens a session in between
+/// must not be told of the one before.
 #[derive(Drop)]
 pub struct Front<N: Naming, S: SpoolStore> {
     pub board: Board<N, S>,
@@ -34,37 +37,72 @@ impl<N: Naming, S: SpoolStore + Drop> Front<N, S> {
         }
     }
 
-    /// Opens a session of this pool and media at a drive, as the board does; `loaded` are the pools of the volumes that were
-    /// loaded in the drives when they were looked at.
-    pub(crate) fn open(
+    /// Chooses the lane of a session of this pool and media, as the board does; `loaded` are the pools of the volumes that are
+    /// loaded in the drives.
+    pub(crate) fn choose(
         &mut self,
         loaded: &[Option<PoolName>; DRIVES],
         pool: &PoolName,
         media: &MediaName,
-    ) -> Result<Opened<N, S>, Refusal>
-        ensures { IfOk result (λ opened. (opened.end.seat.no ≡ opened.drive)
-            × LastIsOver opened.end.sessions) }
+    ) -> Result<Chosen<N, S>, Refusal>
+        ensures ok { IfOk result (λ chosen. (seen : List DriveSeen)
+            × ChoosesLane self.old.board seen pool.now media.now chosen.ticket chosen.drive
+            chosen.end self.new.board) }
+        ensures home { IfOk result (λ chosen. (chosen.end.seat.no ≡ chosen.drive)
+            × LastIsOver chosen.end.sessions) }
+        ensures why { IfErr result (λ why. (seen : List DriveSeen)
+            × ChoosesNone self.old.board seen pool.now media.now why) }
+        ensures err { OnErr result (self.new.board ≡ self.old.board) }
     {
         let seen = seen(&self.pools, loaded);
-        let opened = self.board.open(&seen, pool, media)?;
-        let place = opened.drive.get() as usize - 1;
+        let chosen = match self.board.choose(&seen, pool, media) {
+            Ok(chosen) => chosen,
+            Err(why) => return Err(why),
+        };
+        let place = chosen.drive.get() as usize - 1;
         if place < DRIVES {
             self.pools[place] = Some(pool.copy());
         }
-        self.standings.add(Status::Active);
-        Ok(opened)
+        Ok(chosen)
     }
 
-    /// Takes back what was opened for a session that does not begin.
-    pub(crate) fn take_back(&mut self, ticket: Ticket, end: LaneEnd<N, S>) {
-        // Its slot is empty since then, and the session before it over.
-        if self.board.take_back(ticket, end).is_ok() {
-            self.standings.take(Status::Active);
+    /// Gives the session that was chosen for this lane its number, as the board does.
+    pub(crate) fn number(&mut self, ticket: Ticket, drive: DriveNo, lane: LaneNo) -> Numbered
+        ensures gives { GivesNumber result ticket drive lane self.old.board.lines
+            self.new.board.lines }
+        ensures same { self.new.board ≡ record self.old.board { lines = self.new.board.lines } }
+    {
+        let numbered = self.board.number(ticket, drive, lane);
+        if let Numbered::Given = numbered {
+            self.standings.add(Status::Active);
         }
+        numbered
+    }
+
+    /// Takes the lane of a session back that does not begin, as the board does.
+    pub(crate) fn give_back(&mut self, end: LaneEnd<N, S>)
+        ensures { MayRest self.old.board.drives end
+            → Rests self.old.board.drives end None self.new.board.drives }
+    {
+        // Its slot is empty since it was chosen, and the session before it over.
+        let _ = self.board.give_back(end);
+    }
+
+    /// The end of a lane lies in its slot from now on, as at the board.
+    pub(crate) fn rest(&mut self, end: LaneEnd<N, S>, on_its_way: Option<Sent>)
+        ensures { MayRest self.old.board.drives end
+            → Rests self.old.board.drives end on_its_way self.new.board.drives }
+    {
+        // Its slot is empty since it was chosen.
+        let _ = self.board.rest(end, on_its_way);
     }
 
     /// The session's line says from now on that it has this status and took so many records.
-    pub(crate) fn post(&mut self, ticket: Ticket, status: Status, records: u64) {
+    pub(crate) fn post(&mut self, ticket: Ticket, status: Status, records: u64)
+        ensures { self.new.board ≡ record self.old.board {
+          lines = posted_in ticket status records self.old.board.lines;
+        } }
+    {
         if let Some(posted) = self.board.session(ticket) {
             self.standings.take(posted.status);
             self.standings.add(status);

@@ -10,6 +10,7 @@ use sd_base::{JobId, MediaName, PoolName, Rec, Refusal, Ticket};
 use sd_driver::Driver;
 use sd_line::Naming;
 use sd_machine::{Event, Reply};
+use sd_session::Status;
 use sd_spool::SpoolStore;
 use sd_stations::{Live, Patience, Shut};
 use std::marker::Model;
@@ -79,7 +80,7 @@ impl<
 
     // Opens a session, unless the talk's goes on.
     fn open(&mut self, job: JobId, pool: PoolName, media: &MediaName, moment: i64) -> Reply
-        ensures { AnswersOpen result (last_of self.old) (last_of self.new) }
+        ensures { AnswersOpen job pool moment result (last_of self.old) (last_of self.new) }
     {
         if self.live.is_some() {
             return Reply::Refused(Refusal::BadCommand);
@@ -154,15 +155,7 @@ impl<
         if !live.is_of(ticket) {
             return Reply::Refused(Refusal::SessionNotOpen);
         }
-        let drive = live.part().no();
-        let reply = match live.close(&hub.rt, &self.patience) {
-            Ok(Shut { receipt, spans }) => {
-                let key = receipt.key();
-                hub.keep(drive, receipt);
-                Reply::Closed { key, spans }
-            }
-            Err(why) => Reply::Refused(why),
-        };
+        let reply = close_live(hub, live, &self.patience);
         self.leave_if_over();
         reply
     }
@@ -235,5 +228,34 @@ fn why_over<D: Driver, N: Naming, R: Wait + Clock + Drop, S: SpoolStore + Drop>(
     match live {
         Some(live) => live.part().session().running().err(),
         None => None,
+    }
+}
+
+// Closes a session. If it may be closed, room for its receipt is made before.
+#[tactic(auto, using(crate::proofs::HeldLemmas::shuts_by, crate::proofs::HeldLemmas::shuts_not))]
+fn close_live<D: Driver, N: Naming, R: Wait + Clock + Drop, S: SpoolStore + Drop, P: Patience>(
+    hub: &Hub<D, N, R, S>,
+    live: &mut Live<'_, D, N, R, S>,
+    patience: &P,
+) -> Reply
+    ensures { Shuts result live.old live.new }
+{
+    let drive = live.part().no();
+    let is_ended = live.part().session().status() == Status::Ended;
+    if is_ended && hub.promise_receipt(drive).is_err() {
+        return Reply::Refused(Refusal::Memory);
+    }
+    match live.close(&hub.rt, patience) {
+        Ok(Shut { receipt, spans }) => {
+            let key = receipt.key();
+            hub.keep(drive, receipt);
+            Reply::Closed { key, spans }
+        }
+        Err(why) => {
+            if is_ended {
+                hub.keep_none(drive);
+            }
+            Reply::Refused(why)
+        }
     }
 }

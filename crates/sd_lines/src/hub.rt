@@ -1,24 +1,23 @@
 // What all talks of a daemon share.
 ghost use Rattle.std.specs.Prelude.{◌≡◌, IfOk, IfSome};
-ghost use Rattle.sd_line.specs.Operates.{MayOperate};
 ghost use Rattle.sd_line.specs.Ends.{LastIsOver};
 
 use crate::amount::AmountCounter;
-use crate::front::{DRIVES, Front};
+use crate::answers::AnswerCounter;
+use crate::front::Front;
+use crate::receipts::Receipts;
 use crate::tally::Tally;
-use sd_base::{DriveNo, LaneNo, MediaName, PoolName, Refusal, Ticket, VolName};
-use sd_board::{Opened, Sent};
-use sd_desk::ClaimFault;
+use sd_base::{DriveNo, LaneNo, MediaName, PoolName, Refusal, Ticket};
+use sd_board::{Chosen, Numbered, Sent};
 use sd_drive::Receipt;
 use sd_driver::Driver;
 use sd_line::{LaneEnd, Naming};
-use sd_machine::{Event, Reply};
 use sd_session::Status;
 use sd_spool::SpoolStore;
 use sd_stations::Station;
-use std::alloc::Global;
+use std::alloc::{AllocError, Global};
 use std::sync::atomic::{AtomicU64, Ordering};
-use std::sync::{Mutex, Wait};
+use std::sync::{Condvar, Mutex, Wait};
 use std::time::Clock;
 
 /// A drive that the talks share: its station; how many records the session of each lane took; the receipts of the sessions that
@@ -28,26 +27,14 @@ pub struct Post<D: Driver, N: Naming, R: Wait + Drop> {
     pub station: Station<D, N, R>,
     /// Of the lanes 1, 2 and on.
     pub counts: Vec<AtomicU64>,
-    pub receipts: Mutex<Vec<Receipt>>,
+    pub receipts: Mutex<Receipts>,
     pub tally: Tally,
 }
 
 impl<D: Driver, N: Naming, R: Wait + Clock + Drop> Post<D, N, R> {
-    /// Whether a volume is loaded in the drive.
-    pub(crate) fn is_loaded(&self) -> bool {
-        match self.station.line().lock() {
-            Some(side) => side.drive().loaded().is_some(),
-            None => false,
-        }
-    }
-
-    /// Answers an event of the operator at the drive, once the drive has tried all that it has.
-    pub(crate) fn operate(&self, rt: &R, event: Event) -> Reply
-        ensures answers { MayOperate (λ d. D.meaning d) self.now.station.no event result }
-    {
-        let reply = self.station.operate(rt, event);
-        self.station.wait_for_rest(rt);
-        reply
+    /// Whether a volume is loaded in the drive, as that has published.
+    pub(crate) fn is_loaded(&self, rt: &R) -> bool {
+        self.station.loaded(rt).is_some()
     }
 
     /// Tells how many records the session of a lane took.
@@ -65,10 +52,15 @@ pub struct Hub<D: Driver, N: Naming, R: Wait + Drop, S: SpoolStore> {
     pub alloc: Global,
     /// The drives 1, 2 and on.
     pub posts: Vec<Post<D, N, R>>,
-    /// The desk, under its lock. Nobody takes it with the lock of a drive held, and no device is called while it is held.
+    /// The desk, under its lock. Nobody takes it with another lock held, but for what a drive has published nobody takes
+    /// another with it held, and no device is called meanwhile.
     pub front: Mutex<Front<N, S>>,
+    /// Where those wait who name a volume that somebody else is claiming. They are woken when a claiming ends.
+    pub claimed: Condvar,
     /// What was given back in restores.
     pub given: AmountCounter,
+    /// The answers that were counted.
+    pub answers: AnswerCounter,
     /// The time of the run.
     pub time: u32,
     /// Whether the receipts of closed sessions are kept.
@@ -88,26 +80,32 @@ impl<D: Driver, N: Naming, R: Wait + Clock + Drop, S: SpoolStore + Drop> Hub<D, 
         }
     }
 
-    /// What the desk gives to a new session: its number, and the end of a lane of its drive.
-    pub(crate) fn take_lane(
-        &self,
-        loaded: &[Option<PoolName>; DRIVES],
-        pool: &PoolName,
-        media: &MediaName,
-    ) -> Result<Opened<N, S>, Refusal>
-        ensures { IfOk result (λ opened. (opened.end.seat.no ≡ opened.drive)
-            × LastIsOver opened.end.sessions) }
+    /// What the desk chooses for a new session: the end of a lane of its drive, and the number that it gets if nobody else
+    /// is given that meanwhile. What the drives have published is looked at while the desk's lock is held, so that nobody
+    /// changes the desk in between.
+    pub(crate) fn choose(&self, pool: &PoolName, media: &MediaName) -> Result<Chosen<N, S>, Refusal>
+        ensures { IfOk result (λ chosen. (chosen.end.seat.no ≡ chosen.drive)
+            × LastIsOver chosen.end.sessions) }
     {
         let mut front = self.front.lock(&self.rt);
         let front: &mut Front<N, S> = &mut front;
-        front.open(loaded, pool, media)
+        self.free_arrived(&mut front.board);
+        let loaded = self.loaded();
+        front.choose(&loaded, pool, media)
     }
 
-    /// Takes back what the desk gave, if the session does not begin.
-    pub(crate) fn take_back(&self, ticket: Ticket, end: LaneEnd<N, S>) {
+    /// Gives the session that was chosen for this lane its number, if that is still the next one.
+    pub(crate) fn number(&self, ticket: Ticket, drive: DriveNo, lane: LaneNo) -> Numbered {
         let mut front = self.front.lock(&self.rt);
         let front: &mut Front<N, S> = &mut front;
-        front.take_back(ticket, end);
+        front.number(ticket, drive, lane)
+    }
+
+    /// Takes the lane of a session back that does not begin.
+    pub(crate) fn give_back(&self, end: LaneEnd<N, S>) {
+        let mut front = self.front.lock(&self.rt);
+        let front: &mut Front<N, S> = &mut front;
+        front.give_back(end);
     }
 
     /// The end of a lane lies at the desk from now on, and the line of its last session says that it has this status.
@@ -124,8 +122,7 @@ impl<D: Driver, N: Naming, R: Wait + Clock + Drop, S: SpoolStore + Drop> Hub<D, 
         if let Some(ticket) = Ticket::new(id) {
             front.post(ticket, status, records);
         }
-        // Its slot is empty since the session was opened.
-        let _ = front.board.rest(end, on_its_way);
+        front.rest(end, on_its_way);
     }
 
     /// Tells that a session has its end label, and how many records it took.
@@ -150,13 +147,34 @@ impl<D: Driver, N: Naming, R: Wait + Clock + Drop, S: SpoolStore + Drop> Hub<D, 
         }
     }
 
-    /// Keeps the receipt of a session that was closed at a drive, if receipts are kept and there is memory for it.
+    /// Makes room for the receipt of a session that is to be closed at a drive, if receipts are kept.
+    pub(crate) fn promise_receipt(&self, drive: DriveNo) -> Result<(), AllocError> {
+        if !self.keeps_receipts {
+            return Ok(());
+        }
+        match self.posts.get(drive.get() as usize - 1) {
+            Some(post) => post.receipts.lock(&self.rt).promise(),
+            None => Ok(()),
+        }
+    }
+
+    /// Keeps the receipt of a session that was closed at a drive, if receipts are kept, in the room that was made for it.
     pub(crate) fn keep(&self, drive: DriveNo, receipt: Receipt) {
         if !self.keeps_receipts {
             return;
         }
         if let Some(post) = self.posts.get(drive.get() as usize - 1) {
-            let _ = post.receipts.lock(&self.rt).push(receipt);
+            post.receipts.lock(&self.rt).keep(receipt);
+        }
+    }
+
+    /// Gives the room back that was made for a receipt, of a session that isn't closed.
+    pub(crate) fn keep_none(&self, drive: DriveNo) {
+        if !self.keeps_receipts {
+            return;
+        }
+        if let Some(post) = self.posts.get(drive.get() as usize - 1) {
+            post.receipts.lock(&self.rt).end_promise();
         }
     }
 
@@ -171,25 +189,5 @@ impl<D: Driver, N: Naming, R: Wait + Clock + Drop, S: SpoolStore + Drop> Hub<D, 
 
     pub(crate) fn has_session(&self, ticket: Ticket) -> bool {
         self.front.lock(&self.rt).board.session(ticket).is_some()
-    }
-
-    /// Claims a name for a drive; refused if it is claimed, or if out of memory.
-    pub(crate) fn claim(&self, name: &VolName, drive: DriveNo) -> Result<(), Refusal> {
-        let mut front = self.front.lock(&self.rt);
-        match front.board.claim(name, drive) {
-            Ok(()) => Ok(()),
-            Err(ClaimFault::AlreadyLabelled) => Err(Refusal::AlreadyLabelled),
-            Err(ClaimFault::Memory) => Err(Refusal::Memory),
-        }
-    }
-
-    /// Takes a claim away.
-    pub(crate) fn release(&self, name: &VolName) {
-        self.front.lock(&self.rt).board.release(name);
-    }
-
-    /// Notes that a drive has the volume that it needed.
-    pub(crate) fn answered(&self, drive: DriveNo) {
-        self.front.lock(&self.rt).board.answered(drive);
     }
 }

@@ -13,9 +13,25 @@ use sd_spool::SpoolStore;
 use std::sync::Wait;
 use std::time::Clock;
 
-/// Labels a new volume at a drive, and claims its name. The name is claimed first, and let go if the drive refuses; one
-/// that is claimed is refused after what the drive would refuse before it.
+/// Labels a new volume at a drive, and counts that.
 pub(crate) fn label<D: Driver, N: Naming, R: Wait + Clock + Drop, S: SpoolStore + Drop>(
+    hub: &Hub<D, N, R, S>,
+    drive: DriveNo,
+    name: &VolName,
+    pool: &PoolName,
+    media: &MediaName,
+    moment: i64,
+) -> Result<Items<Payload>, Refusal>
+    ensures { IfOk result (λ lines. All IsLine lines) }
+{
+    let answer = try_label(hub, drive, name, pool, media, moment);
+    hub.answers.labels.count(answer.is_ok());
+    answer
+}
+
+// Labels a new volume at a drive, and claims its name for the time of that: it is claimed if the drive has the volume then. A
+// name that is claimed is refused after what the drive would refuse before it.
+fn try_label<D: Driver, N: Naming, R: Wait + Clock + Drop, S: SpoolStore + Drop>(
     hub: &Hub<D, N, R, S>,
     drive: DriveNo,
     name: &VolName,
@@ -29,8 +45,8 @@ pub(crate) fn label<D: Driver, N: Naming, R: Wait + Clock + Drop, S: SpoolStore 
         return Err(Refusal::NoSuchDrive);
     };
     let done = one_line(hub.alloc, "ok labelled")?;
-    if let Err(why) = hub.claim(name, drive) {
-        return Err(refusal_before(post, media, why));
+    if let Err(why) = hub.begin_claim(name, drive) {
+        return Err(refusal_before(&hub.rt, post, media, why));
     }
     let event = Event::Label {
         drive,
@@ -39,18 +55,19 @@ pub(crate) fn label<D: Driver, N: Naming, R: Wait + Clock + Drop, S: SpoolStore 
         media: media.copy(),
         moment,
     };
-    match post.operate(&hub.rt, event) {
+    let reply = post.station.operate(&hub.rt, event);
+    hub.end_claim(post, name, &reply);
+    post.station.wait_for_rest(&hub.rt);
+    match reply {
         Reply::Labelled => Ok(done),
-        Reply::Refused(why) => {
-            hub.release(name);
-            Err(why)
-        }
+        Reply::Refused(why) => Err(why),
         _ => Err(Refusal::BadCommand),
     }
 }
 
 // Why a volume of this media isn't labelled at a drive, whose name can't be claimed for this cause.
 fn refusal_before<D: Driver, N: Naming, R: Wait + Clock + Drop>(
+    rt: &R,
     post: &Post<D, N, R>,
     media: &MediaName,
     why: Refusal,
@@ -58,7 +75,7 @@ fn refusal_before<D: Driver, N: Naming, R: Wait + Clock + Drop>(
     if !media.is_same(post.station.line().media()) {
         return Refusal::OtherPoolOrMedia;
     }
-    if post.is_loaded() {
+    if post.is_loaded(rt) {
         return Refusal::InUse;
     }
     why

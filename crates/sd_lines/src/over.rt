@@ -1,5 +1,6 @@
 // The session of a talk that goes on no more.
 ghost use Rattle.std.specs.Prelude.{◌≡◌, ◌↔◌, IsTrue};
+ghost use Rattle.sd_lines.specs.Held.{IsOnItsWay};
 ghost use Rattle.sd_session.specs.Session.{NotRunning};
 
 use crate::hub::Hub;
@@ -7,7 +8,7 @@ use sd_base::{Refusal, Ticket};
 use sd_board::Sent;
 use sd_driver::Driver;
 use sd_line::{Naming, SessionPart};
-use sd_session::Status;
+use sd_session::{Session, Status};
 use sd_spool::SpoolStore;
 use sd_stations::Live;
 use std::marker::Model;
@@ -56,7 +57,8 @@ impl<N: Naming, S: SpoolStore + Drop> Over<N, S> {
 }
 
 /// A session that goes on no more leaves its lane. Its end lies at the desk from then on, where the lane is free once all
-/// that was sent is placed; for that its drive is to come to rest.
+/// that was sent is placed, or at once if nothing was; its drive is to come to rest for that, and may notice that nobody needs
+/// a volume any more.
 pub(crate) fn leave<D: Driver, N: Naming, R: Wait + Clock + Drop, S: SpoolStore + Drop>(
     hub: &Hub<D, N, R, S>,
     live: Live<'_, D, N, R, S>,
@@ -69,16 +71,8 @@ pub(crate) fn leave<D: Driver, N: Naming, R: Wait + Clock + Drop, S: SpoolStore 
     let session = live.part().session();
     let (status, records) = (session.status(), session.records());
     let key = session.key();
-    let sent = Sent {
-        key,
-        sent: session.sent(),
-    };
+    let on_its_way = on_its_way(session);
     let station = live.station();
-    let on_its_way = if status == Status::Closed {
-        None
-    } else {
-        Some(sent)
-    };
     hub.come_back(live.leave(), on_its_way, key.id, status, records);
     if status != Status::Closed {
         station.rest(&hub.rt);
@@ -89,4 +83,17 @@ pub(crate) fn leave<D: Driver, N: Naming, R: Wait + Clock + Drop, S: SpoolStore 
         why,
         part,
     }
+}
+
+// What is on its way of a session that goes on no more.
+fn on_its_way<S: SpoolStore + Drop>(session: &Session<S>) -> Option<Sent>
+    ensures { IsOnItsWay session.now result }
+{
+    if session.status() == Status::Closed || session.sent() == 0 {
+        return None;
+    }
+    Some(Sent {
+        key: session.key(),
+        sent: session.sent(),
+    })
 }

@@ -60,13 +60,11 @@ fn drive_of<D: Driver, N: Naming, R: Wait + Clock + Drop, S: SpoolStore + Drop>(
     let Some(first) = spans.first() else {
         return Err(Refusal::BadSpan);
     };
-    let front = hub.front.lock(&hub.rt);
-    let desk = front.board.desk();
-    let Some(drive) = desk.drive_of(&first.volume) else {
+    let Some(drive) = hub.drive_of(&first.volume)? else {
         return Err(Refusal::VolumeNotOnShelf);
     };
     for span in spans {
-        if desk.drive_of(&span.volume) != Some(drive) {
+        if hub.drive_of(&span.volume)? != Some(drive) {
             return Err(Refusal::VolumeNotOnShelf);
         }
     }

@@ -3,50 +3,58 @@ use crate::hub::{Hub, Post};
 use sd_base::{DriveNo, Items, LaneNo};
 use sd_board::Board;
 use sd_core::{DriveLine, Loaded, SessionLine, View, VolumeLine};
-use sd_drive::Drive;
 use sd_driver::Driver;
-use sd_line::{DriveSide, Naming};
+use sd_line::Naming;
 use sd_session::Status;
 use sd_spool::SpoolStore;
+use sd_stations::VolumeRow;
 use std::alloc::AllocError;
 use std::sync::Wait;
 use std::sync::atomic::Ordering;
 use std::time::Clock;
 
-/// The drives and their volumes, one drive after another, and then the sessions, as the desk has them. So it is no moment's,
-/// while others go on.
+/// The drives and their volumes, as they have published, and the sessions, as the desk has them. The desk's lock is held from
+/// the first drive to the last session: whoever is answered passes it before, so what was answered before something that is
+/// shown here is shown too. No drive's lock is taken. Blocks go on being placed meanwhile.
 pub(crate) fn view<D: Driver, N: Naming, R: Wait + Clock + Drop, S: SpoolStore + Drop>(
     hub: &Hub<D, N, R, S>,
 ) -> Result<View, AllocError> {
-    hub.look_for_arrivals();
+    let mut front = hub.front.lock(&hub.rt);
+    let board: &mut Board<N, S> = &mut front.board;
+    hub.free_arrived(board);
     let mut drives = Vec::with_capacity(hub.alloc, hub.posts.len())?;
     let mut volumes = Vec::new(hub.alloc);
     for post in &hub.posts {
-        let loaded = show_volumes(post, &mut volumes)?;
-        let line = post.station.line();
-        drives.push(DriveLine {
-            drive: line.no(),
-            media: line.media().copy(),
-            loaded,
-            sessions: 0,
-        })?;
+        show_volumes(hub, post, &mut volumes)?;
+        drives.push(drive_line(hub, post, board))?;
     }
-    let sessions = {
-        let front = hub.front.lock(&hub.rt);
-        for line in &mut drives {
-            line.sessions = front.board.busy(line.drive) as usize;
-        }
-        let mut sessions = front.board.session_lines()?.into_vec();
-        for line in &mut sessions {
-            line.records = hub.records_of(&front.board, line);
-        }
-        Items::from_vec(sessions)
-    };
+    let mut sessions = board.session_lines()?.into_vec();
+    for line in &mut sessions {
+        line.records = hub.records_of(board, line);
+    }
     Ok(View {
         drives: Items::from_vec(drives),
         volumes: Items::from_vec(volumes),
-        sessions,
+        sessions: Items::from_vec(sessions),
     })
+}
+
+// The line of a drive.
+fn drive_line<D: Driver, N: Naming, R: Wait + Clock + Drop, S: SpoolStore + Drop>(
+    hub: &Hub<D, N, R, S>,
+    post: &Post<D, N, R>,
+    board: &Board<N, S>,
+) -> DriveLine {
+    let line = post.station.line();
+    DriveLine {
+        drive: line.no(),
+        media: line.media().copy(),
+        loaded: match post.station.loaded(&hub.rt) {
+            Some(row) => Loaded::Volume(row.name),
+            None => Loaded::Nothing,
+        },
+        sessions: board.busy(line.no()) as usize,
+    }
 }
 
 impl<D: Driver, N: Naming, R: Wait + Clock + Drop, S: SpoolStore + Drop> Hub<D, N, R, S> {
@@ -73,33 +81,27 @@ impl<D: Driver, N: Naming, R: Wait + Clock + Drop, S: SpoolStore + Drop> Hub<D, 
     }
 }
 
-// Adds a line for each volume of a drive. What is loaded there.
-fn show_volumes<D: Driver, N: Naming, R: Wait + Clock + Drop>(
+// Adds a line for each volume of a drive.
+fn show_volumes<D: Driver, N: Naming, R: Wait + Clock + Drop, S: SpoolStore + Drop>(
+    hub: &Hub<D, N, R, S>,
     post: &Post<D, N, R>,
     volumes: &mut Vec<VolumeLine>,
-) -> Result<Loaded, AllocError> {
-    let Some(side) = post.station.line().lock() else {
-        return Ok(Loaded::Nothing);
-    };
-    let side: &DriveSide<D, N> = &side;
-    let drive = side.drive();
-    for volume in drive.volumes() {
+) -> Result<(), AllocError> {
+    for row in post.station.rows(&hub.rt, hub.alloc)? {
+        let VolumeRow {
+            name,
+            pool,
+            media,
+            status,
+            end,
+        } = row;
         volumes.push(VolumeLine {
-            name: volume.name().copy(),
-            pool: volume.pool().copy(),
-            media: volume.media().copy(),
-            status: volume.status(),
-            end: volume.end(),
+            name,
+            pool,
+            media,
+            status,
+            end,
         })?;
     }
-    Ok(loaded_in(drive))
-}
-
-// What is loaded in a drive.
-fn loaded_in<D: Driver>(drive: &Drive<D>) -> Loaded {
-    drive.know();
-    match drive.loaded() {
-        Some(at) => Loaded::Volume(drive.volumes()[at].name().copy()),
-        None => Loaded::Nothing,
-    }
+    Ok(())
 }

@@ -6,7 +6,7 @@ use std::alloc::{AllocError, Global};
 use std::sync::atomic::{AtomicU64, Ordering};
 use std::sync::{Mutex, Wait};
 
-/// How often the device failed with a volume.
+/// How often the device failed with a volume, or it couldn't be loaded.
 #[derive(Drop)]
 pub struct VolumeFaults {
     pub volume: VolName,
@@ -21,9 +21,10 @@ pub struct Tally {
     // How often the drive had to ask for a volume, and how many volumes became full.
     waits: AtomicU64,
     full: AtomicU64,
-    // Under a lock of its own, which is taken when a device failed and when the figures are read. A volume is here
-    // once.
+    // The volumes with which the device failed, and those that couldn't be loaded. Each has a lock of its own, which is
+    // taken if one failed and when the figures are read. A volume is in each of them once.
     faults: Mutex<Vec<VolumeFaults>>,
+    load_faults: Mutex<Vec<VolumeFaults>>,
 }
 
 impl Tally {
@@ -34,6 +35,7 @@ impl Tally {
             waits: AtomicU64::new(0),
             full: AtomicU64::new(0),
             faults: Mutex::new(Vec::new(alloc)),
+            load_faults: Mutex::new(Vec::new(alloc)),
         }
     }
 
@@ -46,26 +48,10 @@ impl Tally {
             Worked::Full(_) => {
                 self.full.fetch_add(1, Ordering::SeqCst);
             }
-            Worked::Failed(volume) => self.failed(rt, volume),
-            Worked::Turned | Worked::Mounted(_) | Worked::Left => {}
+            Worked::Failed(volume) => add_fault(rt, &self.faults, volume),
+            Worked::LoadFailed { volume, why: _ } => add_fault(rt, &self.load_faults, volume),
+            Worked::Turned | Worked::Mounted(_) | Worked::NeedsNone | Worked::Left => {}
         }
-    }
-
-    // Counts that the device failed with a volume. If there is no memory for a volume that wasn't counted yet, it
-    // isn't.
-    fn failed<R: Wait>(&self, rt: &R, volume: &VolName) {
-        let mut faults = self.faults.lock(rt);
-        let faults: &mut Vec<VolumeFaults> = &mut faults;
-        for counted in faults.iter_mut() {
-            if counted.volume.is_same(volume) {
-                counted.faults = counted.faults.saturating_add(1);
-                return;
-            }
-        }
-        let _ = faults.push(VolumeFaults {
-            volume: volume.copy(),
-            faults: 1,
-        });
     }
 
     /// How often the drive had to ask for a volume.
@@ -84,14 +70,48 @@ impl Tally {
         rt: &R,
         alloc: Global,
     ) -> Result<Vec<VolumeFaults>, AllocError> {
-        let faults = self.faults.lock(rt);
-        let mut copies = Vec::with_capacity(alloc, faults.len())?;
-        for counted in faults.iter() {
-            copies.push(VolumeFaults {
-                volume: counted.volume.copy(),
-                faults: counted.faults,
-            })?;
-        }
-        Ok(copies)
+        copies(rt, alloc, &self.faults)
     }
+
+    /// How often each volume couldn't be loaded.
+    pub(crate) fn load_faults<R: Wait>(
+        &self,
+        rt: &R,
+        alloc: Global,
+    ) -> Result<Vec<VolumeFaults>, AllocError> {
+        copies(rt, alloc, &self.load_faults)
+    }
+}
+
+// Counts one fault more of a volume. If there is no memory for a volume that wasn't counted yet, it isn't.
+fn add_fault<R: Wait>(rt: &R, faults: &Mutex<Vec<VolumeFaults>>, volume: &VolName) {
+    let mut faults = faults.lock(rt);
+    let faults: &mut Vec<VolumeFaults> = &mut faults;
+    for counted in faults.iter_mut() {
+        if counted.volume.is_same(volume) {
+            counted.faults = counted.faults.saturating_add(1);
+            return;
+        }
+    }
+    let _ = faults.push(VolumeFaults {
+        volume: volume.copy(),
+        faults: 1,
+    });
+}
+
+// The faults that were counted of each volume.
+fn copies<R: Wait>(
+    rt: &R,
+    alloc: Global,
+    faults: &Mutex<Vec<VolumeFaults>>,
+) -> Result<Vec<VolumeFaults>, AllocError> {
+    let faults = faults.lock(rt);
+    let mut copies = Vec::with_capacity(alloc, faults.len())?;
+    for counted in faults.iter() {
+        copies.push(VolumeFaults {
+            volume: counted.volume.copy(),
+            faults: counted.faults,
+        })?;
+    }
+    Ok(copies)
 }

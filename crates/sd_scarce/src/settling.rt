@@ -137,7 +137,7 @@ fn receipt_again<N: Naming, R: Wait + Drop>(
     line: &Line<MemDrive, N, R>,
     receipt: &Receipt,
 ) -> Option<Receipt> {
-    let side = line.lock()?;
+    let side = line.lock();
     let drive = side.drive();
     match drive.receipt(receipt.key(), receipt.blocks()) {
         Ok(same) => same,

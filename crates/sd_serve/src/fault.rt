@@ -7,8 +7,6 @@ use std::fmt;
 pub enum FaultPlace<'a> {
     /// A session, at its drive.
     Session { ticket: u32, drive: u32 },
-    /// A job whose session wasn't opened.
-    Job(u32),
     /// A session that is read back, from this volume on.
     Reading { id: u32, volume: &'a VolName },
     /// A line of a console.
@@ -23,7 +21,6 @@ impl fmt::Display for FaultPlace<'_> {
             FaultPlace::Session { ticket, drive } => {
                 write!(f, "session {ticket} on drive {drive}")
             }
-            FaultPlace::Job(job) => write!(f, "job {job}"),
             FaultPlace::Reading { id, volume } => {
                 let volume = volume.as_str();
                 write!(f, "reading session {id} from {volume}")

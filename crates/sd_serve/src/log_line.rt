@@ -1,8 +1,11 @@
 // The lines of the daemon's log.
+use crate::connections::Holder;
 use crate::fault::FaultPlace;
+use crate::naming_line::NamingAct;
+use crate::shown::{NoFolder, ShownPath};
 use jiff::Timestamp;
 use sd_append::TalkEnd;
-use sd_base::{PoolName, Refusal, VolName};
+use sd_base::{MediaName, PoolName, Refusal, VolName};
 use std::fmt;
 
 /// How much of a session was taken: its records, and the bytes of their data.
@@ -46,7 +49,32 @@ pub enum LogLine<'a> {
         ticket: u32,
         taken: TakenAmount,
     },
-    /// A device or a spool failed, or a session by it, and a talk was told so.
+    /// A job of a talk got no session.
+    RefusedJob {
+        talk: u64,
+        job: u32,
+        pool: &'a PoolName,
+        media: &'a MediaName,
+        refusal: Refusal,
+    },
+    /// A volume was labelled or adopted by a talk.
+    Named {
+        talk: u64,
+        act: NamingAct,
+        drive: u32,
+        volume: &'a VolName,
+    },
+    /// As many connections are open as there may be. These are the oldest.
+    AllTaken {
+        most: u64,
+        oldest: &'a [Holder],
+    },
+    /// The file that ends the server is there: no connection is taken any more, and so many are open.
+    Ending {
+        file: ShownPath<'a>,
+        open: u64,
+    },
+    /// A device or a spool failed, or a session by it, or a volume couldn't be named, and a talk was told so.
     Fault {
         talk: u64,
         place: FaultPlace<'a>,
@@ -66,6 +94,22 @@ pub enum LogLine<'a> {
         drive: u32,
         pool: &'a PoolName,
     },
+    /// A volume of a drive can't be loaded.
+    Unloaded {
+        drive: u32,
+        volume: &'a VolName,
+        refusal: Refusal,
+    },
+    /// The folder of a drive, or of the spools, isn't there or is no folder.
+    NoFolder {
+        drive: u32,
+        folder: ShownPath<'a>,
+        why: NoFolder,
+    },
+    NoSpoolFolder {
+        folder: ShownPath<'a>,
+        why: NoFolder,
+    },
     /// A drive goes on with a volume.
     Mounted {
         drive: u32,
@@ -80,7 +124,7 @@ pub enum LogLine<'a> {
     },
     /// The figures of the daemon can't be written to this file.
     Unwritten {
-        file: &'a str,
+        file: ShownPath<'a>,
     },
 }
 
@@ -140,6 +184,41 @@ impl fmt::Display for LogLine<'_> {
                     "talk {talk}: session {ticket} cancelled with {records} records of {bytes} bytes"
                 )
             }
+            LogLine::RefusedJob {
+                talk,
+                job,
+                pool,
+                media,
+                refusal,
+            } => {
+                let (pool, media) = (pool.as_str(), media.as_str());
+                write!(
+                    f,
+                    "talk {talk}: job {job} of pool {pool} and media {media} is refused: {refusal}"
+                )
+            }
+            LogLine::Named {
+                talk,
+                act,
+                drive,
+                volume,
+            } => {
+                let (volume, done) = (volume.as_str(), done_word(*act));
+                write!(f, "talk {talk}: volume {volume} is {done} on drive {drive}")
+            }
+            LogLine::AllTaken { most, oldest } => {
+                write!(f, "all {most} connections are taken")?;
+                let mut joint = "; the oldest: ";
+                for holder in *oldest {
+                    write!(f, "{joint}{holder}")?;
+                    joint = ", ";
+                }
+                Ok(())
+            }
+            LogLine::Ending { file, open } => write!(
+                f,
+                "{file} is there: no connection is taken any more, {open} are open"
+            ),
             LogLine::Fault {
                 talk,
                 place,
@@ -157,6 +236,23 @@ impl fmt::Display for LogLine<'_> {
                 let pool = pool.as_str();
                 write!(f, "drive {drive} waits for a volume of pool {pool}")
             }
+            LogLine::Unloaded {
+                drive,
+                volume,
+                refusal,
+            } => {
+                let volume = volume.as_str();
+                write!(
+                    f,
+                    "drive {drive}: volume {volume} can't be loaded: {refusal}"
+                )
+            }
+            LogLine::NoFolder { drive, folder, why } => {
+                write!(f, "drive {drive}: its folder {folder} {why}")
+            }
+            LogLine::NoSpoolFolder { folder, why } => {
+                write!(f, "the folder of the spools, {folder}, {why}")
+            }
             LogLine::Mounted { drive, volume } => {
                 let volume = volume.as_str();
                 write!(f, "drive {drive}: volume {volume} is mounted")
@@ -165,6 +261,14 @@ impl fmt::Display for LogLine<'_> {
             LogLine::Unsettled { drive } => write!(f, "drive {drive} can't be settled"),
             LogLine::Unwritten { file } => write!(f, "metrics {file} can't be written"),
         }
+    }
+}
+
+/// What was done with a volume.
+fn done_word(act: NamingAct) -> &'static str {
+    match act {
+        NamingAct::Label => "labelled",
+        NamingAct::Adopt => "adopted",
     }
 }
 

@@ -1,6 +1,8 @@
 // A port with a log of what is asked of it.
 ghost use Rattle.std.specs.Prelude.{◌≡◌};
 
+use crate::connection_table::Seat;
+use crate::connections::Connections;
 use crate::heard::Heard;
 use crate::log::Log;
 use sd_append::{ReadBack, SessionPort, TalkEnd};
@@ -22,11 +24,17 @@ pub struct LoggedPort<'l, P, R, L> {
 }
 
 impl<'l, P, R: Wait + Clock, L: Write> LoggedPort<'l, P, R, L> {
-    /// The port of the talk of this number, which begins.
-    pub fn begin(port: P, rt: &'l R, log: &'l Log<L>, talk: u64) -> Self
+    /// The port of the talk with this seat, which begins.
+    pub fn begin(
+        port: P,
+        rt: &'l R,
+        log: &'l Log<L>,
+        connections: &'l Connections,
+        seat: Seat,
+    ) -> Self
         ensures { result.port ≡ port }
     {
-        let heard = Heard::new(rt, log, talk);
+        let heard = Heard::new(rt, log, connections, seat);
         heard.begins();
         LoggedPort { port, heard }
     }

@@ -7,6 +7,7 @@ mod meter;
 mod patience;
 mod sending;
 mod station;
+mod status;
 mod watch;
 
 pub use closing::Shut;
@@ -14,4 +15,5 @@ pub use live::Live;
 pub use meter::Metered;
 pub use patience::Patience;
 pub use station::{Station, Worked};
+pub use status::VolumeRow;
 pub use watch::{Backlog, Moves, Waited};

@@ -2,18 +2,17 @@
 ghost use Rattle.std.specs.Prelude.{◌≡◌, ◌↔◌, [], ◌∷◌, IfErr, IfOk, IsTrue, OnErr, OnOk};
 ghost use Rattle.sd_jobs.specs.Jobs.{GoesOn, StopsShort, IsReceiptOf};
 ghost use Rattle.sd_jobs.specs.declared.job.Stop.TheVariants.{Refused};
-ghost use Rattle.sd_line.specs.Parts.{end_of, with_session};
+ghost use Rattle.sd_line.specs.Parts.{OpensAt, end_of, with_session};
 ghost use Rattle.sd_session.specs.Session.{CancelsSession, EndsSession, EndRefused, NotRunning};
 
 use crate::closing::{Shut, try_close};
 use crate::patience::Patience;
-use crate::sending::{send_on, send_rest, wait};
+use crate::sending::{Wish, send_on, send_rest, wait};
 use crate::station::Station;
 use crate::watch::Moves;
 use sd_base::{Rec, Refusal, Ticket};
 use sd_driver::Driver;
-use sd_line::{LaneEnd, Naming, SessionPart};
-use sd_machine::Event;
+use sd_line::{LaneEnd, Naming, Prepared, SessionPart};
 use sd_session::Status;
 use sd_spool::SpoolStore;
 use std::marker::Model;
@@ -25,6 +24,7 @@ use std::time::Clock;
 pub struct Live<'h, D: Driver, N: Naming, R: Wait + Drop, S: SpoolStore> {
     station: &'h Station<D, N, R>,
     part: SessionPart<N, S>,
+    wish: Wish,
 }
 
 impl<'h, D: Driver, N: Naming, R: Wait + Drop, S: SpoolStore> Model for Live<'h, D, N, R, S> {
@@ -39,12 +39,16 @@ impl<'h, D: Driver, N: Naming, R: Wait + Drop, S: SpoolStore> Model for Live<'h,
 }
 
 impl<'h, D: Driver, N: Naming, R: Wait + Clock + Drop, S: SpoolStore + Drop> Live<'h, D, N, R, S> {
-    /// A session at the station of its drive.
-    pub fn new(station: &'h Station<D, N, R>, part: SessionPart<N, S>) -> Self
-        requires { part.seat.no ≡ station.now.no }
-        ensures { result ≡ part }
+    /// A session that was prepared begins at the station of its drive, as by `Station::begin`.
+    pub fn begin(station: &'h Station<D, N, R>, rt: &R, prepared: Prepared<N, S>) -> Self
+        requires { prepared.end.seat.no ≡ station.now.no }
+        ensures { OpensAt prepared.limits prepared.opening prepared.end result }
     {
-        Live { station, part }
+        Live {
+            station,
+            part: station.begin(rt, prepared),
+            wish: Wish::new(),
+        }
     }
 
     pub fn part(&self) -> &SessionPart<N, S>
@@ -97,7 +101,7 @@ impl<'h, D: Driver, N: Naming, R: Wait + Clock + Drop, S: SpoolStore + Drop> Liv
         ensures goes_on { GoesOn self.old [] self.new }
         ensures err { IfErr result (λ why. StopsShort (Refused why) self.new.session) }
     {
-        match send_on(rt, self.station, &mut self.part) {
+        match send_on(rt, self.station, &mut self.part, &mut self.wish) {
             Err(Refusal::SpoolFault) => Err(Refusal::SessionFailed),
             answer => answer,
         }
@@ -137,12 +141,8 @@ impl<'h, D: Driver, N: Naming, R: Wait + Clock + Drop, S: SpoolStore + Drop> Liv
         }
         for _turn in rt.forever() {
             let moves = self.station.moves(rt);
-            if let Some(shut) = try_close(self.station.line(), &mut self.part)? {
-                return Ok(shut);
-            }
-            if self.is_placed() {
-                self.sync(rt);
-                return self.close_synced();
+            if self.is_close_due(rt) {
+                return self.close_now(rt);
             }
             if !wait(rt, self.station, moves, patience) {
                 return Err(Refusal::NotYet);
@@ -157,33 +157,29 @@ impl<'h, D: Driver, N: Naming, R: Wait + Clock + Drop, S: SpoolStore + Drop> Liv
         ensures goes_on { GoesOn self.old [] self.new }
         ensures err { IfErr result (λ why. StopsShort (Refused why) self.new.session) }
     {
-        match send_rest(rt, self.station, &mut self.part, patience) {
+        match send_rest(rt, self.station, &mut self.part, &mut self.wish, patience) {
             Err(Refusal::Busy) => Err(Refusal::NotYet),
             Err(Refusal::SpoolFault) => Err(Refusal::SessionFailed),
             answer => answer,
         }
     }
 
-    // Whether the drive has placed all that the session sent.
-    fn is_placed(&self) -> bool {
+    // Whether the drive is to be asked for a close: for an ended session once it has placed all that this sent, or lost a
+    // block of it.
+    fn is_close_due(&self, rt: &R) -> bool {
         let session = self.part.session();
-        self.station.line().progress(session.key()).placed == session.sent()
+        session.status() != Status::Ended
+            || self.station.is_close_due(rt, session.key(), session.sent())
     }
 
-    // Syncs the drive's volume. If that fails, the close reports it.
-    fn sync(&self, rt: &R) {
-        let drive = self.station.line().no();
-        let _ = self.station.operate(rt, Event::Sync { drive });
-    }
-
-    // Closes the session, all of which was placed and synced.
-    fn close_synced(&mut self) -> Result<Shut, Refusal>
+    // Closes the session, all of which was placed; or it is refused.
+    fn close_now(&mut self, rt: &R) -> Result<Shut, Refusal>
         ensures goes_on { GoesOn self.old [] self.new }
         ensures ok { IfOk result (λ s. IsReceiptOf self.new.session s.receipt
             × (s.spans ≡ s.receipt.spans)) }
         ensures err { IfErr result (λ why. StopsShort (Refused why) self.new.session) }
     {
-        match try_close(self.station.line(), &mut self.part)? {
+        match try_close(rt, self.station, &mut self.part)? {
             Some(shut) => Ok(shut),
             None => Err(Refusal::NotYet),
         }
@@ -193,7 +189,12 @@ impl<'h, D: Driver, N: Naming, R: Wait + Clock + Drop, S: SpoolStore + Drop> Liv
     pub fn leave(self) -> LaneEnd<N, S>
         ensures { result ≡ end_of self.entry }
     {
-        let Live { station: _, part } = self;
+        let Live {
+            station,
+            part,
+            mut wish,
+        } = self;
+        wish.set(station, false);
         part.leave()
     }
 }

@@ -21,31 +21,60 @@ enum Stepped {
     Moved,
     /// The queue has no room for a body.
     Full,
+    /// No volume at the drive takes a body.
+    NoVolume,
     /// There was nothing to send.
     Still,
 }
 
-/// One step of spooling and one of sending. While the queue has no room for a body that isn't spooled, waits until something
-/// moves at the drive and tries again, so that nothing is added after a body that could be sent. If the drive has no
-/// volume for what is in its hand, answers how often something had moved there.
+/// Whether a session is counted among those that wait for a volume at their drive.
+#[derive(Drop)]
+pub(crate) struct Wish {
+    is_counted: bool,
+}
+
+impl Wish {
+    pub(crate) fn new() -> Self {
+        Wish { is_counted: false }
+    }
+
+    /// Counts the session, or counts it no longer.
+    pub(crate) fn set<D: Driver, N: Naming, R: Wait + Clock + Drop>(
+        &mut self,
+        station: &Station<D, N, R>,
+        waits: bool,
+    ) {
+        if waits != self.is_counted {
+            station.wishes(waits);
+            self.is_counted = waits;
+        }
+    }
+}
+
+/// One step of spooling and one of sending. While the queue has no room for a body that isn't spooled, or no volume at the
+/// drive takes one, waits until something moves at the drive and tries again, so that nothing is added after a body that
+/// could be sent. If the drive has no volume for what is in its hand, or for the session, answers how often something
+/// had moved there.
 pub(crate) fn send_on<D: Driver, N: Naming, R: Wait + Clock + Drop, S: SpoolStore + Drop>(
     rt: &R,
     station: &Station<D, N, R>,
     part: &mut SessionPart<N, S>,
+    wish: &mut Wish,
 ) -> Result<Option<Moves>, Refusal>
     requires { part.old.seat.no ≡ station.now.no }
     ensures goes_on { GoesOn part.old [] part.new }
     ensures err { IfErr result (λ why. StopsShort (Refused why) part.new.session) }
 {
     for _tried in rt.forever() {
+        // Before it is looked for a volume, so that one that comes meanwhile is noticed.
         let moves = station.moves(rt);
         let stepped = step(rt, station, part)?;
-        if stepped == Stepped::Moved {
-            return Ok(None);
-        }
+        wish.set(station, stepped == Stepped::NoVolume);
         let waited = match stepped {
+            Stepped::Moved => return Ok(None),
             Stepped::Full => station.wait_for_room(rt, moves),
-            _ => station.wait(rt, moves),
+            Stepped::NoVolume => station.want_volume(rt, moves),
+            Stepped::Still => station.wait(rt, moves),
         };
         if waited == Waited::Halted {
             return Ok(Some(moves));
@@ -57,7 +86,8 @@ pub(crate) fn send_on<D: Driver, N: Naming, R: Wait + Clock + Drop, S: SpoolStor
     unreachable!()
 }
 
-// One step of spooling and one of sending.
+// One step of spooling and one of sending. While no volume takes a body of the drive's pool, which is the session's as long
+// as that goes on, none is sent: so a drive takes into its hand what it can place.
 fn step<D: Driver, N: Naming, R: Wait + Clock + Drop, S: SpoolStore + Drop>(
     rt: &R,
     station: &Station<D, N, R>,
@@ -68,19 +98,41 @@ fn step<D: Driver, N: Naming, R: Wait + Clock + Drop, S: SpoolStore + Drop>(
     ensures err { IfErr result (λ why. StopsShort (Refused why) part.new.session) }
 {
     let spooled = part.spool()?;
-    match part.push(station.line())? {
+    if part.session().has_due() && !station.has_volume(rt) {
+        return Ok(unless_spooled(spooled, Stepped::NoVolume));
+    }
+    let pushed = part.push(station.line())?;
+    Ok(told_of(rt, station, spooled, pushed))
+}
+
+// What a step came to, by what was spooled and what was sent. A piece that was sent is told of.
+fn told_of<D: Driver, N: Naming, R: Wait + Clock + Drop>(
+    rt: &R,
+    station: &Station<D, N, R>,
+    spooled: Spooling,
+    pushed: Despooled,
+) -> Stepped {
+    match pushed {
         Despooled::Sent => {
             station.pushed(rt);
-            Ok(Stepped::Moved)
+            Stepped::Moved
         }
-        _ if spooled == Spooling::Spooled => Ok(Stepped::Moved),
-        Despooled::LaneFull => Ok(Stepped::Full),
-        _ => Ok(Stepped::Still),
+        Despooled::LaneFull => unless_spooled(spooled, Stepped::Full),
+        _ => unless_spooled(spooled, Stepped::Still),
     }
 }
 
-/// Sends all that an ended session has. If the drive has no volume for what is in its hand, waits until it has one, as
-/// long as the patience lasts, and then the session is busy.
+// What a step came to in which nothing was sent.
+fn unless_spooled(spooled: Spooling, stepped: Stepped) -> Stepped {
+    if spooled == Spooling::Spooled {
+        Stepped::Moved
+    } else {
+        stepped
+    }
+}
+
+/// Sends all that an ended session has. If the drive has no volume for what is in its hand, or for the session, waits until
+/// it has one, as long as the patience lasts, and then the session is busy.
 pub(crate) fn send_rest<
     D: Driver,
     N: Naming,
@@ -91,6 +143,7 @@ pub(crate) fn send_rest<
     rt: &R,
     station: &Station<D, N, R>,
     part: &mut SessionPart<N, S>,
+    wish: &mut Wish,
     patience: &P,
 ) -> Result<(), Refusal>
     requires { part.old.seat.no ≡ station.now.no }
@@ -101,7 +154,7 @@ pub(crate) fn send_rest<
         if !part.session().has_due() {
             break;
         }
-        if let Some(moves) = send_on(rt, station, part)? {
+        if let Some(moves) = send_on(rt, station, part, wish)? {
             if !station.wait_for_change(rt, moves, patience) {
                 return Err(Refusal::Busy);
             }

@@ -1,29 +1,46 @@
 // A drive with its line and its worker.
-ghost use Rattle.std.specs.Prelude.{◌≡◌, ◌≢◌, Some};
-ghost use Rattle.sd_line.specs.Operates.{MayOperate, operated_at};
+ghost use Rattle.std.specs.Prelude.{◌≡◌, ◌≢◌, List, [], IfErr, IfOk, IfSome, Some};
+ghost use Rattle.sd_jobs.specs.Jobs.{GoesOn, StopsShort};
+ghost use Rattle.sd_jobs.specs.declared.job.Stop.TheVariants as stop;
+ghost use Rattle.sd_journal.specs.Journal.{Entry};
+ghost use Rattle.sd_line.specs.Closes.{MayCloseBy};
+ghost use Rattle.sd_line.specs.Operates.{MayOperate, Operates, operated_at};
+ghost use Rattle.sd_line.specs.Parts.{OpensAt};
 ghost use Rattle.sd_machine.specs.declared.reply.Reply.TheVariants.{Refused};
 ghost use Rattle.sd_base.specs.declared.refusal.Refusal.TheVariants.{BadCommand};
 
 use crate::meter::{Meter, Metered};
 use crate::patience::Patience;
+use crate::status::{DriveStatus, NextVolume, Reached, VolumeRow};
 use crate::watch::{Backlog, Headway, Moves, Task, Waited, Watch};
 use sd_base::{PoolName, Refusal, SessionKey, VolName};
-use sd_drive::{Drive, Placed};
+use sd_drive::{Drive, Placed, Receipt};
 use sd_driver::Driver;
-use sd_line::{DriveSide, DriveWorker, Gate, Line, Naming, Point, Turned};
+use sd_line::{DriveSide, Gate, Line, Naming, Point, Prepared, SessionPart, Turned};
 use sd_machine::{Event, Reply};
-use sd_volume::VolumeStatus;
+use sd_session::{Session, Status};
+use sd_spool::SpoolStore;
+use std::alloc::{AllocError, Global};
 use std::marker::Model;
-use std::sync::Wait;
+use std::sync::atomic::{AtomicU64, Ordering};
+use std::sync::{Mutex, Wait};
 use std::time::{Clock, Instant};
 
-/// A drive that threads share: its line, what its worker and the talks of its sessions tell one another, and what is counted of
-/// its work. In a contract it is the line, a `LineIs`.
+/// A drive that threads share: its line, what its worker and the talks of its sessions tell one another, what is counted of
+/// its work, and what others may know of it. In a contract it is the line, a `LineIs`.
+///
+/// Its locks: the line's, under which the drive is; the status's, which is taken with the line's held, and by whoever asks;
+/// and the watch's, which nobody takes with one of the others held. Under the status's lock and the watch's no device is
+/// called and no other lock taken; nobody waits under the line's or the status's.
 #[derive(Drop)]
 pub struct Station<D: Driver, N: Naming, R: Wait + Drop> {
+    alloc: Global,
     line: Line<D, N, R>,
     watch: Watch,
     meter: Meter,
+    status: Mutex<DriveStatus>,
+    // How many sessions have a body to send, and wait for a volume that takes it.
+    wishing: AtomicU64,
 }
 
 impl<D: Driver, N: Naming, R: Wait + Drop> Model for Station<D, N, R> {
@@ -45,37 +62,15 @@ pub enum Worked {
     Failed(VolName),
     /// It mounted this volume, which its drive needed.
     Mounted(VolName),
+    /// This volume, which its drive needed, couldn't be loaded: it isn't there (3930), or the device failed (3940). It is
+    /// passed over until an operator mounts it.
+    LoadFailed { volume: VolName, why: Refusal },
     /// Its drive needs a volume of this pool, and has none.
     NeedsVolume(PoolName),
+    /// Nobody needs a volume any more that it told was needed.
+    NeedsNone,
     /// No talk comes any more, and all that can be placed is placed and synced.
     Left,
-}
-
-// What a turn tells of the loaded volume.
-#[derive(Clone, Copy, PartialEq, Eq)]
-enum Told {
-    Nothing,
-    Full,
-    Failed,
-}
-
-impl Told {
-    // What the sync of a turn tells, if there was one.
-    fn of_sync(sync: &Option<Result<(), Refusal>>) -> Self {
-        match sync {
-            Some(Err(_)) => Told::Failed,
-            _ => Told::Nothing,
-        }
-    }
-
-    // What is told of the volume that was loaded.
-    fn of_volume(self, loaded: Option<VolName>) -> Worked {
-        match loaded {
-            Some(volume) if self == Told::Full => Worked::Full(volume),
-            Some(volume) if self == Told::Failed => Worked::Failed(volume),
-            _ => Worked::Turned,
-        }
-    }
 }
 
 // A gate that holds nobody.
@@ -85,11 +80,12 @@ impl Gate for NoGate {
     fn at(&self, _point: Point, _key: SessionKey) {}
 }
 
-// Whether a reply tells of a change at the drive, in which this volume was loaded, that may matter to who waits for a volume.
-fn is_change(loaded: &Option<VolName>, reply: &Reply) -> bool {
+// Whether a reply tells of a change at the drive, in which a volume was loaded or none, that may matter to who waits for a
+// volume.
+fn is_change(was_loaded: bool, reply: &Reply) -> bool {
     match reply {
         Reply::Refused(refusal) => *refusal == Refusal::DeviceFault,
-        Reply::Unmounted => loaded.is_some(),
+        Reply::Unmounted => was_loaded,
         Reply::Synced => false,
         _ => true,
     }
@@ -101,30 +97,107 @@ fn is_sync(event: &Event) -> bool {
 }
 
 // The state of a drive before a turn or an event of the operator.
-#[derive(Drop)]
+#[derive(Clone, Copy)]
 struct Before {
-    // The name of the loaded volume.
-    loaded: Option<VolName>,
+    // The place of the loaded volume.
+    loaded: Option<usize>,
     // Whether blocks of it await a sync.
     awaits_sync: bool,
 }
 
-// The name of the volume that is loaded in a drive.
-fn loaded_in<D: Driver>(drive: &Drive<D>) -> Option<VolName> {
-    drive.know();
-    let at = drive.loaded()?;
-    Some(drive.volumes()[at].name().copy())
+impl Before {
+    fn of<D: Driver>(drive: &Drive<D>) -> Self {
+        Before {
+            loaded: drive.loaded(),
+            awaits_sync: drive.awaits_sync(),
+        }
+    }
+}
+
+// The name of the volume at this place of a drive.
+fn name_at<D: Driver>(drive: &Drive<D>, place: Option<usize>) -> Option<VolName> {
+    Some(drive.volumes().get(place?)?.name().copy())
+}
+
+// What came of a worker's turn, for the talks and for the desk.
+#[derive(Drop)]
+struct Came {
+    headway: Headway,
+    worked: Worked,
+}
+
+impl Came {
+    fn turned(headway: Headway) -> Self {
+        Came {
+            headway,
+            worked: Worked::Turned,
+        }
+    }
+}
+
+// Whether a volume can't be loaded for this cause: it isn't there, or the device failed.
+fn is_load_fault(why: Refusal) -> bool {
+    why == Refusal::VolumeNotOnShelf || why == Refusal::DeviceFault
+}
+
+// What came of an event.
+#[derive(Drop)]
+struct Operated {
+    reply: Reply,
+    is_change: bool,
+    // The volume that was loaded, if the device failed with it.
+    failed: Option<VolName>,
+}
+
+// What came of a turn in which the sync of the loaded volume failed.
+fn failed_sync(place: &Result<Placed, AllocError>, loaded: Option<VolName>) -> Came {
+    let headway = match place {
+        Ok(Placed::NeedVolume) => Headway::Moved { holding: true },
+        _ => Headway::AtRest,
+    };
+    Came {
+        headway,
+        worked: match loaded {
+            Some(volume) => Worked::Failed(volume),
+            None => Worked::Turned,
+        },
+    }
+}
+
+// What came of a turn in which the loaded volume became full.
+fn came_full(loaded: Option<VolName>) -> Came {
+    Came {
+        headway: Headway::Moved { holding: true },
+        worked: match loaded {
+            Some(volume) => Worked::Full(volume),
+            None => Worked::Turned,
+        },
+    }
+}
+
+// What came of a turn in which the device failed with the loaded volume.
+fn came_failed(loaded: Option<VolName>) -> Came {
+    Came {
+        headway: Headway::Moved { holding: true },
+        worked: match loaded {
+            Some(volume) => Worked::Failed(volume),
+            None => Worked::Turned,
+        },
+    }
 }
 
 impl<D: Driver, N: Naming, R: Wait + Clock + Drop> Station<D, N, R> {
-    /// The station of a line of which nothing was pushed yet.
-    pub fn new(line: Line<D, N, R>) -> Self
+    /// The station of a line whose drive has no volume yet, and of which nothing was pushed. Takes no memory.
+    pub fn new(alloc: Global, line: Line<D, N, R>) -> Self
         ensures { result ≡ line }
     {
         Station {
+            alloc,
             line,
             watch: Watch::new(),
             meter: Meter::new(),
+            status: Mutex::new(DriveStatus::new(alloc)),
+            wishing: AtomicU64::new(0),
         }
     }
 
@@ -139,133 +212,381 @@ impl<D: Driver, N: Naming, R: Wait + Clock + Drop> Station<D, N, R> {
         ensures { result ≡ self }
     {
         let Station {
+            alloc: _,
             line,
             watch: _,
             meter: _,
+            status: _,
+            wishing: _,
         } = self;
         line
+    }
+
+    pub(crate) fn alloc(&self) -> Global {
+        self.alloc
+    }
+
+    /// A session that was prepared begins: the drive notes it, with its lock held.
+    pub fn begin<S: SpoolStore + Drop>(&self, rt: &R, prepared: Prepared<N, S>) -> SessionPart<N, S>
+        requires { prepared.end.seat.no ≡ self.now.no }
+        ensures { OpensAt prepared.limits prepared.opening prepared.end result }
+    {
+        let mut side = self.line.lock();
+        let side: &mut DriveSide<D, N> = &mut side;
+        self.note_begun(rt, &prepared);
+        prepared.begin_on(side)
+    }
+
+    // Publishes a session that begins.
+    fn note_begun<S: SpoolStore + Drop>(&self, rt: &R, prepared: &Prepared<N, S>) {
+        let opening = prepared.opening();
+        let mut status = self.status.lock(rt);
+        status.begins(opening.key, opening.lane, &opening.pool);
     }
 
     /// Waits until the worker has something to do, and does it.
     pub fn work(&self, rt: &R) -> Worked {
         match self.watch.next_task(rt) {
-            Task::Turn => self.turn(rt),
+            Task::Turn { is_wished } => self.turn(rt, is_wished),
             Task::Tell(volume) => Worked::Failed(volume),
             Task::Leave => Worked::Left,
         }
     }
 
-    // A turn; and if the drive needs a volume, it seeks one.
-    fn turn(&self, rt: &R) -> Worked {
-        // A volume that fails is loaded no more.
-        let Before {
-            loaded,
-            awaits_sync,
-        } = self.before();
-        let begun = Instant::now(rt).ok();
-        let turned = DriveWorker::turn(&self.line, &NoGate);
-        self.meter.turned(rt, begun, awaits_sync, &turned);
-        let Turned { took, place, sync } = turned;
-        let (headway, told) = match place {
-            Ok(Placed::Idle) => (Headway::AtRest, Told::of_sync(&sync)),
-            Ok(Placed::At(_)) => (Headway::Moved { holding: false }, Told::Nothing),
-            Ok(Placed::VolumeFull) => (Headway::Moved { holding: true }, Told::Full),
-            Ok(Placed::VolumeError) => (Headway::Moved { holding: true }, Told::Failed),
-            // The loaded volume is synced before another is sought.
-            Ok(Placed::NeedVolume) => match Told::of_sync(&sync) {
-                Told::Failed => (Headway::Moved { holding: true }, Told::Failed),
-                _ => return self.seek(rt, took),
-            },
-            // Out of memory; there may be some once somebody else has given some back.
-            Err(_) => (Headway::Halted, Told::Nothing),
+    // A turn; and if the drive needs a volume, or somebody wishes for one, it seeks one. The drive's lock is held once.
+    fn turn(&self, rt: &R, is_wished: bool) -> Worked {
+        let (took, came) = {
+            let mut side = self.line.lock();
+            let side: &mut DriveSide<D, N> = &mut side;
+            self.turn_on(rt, side, is_wished)
         };
+        let Came { headway, worked } = came;
         self.watch.turned(rt, took, headway);
-        told.of_volume(loaded)
+        worked
     }
 
-    // The state of the drive.
-    fn before(&self) -> Before {
-        let Some(side) = self.line.lock() else {
-            return Before {
-                loaded: None,
-                awaits_sync: false,
+    // A turn with the drive's lock held. Whether a piece was taken, and what came of it.
+    fn turn_on(&self, rt: &R, side: &mut DriveSide<D, N>, is_wished: bool) -> (bool, Came)
+        requires { side.old.no ≡ self.now.no }
+    {
+        let was = Before::of(side.drive());
+        let begun = Instant::now(rt).ok();
+        let turned = side.turn_on(self.line.queue(), &NoGate);
+        self.meter.turned(rt, begun, was.awaits_sync, &turned);
+        self.publish_turn(rt, side.drive(), was.loaded, &turned);
+        let Turned { took, place, sync } = turned;
+        if let Some(Err(_)) = sync {
+            return (took, failed_sync(&place, name_at(side.drive(), was.loaded)));
+        }
+        let came = match place {
+            Ok(Placed::Idle) if is_wished && self.has_wishes() => self.seek(rt, side, false),
+            Ok(Placed::Idle) => self.rest_at(rt),
+            Ok(Placed::At(_)) => Came::turned(Headway::Moved { holding: false }),
+            Ok(Placed::VolumeFull) => came_full(name_at(side.drive(), was.loaded)),
+            Ok(Placed::VolumeError) => came_failed(name_at(side.drive(), was.loaded)),
+            // The loaded volume is synced before another is sought.
+            Ok(Placed::NeedVolume) => self.seek(rt, side, true),
+            // Out of memory; there may be some once somebody else has given some back.
+            Err(_) => Came::turned(Headway::Halted { holding: true }),
+        };
+        (took, came)
+    }
+
+    // Whether a session waits for a volume that takes a body of it.
+    fn has_wishes(&self) -> bool {
+        self.wishing.load(Ordering::SeqCst) > 0
+    }
+
+    // Publishes what came of a turn, before which the volume at this place was loaded.
+    fn publish_turn(&self, rt: &R, drive: &Drive<D>, was_loaded: Option<usize>, turned: &Turned) {
+        let mut status = self.status.lock(rt);
+        let status: &mut DriveStatus = &mut status;
+        if let Ok(Placed::At(placement)) = &turned.place {
+            status.placed(placement.key);
+        }
+        status.look(drive, was_loaded);
+        if let Some(Err(_)) = &turned.sync {
+            status.look_for_failed(drive);
+        }
+    }
+
+    // The drive is at rest. If it told that it needs a volume, and nobody wishes for one any more, it needs none.
+    fn rest_at(&self, rt: &R) -> Came {
+        let mut status = self.status.lock(rt);
+        let needs_none = status.is_waiting() && !self.has_wishes();
+        if needs_none {
+            status.rests();
+        }
+        Came {
+            headway: Headway::AtRest,
+            worked: if needs_none {
+                Worked::NeedsNone
+            } else {
+                Worked::Turned
+            },
+        }
+    }
+
+    // Seeks a volume for the piece in the drive's hand, or for a session that has a body to send. If one is passed over, the
+    // next is mounted.
+    fn seek(&self, rt: &R, side: &mut DriveSide<D, N>, holding: bool) -> Came
+        requires { side.old.no ≡ self.now.no }
+    {
+        let Some(pool) = side.drive().wanted_pool() else {
+            return Came::turned(Headway::Halted { holding });
+        };
+        let Some(next) = self.next_volume(rt, &pool) else {
+            return Came {
+                headway: Headway::Halted { holding },
+                worked: Worked::NeedsVolume(pool),
             };
         };
-        let side: &DriveSide<D, N> = &side;
-        let drive = side.drive();
-        Before {
-            loaded: loaded_in(drive),
-            awaits_sync: drive.awaits_sync(),
-        }
+        self.load(rt, side, holding, next)
     }
 
-    // Seeks a volume that the drive needs, after a turn in which a piece was taken or none.
-    fn seek(&self, rt: &R, took: bool) -> Worked {
+    // The volume that is loaded next for this pool. If there is none, that is published.
+    fn next_volume(&self, rt: &R, pool: &PoolName) -> Option<NextVolume> {
+        let mut status = self.status.lock(rt);
+        let status: &mut DriveStatus = &mut status;
+        let next = status.next(pool);
+        if next.is_none() {
+            status.waits();
+        }
+        next
+    }
+
+    // Loads that volume.
+    fn load(&self, rt: &R, side: &mut DriveSide<D, N>, holding: bool, next: NextVolume) -> Came
+        requires { side.old.no ≡ self.now.no }
+    {
         let drive = self.line.no();
-        let reply = self.line.operate(Event::Seek { drive });
-        match &reply {
-            Reply::Mounted { name } => {
-                self.watch
-                    .turned(rt, took, Headway::Moved { holding: true });
-                Worked::Mounted(name.copy())
+        let NextVolume { name, is_sought } = next;
+        let event = if is_sought {
+            Event::Seek { drive }
+        } else {
+            Event::Mount {
+                drive,
+                name: name.copy(),
             }
-            Reply::Requested => {
-                let pool = self.pool();
-                self.watch.turned(rt, took, Headway::Halted);
-                match pool {
-                    Some(pool) => Worked::NeedsVolume(pool),
-                    None => Worked::Turned,
-                }
-            }
-            _ => {
-                self.watch.turned(rt, took, Headway::Halted);
-                Worked::Turned
-            }
+        };
+        let operated = self.operate_on(rt, side, event);
+        match operated.reply {
+            Reply::Mounted { .. } => Came {
+                headway: Headway::Mounted { holding },
+                worked: Worked::Mounted(name),
+            },
+            // Nothing awaited a sync, so a fault of the device was the load's.
+            Reply::Refused(why) if is_load_fault(why) => self.pass_over(rt, holding, name, why),
+            // Out of memory.
+            _ => Came::turned(Headway::Halted { holding }),
         }
     }
 
-    // The pool of the drive's sessions, while it has any.
-    fn pool(&self) -> Option<PoolName> {
-        let side = self.line.lock()?;
-        Some(side.drive().pool()?.copy())
+    // The worker passes a volume over from now on, and looks for another.
+    fn pass_over(&self, rt: &R, holding: bool, volume: VolName, why: Refusal) -> Came {
+        self.status.lock(rt).pass_over(&volume, true);
+        Came {
+            headway: Headway::Moved { holding },
+            worked: Worked::LoadFailed { volume, why },
+        }
     }
 
-    /// Answers an event of the operator at the drive, as `Line::operate`; the worker and the talks are told of it.
+    /// Answers an event of the operator at the drive, as `Line::operate`; the worker and the talks are told of it. For a label
+    /// or an adoption there is room in what is published, or it is refused with 3960, after all that is looked at without the
+    /// device.
     pub fn operate(&self, rt: &R, event: Event) -> Reply
         ensures answers { MayOperate (λ d. D.meaning d) self.now.no event result }
         ensures elsewhere { operated_at event ≢ Some self.now.no → result ≡ Refused BadCommand }
     {
-        // A volume that fails is loaded no more.
-        let Before {
-            loaded,
-            awaits_sync,
-        } = self.before();
-        let syncs = awaits_sync && is_sync(&event);
-        let begun = Instant::now(rt).ok();
-        let reply = self.line.operate(event);
-        self.meter.synced(rt, begun, syncs);
-        self.watch.operated(rt, is_change(&loaded, &reply));
-        self.tell_failed(rt, loaded, &reply);
-        reply
+        let operated = {
+            let mut side = self.line.lock();
+            let side: &mut DriveSide<D, N> = &mut side;
+            self.operate_on(rt, side, event)
+        };
+        self.tell_operated(rt, &operated);
+        operated.reply
     }
 
-    // Has the worker tell of the volume that was loaded, if the device failed with it.
-    fn tell_failed(&self, rt: &R, loaded: Option<VolName>, reply: &Reply) {
-        if let (Some(volume), Reply::Refused(Refusal::DeviceFault)) = (loaded, reply) {
-            if self.has_failed(&volume) {
-                self.watch.failed(rt, volume);
-            }
+    // Tells the worker and the talks of an event.
+    fn tell_operated(&self, rt: &R, operated: &Operated) {
+        self.watch
+            .operated(rt, operated.is_change, self.has_wishes());
+        if let Some(volume) = &operated.failed {
+            self.watch.failed(rt, volume.copy());
         }
     }
 
-    // Whether the device has failed with the volume.
-    fn has_failed(&self, name: &VolName) -> bool {
-        let Some(side) = self.line.lock() else {
-            return false;
+    // Answers an event, with the drive's lock held, and publishes what came of it.
+    fn operate_on(&self, rt: &R, side: &mut DriveSide<D, N>, event: Event) -> Operated
+        ensures no { side.new.no ≡ side.old.no }
+        ensures operates { Operates (λ d. D.meaning d) side.old.no event result.reply
+            side.old.drive side.new.drive }
+    {
+        if !self.has_room(rt, &event) {
+            if let Some(reply) = side.refusal_without_room(&event) {
+                return Operated {
+                    reply,
+                    is_change: false,
+                    failed: None,
+                };
+            }
+        }
+        let was = Before::of(side.drive());
+        let syncs = was.awaits_sync && is_sync(&event);
+        let begun = Instant::now(rt).ok();
+        let reply = side.operate_on(event);
+        self.meter.synced(rt, begun, syncs);
+        let failed = self.publish_event(rt, side.drive(), was.loaded, &reply);
+        Operated {
+            is_change: is_change(was.loaded.is_some(), &reply),
+            reply,
+            failed,
+        }
+    }
+
+    // Whether there is room for the volume that the event may bring.
+    fn has_room(&self, rt: &R, event: &Event) -> bool {
+        match event {
+            Event::Label { .. } | Event::Adopt { .. } => {
+                self.status.lock(rt).make_room().is_ok()
+            }
+            _ => true,
+        }
+    }
+
+    // Publishes what came of an event, before which the volume at this place was loaded. That volume, if the device failed
+    // with it.
+    fn publish_event(
+        &self,
+        rt: &R,
+        drive: &Drive<D>,
+        was_loaded: Option<usize>,
+        reply: &Reply,
+    ) -> Option<VolName> {
+        let mut status = self.status.lock(rt);
+        let status: &mut DriveStatus = &mut status;
+        status.look(drive, was_loaded);
+        match reply {
+            Reply::Mounted { name } => {
+                status.pass_over(name, false);
+                None
+            }
+            Reply::Refused(Refusal::DeviceFault) => {
+                status.look_for_failed(drive);
+                status.has_failed(was_loaded)
+            }
+            _ => None,
+        }
+    }
+
+    /// The receipt by which a close of the session is due; none if something of it is outstanding. If blocks of an ended
+    /// session await a sync, and all that it sent is placed, the drive is synced first. The drive's lock is held once.
+    pub(crate) fn receipt<S: SpoolStore + Drop>(
+        &self,
+        rt: &R,
+        part: &mut SessionPart<N, S>,
+    ) -> Result<Option<Receipt>, Refusal>
+        requires { part.old.seat.no ≡ self.now.no }
+        ensures goes_on { GoesOn part.old [] part.new }
+        ensures ok { IfOk result (λ receipt. IfSome receipt (λ r. (part.new ≡ part.old)
+            × (journal : List Entry) × MayCloseBy journal part.old.session r)) }
+        ensures err { IfErr result (λ why. StopsShort (stop.Refused why) part.new.session) }
+    {
+        let (answer, synced) = {
+            let mut side = self.line.lock();
+            let side: &mut DriveSide<D, N> = &mut side;
+            let synced = self.sync_for(rt, side, part.session());
+            (part.receipt_on(side), synced)
         };
-        let side: &DriveSide<D, N> = &side;
-        side.drive().volumes().iter().any(|volume| volume.name().is_same(name)
-            && volume.status() == VolumeStatus::Error)
+        if let Some(operated) = synced {
+            if operated.is_change {
+                self.tell_operated(rt, &operated);
+            }
+        }
+        answer
+    }
+
+    // Syncs the drive, if all that the session sent is placed and some of it awaits that.
+    fn sync_for<S: SpoolStore + Drop>(
+        &self,
+        rt: &R,
+        side: &mut DriveSide<D, N>,
+        session: &Session<S>,
+    ) -> Option<Operated>
+        ensures { side.new.no ≡ side.old.no }
+    {
+        let progress = side.drive().progress(session.key());
+        let is_placed = progress.placed == session.sent() && session.status() == Status::Ended;
+        if !is_placed || progress.failed || progress.synced == progress.placed {
+            return None;
+        }
+        let drive = side.no();
+        Some(self.operate_on(rt, side, Event::Sync { drive }))
+    }
+
+    /// Whether a close of the session needs the drive: all that it sent is placed, or a block of it was lost.
+    pub(crate) fn is_close_due(&self, rt: &R, key: SessionKey, sent: u64) -> bool {
+        match self.reached(rt, key) {
+            Some(reached) => reached.placed >= sent || reached.has_failed,
+            None => true,
+        }
+    }
+
+    // How far the blocks of a session are.
+    fn reached(&self, rt: &R, key: SessionKey) -> Option<Reached> {
+        self.status.lock(rt).reached(key)
+    }
+
+    /// Whether the drive has placed so many pieces of a session. Of one that sent nothing it has; of one after which another
+    /// began at the same lane it isn't known any more, and the answer is no. Takes no drive's lock.
+    pub fn has_placed(&self, rt: &R, key: SessionKey, sent: u64) -> bool {
+        if sent == 0 {
+            return true;
+        }
+        match self.reached(rt, key) {
+            Some(reached) => reached.placed >= sent,
+            None => false,
+        }
+    }
+
+    /// The drive's volumes, in its order. Takes no drive's lock.
+    pub fn rows(&self, rt: &R, alloc: Global) -> Result<Vec<VolumeRow>, AllocError> {
+        self.status.lock(rt).rows(alloc)
+    }
+
+    /// The volume that is loaded in the drive. Takes no drive's lock.
+    pub fn loaded(&self, rt: &R) -> Option<VolumeRow> {
+        self.status.lock(rt).loaded()
+    }
+
+    /// Whether the worker found no volume that takes blocks of the drive's pool and none came since, while somebody needs
+    /// one. Takes no drive's lock.
+    pub fn is_waiting(&self, rt: &R) -> bool {
+        self.status.lock(rt).is_waiting()
+    }
+
+    /// Whether what is in the drive's hand can't be placed until something is done at the drive. Takes no drive's lock.
+    pub fn is_stuck(&self, rt: &R) -> bool {
+        self.watch.is_stuck(rt)
+    }
+
+    /// Whether a volume takes blocks of the drive's pool that the worker doesn't pass over. Takes no drive's lock.
+    pub(crate) fn has_volume(&self, rt: &R) -> bool {
+        self.status.lock(rt).takes_own()
+    }
+
+    /// Counts one session more that waits for a volume, or one less.
+    pub(crate) fn wishes(&self, waits: bool) {
+        if waits {
+            self.wishing.fetch_add(1, Ordering::SeqCst);
+        } else {
+            self.wishing.fetch_sub(1, Ordering::SeqCst);
+        }
+    }
+
+    /// Has the worker seek a volume, unless something has moved since, and waits as `wait` does.
+    pub(crate) fn want_volume(&self, rt: &R, since: Moves) -> Waited {
+        self.watch.want_volume(rt, since)
     }
 
     /// What the drive has done so far. Takes no lock.

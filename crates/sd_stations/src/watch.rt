@@ -46,8 +46,8 @@ pub enum Waited {
 /// What a worker has to do.
 #[derive(Drop)]
 pub(crate) enum Task {
-    /// A turn of its drive.
-    Turn,
+    /// A turn of its drive; and a volume is sought, if somebody wishes for one and nothing is in the drive's hand.
+    Turn { is_wished: bool },
     /// To tell that the device failed with this volume, while somebody else synced it.
     Tell(VolName),
     /// Nothing more: no talk comes, and all that can be placed is placed and synced.
@@ -57,12 +57,14 @@ pub(crate) enum Task {
 /// What came of a worker's turn.
 #[derive(Clone, Copy, Debug, PartialEq, Eq)]
 pub(crate) enum Headway {
-    /// A piece was placed, or a volume is full or failed, or one was mounted. Whether a piece is in the hand.
+    /// A piece was placed, or a volume is full or failed, or couldn't be loaded. Whether a piece is in the hand.
     Moved { holding: bool },
+    /// A volume was mounted.
+    Mounted { holding: bool },
     /// Nothing is in the hand, nothing was queued, and all that was placed is synced.
     AtRest,
-    /// What is in the hand can't be placed now.
-    Halted,
+    /// What is in the hand can't be placed now; or nothing is, and there is no volume for who wishes for one.
+    Halted { holding: bool },
 }
 
 // The state of a drive, by what its worker and the talks told.
@@ -77,6 +79,8 @@ struct Standing {
     halted: bool,
     // Whether what was placed is to be synced once the queue is empty.
     rests: bool,
+    // Whether somebody wishes for a volume, until the worker seeks one.
+    wished: bool,
     // Whether no talk comes any more.
     closing: bool,
     // The volume that failed while it was synced for somebody else, until the worker tells of it.
@@ -99,13 +103,22 @@ impl Standing {
         !self.halted && (self.pushed > self.taken || self.holding || self.rests)
     }
 
+    // Whether the worker has something to try.
+    fn is_busy(&self) -> bool {
+        self.wished || self.is_turn_due()
+    }
+
     fn has_task(&self) -> bool {
-        self.closing || self.failed.is_some() || self.is_turn_due()
+        self.closing || self.failed.is_some() || self.is_busy()
     }
 
     // Whether all that is due are a few pieces, for which nobody waits.
     fn is_gathering(&self) -> bool {
-        let is_urged = self.closing || self.failed.is_some() || self.awaited || self.rests;
+        let is_urged = self.closing
+            || self.failed.is_some()
+            || self.awaited
+            || self.rests
+            || self.wished;
         !is_urged && !self.holding && self.queued() < GATHERED
     }
 
@@ -130,15 +143,23 @@ impl Standing {
                 self.moved();
                 self.held_back == 0
             }
+            // With nothing to place, one turn more is due: by then the desk knows of the volume.
+            Headway::Mounted { holding } => {
+                self.holding = holding;
+                self.rests = self.rests || !holding;
+                self.moved();
+                true
+            }
             Headway::AtRest => {
                 self.holding = false;
                 self.rests = false;
                 self.moved();
                 true
             }
-            Headway::Halted => {
-                self.holding = true;
-                self.halted = true;
+            Headway::Halted { holding } => {
+                self.holding = holding;
+                self.halted = holding;
+                self.rests = self.rests && holding;
                 self.halts = self.halts.wrapping_add(1);
                 // The queue has room for one piece more than before.
                 if took {
@@ -169,6 +190,7 @@ impl Watch {
             holding: false,
             halted: false,
             rests: false,
+            wished: false,
             closing: false,
             failed: None,
             awaited: false,
@@ -199,8 +221,10 @@ impl Watch {
         if let Some(volume) = standing.failed.take() {
             return Task::Tell(volume);
         }
-        if standing.is_turn_due() {
-            Task::Turn
+        let is_wished = standing.wished;
+        standing.wished = false;
+        if is_wished || standing.is_turn_due() {
+            Task::Turn { is_wished }
         } else {
             Task::Leave
         }
@@ -239,12 +263,13 @@ impl Watch {
     }
 
     /// Tells that the operator did something at the drive, so that what could not be placed may be placed now. If
-    /// nothing changed by it, who waits goes on waiting.
-    pub(crate) fn operated<R: Wait>(&self, rt: &R, is_change: bool) {
+    /// nothing changed by it, who waits goes on waiting. If it did, a volume is sought for the sessions that wish for one.
+    pub(crate) fn operated<R: Wait>(&self, rt: &R, is_change: bool, has_wishes: bool) {
         let mut standing = self.standing.lock(rt);
         let standing = &mut *standing;
         standing.halted = false;
         if is_change {
+            standing.wished = standing.wished || has_wishes;
             standing.moved();
         }
         self.due.notify_one();
@@ -259,6 +284,11 @@ impl Watch {
             queued: standing.queued(),
             holding: standing.holding,
         }
+    }
+
+    /// Whether what is in the drive's hand can't be placed until something is done at the drive.
+    pub(crate) fn is_stuck<R: Wait>(&self, rt: &R) -> bool {
+        self.standing.lock(rt).halted
     }
 
     /// Asks that what was placed is synced once the queue is empty.
@@ -284,7 +314,7 @@ impl Watch {
         let _ = self
             .changed
             .wait_timeout_while(rt, self.standing.lock(rt), piece, |standing| {
-                standing.is_turn_due()
+                standing.is_busy()
             });
     }
 
@@ -307,6 +337,16 @@ impl Watch {
             standing.held_back = standing.queued() / 2;
         }
         self.wait_at(rt, &self.room, standing, since)
+    }
+
+    /// Has the worker seek a volume for a talk that has a body to send, and waits as `wait` does. Nothing is asked if
+    /// something has moved since: it may have been a volume that came.
+    pub(crate) fn want_volume<R: Wait + Clock>(&self, rt: &R, since: Moves) -> Waited {
+        let mut standing = self.standing.lock(rt);
+        if standing.moves == since.0 {
+            standing.wished = true;
+        }
+        self.wait_at(rt, &self.changed, standing, since)
     }
 
     // Waits there until something has moved since.

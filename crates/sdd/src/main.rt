@@ -61,8 +61,10 @@ fn serve_clients<W: Threads + Wait + Clock + Sync + Copy + Drop>(
         talks: asked.talks,
         wait: asked.wait,
         metrics: asked.metrics,
+        until: asked.until,
     };
-    let status = serve_file(rt, wait, asked.path, bounds, &log, &mut out);
+    let mut errors = Printer::new(rt.stderr());
+    let status = serve_file(rt, wait, asked.path, bounds, &log, &mut out, &mut errors);
     ExitCode::from(status)
 }
 

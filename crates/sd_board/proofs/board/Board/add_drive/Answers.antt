@@ -13,7 +13,7 @@ of_ends-lanes-requires-clause-new g c κs within =
 
 pub invariant_of-self-2 : goal.invariant_of-self-2
 invariant_of-self-2 g c =
-    let b : BoardIs = record { desk = c.self.inside.desk; drives = c.self.inside.drives.items; last = c.self.inside.last; sessions = c.self.inside.sessions.items } in
+    let b : BoardIs = record { names = c.self.inside.names; drives = c.self.inside.drives.items; lines = c.self.inside.lines } in
     let few = subst (λ (x : BoardIs). length x.drives < most_drives) (sym c.self.view_is) c.requires.drives_most in
     let lanes = c.of_ends-lanes.result in
     let drives : List DriveLanesIs = c.push_reserved.new.self.items in

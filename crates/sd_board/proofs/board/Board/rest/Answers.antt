@@ -9,7 +9,7 @@ use Rattle.sd_board.proofs.board.Board.rest.Goals as goal
 
 pub invariant_of-self : goal.invariant_of-self
 invariant_of-self g c =
-    let b : BoardIs = record { desk = c.self.inside.desk; drives = c.self.inside.drives.items; last = c.self.inside.last; sessions = c.self.inside.sessions.items } in
+    let b : BoardIs = record { names = c.self.inside.names; drives = c.self.inside.drives.items; lines = c.self.inside.lines } in
     keeps_either b c.rest_in.new.drives.items c.args.end c.args.on_its_way c.rest_in.result c.self.invariant c.rest_in.ensures.ok c.rest_in.ensures.err
 
 pub returns-clause-ok : goal.returns-clause-ok
@@ -22,5 +22,5 @@ returns-clause-back g c =
 
 pub returns-clause-err : goal.returns-clause-err
 returns-clause-err g c =
-    let b : BoardIs = record { desk = c.self.inside.desk; drives = c.self.inside.drives.items; last = c.self.inside.last; sessions = c.self.inside.sessions.items } in
+    let b : BoardIs = record { names = c.self.inside.names; drives = c.self.inside.drives.items; lines = c.self.inside.lines } in
     on_err_weaker c.rest_in.result (λ same. ap (λ (ds : List DriveLanesIs). record b { drives = ds }) same ∙ c.self.view_is) c.rest_in.ensures.err

@@ -1,4 +1,4 @@
-use Rattle.std.proofs.Common.{◌≡◌, ℕ, rules, subst, inl}
+use Rattle.std.proofs.Common.{◌≡◌, ℕ, rules, subst}
 use Rattle.sd_line.specs.Operates.{Operates}
 use Rattle.sd_line.proofs.line.Line.operate.Goals as goal
 
@@ -7,4 +7,4 @@ returns-clause-answers g c =
     let side = c.deref_mut-side.result.now in
     let after = c.operate_on.new.self in
     let same : c.deref_mut-side.result.now.no ≡ c.args.self.now.no = search rules in
-    inl (side.drive, after.drive, subst (λ (n : ℕ). Operates (λ d. g.D.Driver.meaning d) n c.args.event c.operate_on.result side.drive after.drive) same c.operate_on.ensures.operates)
+    (side.drive, after.drive, subst (λ (n : ℕ). Operates (λ d. g.D.Driver.meaning d) n c.args.event c.operate_on.result side.drive after.drive) same c.operate_on.ensures.operates)

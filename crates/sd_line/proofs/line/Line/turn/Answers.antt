@@ -1,5 +1,4 @@
-use Rattle.std.proofs.Common.{inl}
 use Rattle.sd_line.proofs.line.Line.turn.Goals as goal
 
 pub returns : goal.returns
-returns g c = inl (_, _, c.turn_on.ensures.turns)
+returns g c = (_, _, c.turn_on.ensures.turns)

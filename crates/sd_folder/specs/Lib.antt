@@ -1,0 +1,5 @@
+pub mod Meaning
+pub mod Steps
+pub mod Place
+pub mod Fault
+pub mod System

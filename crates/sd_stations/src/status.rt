@@ -1,0 +1,298 @@
+// What others may know of a drive without its lock: whoever changes the drive writes it here before he gives that lock back.
+ghost use Rattle.std.specs.Prelude.{◌≡◌};
+
+use sd_base::{LaneNo, MOST_LANES, MediaName, PoolName, SessionKey, VolName};
+use sd_drive::Drive;
+use sd_driver::Driver;
+use sd_volume::{Volume, VolumeStatus};
+use std::alloc::{AllocError, Global};
+
+const LANES: usize = MOST_LANES as usize;
+
+/// A volume of a drive.
+#[derive(Drop)]
+pub struct VolumeRow {
+    pub name: VolName,
+    pub pool: PoolName,
+    pub media: MediaName,
+    pub status: VolumeStatus,
+    /// Where its blocks end.
+    pub end: u64,
+}
+
+impl VolumeRow {
+    // That of a volume as it is now.
+    fn of(volume: &Volume) -> Self {
+        VolumeRow {
+            name: volume.name().copy(),
+            pool: volume.pool().copy(),
+            media: volume.media().copy(),
+            status: volume.status(),
+            end: volume.end(),
+        }
+    }
+
+    /// The same once more.
+    pub fn copy(&self) -> Self
+        ensures { result ≡ self.now }
+    {
+        VolumeRow {
+            name: self.name.copy(),
+            pool: self.pool.copy(),
+            media: self.media.copy(),
+            status: self.status,
+            end: self.end,
+        }
+    }
+}
+
+// A volume, and whether the drive's worker passes it over, since it couldn't be loaded.
+#[derive(Drop)]
+struct Shown {
+    row: VolumeRow,
+    is_passed_over: bool,
+}
+
+impl Shown {
+    // Whether the worker would load it for blocks of this pool.
+    fn takes(&self, pool: &PoolName) -> bool {
+        self.row.status == VolumeStatus::Append
+            && !self.is_passed_over
+            && self.row.pool.is_same(pool)
+    }
+}
+
+/// How far the blocks of a session are.
+#[derive(Clone, Copy)]
+pub(crate) struct Reached {
+    key: SessionKey,
+    /// How many of them are placed.
+    pub(crate) placed: u64,
+    /// Whether the drive lost one of them.
+    pub(crate) has_failed: bool,
+}
+
+/// The volume that a drive's worker loads next.
+#[derive(Drop)]
+pub(crate) struct NextVolume {
+    pub(crate) name: VolName,
+    /// Whether no volume before it is passed over, so that a seek finds it.
+    pub(crate) is_sought: bool,
+}
+
+/// What is published of a drive.
+#[derive(Drop)]
+pub(crate) struct DriveStatus {
+    // Its volumes, in the drive's order.
+    volumes: Vec<Shown>,
+    loaded: Option<usize>,
+    // The pool of the session that began last.
+    pool: Option<PoolName>,
+    // Whether the worker found no volume for that pool, and none came since.
+    is_waiting: bool,
+    // Of each lane the session that began last there.
+    lanes: [Option<Reached>; LANES],
+}
+
+impl DriveStatus {
+    /// Of a drive that has no volume yet, and served no session. Takes no memory.
+    pub(crate) fn new(alloc: Global) -> Self {
+        DriveStatus {
+            volumes: Vec::new(alloc),
+            loaded: None,
+            pool: None,
+            is_waiting: false,
+            lanes: [None; LANES],
+        }
+    }
+
+    /// Makes room for one volume more.
+    pub(crate) fn make_room(&mut self) -> Result<(), AllocError> {
+        self.volumes.reserve(1)
+    }
+
+    /// Looks at a drive in which the volume at this place was loaded before a turn or an event. No other volume changes by
+    /// that but the one that is loaded then; and one may have come, for which there is room.
+    pub(crate) fn look<D: Driver>(&mut self, drive: &Drive<D>, was_loaded: Option<usize>) {
+        self.look_at(drive, was_loaded);
+        self.look_at(drive, drive.loaded());
+        self.look_for_more(drive);
+        self.loaded = drive.loaded();
+        if self.is_waiting {
+            self.is_waiting = !self.takes_own();
+        }
+    }
+
+    // Looks at the volume at this place.
+    fn look_at<D: Driver>(&mut self, drive: &Drive<D>, place: Option<usize>) {
+        let Some(at) = place else {
+            return;
+        };
+        if let (Some(shown), Some(volume)) = (self.volumes.get_mut(at), drive.volumes().get(at)) {
+            shown.row.status = volume.status();
+            shown.row.end = volume.end();
+        }
+    }
+
+    // Looks for a volume that came.
+    fn look_for_more<D: Driver>(&mut self, drive: &Drive<D>) {
+        if let Some(volume) = drive.volumes().get(self.volumes.len()) {
+            let _ = self.volumes.push(Shown {
+                row: VolumeRow::of(volume),
+                is_passed_over: false,
+            });
+        }
+    }
+
+    /// Whether a volume takes blocks of the drive's pool that isn't passed over. Most often the loaded one does, and no other
+    /// is looked at.
+    pub(crate) fn takes_own(&self) -> bool {
+        match &self.pool {
+            Some(pool) => self.takes(pool),
+            None => false,
+        }
+    }
+
+    fn takes(&self, pool: &PoolName) -> bool {
+        match self.shown_loaded() {
+            Some(shown) if shown.takes(pool) => true,
+            _ => self.first_for(pool).is_some(),
+        }
+    }
+
+    fn shown_loaded(&self) -> Option<&Shown> {
+        self.volumes.get(self.loaded?)
+    }
+
+    // The place of the first volume that takes blocks of the pool.
+    fn first_for(&self, pool: &PoolName) -> Option<usize> {
+        for at in 0..self.volumes.len() {
+            if self.volumes[at].takes(pool) {
+                return Some(at);
+            }
+        }
+        None
+    }
+
+    /// The volume that the worker loads next for this pool, if there is one.
+    pub(crate) fn next(&self, pool: &PoolName) -> Option<NextVolume> {
+        let at = self.first_for(pool)?;
+        Some(NextVolume {
+            name: self.volumes.get(at)?.row.name.copy(),
+            is_sought: !self.passes_before(at),
+        })
+    }
+
+    // Whether a volume before this place is passed over.
+    fn passes_before(&self, at: usize) -> bool {
+        for shown in self.volumes.iter().take(at) {
+            if shown.is_passed_over {
+                return true;
+            }
+        }
+        false
+    }
+
+    /// The worker passes the volume over from now on, or no longer.
+    pub(crate) fn pass_over(&mut self, name: &VolName, is_passed_over: bool) {
+        for shown in self.volumes.iter_mut() {
+            if shown.row.name.is_same(name) {
+                shown.is_passed_over = is_passed_over;
+            }
+        }
+    }
+
+    /// The worker found no volume.
+    pub(crate) fn waits(&mut self) {
+        self.is_waiting = true;
+    }
+
+    /// Nobody needs one any more.
+    pub(crate) fn rests(&mut self) {
+        self.is_waiting = false;
+    }
+
+    pub(crate) fn is_waiting(&self) -> bool {
+        self.is_waiting
+    }
+
+    /// A session begins at a lane.
+    pub(crate) fn begins(&mut self, key: SessionKey, lane: LaneNo, pool: &PoolName) {
+        let at = lane.get() as usize - 1;
+        if at < LANES {
+            self.lanes[at] = Some(Reached {
+                key,
+                placed: 0,
+                has_failed: false,
+            });
+        }
+        if !self.has_pool(pool) {
+            self.pool = Some(pool.copy());
+            self.is_waiting = false;
+        }
+    }
+
+    fn has_pool(&self, pool: &PoolName) -> bool {
+        match &self.pool {
+            Some(own) => own.is_same(pool),
+            None => false,
+        }
+    }
+
+    /// A block of a session was placed.
+    pub(crate) fn placed(&mut self, key: SessionKey) {
+        for lane in self.lanes.iter_mut() {
+            if let Some(reached) = lane {
+                if reached.key == key {
+                    reached.placed = reached.placed.saturating_add(1);
+                    return;
+                }
+            }
+        }
+    }
+
+    /// A sync failed: looks which sessions lost a block by it.
+    pub(crate) fn look_for_failed<D: Driver>(&mut self, drive: &Drive<D>) {
+        for lane in self.lanes.iter_mut() {
+            if let Some(reached) = lane {
+                reached.has_failed = drive.progress(reached.key).failed;
+            }
+        }
+    }
+
+    /// How far the blocks of a session are; none if it never began here, or another began at its lane since.
+    pub(crate) fn reached(&self, key: SessionKey) -> Option<Reached> {
+        for lane in self.lanes.iter() {
+            if let Some(reached) = lane {
+                if reached.key == key {
+                    return Some(*reached);
+                }
+            }
+        }
+        None
+    }
+
+    /// The volumes, in the drive's order.
+    pub(crate) fn rows(&self, alloc: Global) -> Result<Vec<VolumeRow>, AllocError> {
+        let mut rows = Vec::with_capacity(alloc, self.volumes.len())?;
+        for shown in self.volumes.iter() {
+            rows.push(shown.row.copy())?;
+        }
+        Ok(rows)
+    }
+
+    /// The volume that is loaded.
+    pub(crate) fn loaded(&self) -> Option<VolumeRow> {
+        Some(self.shown_loaded()?.row.copy())
+    }
+
+    /// Whether the device failed with the volume at this place.
+    pub(crate) fn has_failed(&self, place: Option<usize>) -> Option<VolName> {
+        let shown = self.volumes.get(place?)?;
+        if shown.row.status == VolumeStatus::Error {
+            Some(shown.row.name.copy())
+        } else {
+            None
+        }
+    }
+}
