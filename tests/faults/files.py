@@ -72,12 +72,12 @@ READINGS = [
     ("read", 1, "fail", errno.EINTR, None), ("read", 1, "short", 0, None),
 ]
 # Where the three blocks of a job lie, of two volumes of its pool, and the status of the first one then, if a call
-# fails. `lost` is a job that isn't closed, since a block of it may not last.
+# fails. `lost` is a job that isn't closed, since a block of it may not last. A volume that can't be loaded is passed over.
 JOBS = [
     ("none", 1, "fail", 0, "A", "append"),
-    *(("look", 1, "fail", number, "A", "append") for number in (errno.ENOENT, errno.EACCES)),
-    ("look", 1, "elsewhere", 0, "A", "append"), ("open", 1, "fail", errno.EACCES, "A", "append"),
-    ("stat", 1, "fail", errno.EIO, "A", "append"), ("stat", 2, "fail", errno.EIO, "B", "error"),
+    *(("look", 1, "fail", number, "B", "append") for number in (errno.ENOENT, errno.EACCES)),
+    ("look", 1, "elsewhere", 0, "B", "append"), ("open", 1, "fail", errno.EACCES, "B", "append"),
+    ("stat", 1, "fail", errno.EIO, "B", "append"), ("stat", 2, "fail", errno.EIO, "B", "error"),
     *(("write", 1, "fail", number, "B", "full") for number in FULL_ERRORS),
     *(("write", 1, "fail", number, "B", "error") for number in (errno.EIO, errno.EACCES)),
     *(("write", nth, "fail", errno.ENOSPC, "AB", "full") for nth in (2, 3)),
@@ -219,7 +219,7 @@ def jobs(site):
         yield from differs(f"volume, {said(*call)}", site.status(f"JobA-{at}"), status)
         next_lines = site.job(RECORDS, f"Jobs{at}")
         where = [names[line.split(" ")[1]] for line in next_lines[1:]]
-        yield from differs(f"job behind {said(*call)}", where, ["A" if status == "append" else "B"])
+        yield from differs(f"job behind {said(*call)}", where, ["A" if status == "append" and places != "B" else "B"])
         closed = [next_lines] + ([lines] if places != "lost" else [])
         for one in closed:
             yield from differs(f"reading behind {said(*call)}", site.read(one), (RECORDS, whole(RECORDS)))

@@ -14,7 +14,7 @@ import tempfile
 
 from files import FAULT, FULL_ERRORS, LABELLED, NO_ROOM, NOT_OURS, NOT_THERE, differs, said
 from scripts import each
-from daemon import LOCK, SDD
+from daemon import LOCK, SDD, SOON, until
 from sites import Site, Talk, client, session_body, volume_of, whole
 from session_model import Session
 
@@ -36,6 +36,7 @@ WAYS = {
 HARMLESS = (("short", 0), ("fail", errno.EINTR))
 LOST, LATER = "3905 Session failed", "3907 Not yet"
 SPOOL_FAULT = "3920 Spool fault"
+REFUSED_JOB = f"job 7 of pool Default and media File is refused: {SPOOL_FAULT}"
 DATA = random.Random(3).randbytes(12_000)
 # The records of the jobs of a day.
 JOBS = {"first": [DATA[:2500], b"", DATA[:10]], "second": [DATA[:700], DATA[:5000]], "third": [b"x"]}
@@ -256,8 +257,8 @@ def fails_spooling(shim, call):
         opens = call[:2] == ("truncate", 1)
         wanted = "closed" if call[2:] in HARMLESS else SPOOL_FAULT if opens else LOST
         yield from differs(about, [answer for line, answer in day.answers if line == "job"], ["closed", wanted, "closed"])
-        place = "job 7" if opens else "session 2 on drive 1"
-        if wanted != "closed" and not any(re.fullmatch(rf"talk \d+: {place}: {wanted}", line) for line in log):
+        told = REFUSED_JOB if opens else f"session 2 on drive 1: {wanted}"
+        if wanted != "closed" and not any(re.fullmatch(rf"talk \d+: {told}", line) for line in log):
             yield f"{about}: not logged: {log[-4:]}"
 
 
@@ -355,7 +356,7 @@ def spool_opens_again(folder, shim):
             site.fail("truncate", 1)
             talk.send(client.text_packet("append open session JobId=7 Pool=Default Media=File"))
             yield from differs("another open", talk.receive(), f"{SPOOL_FAULT}\n".encode())
-        if not daemon.logs(f"talk 2: job 7: {SPOOL_FAULT}"):
+        if not daemon.logs(f"talk 2: {REFUSED_JOB}"):
             yield f"not logged: {daemon.log()[-3:]}"
 
 
@@ -390,33 +391,45 @@ def spool_places(folder, shim):
                 answer = site.job(JOBS["first"])
                 if len(answer) == 1:
                     yield f"the folder is made: {answer}"
-            if not any(line.endswith(f": job 7: {SPOOL_FAULT}") for line in daemon.log()):
+            if not any(line.endswith(f": {REFUSED_JOB}") for line in daemon.log()):
                 yield f"{name}: not logged"
     kept = [(folder / path).read_bytes() for path in ("target", "a file/spools")]
     yield from differs("what stands there", (kept, (folder / "nothing").exists()), (2 * [b"kept"], False))
 
 
+# A volume that the job OUTGROWS doesn't fit on, but two of FILLINGS do, beside what that job had sent of itself.
+OUTGROWN, OUTGROWS = ("queue = 1", "volume = 65536"), 7 * [DATA]
+
+
 def spool_lanes(folder, shim):
-    """Each lane has a spool of its own, and a session gets the lowest lane that is free: one whose body waits for a
-    volume keeps its lane. Once there is a volume the lanes are free again."""
-    site = Site(folder, shim, "spools", SPOOLING)
+    """Each lane has a spool of its own, and a session gets the lowest lane that is free: one that sent a block keeps its lane
+    until that is placed, here while the volume is full; one that sent none gives it back at once."""
+    site = Site(folder, shim, "spools", (*SPOOLING, *OUTGROWN))
     site.well()
     used = []
 
-    def job(records):
+    def job(records, volume, lanes):
+        """A job, after which so many lanes are taken."""
         site.calls()
         lines = site.job(records)
         used.append({line.split(" ")[1] for line in site.calls()})
-        return lines
+        return lines, frees(volume, lanes)
+
+    def frees(volume, lanes):
+        return until(lambda: site.say("status").startswith(f"drive 1 File {volume} {lanes}\n"), SOON)
 
     with site.daemon(1000):
-        answers = [job(JOBS["third"]) for _ in range(3)]
-        yield from differs("without a volume", answers, 3 * [[LATER]])
+        yield from differs("without a volume", [job(JOBS["third"], "-", 0) for _ in range(2)], 2 * [([LATER], True)])
         site.say("label 1 Vol-0001 Default File")
+        yield from differs("a volume is full", job(OUTGROWS, "Vol-0001", 1), (["3908 Busy"], True))
+        yield from differs("beside it", [job(JOBS["third"], "Vol-0001", 1) for _ in range(2)], 2 * [([LATER], True)])
+        site.say("unmount 1")
+        site.say("label 1 Vol-0002 Default File")
+        yield from differs("its lane is free", frees("Vol-0002", 0), True)
         for _ in range(2):
-            yield from differs("a job with a volume", site.read(job(FILLINGS)), (FILLINGS, whole(FILLINGS)))
-        yield from differs("lanes", site.say("status").splitlines()[0], "drive 1 File Vol-0001 0")
-    yield from differs("spools", used, [{f"spool~1~{lane}"} for lane in (1, 2, 3, 1, 1)])
+            lines, is_free = job(FILLINGS, "Vol-0002", 0)
+            yield from differs("a job with a volume", (site.read(lines), is_free), ((FILLINGS, whole(FILLINGS)), True))
+    yield from differs("spools", used, [{f"spool~1~{lane}"} for lane in (1, 1, 1, 2, 2, 1, 1)])
 
 
 def as_nobody(folder, shim):

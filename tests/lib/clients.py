@@ -1,9 +1,9 @@
-"""The client of examples/client.py: as a library, and as the command."""
+"""The client of examples/client.py as a library, and the command sdd-client."""
 import importlib.machinery
 import importlib.util
 import subprocess
 
-from daemon import CLIENT, WAIT
+from daemon import CLIENT, ROOT, WAIT
 
 
 def library(path):
@@ -14,7 +14,7 @@ def library(path):
     return module
 
 
-client = library(CLIENT)
+client = library(ROOT / "examples" / "client.py")
 END_OF_DATA = client.signal(client.END_OF_DATA)
 
 

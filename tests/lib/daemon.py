@@ -13,7 +13,7 @@ import sys
 import time
 
 ROOT = pathlib.Path(__file__).resolve().parent.parent.parent
-CLIENT = ROOT / "examples" / "client.py"
+CLIENT = ROOT / "client" / "sdd-client"
 SDD = ROOT / "crates" / "sdd" / "out" / "sdd"
 SDTOOL = ROOT / "crates" / "sdtool" / "out" / "sdtool"
 SD_PLAIN = ROOT / "crates" / "sd_plain" / "out" / "sd_plain"
@@ -110,7 +110,7 @@ class Daemon:
         while not is_listened_on(port) or (log and not self.log()):
             if self.process.poll() is not None or time.monotonic() > end:
                 self.kill()
-                raise TimeoutError(f"not listening: {self.out.read_text()!r} {self.log()}")
+                raise TimeoutError(f"not listening: {self.out.read_text()!r} {self.logged.read_text(errors='replace')!r}")
             time.sleep(0.002)
 
     def __enter__(self):

@@ -38,6 +38,15 @@
 
    Of both folders the file by which a daemon locks them is left out: each call on it goes on as it is.
 
+   Calls that are held, and threads.
+     HOLDS       a file of lines KIND PATH NUMBER. A call of that kind on a path that begins so is held until no line says so any
+                 more; then it goes on, or, if NUMBER isn't 0, fails with that error of the system. The kinds are open, read,
+                 write, sync, truncate, unlink and look; and futex, whose PATH is the number of a thread and a slash: a thread
+                 that waited for a lock is held as it wakes
+     HOLDS_LOG   each call that is held is told there, by a line KIND PATH
+     PAUSES      SEED PERCENT MICROS: of all these calls, held or not, and of waking others by a lock, so many wait up to so
+                 long first, as drawn for each thread; so that threads meet in many orders
+
    Connections.
      QUIET_SECONDS   a read or a write that may wait 300 seconds waits so many
      WIRE            a file that says at each connection how that is cut and what fails, in numbers: the most bytes of its first
@@ -48,6 +57,7 @@
 #include <dlfcn.h>
 #include <errno.h>
 #include <fcntl.h>
+#include <linux/futex.h>
 #include <pthread.h>
 #include <signal.h>
 #include <stdarg.h>
@@ -86,6 +96,107 @@ static void tell(const char *name, const char *line, int size)
         syscall(SYS_write, file, line, size);
         syscall(SYS_close, file);
     }
+}
+
+/* --- Calls that are held, and threads ------------------------------------------------------------------------------- */
+
+/* Waits a little before some calls of a thread, as PAUSES says. */
+static void pause_some(void)
+{
+    static __thread unsigned long drawn;
+    const char *word = getenv("PAUSES");
+    unsigned long seed, percent, micros;
+
+    if (!word || sscanf(word, "%lu %lu %lu", &seed, &percent, &micros) != 3)
+        return;
+    if (!drawn)
+        drawn = (seed + 1) * 2654435761UL ^ (unsigned long)syscall(SYS_gettid) << 20 ^ 88172645463325252UL;
+    drawn ^= drawn << 13;
+    drawn ^= drawn >> 7;
+    drawn ^= drawn << 17;
+    if (drawn % 100 < percent)
+        usleep((drawn >> 20) % micros);
+}
+
+/* Whether HOLDS says that a call of this kind on this path is held, and with which number. */
+static int is_held(const char *kind, const char *path, long *number)
+{
+    char text[4000], held[16], begins[400];
+    int file = syscall(SYS_openat, AT_FDCWD, getenv("HOLDS"), O_RDONLY), size = 0;
+    ssize_t read = file < 0 ? 0 : syscall(SYS_read, file, text, sizeof text - 1);
+
+    if (file >= 0)
+        syscall(SYS_close, file);
+    text[read < 0 ? 0 : read] = 0;
+    for (char *at = text; sscanf(at, "%15s %399s %ld\n%n", held, begins, number, &size) == 3; at += size)
+        if (strcmp(held, kind) == 0 && strncmp(path, begins, strlen(begins)) == 0)
+            return 1;
+    return 0;
+}
+
+/* Holds a call for as long as HOLDS says. Whether it fails then. */
+static int held(const char *kind, const char *path)
+{
+    char line[500];
+    long number = 0, last = 0;
+    int told = 0;
+
+    pause_some();
+    while (path && getenv("HOLDS") && is_held(kind, path, &number)) {
+        if (!told++)
+            tell("HOLDS_LOG", line, snprintf(line, sizeof line, "%s %.400s\n", kind, path));
+        last = number;
+        usleep(1000);
+    }
+    if (last)
+        errno = last;
+    return last != 0;
+}
+
+/* The same of a call on an open file. */
+static int held_file(const char *kind, int file)
+{
+    char link[40], path[400];
+    ssize_t size;
+
+    if (!getenv("HOLDS")) {
+        pause_some();
+        return 0;
+    }
+    snprintf(link, sizeof link, "/proc/self/fd/%d", file);
+    size = readlink(link, path, sizeof path - 1);
+    path[size < 0 ? 0 : size] = 0;
+    return held(kind, path);
+}
+
+/* A thread waits for a lock, or wakes others, by this call. */
+long syscall(long number, ...)
+{
+    static long (*next)(long, ...);
+    char thread[40];
+    long words[6], answer;
+    int failed, call;
+    va_list rest;
+
+    va_start(rest, number);
+    for (int at = 0; at < 6; at++)
+        words[at] = va_arg(rest, long);
+    va_end(rest);
+    if (!next)
+        next = NEXT(syscall);
+    if (number != SYS_futex)
+        return next(number, words[0], words[1], words[2], words[3], words[4], words[5]);
+    call = words[1] & FUTEX_CMD_MASK;
+    answer = next(number, words[0], words[1], words[2], words[3], words[4], words[5]);
+    failed = errno;
+    if (call == FUTEX_WAIT || call == FUTEX_WAIT_BITSET) {
+        snprintf(thread, sizeof thread, "%ld/", next(SYS_gettid));
+        held("futex", thread);
+    } else {
+        pause_some();
+    }
+    errno = failed;
+    return answer;
 }
 
 /* --- The clock ------------------------------------------------------------------------------------------------------ */
@@ -320,7 +431,7 @@ static int opened(int folder, const char *path, int flags, mode_t mode)
     const char *name = name_in(path, "FAULTS_FOLDER"), *stop = name_in(path, "STOP_FOLDER");
     int is_change = stop && (flags & (O_CREAT | O_TRUNC)), file;
 
-    if (struck("open", name) == FAILS)
+    if (held("open", path) || struck("open", name) == FAILS)
         return -1;
     if (is_change)
         begin();
@@ -364,6 +475,8 @@ ssize_t pread64(int file, void *into, size_t size, off64_t at)
     size_t longest = number_in("LONGEST_READ_AT");
     enum how how;
 
+    if (held_file("read", file))
+        return -1;
     if (++reads_at == number_in("FAIL_READ_AT") || (longest && size > longest))
         return fails_with(EIO);
     if ((how = struck("read", name_of(planned, file))) == FAILS)
@@ -388,7 +501,7 @@ static ssize_t written(int file, const void *bytes, size_t size, off_t at)
 
 ssize_t pwrite64(int file, const void *bytes, size_t size, off64_t at)
 {
-    enum how how = struck("write", name_of(planned, file));
+    enum how how = held_file("write", file) ? FAILS : struck("write", name_of(planned, file));
 
     return how == FAILS ? -1 : written(file, bytes, part(how, size), at);
 }
@@ -406,7 +519,7 @@ ssize_t write(int file, const void *bytes, size_t size)
     }
     if (file == STDOUT_FILENO && is_counted_out("FAIL_WRITE", ++writes))
         return fails_with(EIO);
-    if ((how = struck("write", name_of(planned, file))) == FAILS)
+    if (held_file("write", file) || (how = struck("write", name_of(planned, file))) == FAILS)
         return -1;
     size = part(how, size);
     if (!name_of(counted, file))
@@ -421,7 +534,7 @@ static int synced(const char *kind, int call, int file)
 {
     const char *name = name_of(counted, file);
 
-    if (struck(kind, name_of(planned, file)) == FAILS)
+    if (held_file("sync", file) || struck(kind, name_of(planned, file)) == FAILS)
         return -1;
     if (!name)
         return syscall(call, file);
@@ -436,7 +549,7 @@ int ftruncate64(int file, off64_t size)
 {
     const char *name = name_of(counted, file);
 
-    if (struck("truncate", name_of(planned, file)) == FAILS)
+    if (held_file("truncate", file) || struck("truncate", name_of(planned, file)) == FAILS)
         return -1;
     if (!name)
         return syscall(SYS_ftruncate, file, size);
@@ -450,7 +563,7 @@ static int given_up(int folder, const char *path, int flags)
 {
     const char *name = name_in(path, "STOP_FOLDER");
 
-    if (struck("unlink", name_in(path, "FAULTS_FOLDER")) == FAILS)
+    if (held("unlink", path) || struck("unlink", name_in(path, "FAULTS_FOLDER")) == FAILS)
         return -1;
     if (!name)
         return syscall(SYS_unlinkat, folder, path, flags);
@@ -464,7 +577,7 @@ int unlinkat(int folder, const char *path, int flags) { return given_up(folder, 
 /* Of a look at a path. */
 #define LOOKS(call, number, device) \
     { \
-        enum how how = struck("look", name_in(path, "FAULTS_FOLDER")); \
+        enum how how = held("look", path) ? FAILS : struck("look", name_in(path, "FAULTS_FOLDER")); \
         int answer; \
         if (how == FAILS) \
             return -1; \
@@ -527,7 +640,7 @@ int accept4(int listener, struct sockaddr *address, socklen_t *size, int flags)
 {
     int made = syscall(SYS_accept4, listener, address, size, flags);
 
-    if (!getenv("WIRE"))
+    if (made < 0 || !getenv("WIRE"))
         return made;
     wire = made;
     wire_file = fopen(getenv("WIRE"), "r+");

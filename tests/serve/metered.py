@@ -11,7 +11,7 @@ import re
 import stat
 
 from clients import client
-from crowds import Two
+from crowds import MOST_TALKS, Two
 from daemon import ROOT, SOON, until
 from hardships import HELLO, SETTLED, UNSETTLED, WANT, Place
 from shim import loaded
@@ -19,7 +19,7 @@ from waiting import OUTGROWS, SMALL, WAITS
 
 FILE = "figures.prom"
 # A sample: its name, its labels and its value, a number or seconds to the microsecond.
-SAMPLE = re.compile(r"(sdd_[a-z_]+(?:\{[a-z]+=\"[\w:.-]+\"(?:,[a-z]+=\"[\w:.-]+\")*\})?) (\d+|\d+\.\d{6})")
+SAMPLE = re.compile(r"(sdd_[a-z_]+(?:\{[a-z]+=\"[\w:. -]+\"(?:,[a-z]+=\"[\w:. -]+\")*\})?) (\d+|\d+\.\d{6})")
 HELP, TYPE = re.compile(r"# HELP (sdd_[a-z_]+) \S.*"), re.compile(r"# TYPE (sdd_[a-z_]+) (counter|gauge)")
 # The figures that each drive has one of, of a drive that did nothing, with the lanes that it has if nothing else is
 # said.
@@ -27,10 +27,19 @@ OF_A_DRIVE = {"sdd_records_total": 0, "sdd_bytes_total": 0, "sdd_blocks_total": 
               "sdd_syncs_total": 0, "sdd_free_lanes": 4, "sdd_queued_blocks": 0, "sdd_volume_waits_total": 0,
               "sdd_waits_for_volume": 0, "sdd_full_volumes_total": 0}
 SESSIONS = ("active", "ended", "closed", "cancelled", "failed")
-SINGLE = ("sdd_restored_records_total", "sdd_restored_bytes_total", "sdd_talks_total", "sdd_talks")
-SYNC_SECONDS = "sdd_sync_seconds_total"
+SINGLE = ("sdd_restored_records_total", "sdd_restored_bytes_total", "sdd_labels_total", "sdd_refused_labels_total",
+          "sdd_adoptions_total", "sdd_refused_adoptions_total", "sdd_talks_total", "sdd_talks", "sdd_talks_with_session",
+          "sdd_talks_bound")
+# Why a job is refused.
+WHY = ("3909 No session number left", "3910 No drive of this media", "3911 No free lane", "3920 Spool fault",
+       "3960 Want of memory")
+QUEUED = 'sdd_queued_blocks{drive="1"}'
+SYNC_SECONDS, OLDEST = "sdd_sync_seconds_total", "sdd_oldest_talk_seconds"
 # How many seconds go by between two writings.
 PERIOD = 10
+# Records of several blocks each, and what the figure of a queue for one block may be that they fill while the drive hangs: the
+# block in the drive's hand is counted with it until the turn that it was taken in is over.
+FILLS, FULL = [bytes(range(250)) * 20, bytes(range(200)) * 25], (1, 2)
 # The records of a job, and those of one that is given up: the first one fills a block, which is sent before the next is taken.
 RECORDS, GIVEN_UP = [b"a" * 5, b"b" * 70_000, b""], [b"c" * 100_000, b"d"]
 UNWRITTEN = "metrics {} can't be written"
@@ -63,13 +72,21 @@ def expected(drives, sessions=(), single=(), faults=()):
     wanted = {f'{name}{{drive="{number}"}}': value
               for number, drive in enumerate(drives, 1) for name, value in {**OF_A_DRIVE, **drive}.items()}
     wanted |= {f'sdd_sessions{{status="{status}"}}': dict(sessions).get(status, 0) for status in SESSIONS}
-    wanted |= {name: dict(single).get(name, 0) for name in SINGLE}
+    wanted |= {name: dict(single).get(name, 0) for name in SINGLE} | {"sdd_talks_bound": MOST_TALKS}
+    wanted |= {refused(why): 0 for why in WHY}
     return wanted | {f'sdd_device_faults_total{{drive="{drive}",volume="{volume}"}}': count for drive, volume, count in faults}
 
 
+def refused(why):
+    """The name of the figure of the jobs that are refused so."""
+    return f'sdd_refused_jobs_total{{why="{why}"}}'
+
+
 def figures(place):
-    """What the file of a place says, without the seconds of syncs; and these, drive by drive."""
+    """What the file of a place says, without the seconds of syncs and the age of the oldest talk; and the former, drive by
+    drive."""
     samples = samples_in((place.folder / FILE).read_text())
+    samples.pop(OLDEST)
     seconds = [samples.pop(name) for name in list(samples) if name.startswith(SYNC_SECONDS)]
     return samples, seconds
 
@@ -114,32 +131,69 @@ def known_jobs(checks, folder, _):
         taken = sum(map(len, RECORDS + GIVEN_UP))
         first = {"sdd_records_total": 5, "sdd_bytes_total": taken, "sdd_blocks_total": 3,
                  "sdd_block_bytes_total": length_of(lines) + length_of(given_up), "sdd_syncs_total": 2}
-        single = {"sdd_restored_records_total": 3, "sdd_restored_bytes_total": sum(map(len, RECORDS)), "sdd_talks_total": 6}
+        single = {"sdd_restored_records_total": 3, "sdd_restored_bytes_total": sum(map(len, RECORDS)), "sdd_talks_total": 6,
+                  "sdd_labels_total": 2}
         seconds = settled(checks, place, daemon, expected([first, {}], {"closed": 1, "cancelled": 1}, single))
     checks.check("the time of its syncs", len(seconds) == 2 and 0 < seconds[0] < SOON and seconds[1] == 0, seconds)
 
 
-def in_between(checks, folder, _):
-    """While the daemon runs, the file is there from the beginning on, and is written anew in each period. It shows what goes on:
-    a session that takes records and one that has its end label, their lanes, and their talks."""
-    place = Place(folder / "in_between")
-    with metered(place) as daemon:
+def hang(calls):
+    """From now on each call on the files of a folder waits, since the pipe in which it is told is read by nobody."""
+    pipe = calls.with_suffix(".pipe")
+    os.mkfifo(pipe)
+    pipe.replace(calls)
+
+
+@contextlib.contextmanager
+def going_on(calls):
+    """Those calls go on, and so do later ones."""
+    read = os.open(calls, os.O_RDONLY | os.O_NONBLOCK)
+    calls.unlink()
+    try:
+        yield
+    finally:
+        os.close(read)
+
+
+def in_between(checks, folder, library):
+    """While the daemon runs, the file is there from the beginning on, and is written anew in each period, also if a drive hangs.
+    It shows what goes on: a session that takes records, one that has its end label, and one that fills the queue of the drive
+    that hangs; their lanes, and their talks. Once the drive goes on the last one is closed, and read back."""
+    place, calls = Place(folder / "in_between", "block = 1024\nqueue = 1\n"), folder / "in_between-calls"
+    environment = loaded(library, FAULTS_FOLDER=place.volumes, FAULTS_PLAN=os.devnull, FAULTS_LOG=calls)
+    with metered(place, env=environment) as daemon:
         checks.check("at once", until((place.folder / FILE).exists, SOON))
         checks.same("in the beginning", figures(place)[0], expected([{}]))
         place.label(checks)
-        with place.talk() as active, place.talk() as ended:
+        hang(calls)
+        with place.talk() as active, place.talk() as ended, place.talk() as fills:
             client.append_packets(active, client.open_session(active, 7, "Default", "File"), HELLO)
             ended.ask(f"append end session {client.open_session(ended, 8, 'Default', 'File')}")
-            wanted = expected([{"sdd_records_total": 1, "sdd_bytes_total": 5, "sdd_free_lanes": 2}], {"active": 1, "ended": 1},
-                              {"sdd_talks_total": 3, "sdd_talks": 2})
-            until(lambda: figures(place)[0] == wanted, PERIOD + SOON)
-            checks.same("meanwhile", figures(place)[0], wanted)
+            ticket = client.open_session(fills, 9, "Default", "File")
+            fills.ask(f"append data {ticket}")
+            fills.send(client.text_packet("1 2 0"), *map(client.packet, FILLS), *2 * [client.signal(client.END_OF_DATA)])
+            drive = {"sdd_records_total": 2, "sdd_bytes_total": 5 + len(FILLS[0]), "sdd_free_lanes": 1}
+            wanted = expected([drive], {"active": 2, "ended": 1},
+                              {"sdd_talks_total": 4, "sdd_talks": 3, "sdd_talks_with_session": 3, "sdd_labels_total": 1})
+            del wanted[QUEUED]
+            until(lambda: in_queue(place) == (True, wanted), PERIOD + SOON)
+            checks.same("meanwhile", in_queue(place), (True, wanted))
+            with going_on(calls):
+                checks.same("its records are taken", fills.line(), "3000 OK append data")
+                checks.same("its records", place.records(client.close_session(fills, ticket)), FILLS)
         checks.same("told of them", [line for line in daemon.log() if line.startswith("metrics ")], [])
+
+
+def in_queue(place):
+    """Whether the queue of the first drive is full, and all other figures as in `figures`."""
+    got, _ = figures(place)
+    return got.pop(QUEUED) in FULL, got
 
 
 def waits_and_fills(checks, folder, _):
     """A job outgrows a volume, and waits for another one that doesn't come. Its client goes away, and the daemon ends: the drive
-    has filled one volume, had to ask once and waits. The lane of the job is taken, and a piece of it lies in the queue."""
+    has filled one volume, had to ask once and waits. The lane of the job is taken, since a piece of it is in the drive's hand.
+    Whether another had been sent before the volume was full isn't said; later none is."""
     place = Place(folder / "waits_and_fills", "queue = 1\n" + SMALL)
     with metered(place, "--talks", "2", "--wait", "60") as daemon:
         place.label(checks)
@@ -150,10 +204,10 @@ def waits_and_fills(checks, folder, _):
             checks.check("the drive waits", daemon.logs(WAITS), daemon.log())
         checks.same("its end", daemon.wait(), ("", 0))
     got, _ = figures(place)
-    wanted = {"sdd_free_lanes": 3, "sdd_queued_blocks": 1, "sdd_volume_waits_total": 1, "sdd_waits_for_volume": 1,
-              "sdd_full_volumes_total": 1}
+    wanted = {"sdd_free_lanes": 3, "sdd_volume_waits_total": 1, "sdd_waits_for_volume": 1, "sdd_full_volumes_total": 1}
     for name, value in wanted.items():
         checks.same(name, got[f'{name}{{drive="1"}}'], value)
+    checks.check("its queue", got[QUEUED] in (0, 1), got[QUEUED])
     size, placed = (place.volumes / "Vol-0001").stat().st_size, got['sdd_block_bytes_total{drive="1"}']
     checks.check("its blocks", size - 200 < placed < size, size, placed)
     checks.same("its session", [got[f'sdd_sessions{{status="{status}"}}'] for status in SESSIONS], [0, 0, 0, 1, 0])
@@ -173,7 +227,7 @@ def answered(checks, folder, _):
             lines = list(talk.lines())
         drive = {"sdd_records_total": 1, "sdd_bytes_total": 5, "sdd_blocks_total": 1, "sdd_block_bytes_total": length_of(lines),
                  "sdd_syncs_total": 1, "sdd_volume_waits_total": 1}
-        settled(checks, place, daemon, expected([drive], {"closed": 1}, {"sdd_talks_total": 2}))
+        settled(checks, place, daemon, expected([drive], {"closed": 1}, {"sdd_talks_total": 2, "sdd_labels_total": 1}))
 
 
 def failing_device(checks, folder, library):
@@ -204,7 +258,8 @@ def failing_device(checks, folder, library):
         # Both sessions have a block of the same length.
         drive = {"sdd_records_total": 2, "sdd_bytes_total": 10, "sdd_blocks_total": 2,
                  "sdd_block_bytes_total": 2 * length_of(lines), "sdd_syncs_total": 2}
-        settled(checks, place, daemon, expected([drive], {"closed": 1, "failed": 1}, {"sdd_talks_total": 4},
+        single = {"sdd_talks_total": 4, "sdd_labels_total": 2}
+        settled(checks, place, daemon, expected([drive], {"closed": 1, "failed": 1}, single,
                                                 [(1, "Vol-0001", 1), (1, "Vol-0002", 1)]))
 
 

@@ -101,33 +101,40 @@ def given_again(place, line):
 
 
 def goes_away(checks, folder, _):
-    """A client goes away while it waits for the answer to its close, and one while its record waits; what both sent besides
-    waits to be read. Their waits end, and their lanes are free once what they sent is placed."""
+    """A client goes away while its record waits, since its drive's volume is full, and one while it waits for the answer to its
+    close; what both sent besides waits to be read. Their waits end. The lane of the second, which sent nothing, is free at
+    once; that of the first once what it sent is placed."""
     place = Place(folder / "goes_away", "queue = 1\n" + SMALL)
     with open(place.conf, "a") as conf:
         conf.write("lanes = 2\n")
     with place.daemon("--wait", "600") as daemon:
-        with place.talk() as closes, place.talk() as appends:
-            ticket = client.open_session(closes, 7, "Default", "File")
-            closes.ask(f"append end session {ticket}")
-            closes.send(client.text_packet(f"append close session {ticket}"))
-            checks.check("the drive waits", daemon.logs(WAITS), daemon.log())
-            other = client.open_session(appends, 7, "Default", "File")
-            appends.ask(f"append data {other}")
+        place.label(checks)
+        with place.talk() as appends, place.talk() as closes:
+            ticket = client.open_session(appends, 7, "Default", "File")
+            appends.ask(f"append data {ticket}")
             appends.send(client.text_packet("1 2 0"), *OUTGROWS)
+            checks.check("the drive waits", daemon.logs(WAITS), daemon.log())
+            other = client.open_session(closes, 7, "Default", "File")
+            closes.ask(f"append end session {other}")
+            closes.send(client.text_packet(f"append close session {other}"))
             closes.socket.settimeout(QUIET)
             checks.check("the close waits", raises(TimeoutError, closes.socket.recv, 1))
             for talk in (closes, appends):
                 talk.send(client.text_packet("console status"))
-        ends = until(lambda: sum(" ended: " in line for line in daemon.log()) == 2, SOON)
+        ends = until(lambda: sum(" cancelled with " in line for line in daemon.log()) == 2, SOON)
         checks.check("their waits end", ends, daemon.log())
-        with place.talk() as talk:
+        with place.talk() as talk, place.talk() as late:
+            free = until(lambda: talk.console("status")[0] == "drive 1 File Vol-0001 1", SOON)
+            checks.check("one lane is free", free, talk.console("status"))
             status = talk.console("status")
             checks.same("their sessions", [line.split()[2] for line in status if line.startswith("session ")], 2 * ["cancelled"])
-            checks.same("no lane", refused(client.open_session, talk, 7, "Default", "File"), "3911 No free lane")
-            checks.same("label", talk.console("label 1 Vol-0001 Default File"), ["ok labelled"])
-            free = until(lambda: talk.console("status")[0] == "drive 1 File Vol-0001 0", SOON)
-            checks.check("their lanes are free", free, talk.console("status"))
+            client.open_session(talk, 7, "Default", "File")
+            checks.same("no lane", refused(client.open_session, late, 7, "Default", "File"), "3911 No free lane")
+            # A full volume is loaded up to then.
+            checks.same("unmount", talk.console("unmount 1"), ["ok unmounted"])
+            checks.same("label", talk.console("label 1 Vol-0002 Default File"), ["ok labelled"])
+            free = until(lambda: talk.console("status")[0] == "drive 1 File Vol-0002 1", SOON)
+            checks.check("the other lane is free", free, talk.console("status"))
         place.serves(checks, "behind them")
 
 

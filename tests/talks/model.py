@@ -438,6 +438,8 @@ class Talk:
             self.due, self.key, self.spans = "spans", tuple(map(int, words)), []
         elif words := fields(r"console (.*)", sent):
             answer = self.world.console(words[0], self.own)
+            if isinstance(answer, int) and answer != 3901 and words[0].startswith(("label ", "adopt ")):
+                self.world.log.append(f"{words[0]}: {answer} {REFUSALS[answer]}")
             self.refuse(answer) if isinstance(answer, int) else self.say(*answer)
             self.out += b"" if isinstance(answer, int) else signal(END_OF_DATA)
         else:
@@ -451,6 +453,7 @@ class Talk:
         elif self.runs:
             self.refuse(3901)
         elif media != "File":
+            self.world.log.append(f"job {job} of pool {pool} and media {media} is refused: 3910 {REFUSALS[3910]}")
             self.refuse(3910)
         else:
             self.own, self.runs = len(self.world.sessions) + 1, True

@@ -19,8 +19,8 @@ TERMINATED = (">", model.signal(model.TERMINATE))
 SETTINGS, SMALL_BLOCKS = "it has settings of its own", "its spans are of blocks of at most 1024 bytes"
 # The rows that aren't played here, and why.
 LEFT_OUT = {
-    "busy": SETTINGS, "busy_no_more": SETTINGS, "commands": SETTINGS, "failed": SETTINGS, "no_free_lane": SETTINGS,
-    "no_spool": SETTINGS, "two_volumes": SETTINGS,
+    "busy": SETTINGS, "busy_no_more": SETTINGS, "commands": SETTINGS, "failed": SETTINGS, "lane_given_back": SETTINGS,
+    "no_free_lane": SETTINGS, "no_spool": SETTINGS, "two_volumes": SETTINGS,
     "cancelled": SMALL_BLOCKS, "header_alone": SMALL_BLOCKS, "large_records": SMALL_BLOCKS, "waits_for_rounds": SMALL_BLOCKS,
     "console": "the daemon alone refuses to retire a drive",
     "hello": "the daemon alone refuses to cancel what another talk opened",
