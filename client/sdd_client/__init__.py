@@ -1,0 +1,1 @@
+"""The client of the storage daemon: GNU tar's streams in its sessions, and a catalogue of them."""

@@ -1,0 +1,94 @@
+"""`console` and `adopt-all`: lines of the operator."""
+from __future__ import annotations
+
+import os
+import re
+import tomllib
+import typing
+
+from .connection import PORT, Connection
+from .dialogue import SEVERAL, VOLUME_NAME, console
+from .errors import Misused, Refused, Unfit, complain
+from .newfile import print_lines
+
+# The words that the daemon knows, each with what follows it.
+FORMS = {"label": "DRIVE VOLUME POOL MEDIA", "adopt": "DRIVE VOLUME", "mount": "DRIVE VOLUME", "unmount": "DRIVE",
+         "retire": "DRIVE", "purge": "DRIVE VOLUME", "cancel": "TICKET", "jobmedia": "TICKET", "status": "", "requests": ""}
+BAD_COMMAND = "3901"
+
+
+def form_of(word: str) -> str:
+    return f"{word} {FORMS[word]}".rstrip()
+
+
+def say(talk: Connection, words: list[str]) -> None:
+    """Prints the answer to a line of the operator. A known word with other words than its own isn't sent."""
+    words = " ".join(words).split(" ")
+    known = words[0] in FORMS
+    if known and len(words) != len(form_of(words[0]).split()):
+        raise Misused(f"the form is: console {form_of(words[0])}")
+    try:
+        print_lines(console(talk, " ".join(words)))
+    except Refused as why:
+        if known and why.number() == BAD_COMMAND:
+            complain(f"the form is: console {form_of(words[0])}")
+        raise
+
+
+def print_forms() -> None:
+    print_lines(form_of(word) for word in FORMS)
+
+
+class Configuration(typing.NamedTuple):
+    """What the daemon's configuration says to its clients: its port, and the folders of its drives."""
+
+    port: int
+    folders: list[str]
+
+
+def configured(path: str) -> Configuration:
+    with open(path, "rb") as file:
+        try:
+            text = tomllib.load(file)
+            return Configuration(int(text.get("port", PORT)), [str(drive["folder"]) for drive in text["drive"]])
+        except (ValueError, KeyError, TypeError, AttributeError) as why:
+            raise Unfit(f"{path} is no configuration; 'sdd check' says why") from why
+
+
+def volumes_in(folder: str) -> list[str]:
+    """The plain files whose names a volume may have. Numbers in them count as numbers: Vol-2 comes before Vol-10."""
+    def rank(name: str) -> list[tuple[int, str]]:
+        return [(len(word) if word.isdigit() else 0, word) for word in re.split(r"(\d+)", name)]
+
+    with os.scandir(folder or ".") as entries:
+        names = [one.name for one in entries if one.is_file(follow_symlinks=False) and VOLUME_NAME.fullmatch(one.name)]
+    return sorted(names, key=rank)
+
+
+def adopt_all(talk: Connection, folders: list[str]) -> None:
+    """Adopts what may be a volume in each drive's folder, by the order of names. One that this run knows already is
+    well. A folder that can't be read, or a volume that is refused, is told, and the others are adopted."""
+    refused = unread = 0
+    for number, folder in enumerate(folders, 1):
+        try:
+            names = volumes_in(folder)
+        except OSError as why:
+            unread += 1
+            complain(f"drive {number}: {why}")
+            continue
+        refused += sum(not is_adopted(talk, number, name) for name in names)
+    if refused:
+        raise Refused(f"{refused} not adopted")
+    if unread:
+        raise Unfit(f"{unread} folders can't be read")
+
+
+def is_adopted(talk: Connection, drive: int, name: str) -> bool:
+    """Adopts a volume. Tells it, or why not."""
+    try:
+        print_lines(f"{name}: {line}" for line in console(talk, f"adopt {drive} {name}"))
+    except Refused as why:
+        if why.number() != SEVERAL:
+            complain(f"drive {drive}, {name}: {why}")
+            return False
+    return True
