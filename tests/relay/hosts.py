@@ -5,7 +5,7 @@ import signal
 import subprocess
 import sys
 
-from daemon import SDD, WAIT, until
+from daemon import SDD, SOON, WAIT, until
 from held import table
 from namespaces import CLIENT, HOST, NOBODY, RELAY_GROUP, Hosts, missing
 
@@ -171,16 +171,18 @@ class Ways:
         self.checks.group = "vanishes"
         data = self.hosts.folder / "slow"
         os.mkfifo(data)
-        command = [sys.executable, CLIENT, *self.hosts.rsh("desk"), "append", str(data), str(self.hosts.folder / "slow.spans")]
+        command = [sys.executable, CLIENT, *self.hosts.rsh("desk"), "--job", "7", "append", data, self.hosts.folder / "slow.spans"]
         process = subprocess.Popen(self.hosts.client.command(*command), stderr=subprocess.DEVNULL, start_new_session=True)
         with open(data, "wb", buffering=0) as file:
             file.write(bytes(200_000))
             log = self.hosts.folder / "sdd.log"
-            until(lambda: times("opened for job", log) > times("(closed|cancelled) with", log))
+            is_open = until(lambda: times("opened for job", log) > times("(closed|cancelled) with", log))
+            self.checks.check("its session is open", is_open, log.read_text())
             again = ["append", self.hosts.folder / "ssh.data", self.hosts.folder / "again.spans"]
             self.same("another goes on", self.hosts.by_tls(self.hosts.tls / "desk.pem"), again, "")
             before = log.read_text().count(" cancelled with")
             os.killpg(process.pid, signal.SIGKILL)
             process.wait()
-            self.checks.check("its session is cancelled", until(lambda: log.read_text().count(" cancelled with") > before, 60))
+            is_over = until(lambda: log.read_text().count(" cancelled with") > before, SOON)
+            self.checks.check("its session is cancelled", is_over, log.read_text())
         self.checks.check("no spans", not (self.hosts.folder / "slow.spans").exists())
