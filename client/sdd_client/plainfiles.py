@@ -71,13 +71,14 @@ def plain_file(path: str, left_out: LeftOut) -> typing.BinaryIO | None:
 
 
 def closed(talk: Connection, appending: Appending, patience: float) -> list[str]:
-    """Closes a job. If that waits for a volume, the volume is reported."""
+    """Closes a job. If that waits for a volume, the volume is reported to those who may ask for it."""
     try:
         return appending.close(patience)
     except Refused as why:
         if why.number() == NOT_YET:
-            for line in console(talk, "requests"):
-                complain(f"the daemon says: {line}")
+            with contextlib.suppress(Refused):
+                for line in console(talk, "requests"):
+                    complain(f"the daemon says: {line}")
         raise
 
 
