@@ -12,7 +12,7 @@ from relay.roles import Rights, Role
 # What a name is: also a file's name, and what a certificate has after CN=.
 CLIENT_NAME = re.compile(r"[A-Za-z0-9_][A-Za-z0-9_.-]{0,63}")
 JOBS = re.compile(r"([1-9]\d{0,9})(?:-([1-9]\d{0,9}))?", re.ASCII)
-SOCKET, STATE, PORT = "/run/sdd/socket", "/var/lib/sdd-relay", 9103
+SOCKET, STATE, PORT = "/run/sdd-clients/socket", "/var/lib/sdd-relay", 9103
 # An append-only key that is stolen could otherwise open sessions for ever, of which each costs the daemon memory.
 SESSIONS_A_DAY, TALKS = 10_000, 8
 MOST_AMOUNT = 2**62

@@ -5,7 +5,7 @@ import contextlib
 import os
 import socket
 
-SOCKET, PORT, HOST = "/run/sdd/socket", 9103, "127.0.0.1"
+SOCKET, PORT, HOST = "/run/sdd-clients/socket", 9103, "127.0.0.1"
 
 
 class SocketTransport:

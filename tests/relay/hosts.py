@@ -150,7 +150,7 @@ class Ways:
         self.checks.group = "local"
         for user, groups, wanted in ((0, [], "ok status"), (NOBODY, [], "PermissionError"), (NOBODY, [RELAY_GROUP], "ok status")):
             code = (f"import os, socket; os.setgroups({groups}); os.setgid({NOBODY if user else 0}); os.setuid({user})\n"
-                    "s = socket.socket(socket.AF_UNIX)\ns.connect('/run/sdd/socket')\n"
+                    "s = socket.socket(socket.AF_UNIX)\ns.connect('/run/sdd-clients/socket')\n"
                     "s.sendall(b'\\0\\0\\0\\x0econsole status'); d = b''\n"
                     "while b'ok status' not in d: d += s.recv(9999)\nprint('ok status')")
             run = self.python(self.hosts.host, code)

@@ -14,6 +14,7 @@ from held import RELAY
 EXAMPLES, REMOTE = ROOT / "examples", ROOT / "examples" / "remote"
 CLIENT = ROOT / "client" / "sdd-client"
 HOST, OTHER = "10.84.0.1", "10.84.0.2"
+SOCKET = "/run/sdd-clients/socket"
 PROXY = pathlib.Path("/usr/lib/systemd/systemd-socket-proxyd")
 PROGRAMS = ("/usr/sbin/sshd", "/usr/bin/stunnel4", "/usr/bin/ssh", "/usr/bin/openssl", "/usr/sbin/ip", "/usr/bin/nsenter",
             "/usr/bin/setpriv", str(PROXY))
@@ -89,7 +90,7 @@ class Hosts:
     def accounts(self):
         """The host's /run, and its users and groups besides those of this machine."""
         self.host.call("mount", "-t", "tmpfs", "-o", "mode=0755", "none", "/run")
-        self.host.call("mkdir", "-p", "/run/sshd", "/run/sdd", self.run_folder)
+        self.host.call("mkdir", "-p", "/run/sshd", "/run/sdd-clients", self.run_folder)
         lines = {
             "passwd": f"sdd-relay:x:{RELAY_USER}:{RELAY_USER}::{self.run_folder}:/bin/sh\n",
             "group": f"sdd-relay:x:{RELAY_USER}:\nsdd-clients:x:{RELAY_GROUP}:sdd-relay\n",
@@ -135,7 +136,7 @@ class Hosts:
 
     def serve(self, names):
         """Starts all, with these tables of names."""
-        self.conf = self.put("relay.toml", f'socket = "/run/sdd/socket"\nstate = "{self.run_folder}/state"\n'
+        self.conf = self.put("relay.toml", f'socket = "{SOCKET}"\nstate = "{self.run_folder}/state"\n'
                              f'log = "{self.run_folder}/state/log"\n{names}')
         self.start_daemon()
         self.start_proxy()
@@ -156,14 +157,14 @@ class Hosts:
         """The socket as systemd makes it by examples/sdd-clients.socket, and the command of sdd-clients.service."""
         unit = (EXAMPLES / "sdd-clients.service").read_text()
         words = next(line for line in unit.splitlines() if line.startswith("ExecStart=")).removeprefix("ExecStart=").split()
-        code = ("import os, socket, sys; s = socket.socket(socket.AF_UNIX); os.umask(0o777); s.bind('/run/sdd/socket'); "
-                f"os.chown('/run/sdd/socket', 0, {RELAY_GROUP}); os.chmod('/run/sdd/socket', 0o660); s.listen(320); "
+        code = (f"import os, socket, sys; s = socket.socket(socket.AF_UNIX); os.umask(0o777); s.bind({SOCKET!r}); "
+                f"os.chown({SOCKET!r}, 0, {RELAY_GROUP}); os.chmod({SOCKET!r}, 0o660); s.listen(320); "
                 "s.set_inheritable(True); os.dup2(s.fileno(), 3); "
                 "os.environ.update(LISTEN_FDS='1', LISTEN_PID=str(os.getpid())); os.execvp(sys.argv[1], sys.argv[1:])")
         # The host's files and the daemon's network.
         inner = ["nsenter", "-t", str(self.private.process.pid), "--net", "--", *words]
         self.start(*self.host.command("/usr/bin/python3", "-c", code, *inner), log="proxy.log")
-        until(lambda: subprocess.run(self.host.command("test", "-S", "/run/sdd/socket")).returncode == 0)
+        until(lambda: subprocess.run(self.host.command("test", "-S", SOCKET)).returncode == 0)
 
     def start_sshd(self):
         lines = [(REMOTE / "authorized_keys").read_text().splitlines()[-1]]

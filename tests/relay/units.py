@@ -68,11 +68,7 @@ def fits(checks):
 
 def installed(checks, folder):
     """`install` puts the relay, its units and its examples below a prefix, and each names that."""
-    source, prefix = folder / "source", folder / "prefix"
-    for part in ("client", "examples", "docs/man", "relay"):
-        shutil.copytree(ROOT / part, source / part)
-    shutil.copy(ROOT / "install", source)
-    (source / "bin").mkdir()
+    source, prefix = sources(folder), folder / "prefix"
     for program in ("sdd", "sdtool"):
         shutil.copy("/bin/true", source / "bin" / program)
     subprocess.run([source / "install", prefix], check=True, timeout=60)
@@ -89,6 +85,16 @@ def installed(checks, folder):
     for unit in ("sdd-clients.socket", "sdd-clients.service"):
         checks.check(f"{unit} is there", (prefix / "lib" / "systemd" / "system" / unit).exists())
     checks.check("a script", os.access(example / "sdd-certificate", os.X_OK))
+
+
+def sources(folder):
+    """What `install` takes, but for the programs."""
+    source = folder / "source"
+    for part in ("client", "examples", "docs/man", "relay"):
+        shutil.copytree(ROOT / part, source / part, ignore=shutil.ignore_patterns("__pycache__"))
+    shutil.copy(ROOT / "install", source)
+    (source / "bin").mkdir()
+    return source
 
 
 def local(checks, folder):
