@@ -79,8 +79,8 @@ def hold(asked: argparse.Namespace) -> int:
 def talk_held(rights: Rights, daemon: socket.socket, store: Store, journal: Journal) -> None:
     """Holds a talk that is admitted, and gives back what it doesn't use of the day, however it ends."""
     journal.say(f"begins from {peer()} as {rights.role.value}")
-    with contextlib.closing(Allowance(store, rights)) as allowance:
-        talk = Talk(rights, Ends(0, 1, daemon), store, allowance, journal)
+    with contextlib.closing(Allowance(store, rights)) as allowance, contextlib.closing(Ends(0, 1, daemon)) as ends:
+        talk = Talk(rights, ends, store, allowance, journal)
         try:
             journal.ended(talk.hold())
         finally:

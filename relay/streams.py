@@ -6,6 +6,7 @@ import fcntl
 import os
 import select
 import socket
+import stat
 import time
 
 from relay.errors import ClientLost, DaemonLost
@@ -15,8 +16,10 @@ from relay.packets import LENGTH
 IDLE = 300.0
 # After so many seconds without progress of the daemon a client that has ended its sending side counts as gone.
 GRACE = 2.0
-# The most that is read at once, and all that is held of what a side sent.
-SIZE = 1 << 20
+# The most that is read at once, and all that is held of what a side sent: so much stays in a processor's cache.
+SIZE = 1 << 17
+# Payloads from this size on pass unread. After one only a few bytes are read, which hold what is before the next one.
+LARGE, FEW = 1 << 15, 64
 PIPE_SIZE = 1 << 20
 GONE = select.POLLERR | select.POLLHUP | select.POLLNVAL
 
@@ -34,21 +37,33 @@ class Input:
     def __len__(self) -> int:
         return self.end - self.start
 
-    def read(self) -> None:
-        """Reads what has come; the file is ready."""
+    def read(self, most: int = SIZE) -> int | None:
+        """Reads what has come, up to so many bytes. Gives how many: 0 at the end, None if nothing has come."""
         if self.start:
             # Never more than part of a packet's beginning: what is taken is taken in large pieces.
             left = self.end - self.start
             self.store[:left] = self.store[self.start:self.end]
             self.start, self.end = 0, left
         try:
-            count = os.readv(self.file, [self.view[self.end:]])
+            count = os.readv(self.file, [self.view[self.end:self.end + most]])
         except BlockingIOError:
-            return
+            return None
         except OSError:
             count = 0
         self.end += count
-        self.is_over = self.is_over or count == 0
+        self.is_over = not count
+        return count
+
+    def move(self, pipe: int, most: int) -> int | None:
+        """Moves into a pipe what has come, while nothing that was read is left. Gives what `read` gives."""
+        try:
+            count = os.splice(self.file, pipe, most, flags=os.SPLICE_F_NONBLOCK)
+        except BlockingIOError:
+            return None
+        except OSError:
+            count = 0
+        self.is_over = not count
+        return count
 
     def length(self) -> int | None:
         """The length that begins here, if its four bytes have come."""
@@ -68,37 +83,51 @@ class Ends:
         self.client, self.client_out, self.idle = Input(client_in), client_out, idle
         self.socket, self.daemon = daemon, Input(daemon.fileno())
         self.sent_at, self.left_at, self.has_ended = time.monotonic(), 0.0, False
-        for file in (client_in, client_out):
+        # What passes unread is in this pipe in between: the system moves it there and on, and it isn't copied.
+        self.pipe = os.pipe()
+        for file in (client_in, client_out, self.pipe[1]):
             enlarge(file)
             os.set_blocking(file, False)
         daemon.setblocking(False)
+        self.client_sends, self.client_takes = select.poll(), select.poll()
+        for file in (client_in, self.daemon.file):
+            self.client_sends.register(file, select.POLLIN)
+        self.client_takes.register(client_out, select.POLLOUT)
+        self.appends_unread, self.reads_unread = is_stream(client_in), is_stream(client_out)
+
+    def close(self) -> None:
+        """Closes what isn't of the two sides."""
+        for file in self.pipe:
+            os.close(file)
 
     # The client.
 
-    def read_client(self) -> bool:
+    def read_client(self, most: int = SIZE) -> bool:
         """Reads more of the client, once there is more. Says whether there was: if not, its input is over. What the
         daemon says meanwhile is unasked."""
         if self.client.is_over or self.has_ended:
             return False
-        before = len(self.client)
         # Mostly it is there already.
-        self.client.read()
-        if len(self.client) == before and not self.client.is_over:
-            self._wait_for_client(before)
-        return len(self.client) > before
+        while (count := self.client.read(most)) is None:
+            self._wait_for_client()
+        return count > 0
 
-    def _wait_for_client(self, before: int) -> None:
-        poll = select.poll()
-        poll.register(self.client.file, select.POLLIN)
-        poll.register(self.socket, select.POLLIN)
-        while len(self.client) == before and not self.client.is_over:
-            ready = dict(poll.poll(self.idle * 1000))
-            if not ready:
-                raise ClientLost(f"the client sent nothing for {self.idle:.0f} seconds")
-            if self.socket.fileno() in ready:
-                self._pass_unasked()
-            if self.client.file in ready:
-                self.client.read()
+    def pass_client(self, size: int) -> int:
+        """Passes on to the daemon what comes next of the client, up to so many bytes, unread. Gives how many, 0 if its
+        input is over."""
+        if self.client.is_over or self.has_ended:
+            return 0
+        while (count := self.client.move(self.pipe[1], size)) is None:
+            self._wait_for_client()
+        self._to_daemon(count, None)
+        return count
+
+    def _wait_for_client(self) -> None:
+        ready = self.client_sends.poll(self.idle * 1000)
+        if not ready:
+            raise ClientLost(f"the client sent nothing for {self.idle:.0f} seconds")
+        if any(file == self.daemon.file for file, _ in ready):
+            self._pass_unasked()
 
     def _pass_unasked(self) -> None:
         """The daemon says something that nobody asked for, or ends the talk. The client is told what it said."""
@@ -107,32 +136,43 @@ class Ends:
         raise DaemonLost("the daemon ended the talk")
 
     def write_client(self, data: bytes | memoryview) -> None:
-        poll = select.poll()
-        poll.register(self.client_out, select.POLLOUT)
-        self._write(self.client_out, data, lambda: self._wait_to_write_client(poll))
+        self._to_client(len(data), memoryview(data))
 
-    def _wait_to_write_client(self, poll: select.poll) -> None:
-        if not poll.poll(self.idle * 1000):
-            raise ClientLost(f"the client took nothing for {self.idle:.0f} seconds")
-
-    def _write(self, file: int, data: bytes | memoryview, wait: collections.abc.Callable[[], None]) -> None:
-        view = memoryview(data)
-        while view:
+    def _to_client(self, size: int, data: memoryview | None) -> None:
+        """Writes the data, or so many bytes of the pipe."""
+        left = size
+        while left:
             try:
-                view = view[os.write(file, view):]
+                left -= self._write(self.client_out, left, data)
             except BlockingIOError:
-                wait()
+                if not self.client_takes.poll(self.idle * 1000):
+                    raise ClientLost(f"the client took nothing for {self.idle:.0f} seconds") from None
             except OSError as why:
-                if file == self.client_out:
-                    raise ClientLost(f"the client takes nothing more: {why.strerror}") from why
-                self._pass_unasked()
+                raise ClientLost(f"the client takes nothing more: {why.strerror}") from why
+
+    def _write(self, file: int, left: int, data: memoryview | None) -> int:
+        """Writes to a file of the last so many bytes of the data, or of the pipe's. Gives how many it took."""
+        if data is None:
+            return os.splice(self.pipe[0], file, left, flags=os.SPLICE_F_NONBLOCK)
+        return os.write(file, data[len(data) - left:])
 
     # The daemon.
 
     def write_daemon(self, data: bytes | memoryview) -> None:
+        self._to_daemon(len(data), memoryview(data))
+
+    def _to_daemon(self, size: int, data: memoryview | None) -> None:
+        """Writes the data, or so many bytes of the pipe."""
         if self.has_ended:
             raise ClientLost("the client has gone")
-        self._write(self.socket.fileno(), data, self._wait_to_write_daemon)
+        left = size
+        while left:
+            try:
+                left -= self._write(self.daemon.file, left, data)
+            except BlockingIOError:
+                self._wait_to_write_daemon()
+            except OSError:
+                self._pass_unasked()
         self.sent_at = time.monotonic()
 
     def _wait_to_write_daemon(self) -> None:
@@ -142,15 +182,22 @@ class Ends:
         if ready & select.POLLIN:
             self._pass_unasked()
 
-    def read_daemon(self) -> None:
+    def read_daemon(self, most: int = SIZE) -> None:
         """Reads more of the daemon, once there is more. However long that takes, it is waited for while the client is
         there."""
-        before = len(self.daemon)
-        while len(self.daemon) == before:
+        while (count := self.daemon.read(most)) is None:
             self._wait_for_daemon(select.POLLIN)
-            self.daemon.read()
-            if self.daemon.is_over:
-                raise DaemonLost("the daemon ended the talk")
+        if not count:
+            raise DaemonLost("the daemon ended the talk")
+
+    def pass_daemon(self, size: int) -> int:
+        """Passes on to the client what comes next of the daemon, up to so many bytes, unread. Gives how many."""
+        while (count := self.daemon.move(self.pipe[1], size)) is None:
+            self._wait_for_daemon(select.POLLIN)
+        if not count:
+            raise DaemonLost("the daemon ended the talk")
+        self._to_client(count, None)
+        return count
 
     def _wait_for_daemon(self, events: int) -> int:
         """Waits for the daemon, and watches the client meanwhile. One that takes nothing any more is lost. To one that
@@ -181,6 +228,12 @@ class Ends:
             self.socket.shutdown(socket.SHUT_WR)
         except OSError as why:
             raise DaemonLost("the daemon ended the talk") from why
+
+
+def is_stream(file: int) -> bool:
+    """Whether it is a pipe or a socket: then the system moves bytes to and from it."""
+    mode = os.fstat(file).st_mode
+    return stat.S_ISFIFO(mode) or stat.S_ISSOCK(mode)
 
 
 def enlarge(file: int) -> None:

@@ -16,7 +16,7 @@ from relay.packets import (BAD_COMMAND, BAD_NAME, BAD_SPAN, END_OF_DATA, HEARTBE
 from relay.phases import DataPhase, ReadPhase, SpanPhase, Stop
 from relay.roles import Rights
 from relay.store import Store
-from relay.streams import Ends
+from relay.streams import FEW, LARGE, SIZE, Ends
 
 OPENED = re.compile(rb"3000 OK open ticket = ([1-9][0-9]{0,9})\n")
 # The daemon ends a talk in which it hears nothing for 300 seconds, also if only the relay hears the client.
@@ -176,7 +176,18 @@ class Talk:
                 client.start = at
             if stop in (Stop.END, Stop.LIMIT):
                 return stop
-            self._go_on(stop)
+            if stop is Stop.MORE and self.ends.appends_unread and phase.left >= LARGE:
+                self._pass_large(phase)
+            else:
+                self._go_on(stop)
+
+    def _pass_large(self, phase: DataPhase) -> None:
+        """Passes on the rest of a large payload unread, and reads what comes before the next one."""
+        while phase.left:
+            if not (count := self.ends.pass_client(phase.left)):
+                raise Over("truncated")
+            phase.left -= count
+        self._go_on(Stop.MORE, FEW)
 
     def _end_at_limit(self, phase: DataPhase) -> None:
         """Ends the daemon's phase and gives up the session, as after a refused record; drops what the client goes on to
@@ -253,17 +264,22 @@ class Talk:
                 return
             if stop is not Stop.MORE:
                 raise DaemonLost("the daemon says what is no record")
-            self.ends.read_daemon()
+            if not (self.ends.reads_unread and phase.left >= LARGE):
+                self.ends.read_daemon()
+                continue
+            while phase.left:
+                phase.left -= self.ends.pass_daemon(phase.left)
+            self.ends.read_daemon(FEW)
 
     # What these have in common.
 
-    def _go_on(self, stop: Stop) -> None:
+    def _go_on(self, stop: Stop, most: int = SIZE) -> None:
         """Reads on in a phase, or ends the talk for what stopped it."""
         if stop is Stop.TOO_LONG:
             self._too_long()
         elif stop is Stop.TERMINATE:
             self._terminate()
-        elif not self.ends.read_client():
+        elif not self.ends.read_client(most):
             raise Over("truncated")
 
     def _terminate(self) -> None:

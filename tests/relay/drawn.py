@@ -1,6 +1,8 @@
 """Streams of packets by the ten thousand through the relay's talk, in this process, between a client's bytes and a daemon
 that keeps what reaches it, beside a model of what may pass."""
 import collections
+import contextlib
+import fcntl
 import os
 import pathlib
 import random
@@ -145,6 +147,48 @@ def in_pieces(draw, sent, end):
         pass
 
 
+class Files:
+    """The client's two files: `source` holds what it sends, or gets it in pieces, and `out` takes what it gets."""
+
+    def __init__(self, kind, draw, sent):
+        self.feeder = None
+        if kind == "pieces":
+            self.source, far = socket.socketpair()
+            self.feeder = threading.Thread(target=in_pieces, args=(draw, sent, far), daemon=True)
+            self.feeder.start()
+        elif kind == "pipe":
+            self.source, feeds = wide_pipe()
+            with feeds:
+                feeds.write(sent)
+        else:
+            self.source = tempfile.TemporaryFile()
+            self.source.write(sent)
+            self.source.seek(0)
+        self.got, self.out = (None, tempfile.TemporaryFile()) if kind == "file" else wide_pipe()
+
+    def came(self):
+        """What the client got, once the talk is over."""
+        if self.got:
+            self.out.close()
+            return self.got.read()
+        self.out.seek(0)
+        return self.out.read()
+
+    def close(self):
+        for file in (self.source, self.out, self.got):
+            if file:
+                file.close()
+        if self.feeder:
+            self.feeder.join(20)
+
+
+def wide_pipe():
+    """A pipe that holds all of a stream."""
+    reads, writes = (open(file, mode, buffering=0) for file, mode in zip(os.pipe(), ("rb", "wb")))
+    fcntl.fcntl(writes, fcntl.F_SETPIPE_SZ, 1 << 20)
+    return reads, writes
+
+
 class Streams:
     """Streams one after the other, of a few names that keep their sessions, and of names with limits."""
 
@@ -160,7 +204,7 @@ class Streams:
                 break
         self.store.close()
         print("streams:", ", ".join(f"{what} {count}" for what, count in sorted(self.counts.items())))
-        for what in ("forbidden", "forbidden read", "read", "phase", "limit", "open", "pieces", "truncated", "flip", "too long"):
+        for what in ("forbidden", "forbidden read", "read", "phase", "limit", "open", "pieces", "pipe unread", "truncated", "flip", "too long"):
             self.checks.check(f"{what} was drawn", self.counts[what] >= self.count // 100, self.counts[what])
 
     def one(self, number):
@@ -190,30 +234,24 @@ class Streams:
         near, far = socket.socketpair()
         daemon = fake.Fake(far, run, number, {ticket: "closed" for ticket in others})
         daemon.start()
-        feeder, source = None, tempfile.TemporaryFile()
-        if draw.random() < 0.1:
-            self.counts["pieces"] += 1
-            source, far = socket.socketpair()
-            feeder = threading.Thread(target=in_pieces, args=(draw, sent, far), daemon=True)
-            feeder.start()
-        else:
-            source.write(sent)
-            source.seek(0)
-        with tempfile.TemporaryFile() as out, source, near:
-            try:
-                allowance = Allowance(self.store, rights, lambda: DAY)
-                one = talk.Talk(rights, streams.Ends(source.fileno(), out.fileno(), near, 20), self.store, allowance, Quiet())
-                how = one.hold()
-            except Failed as why:
-                how = f"{type(why).__name__}: {why}"
-            allowance.close()
+        kind = draw.choices(("file", "pipe", "pieces"), (4, 5, 1))[0]
+        # From so many bytes on payloads pass unread, where both ends are pipes or sockets.
+        talk.LARGE = draw.choice((1, 40, streams.LARGE))
+        self.counts.update([kind] if talk.LARGE == streams.LARGE else [kind, f"{kind} unread"])
+        with contextlib.closing(Files(kind, draw, sent)) as files, near:
+            with contextlib.closing(streams.Ends(files.source.fileno(), files.out.fileno(), near, 20)) as ends:
+                how = self.talked(rights, ends)
             near.close()
             daemon.join(20)
-            out.seek(0)
-            said = out.read()
-        if feeder:
-            feeder.join(20)
-        return said, daemon, how
+            return files.came(), daemon, how
+
+    def talked(self, rights, ends):
+        """How a talk between these ends."""
+        with contextlib.closing(Allowance(self.store, rights, lambda: DAY)) as allowance:
+            try:
+                return talk.Talk(rights, ends, self.store, allowance, Quiet()).hold()
+            except Failed as why:
+                return f"{type(why).__name__}: {why}"
 
     def judge(self, what, rights, sent, out, daemon):
         self.checks.check(f"{what}: the daemon", not daemon.is_alive() and not daemon.failure, repr(daemon.failure))

@@ -3,13 +3,14 @@ be read or written: what each ends, and that it ends nothing else."""
 import contextlib
 import os
 import socket
+import subprocess
 import threading
 import time
 
 import fake
-from daemon import until
+from daemon import CLIENT, WAIT, until
 from fake import line, packet, signal
-from held import Always, Places, Relayed
+from held import NAMES, RELAY, Always, Places, Relayed
 from relay import streams, talk
 from relay.allowance import Allowance
 from relay.errors import ClientLost, Failed
@@ -43,7 +44,7 @@ class Hardships(Places):
     def run(self):
         for part in (self.slow, self.broken, self.floods, self.big_commands, self.leaves_in_wait, self.half_closed, self.silent,
                      self.takes_nothing, self.no_daemon, self.daemon_ends, self.daemon_says_nonsense, self.data_unasked,
-                     self.not_admitted, self.store_fails, self.same_run_twice, self.long_drop):
+                     self.not_admitted, self.store_fails, self.same_run_twice, self.long_drop, self.told_first):
             part()
         self.checks.group = "hardships"
 
@@ -145,9 +146,10 @@ class Hardships(Places):
         rights = Rights("www", Role.CLIENT, frozenset(["Default"]), frozenset(["File"]), (range(7, 10),))
         allowance = Allowance(store, rights)
         journal = Quiet()
-        with near, far, daemon, contextlib.closing(store), contextlib.closing(allowance):
+        ends = streams.Ends(near.fileno(), near.fileno(), daemon, idle)
+        with near, far, daemon, contextlib.closing(store), contextlib.closing(allowance), contextlib.closing(ends):
             threading.Thread(target=lambda: contextlib.suppress(OSError) and far.sendall(sent), daemon=True).start()
-            held = talk.Talk(rights, streams.Ends(near.fileno(), near.fileno(), daemon, idle), store, allowance, journal)
+            held = talk.Talk(rights, ends, store, allowance, journal)
             began = time.monotonic()
             try:
                 return held.hold(), time.monotonic() - began
@@ -280,8 +282,10 @@ class Hardships(Places):
                 daemon.connect(str(place.socket))
                 store = Store(place.state)
                 rights = Rights("www", Role.CLIENT, frozenset(["Default"]), frozenset(["File"]), (range(7, 10),))
-                with near, far, daemon, contextlib.closing(store), contextlib.closing(Allowance(store, rights)) as allowance:
-                    held = talk.Talk(rights, streams.Ends(near.fileno(), near.fileno(), daemon), store, allowance, Quiet())
+                ends = streams.Ends(near.fileno(), near.fileno(), daemon)
+                with (near, far, daemon, contextlib.closing(ends), contextlib.closing(store),
+                      contextlib.closing(Allowance(store, rights)) as allowance):
+                    held = talk.Talk(rights, ends, store, allowance, Quiet())
                     thread = threading.Thread(target=until_lost, args=(held,), daemon=True)
                     for at in range(0, len(sent), 21):
                         time.sleep(0.06)
@@ -294,6 +298,24 @@ class Hardships(Places):
                     thread.join(10)
         finally:
             talk.AWAKE = awake
+
+
+    def told_first(self):
+        """A close that isn't possible yet: who may not ask what the daemon waits for is told of the close alone."""
+        class NotYet(Always):
+            def of_close(self):
+                return line("3907 Not yet")
+
+        with self.place("told first", NotYet, NAMES + '[name.admin]\nrole = "operator"\n') as (place, _):
+            data = place.folder / "data"
+            data.write_bytes(b"hello")
+            for name, wanted in (("www", "sdd-client: 3907 Not yet"), ("admin", "sdd-client: the daemon says: ok requests 1")):
+                rsh = f"{RELAY} --conf {place.conf} --as {name}"
+                words = ["--rsh", rsh, "--retry", "0", "--job", "7", "append", data, place.folder / "spans"]
+                run = subprocess.run([CLIENT, *words], stdin=subprocess.DEVNULL, capture_output=True, text=True, timeout=WAIT)
+                said = [one for one in run.stderr.splitlines() if one.startswith("sdd-client")]
+                self.checks.check(f"{name} is told", wanted in said and said[-1] == "sdd-client: 3907 Not yet", run.stderr)
+                self.checks.same(f"{name}'s status", run.returncode, 1)
 
 
 def until_lost(held):

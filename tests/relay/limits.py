@@ -42,7 +42,9 @@ class Limits(Places):
             self.checks.same("what still fits", client.ask("1 2 0", "x" * 19_000, -1, -1), "3000 OK append data")
             client.send(-4)
             client.ended()
-            self.checks.check("the log has it", any("bytes of the day" in one for one in place.logged()), place.logged())
+            for told in ("refused a record: the bytes of the day are used up", "99000 bytes were appended, 0 read", "ended: finished"):
+                is_told = any(line.endswith(f" www: {told}") for line in place.logged())
+                self.checks.check(f"the log has the name, and: {told}", is_told, place.logged())
         store = Store(place.state)
         self.checks.same("counted", store.counted("www", time.strftime("%Y-%m-%d", time.gmtime()))[0], 99_036)
         store.close()
