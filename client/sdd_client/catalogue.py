@@ -9,10 +9,10 @@ import sqlite3
 import typing
 
 from .errors import Failed
-from .filelist import ASKED, Row
+from .filelist import ASKED, Piece, Row, Writer, rows_of
 from .head import Head, Place
 
-VERSION = 1
+VERSION = 2
 # For so many seconds another client may hold it.
 PATIENCE = 300
 SCHEMA = """
@@ -26,12 +26,13 @@ CREATE INDEX IF NOT EXISTS by_name ON jobs(name, client, began);
 CREATE TABLE IF NOT EXISTS sessions(
     job INTEGER NOT NULL, number INTEGER NOT NULL, time INTEGER NOT NULL, session INTEGER NOT NULL,
     raw INTEGER NOT NULL, stored INTEGER NOT NULL, lines TEXT NOT NULL, PRIMARY KEY(job, number)) WITHOUT ROWID;
-CREATE TABLE IF NOT EXISTS files(
-    job INTEGER NOT NULL, place INTEGER NOT NULL, kind TEXT NOT NULL, size INTEGER, mtime INTEGER, session INTEGER,
-    start INTEGER, length INTEGER, path BLOB NOT NULL, text BLOB, PRIMARY KEY(job, place)) WITHOUT ROWID;
+CREATE TABLE IF NOT EXISTS lists(
+    id INTEGER PRIMARY KEY, job INTEGER NOT NULL, first INTEGER NOT NULL, last INTEGER NOT NULL, data BLOB NOT NULL);
+CREATE INDEX IF NOT EXISTS by_job ON lists(job);
+CREATE TABLE IF NOT EXISTS snapshots(job INTEGER PRIMARY KEY, data BLOB NOT NULL);
 """
-# How a job stands: it goes on or was broken off, is kept whole or but for faults, or nobody knows.
-RUNNING, FAILED, KEPT, PARTLY, UNKNOWN = "running", "failed", "kept", "partly", "unknown"
+# How a job stands: it goes on or was broken off, is kept whole or but for faults, nobody knows, or it needn't be kept any more.
+RUNNING, FAILED, KEPT, PARTLY, UNKNOWN, FORGOTTEN = "running", "failed", "kept", "partly", "unknown", "forgotten"
 # The number of a job's last session among its sessions.
 LAST = 0
 
@@ -95,13 +96,30 @@ def same_job(head: Head, last: Place) -> tuple[typing.Any, ...]:
     return (*last.key(), head.client, head.job, head.began, json.dumps(head.copy_of))
 
 
-def without_paths(rows: typing.Iterable[Row], paths: list[str]) -> typing.Iterator[Row]:
-    """The rows but for the paths that were asked for, which are added to a list."""
-    for row in rows:
-        if row.kind == ASKED:
-            paths.append(os.fsdecode(row.path))
-        else:
-            yield row
+class Listed(typing.NamedTuple):
+    """A job's list of files: the paths that were asked for, and its pieces. Both are known once all pieces were taken."""
+
+    paths: list[str]
+    pieces: typing.Iterable[Piece]
+
+
+def listed(rows: typing.Iterable[Row]) -> Listed:
+    """The list of these rows."""
+    paths: list[str] = []
+
+    def pieces() -> typing.Iterator[Piece]:
+        ready: list[Piece] = []
+        writer = Writer(ready.append)
+        for row in rows:
+            writer.put(row)
+            if row.kind == ASKED:
+                paths.append(os.fsdecode(row.path))
+            while ready:
+                yield ready.pop()
+        writer.finish()
+        yield from ready
+
+    return Listed(paths, pieces())
 
 
 class Catalogue:
@@ -117,7 +135,8 @@ class Catalogue:
             self.base.executescript(SCHEMA)
             version = self.base.execute("PRAGMA user_version").fetchone()[0]
             if version not in (0, VERSION):
-                raise Failed(f"the catalogue {path} is of version {version}, and this client knows {VERSION}")
+                raise Failed(f"the catalogue {path} is of version {version}, and this client knows {VERSION}: 'rebuild' makes "
+                             "another")
             self.base.execute(f"PRAGMA user_version = {VERSION}")
         except (OSError, sqlite3.Error) as why:
             raise Failed(f"the catalogue {path} can't be used: {why}") from why
@@ -160,28 +179,28 @@ class Catalogue:
         found = self.base.execute(f"SELECT has_list FROM jobs WHERE {SAME_JOB}", same_job(head, last)).fetchone()
         return bool(found and found[0])
 
-    def keep(self, head: Head, last: Place, rows: typing.Iterable[Row] | None, number: int | None = None) -> int:
+    def keep(self, head: Head, last: Place, files: Listed | None, number: int | None = None) -> int:
         """Notes a job that is kept, in place of what was noted of it: by its head, its last session and its list of
         files. Without a list its files aren't known."""
         with self.change() as base:
             for (old,) in base.execute(f"SELECT id FROM jobs WHERE {SAME_JOB} OR {SAME_START}",
                                        same_job(head, last)).fetchall():
                 number = number or old
-                for table, column in (("jobs", "id"), ("sessions", "job"), ("files", "job")):
+                for table, column in (("jobs", "id"), ("sessions", "job"), ("lists", "job"), ("snapshots", "job")):
                     base.execute(f"DELETE FROM {table} WHERE {column} = ?", (old,))
             number = number or self._free_id(head.number)
             status = PARTLY if head.faults else KEPT
             values = (number, head.number, head.client, head.job, head.level, head.began, head.ended, status, head.pool,
                       head.media, head.files, head.bytes, head.faults, *map(json.dumps, (
-                          head.stages, [], head.chain, head.retention, head.copy_of)), rows is not None, *last.key())
+                          head.stages, [], head.chain, head.retention, head.copy_of)), files is not None, *last.key())
             number = base.execute(f"INSERT INTO jobs({COLUMNS}) VALUES ({', '.join('?' * len(values))})", values).lastrowid
             base.executemany("INSERT INTO sessions VALUES (?, ?, ?, ?, ?, ?, ?)", (
                 (number, at, *place.key(), place.raw, place.stored, "\n".join(place.lines))
                 for at, place in enumerate([last, *head.sessions], LAST)))
-            paths: list[str] = []
-            base.executemany("INSERT INTO files VALUES (?, ?, ?, ?, ?, ?, ?, ?, ?, ?)", (
-                (number, place, *row) for place, row in enumerate(without_paths(rows or (), paths))))
-            base.execute("UPDATE jobs SET paths = ? WHERE id = ?", (json.dumps(paths), number))
+            if files:
+                put = "INSERT INTO lists(job, first, last, data) VALUES (?, ?, ?, ?)"
+                base.executemany(put, ((number, one.first, one.last, one.data) for one in files.pieces))
+                base.execute("UPDATE jobs SET paths = ? WHERE id = ?", (json.dumps(files.paths), number))
         return number
 
     def _free_id(self, wanted: int) -> int | None:
@@ -204,9 +223,32 @@ class Catalogue:
         found = self.base.execute("SELECT number, lines, raw, stored FROM sessions WHERE job = ? ORDER BY number", (job,))
         return {number: Place(lines.splitlines(), raw, stored) for number, lines, raw, stored in found}
 
+    def pieces(self, job: int, session: int | None = None) -> typing.Iterator[bytes]:
+        """The pieces of a job's list, or those that may have files of one of its sessions."""
+        text = "SELECT data FROM lists WHERE job = ?1 AND (?2 IS NULL OR ?2 BETWEEN first AND last) ORDER BY id"
+        return (data for (data,) in self.base.execute(text, (job, session)))
+
+    def keep_snapshot(self, job: int, data: bytes) -> None:
+        """Keeps the snapshot of a job's tar. Those of earlier runs are of no use any more."""
+        same = "SELECT id FROM jobs WHERE (client, name) = (SELECT client, name FROM jobs WHERE id = ?1)"
+        with self.change() as base:
+            base.execute(f"DELETE FROM snapshots WHERE job IN ({same})", (job,))
+            base.execute("INSERT INTO snapshots VALUES (?, ?)", (job, data))
+
+    def snapshot(self, job: int) -> bytes | None:
+        found = self.base.execute("SELECT data FROM snapshots WHERE job = ?", (job,)).fetchone()
+        return found and found[0]
+
+    def job_of(self, key: list[int], client: str, name: str) -> Job | None:
+        """The job of that client and name with that last session."""
+        text = f"SELECT {COLUMNS} FROM jobs WHERE (time, session, client, name) = (?, ?, ?, ?)"
+        found = self.base.execute(text, (*key, client, name)).fetchone()
+        return found and job_of(found)
+
     def rows(self, job: int, session: int | None = None) -> typing.Iterator[Row]:
         """The files of a job, or of one of its sessions, in the order of its streams; and with all of them the names that
         tar spoke of, after them."""
-        text = ("SELECT kind, size, mtime, session, start, length, path, text FROM files "
-                "WHERE job = ?1 AND (?2 IS NULL OR session = ?2) ORDER BY place")
-        return (Row(*row) for row in self.base.execute(text, (job, session)))
+        for piece in self.pieces(job, session):
+            for row in rows_of([piece]):
+                if row.kind != ASKED and (session is None or row.session == session):
+                    yield row

@@ -9,6 +9,9 @@ from .backup import this_client
 from .catalogue import KEPT, PARTLY, Catalogue, Job
 from .errors import Failed, Misused
 from .filelist import Row
+from .head import Head
+from .stages import inverse_of
+from .state import State
 
 
 def moment_of(text: str) -> int:
@@ -48,12 +51,23 @@ def job_at(catalogue: Catalogue, name: str, client: str | None, at: int | None, 
     return max(fitting, key=lambda job: (job.began, job.copy_of is None, job.id))
 
 
+class Undo(typing.NamedTuple):
+    """How stages are undone."""
+
+    stages: list[str]
+    identity: str | None
+
+    def inverse(self, job: Job | Head) -> list[str]:
+        """The stages of the way back of a job, the last one first."""
+        return inverse_of(job.stages, self.stages if job.stages else [], self.identity)
+
+
 class Choice:
     """The files of a job that are wanted: all, or those at some paths and below them. With a hard link comes the member
     that has its bytes, and with a file the folders that it is in."""
 
-    def __init__(self, catalogue: Catalogue, job: Job, paths: list[str]):
-        self.catalogue, self.job = catalogue, job
+    def __init__(self, state: State, paths: list[str]):
+        self.state, self.job = state, state.job
         self.paths = [os.fsencode(os.path.abspath(path)) for path in paths]
         self.is_all = not paths or b"/" in self.paths
         self.below = tuple(path + b"/" for path in self.paths)
@@ -66,7 +80,7 @@ class Choice:
     def _complete(self) -> None:
         """Finds the first members of links, and that each path is there."""
         found, targets = set(), set()
-        for row in self.catalogue.rows(self.job.id):
+        for row in self.state.rows():
             if not row.is_member() or not self.names(row.path):
                 continue
             found.update(path for path in self.exact if row.path == path or row.path.startswith(path + b"/"))
@@ -83,7 +97,7 @@ class Choice:
 
     def rows(self) -> typing.Iterator[Row]:
         """The rows of the members, in their order."""
-        for row in self.catalogue.rows(self.job.id):
+        for row in self.state.rows():
             if row.is_member() and (self.names(row.path) or row.path in self.also or row.kind == "d" and row.path in self.above):
                 yield row
 

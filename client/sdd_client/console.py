@@ -21,17 +21,22 @@ def form_of(word: str) -> str:
     return f"{word} {FORMS[word]}".rstrip()
 
 
-def say(talk: Connection, words: list[str]) -> None:
-    """Prints the answer to a line of the operator. A known word with other words than its own isn't sent."""
+def line_of(words: list[str]) -> str:
+    """The line of these words. A known word with other words than its own is none."""
     words = " ".join(words).split(" ")
-    known = words[0] in FORMS
-    if known and len(words) != len(form_of(words[0]).split()):
+    if words[0] in FORMS and len(words) != len(form_of(words[0]).split()):
         raise Misused(f"the form is: console {form_of(words[0])}")
+    return " ".join(words)
+
+
+def say(talk: Connection, line: str) -> None:
+    """Prints the answer to a line of the operator."""
+    word = line.partition(" ")[0]
     try:
-        print_lines(console(talk, " ".join(words)))
+        print_lines(console(talk, line))
     except Refused as why:
-        if known and why.number() == BAD_COMMAND:
-            complain(f"the form is: console {form_of(words[0])}")
+        if word in FORMS and why.number() == BAD_COMMAND:
+            complain(f"the form is: console {form_of(word)}")
         raise
 
 

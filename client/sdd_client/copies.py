@@ -6,7 +6,7 @@ import dataclasses
 import os
 import typing
 
-from .catalogue import LAST, Catalogue, Job
+from .catalogue import LAST, Catalogue, Job, listed
 from .connection import connect
 from .dialogue import terminate
 from .errors import Failed
@@ -24,12 +24,21 @@ def copy(catalogue: Catalogue, job: Job, source: Source, way: Way) -> Head:
     head = head_of(source, last.lines)
     if not head:
         raise Failed("the last session has no head")
+    chain = [copied_key(catalogue, job, key) for key in job.chain]
     way = way._replace(target=way.target._replace(job=head.number))
     copied = [dataclasses.replace(place, lines=copy_session(source, place, way)) for place in places.values()]
-    head = dataclasses.replace(head, sessions=copied, copy_of=job.key(), pool=way.target.pool, media=way.target.media)
+    head = dataclasses.replace(head, sessions=copied, copy_of=job.key(), chain=chain, pool=way.target.pool, media=way.target.media)
     new_last = dataclasses.replace(last, lines=copy_session(source, last, way, head))
-    catalogue.keep(head, new_last, rows_with_paths(catalogue, job) if job.has_list else None)
+    catalogue.keep(head, new_last, listed(rows_with_paths(catalogue, job)) if job.has_list else None)
     return head
+
+
+def copied_key(catalogue: Catalogue, job: Job, key: list[int]) -> list[int]:
+    """The key of the last copy of a job that another one stands on."""
+    copies = [one.key() for one in catalogue.jobs(job.name, job.client) if one.copy_of == key]
+    if not copies or not copies[-1]:
+        raise Failed(f"job {job.name}, number {job.number}, stands on the one with session {key[0]} {key[1]}, which isn't copied")
+    return copies[-1]
 
 
 def rows_with_paths(catalogue: Catalogue, job: Job) -> typing.Iterator[Row]:

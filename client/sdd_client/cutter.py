@@ -1,18 +1,16 @@
 """Cuts tar's stream into sessions at members, and gives them to the lanes."""
 from __future__ import annotations
 
-import io
 import os
 import typing
 
 from .errors import complain
 from .filelist import Writer, plain
 from .lanes import Lane, Session, Way
-from .tarcut import END, Damaged, Member, Members, padded
+from .tarcut import BLOCK, COMMON, END, TYPE, Damaged, Member, Parser, padded
 
 # A session has some so many bytes, and a lane gets so many before the next one's turn.
 SESSION, TURN = 4_000_000_000, 16_000_000
-READ_AHEAD = 1 << 18
 
 
 class Cutter:
@@ -23,7 +21,7 @@ class Cutter:
         self.way, self.count, self.size, self.files = way, lanes, size, files
         self.lanes: list[Lane] = []
         self.sessions: list[Session] = []
-        self.turn = 0
+        self.turn, self.parser = 0, Parser()
 
     def __enter__(self) -> Cutter:
         return self
@@ -50,36 +48,80 @@ class Cutter:
 
     def run(self, pipe: typing.BinaryIO) -> None:
         """Takes all of the stream, and closes its sessions."""
-        stream = io.BufferedReader(typing.cast(io.RawIOBase, pipe), READ_AHEAD)
-        members, lane = Members(stream), self.lanes[0]
-        for member in members:
-            lane = self._lane_for(lane, member, members.common)
-            self.files.add(member, lane.session.number, lane.session.raw)
-            lane.put(member.headers)
-            self.turn += member.length()
-            if member.payload:
-                fill(lane, stream, padded(member.payload))
+        stream, lane, left = Given(pipe), self.lanes[0], 0
+        while True:
+            room = lane.room()
+            end = stream.readinto(room)
+            left, rest = self._walk(lane, room, left, end)
+            lane.advance(end - len(rest))
+            if rest:
+                stream.push(rest)
+                if not (found := self._next(stream)):
+                    break
+                lane, left = self._take(lane, *found), padded(found[0].payload)
+        stream.drain()
         for lane in self.lanes:
             if lane.session:
-                end(lane)
+                end_session(lane)
         for lane in self.lanes:
             lane.finish()
 
-    def _lane_for(self, lane: Lane, member: Member, common: bytes) -> Lane:
+    def _walk(self, lane: Lane, room: memoryview, at: int, end: int) -> tuple[int, bytes]:
+        """Notes the members whose headers are in what has come, from `at` to `end`, as far as they are whole there and go on
+        in the lane's session. Gives how many bytes of the last one are still to come, and what is left of what has come."""
+        session, limit, begin = lane.session, self._limit(lane), at
+        parsed, add = self.parser.parsed, self.files.add
+        while at < end:
+            member = parsed(room, at, end)
+            if not isinstance(member, Member):
+                break
+            length = member.headers + padded(member.payload)
+            if at + length > limit or room[at + TYPE] == COMMON:
+                break
+            add(member, session.number, session.raw + at, length)
+            at += length
+        self.turn += at - begin
+        return max(0, at - end), bytes(room[at:end])
+
+    def _limit(self, lane: Lane) -> int:
+        """How many bytes more the lane takes before another session or another lane's turn."""
+        if not lane.session:
+            return 0
+        limit = self.size - lane.session.raw
+        return limit if self.count == 1 else min(limit, TURN - self.turn)
+
+    def _next(self, stream: Given) -> tuple[Member, bytes] | None:
+        """The next member and its headers, or nothing at the archive's end."""
+        headers = b""
+        found: Member | int | None = BLOCK
+        while isinstance(found, int):
+            headers += stream.take(found - len(headers))
+            found = self.parser.parsed(headers, 0, len(headers))
+        return None if found is None else (found, headers)
+
+    def _take(self, lane: Lane, member: Member, headers: bytes) -> Lane:
+        """Gives the headers of a member to the lane that takes it."""
+        lane = self._lane_for(lane, member, headers)
+        self.files.add(member, lane.session.number, lane.session.raw, member.length())
+        self.turn += member.length()
+        lane.put(headers)
+        return lane
+
+    def _lane_for(self, lane: Lane, member: Member, headers: bytes) -> Lane:
         """The lane that takes a member. It has a session with room for it."""
-        lane = self._next(lane)
+        lane = self._lane_in_turn(lane)
         session, length = lane.session, member.length()
         if session and session.raw and session.raw + length > self.size:
-            end(lane)
+            end_session(lane)
         if length > self.size:
             complain(f"{os.fsdecode(plain(member.path))} has {member.payload} bytes, and is a session of its own")
         if not lane.session:
             self._begin(lane)
-            if common and member.headers[156:157] != b"g":
-                lane.put(common)
+            if self.parser.common and headers[TYPE] != COMMON:
+                lane.put(self.parser.common)
         return lane
 
-    def _next(self, lane: Lane) -> Lane:
+    def _lane_in_turn(self, lane: Lane) -> Lane:
         """The lane whose turn it is: after one has had enough, the one that has the most room."""
         if self.count == 1 or self.turn < TURN:
             return lane
@@ -90,16 +132,39 @@ class Cutter:
         return max(self.lanes, key=lambda one: one.free.qsize())
 
 
-def end(lane: Lane) -> None:
+def end_session(lane: Lane) -> None:
     lane.put(END)
     lane.end()
 
 
-def fill(lane: Lane, stream: io.BufferedReader, count: int) -> None:
-    """Takes so many bytes of the stream into the lane."""
-    while count:
-        taken = stream.readinto(lane.room()[:count])
-        if not taken:
+class Given:
+    """What comes of a pipe. What was taken too much can be given back."""
+
+    def __init__(self, pipe: typing.BinaryIO):
+        self.pipe, self.rest = pipe, b""
+
+    def push(self, data: bytes) -> None:
+        self.rest = data + self.rest
+
+    def readinto(self, room: memoryview) -> int:
+        """Fills a part of the room, and gives how much that is."""
+        if count := min(len(room), len(self.rest)):
+            room[:count], self.rest = self.rest[:count], self.rest[count:]
+        else:
+            count = self.pipe.readinto(room)
+        if not count:
             raise Damaged("the stream of tar is broken off")
-        lane.advance(taken)
-        count -= taken
+        return count
+
+    def take(self, count: int) -> bytes:
+        """The next bytes, so many."""
+        room = memoryview(bytearray(count))
+        filled = 0
+        while filled < count:
+            filled += self.readinto(room[filled:])
+        return bytes(room)
+
+    def drain(self) -> None:
+        """Passes over what is behind the archive's end."""
+        while self.pipe.read(1 << 16):
+            pass

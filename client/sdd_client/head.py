@@ -10,8 +10,8 @@ from .dialogue import fields_of
 from .errors import Failed, Unfit
 
 MAGIC = b"sdd-client job 1\n"
-# The Streams of the last session: its head, and the list of files.
-HEAD_STREAM, LIST_STREAM = 3, 4
+# The Streams of the last session: its head, the list of files, and the snapshot of tar that the next increment stands on.
+HEAD_STREAM, LIST_STREAM, SNAPSHOT_STREAM = 3, 4, 5
 
 
 @dataclasses.dataclass

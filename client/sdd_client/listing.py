@@ -12,6 +12,7 @@ from .catalogue import KEPT, PARTLY, Catalogue, Job
 from .chosen import Choice, dated
 from .errors import Failed
 from .filelist import Row
+from .state import State
 
 
 def size_of(count: int | None) -> str:
@@ -59,14 +60,16 @@ def list_jobs(catalogue: Catalogue, name: str | None, is_json: bool) -> None:
     print_all((job_row(catalogue, job) for job in jobs), line, is_json)
 
 
-def file_row(row: Row) -> dict[str, typing.Any]:
+def file_row(row: Row, state: State | None = None) -> dict[str, typing.Any]:
     """A file as JSON has it. A name that is no UTF-8 has its other bytes as Python's surrogates. The time is in
-    nanoseconds."""
+    nanoseconds. Of an increment it says which job has the member, by its id."""
     entry = {"kind": row.kind, "size": row.size, "mtime": row.mtime, "path": os.fsdecode(row.path)}
-    if row.text:
+    if row.text and row.kind != "d":
         entry["text"] = os.fsdecode(row.text)
     if row.is_member():
         entry |= {"session": row.session, "offset": row.offset, "length": row.length}
+        if state and state.job.chain:
+            entry |= {"session": state.number_of[row.session], "member_of": state.job_of[row.session].id}
     return entry
 
 
@@ -82,9 +85,10 @@ def list_files(catalogue: Catalogue, job: Job, paths: list[str], is_json: bool) 
     """Lists the files of a job, and the names that tar spoke of."""
     if not job.has_list:
         raise Failed("the catalogue has no list of this job's files")
-    choice = Choice(catalogue, job, paths)
-    rows = (row for row in catalogue.rows(job.id) if choice.names(row.path) or not row.path)
-    print_all(map(file_row, rows), file_line, is_json)
+    state = State(catalogue, job)
+    choice = Choice(state, paths)
+    rows = (row for row in state.rows() if choice.names(row.path) or not row.path)
+    print_all((file_row(row, state) for row in rows), file_line, is_json)
 
 
 def find_files(catalogue: Catalogue, pattern: str, is_json: bool) -> int:

@@ -11,9 +11,9 @@ import time
 import types
 import typing
 
-from . import backup, console, copies, listing, plainfiles, rebuild, restore, streams, verify
+from . import backup, console, copies, listing, plainfiles, rebuild, restore, retention, streams, verify
 from .catalogue import Catalogue, Job, usual_place
-from .chosen import Choice, job_at, moment_of
+from .chosen import Choice, Undo, job_at, moment_of
 from .connection import Address, Connection, connect
 from .dialogue import BUSY, Target, terminate
 from .errors import Ended, Failed, Lost, Misused, Partly, Refused, Unfit, complain
@@ -21,7 +21,7 @@ from .lanes import RECORD, Way
 from .newfile import lines_in
 from .options import job_name, parsed
 from .sources import DaemonSource, Source, VolumesSource
-from .stages import inverse_of
+from .state import State
 
 # A job waits longer than the daemon's unit does for a volume.
 JOB_TIMEOUT, TIMEOUT = 4000, 300
@@ -94,7 +94,7 @@ def do_backup(asked: Asked) -> None:
         raise Misused("the form is: backup JOB PATH ..")
     client = asked.client or backup.this_client()
     wanted = backup.Wanted(name, client, paths, way_of(asked), asked.parallel, asked.session, asked.exclude, asked.system,
-                           asked.caches)
+                           asked.caches, asked.incremental)
     with catalogue_of(asked) as catalogue:
         head = backup.backup(wanted, catalogue)
     complain(f"job {name}, number {head.number}: {head.files} files, {listing.size_of(head.bytes)}, "
@@ -132,20 +132,19 @@ def do_restore(asked: Asked) -> None:
     name, *paths = asked.words
     with catalogue_of(asked) as catalogue:
         job = job_of(catalogue, asked, name)
-        choice = Choice(catalogue, job, paths)
+        state = State(catalogue, job)
         if paths and not job.has_list:
             raise Failed("the catalogue has no list of this job's files: only all of it can be restored")
-        inverse = inverse_of(job.stages, asked.undo, asked.identity)
-        with restore.Streams(catalogue, job, source_of(asked), inverse) as read:
-            count = restore.restore(job, choice, read, asked.to, asked.replace)
+        choice = Choice(state, paths)
+        with restore.Streams(state, source_of(asked), Undo(asked.undo, asked.identity)) as read:
+            count = restore.restore(choice, read, asked.to, asked.replace)
     complain(f"{count} files are restored" if job.has_list else "all is restored")
 
 
 def do_check(asked: Asked) -> None:
     with catalogue_of(asked) as catalogue:
         job = job_of(catalogue, asked, asked.name)
-        inverse = inverse_of(job.stages, asked.undo, asked.identity)
-        count = verify.check(catalogue, job, source_of(asked), inverse)
+        count = verify.check(State(catalogue, job), source_of(asked), Undo(asked.undo, asked.identity))
     complain(f"job {job.name}, number {job.number}: {count.sessions} sessions, {count.files} files, "
              f"{listing.size_of(count.bytes)} are as they were kept")
 
@@ -153,10 +152,10 @@ def do_check(asked: Asked) -> None:
 def do_compare(asked: Asked) -> None:
     with catalogue_of(asked) as catalogue:
         job = job_of(catalogue, asked, asked.name)
-        choice = Choice(catalogue, job, asked.paths)
-        inverse = inverse_of(job.stages, asked.undo, asked.identity)
-        with restore.Streams(catalogue, job, source_of(asked), inverse) as read:
-            count = verify.compare(job, choice, read)
+        state = State(catalogue, job)
+        choice = Choice(state, asked.paths)
+        with restore.Streams(state, source_of(asked), Undo(asked.undo, asked.identity)) as read:
+            count = verify.compare(choice, read)
     complain(f"{count} files are the same")
 
 
@@ -169,9 +168,18 @@ def do_copy(asked: Asked) -> None:
 
 def do_rebuild(asked: Asked) -> None:
     with catalogue_of(asked) as catalogue:
-        rebuilt = rebuild.rebuild(catalogue, asked.folders, asked.undo, asked.identity)
+        rebuilt = rebuild.rebuild(catalogue, asked.folders, Undo(asked.undo, asked.identity))
     complain(f"{rebuilt.jobs} jobs, {rebuilt.added} of them new to the catalogue")
     rebuild.told(rebuilt)
+
+
+def do_forget(asked: Asked) -> None:
+    rules = retention.Rules(*(getattr(asked, f"keep_{name}") for name in retention.Rules._fields))
+    client = asked.client or backup.this_client()
+    with catalogue_of(asked) as catalogue:
+        done = retention.forget(catalogue, job_name(asked.name), client, rules, asked.copy, asked.dry_run)
+    print("\n".join(done.lines))
+    complain(f"{done.count} runs {'would be' if asked.dry_run else 'are'} forgotten")
 
 
 def do_list(asked: Asked) -> None:
@@ -220,8 +228,9 @@ def do_console(asked: Asked) -> None:
     if asked.words == ["help"]:
         console.print_forms()
         return
+    line = console.line_of(asked.words)
     with talking(address_of(asked)) as talk:
-        console.say(talk, asked.words)
+        console.say(talk, line)
 
 
 def do_adopt_all(asked: Asked) -> None:
@@ -243,7 +252,7 @@ def do_adopt_all(asked: Asked) -> None:
 
 
 WORK = {"backup": do_backup, "restore": do_restore, "check": do_check, "compare": do_compare, "copy": do_copy,
-        "rebuild": do_rebuild, "list": do_list, "files": do_files, "find": do_find, "append": do_append, "read": do_read,
+        "rebuild": do_rebuild, "forget": do_forget, "list": do_list, "files": do_files, "find": do_find, "append": do_append, "read": do_read,
         "console": do_console, "adopt-all": do_adopt_all}
 
 

@@ -93,7 +93,7 @@ def parser() -> Parser:
     add("--catalogue", metavar="FILE", default=os.environ.get("SDD_CATALOGUE"), help="the catalogue's file")
     add("--client", metavar="NAME", help="the client whose job it is; this host's name if it isn't given")
     tasks = made.add_subparsers(required=True, metavar="COMMAND", dest="task")
-    for make in (of_backups, of_restores, of_lists, of_streams, of_operators):
+    for make in (of_backups, of_restores, of_retention, of_lists, of_streams, of_operators):
         make(tasks)
     return made
 
@@ -121,6 +121,7 @@ def of_backups(tasks: typing.Any) -> None:
     add("--system", action="store_true", help="stays in the file system of each path")
     add("--caches", action="store_true", help="leaves out folders with a CACHEDIR.TAG")
     add("--through", action="append", default=[], metavar="STAGE", help="sends the stream through a program")
+    add("--incremental", action="store_true", help="sends what changed since the job's last run, if it can stand on that one")
     add("--parallel", type=lanes, default=1, metavar="N", help="uses so many lanes")
     add("--session", type=bytes_of, default=SESSION, metavar="SIZE", help="bytes of a session; 4G if it isn't given")
     add("--spans", metavar="FILE", help="backs up plain files without a catalogue, and keeps the session's lines in FILE")
@@ -160,6 +161,24 @@ def of_restores(tasks: typing.Any) -> None:
     of_one_job(add)
     add("paths", nargs="*", metavar="PATH")
     of_the_way_back(add)
+
+
+def count(text: str) -> int:
+    if (number := int(text)) < 1:
+        raise ValueError(text)
+    return number
+
+
+def of_retention(tasks: typing.Any) -> None:
+    add = task(tasks, "forget", "marks the runs of a job that no rule keeps, and says what that frees")
+    add("name", metavar="JOB")
+    add("--keep-last", type=count, default=0, metavar="N", help="keeps the last N runs")
+    for period in ("hour", "day", "week", "month", "year"):
+        name = "daily" if period == "day" else f"{period}ly"
+        add(f"--keep-{name}", type=count, default=0, metavar="N", help=f"keeps the last run of each of the last N {period}s with one")
+    add("--keep-within", default="", metavar="DURATION", help="keeps all runs so long before the last one, as 1y6m, 2w, 7d or 12h")
+    add("--copy", action="store_true", help="of the job's copies")
+    add("--dry-run", action="store_true", help="only says what it would do")
 
 
 def of_lists(tasks: typing.Any) -> None:

@@ -5,13 +5,13 @@ import re
 import subprocess
 import typing
 
-from .catalogue import Catalogue
+from .catalogue import Catalogue, listed
+from .chosen import Undo
 from .dialogue import SPAN
 from .errors import Failed, Partly, complain
 from .head import Head, Place
 from .sources import VolumesSource
-from .stages import inverse_of
-from .verify import head_of, list_of
+from .verify import head_of, list_of, snapshot_of
 
 SESSION = re.compile(r"session (\d+) (\d+) job (\d+) pool (\S+) (ended|cut) .*")
 
@@ -56,7 +56,7 @@ class Rebuilt(typing.NamedTuple):
     faults: list[str]
 
 
-def rebuild(catalogue: Catalogue, folders: list[str], undo: list[str], identity: str | None) -> Rebuilt:
+def rebuild(catalogue: Catalogue, folders: list[str], undo: Undo) -> Rebuilt:
     """Adds to the catalogue each job whose last session is in the folders."""
     jobs = added = 0
     faults: list[str] = []
@@ -65,7 +65,7 @@ def rebuild(catalogue: Catalogue, folders: list[str], undo: list[str], identity:
         for head, lines in reversed(list(heads(source, found, faults))):
             jobs += 1
             faults += lacking(head, found)
-            added += add(catalogue, source, head, lines, Undo(undo, identity, faults))
+            added += add(catalogue, source, head, lines, undo, faults)
     return Rebuilt(jobs, added, faults)
 
 
@@ -92,24 +92,18 @@ def lacking(head: Head, found: Found) -> list[str]:
             for place in head.sessions if found.sessions.get(place.key()) != place.lines]
 
 
-class Undo(typing.NamedTuple):
-    """How stages are undone, and where it is told that they can't be."""
-
-    stages: list[str]
-    identity: str | None
-    faults: list[str]
-
-
-def add(catalogue: Catalogue, source: VolumesSource, head: Head, lines: list[str], undo: Undo) -> bool:
+def add(catalogue: Catalogue, source: VolumesSource, head: Head, lines: list[str], undo: Undo, faults: list[str]) -> bool:
     """Adds a job, unless the catalogue has it. Where its list of files can't be read, it has none."""
     last = Place(lines, 0, 0)
     if catalogue.has(head, last):
         return False
     try:
-        inverse = inverse_of(head.stages, undo.stages if head.stages else [], undo.identity)
-        catalogue.keep(head, last, list_of(source, lines, inverse))
+        inverse = undo.inverse(head)
+        number = catalogue.keep(head, last, listed(list_of(source, lines, inverse)))
+        if not head.copy_of and (snapshot := snapshot_of(source, lines, inverse)):
+            catalogue.keep_snapshot(number, snapshot)
     except Failed as why:
-        undo.faults.append(f"job {head.job}, number {head.number}: its files aren't listed: {why}")
+        faults.append(f"job {head.job}, number {head.number}: its files aren't listed: {why}")
         catalogue.keep(head, last, None)
     return True
 

@@ -8,13 +8,13 @@ import subprocess
 import typing
 
 from .backup import TOLD, shown
-from .catalogue import Catalogue, Job
-from .chosen import Choice, Run, runs_of
+from .chosen import Choice, Run, Undo, runs_of
 from .connection import Buffer
-from .errors import Failed, Partly, complain
+from .errors import Ended, Failed, Partly, complain
 from .filelist import plain
 from .lanes import DATA_STREAM
 from .sources import Reader, Source
+from .state import State
 from .tarcut import END
 from .tarrun import TarRun
 
@@ -24,10 +24,12 @@ BUFFER = 1 << 18
 
 
 class Streams:
-    """The streams of a job's sessions, read side by side."""
+    """The streams of a state's sessions, read side by side."""
 
-    def __init__(self, catalogue: Catalogue, job: Job, source: Source, inverse: list[str]):
-        self.places, self.source, self.inverse = catalogue.places(job.id), source, inverse
+    def __init__(self, state: State, source: Source, undo: Undo):
+        self.places, self.source = state.places, source
+        inverses = {job.id: undo.inverse(job) for job in state.jobs}
+        self.inverses = {number: inverses[job.id] for number, job in state.job_of.items()}
         self.readers: dict[int, Reader] = {}
 
     def __enter__(self) -> Streams:
@@ -40,12 +42,11 @@ class Streams:
     def whole(self) -> typing.Iterator[Run]:
         """All of each session, one after another, without tar's end."""
         for number, place in self.places.items():
-            if number:
-                yield Run(number, 0, place.raw - len(END), 0)
+            yield Run(number, 0, place.raw - len(END), 0)
 
     def reader(self, session: int) -> Reader:
         if session not in self.readers:
-            self.readers[session] = Reader(self.source, self.places[session].lines, self.inverse, DATA_STREAM)
+            self.readers[session] = Reader(self.source, self.places[session].lines, self.inverses[session], DATA_STREAM)
         return self.readers[session]
 
     def copy(self, run: Run, write: typing.Callable[[Buffer], object]) -> None:
@@ -84,8 +85,9 @@ def no_links_on_the_way(choice: Choice, folder: str) -> None:
             above = os.path.dirname(above)
 
 
-def restore(job: Job, choice: Choice, streams: Streams, folder: str, may_replace: bool) -> int:
+def restore(choice: Choice, streams: Streams, folder: str, may_replace: bool) -> int:
     """Restores the files that were chosen, and gives how many these are."""
+    job = choice.job
     if may_replace and not job.has_list:
         raise Failed("the catalogue has no list of this job's files: it is restored into a new folder alone")
     folder_for(folder, may_replace)
@@ -98,13 +100,14 @@ def restore(job: Job, choice: Choice, streams: Streams, folder: str, may_replace
         feeding = Feeding(streams, tar)
         try:
             count = feeding.all(runs)
-        except (Failed, OSError) as broken:
+        except (Failed, OSError, Ended) as broken:
             why = broken
         with contextlib.suppress(OSError):
             tar.process.stdin.close()
-        if why is None or feeding.written:
+        if why is None:
             tar.wait()
-        if why:
+        else:
+            tar.process.wait()
             tell_broken(choice, feeding, why, None if may_replace else folder)
         tell_faults(tar)
     return count
@@ -125,7 +128,8 @@ class Feeding:
             self.members += self.run.members
         self.run = None
         self.tar.process.stdin.write(END)
-        self.tar.process.stdin.flush()
+        self.tar.process.stdin.close()
+        self.tar.process.wait()
         return self.members
 
     def _write(self, data: Buffer) -> None:
@@ -145,7 +149,7 @@ def tell_faults(tar: TarRun) -> None:
         raise Partly(f"restored, but for {len(faults)} faults")
 
 
-def tell_broken(choice: Choice, feeding: Feeding, why: Exception, folder: str | None) -> None:
+def tell_broken(choice: Choice, feeding: Feeding, why: BaseException, folder: str | None) -> None:
     """Tells what a restore that was broken off lacks. In a folder of its own nothing stays of a file that is half there."""
     whole, lacking, end = feeding.members, [], 0
     for row in itertools.islice(choice.rows() if choice.job.has_list else (), feeding.members, None):
@@ -157,6 +161,8 @@ def tell_broken(choice: Choice, feeding: Feeding, why: Exception, folder: str | 
             remove_half(os.fsencode(folder), row.path)
         lacking.append((os.fsdecode(row.path), "not restored whole"))
     tell_names(iter(lacking))
+    if isinstance(why, Ended):
+        raise why
     if whole:
         raise Partly(f"{why}; {whole} are restored, {len(lacking) or 'others'} aren't") from why
     raise Failed(f"{why}; nothing is restored") from why

@@ -59,7 +59,8 @@ class TarRun:
         environment = {**os.environ, "LC_ALL": "C"}
         environment.pop("TAR_OPTIONS", None)
         try:
-            self.process = subprocess.Popen([*TAR, *words], stderr=subprocess.PIPE, env=environment, **options)
+            # A signal of the terminal is for the client, which then ends tar in order.
+            self.process = subprocess.Popen([*TAR, *words], stderr=subprocess.PIPE, env=environment, process_group=0, **options)
         except OSError as why:
             raise Failed(f"tar: {why.strerror}") from why
         for pipe in (self.process.stdin, self.process.stdout):

@@ -10,14 +10,15 @@ import typing
 
 from .backup import shown
 from .catalogue import LAST, Catalogue, Job
-from .chosen import Choice, runs_of
+from .chosen import Choice, Undo, runs_of
 from .errors import Failed, Partly
 from .filelist import Row, plain, rows_of
-from .head import HEAD_STREAM, LIST_STREAM, head_in
+from .head import HEAD_STREAM, LIST_STREAM, SNAPSHOT_STREAM, head_in
 from .lanes import DATA_STREAM
 from .newfile import print_lines
 from .restore import Streams
 from .sources import Reader, ReaderStream, Source
+from .state import State
 from .tarcut import END, Members, padded
 from .tarrun import TarRun, heard
 
@@ -32,7 +33,13 @@ class Count(typing.NamedTuple):
     bytes: int
 
 
-def check(catalogue: Catalogue, job: Job, source: Source, inverse: list[str]) -> Count:
+def check(state: State, source: Source, undo: Undo) -> Count:
+    """Checks a job, and the jobs that it stands on."""
+    counts = [check_job(state.catalogue, job, source, undo.inverse(job)) for job in state.jobs]
+    return Count(*map(sum, zip(*counts)))
+
+
+def check_job(catalogue: Catalogue, job: Job, source: Source, inverse: list[str]) -> Count:
     """Reads all sessions of a job, each to its end: their members are those of the catalogue, and so are the last session's
     head and list of files."""
     check_last(catalogue, job, source, inverse)
@@ -81,6 +88,12 @@ def list_of(source: Source, lines: list[str], inverse: list[str]) -> typing.Iter
         yield from rows_of(iter(lambda: reader.take(SKIP), None))
 
 
+def snapshot_of(source: Source, lines: list[str], inverse: list[str]) -> bytes:
+    """The snapshot in a job's last session, or nothing if it has none."""
+    with Reader(source, lines, inverse, SNAPSHOT_STREAM) as reader:
+        return b"".join(iter(lambda: bytes(reader.take(SKIP) or b""), b""))
+
+
 def head_of(source: Source, lines: list[str]) -> typing.Any:
     """The head in a session's first record, if there is one."""
     records = source.records(lines)
@@ -99,13 +112,13 @@ def check_last(catalogue: Catalogue, job: Job, source: Source, inverse: list[str
         raise Failed("the last session has another head than the catalogue")
     if not job.has_list:
         return
-    listed = (row for row in list_of(source, lines, inverse) if row.kind != "@")
-    for got, row in itertools.zip_longest(listed, catalogue.rows(job.id)):
+    there = (row for row in list_of(source, lines, inverse) if row.kind != "@")
+    for got, row in itertools.zip_longest(there, catalogue.rows(job.id)):
         if got != row:
             raise Failed("the last session has other files than the catalogue")
 
 
-def compare(job: Job, choice: Choice, streams: Streams) -> int:
+def compare(choice: Choice, streams: Streams) -> int:
     """Holds the files of a job to those that are there now, by tar, and prints what is other. Gives how many are the
     same."""
     words = ["--compare", "--file=-", "--acls", "--xattrs", "--xattrs-include=*", "--directory=/"]
@@ -122,7 +135,7 @@ def compare(job: Job, choice: Choice, streams: Streams) -> int:
             if one.path:
                 differences.setdefault(plain(one.path), one.text)
     kept = {row.path for row in choice.rows()}
-    for path in there_now(job.paths):
+    for path in there_now(choice.job.paths):
         if choice.names(path) and path not in kept:
             differences.setdefault(path, "is new")
     print_lines(f"{shown(os.fsdecode(path))}: {text}" for path, text in sorted(differences.items()))

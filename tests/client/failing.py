@@ -1,6 +1,7 @@
 """What fails while a job is made: stages, files that change, daemons that refuse, hang, break off and are killed, clients that
 are ended. Never status 0 without a backup, never 1 with one."""
 import collections
+import contextlib
 import json
 import os
 import pathlib
@@ -11,11 +12,11 @@ import threading
 import time
 
 import standin
-from daemon import CLIENT, WAIT, later_second
+from daemon import CLIENT, WAIT, later_second, until
 from site_of_test import is_told, say
 from trees import differences
 
-SEED, KILLS = 82, 6
+SEED, KILLS = 82, 8
 BROKEN_STAGES = [["false"], ["sh -c 'cat; exit 3'"], ["gzip", "sh -c 'cat > /dev/null; kill -9 $$'"], ["no-such-program"],
                  ["sh -c 'exec <&-; exit 1'", "gzip"], ["gzip", "sh -c 'head -c 10; exit 1'", "gzip"]]
 OPENING, PHASE, BUSY, NO_LANE = "append open", "phase", "3908 Busy", "3911 No free lane"
@@ -52,33 +53,80 @@ def stages(checks, site):
     checks.same("parts", site.parts(), [])
 
 
+def killed_tars(checks, site):
+    """A tar that is killed, while it reads or while it writes, loses the job or is told."""
+    site.files.mkdir()
+    for name in "abc":
+        (site.files / name).write_bytes(bytes([ord(name)]) * 9_000_000)
+    with standin.StandIn() as daemon:
+        command = [CLIENT, "--port", str(daemon.port)]
+        with subprocess.Popen([*command, "backup", "j", "--through", slow("cat"), site.files], env=site.env,
+                              stderr=subprocess.PIPE) as one:
+            kill_child(one.pid, "tar")
+            is_told(checks, "backup", (one.communicate(timeout=WAIT)[1].decode(), one.returncode), 1, "tar was ended by signal 9")
+        checks.check("none is closed", all(one.status != "closed" for one in daemon.sessions))
+        is_told(checks, "good", said_by(site, daemon.port, "backup", "j", "--through", "cat", site.files), 0)
+        words = [*command, "restore", "j", "--undo", slow("cat"), "--to", site.folder / "back"]
+        with subprocess.Popen(words, env=site.env, stderr=subprocess.PIPE) as one:
+            kill_child(one.pid, "tar")
+            said, status = one.communicate(timeout=WAIT)[1].decode(), one.returncode
+            checks.check("restore", status in (1, 3) and "Traceback" not in said and "not restored whole" in said, said, status)
+
+
+def slow(command):
+    """A stage that waits a while after its first bytes."""
+    return f"sh -c 'head -c 1500000; sleep 2; exec {command}'"
+
+
+def kill_child(parent, name):
+    """Kills a child of a process by its program's name, once it is there and has worked for a moment."""
+    def child():
+        for status in pathlib.Path("/proc").glob("[0-9]*/stat"):
+            with contextlib.suppress(OSError):
+                text = status.read_text()
+                if f"({name})" in text and int(text.rpartition(")")[2].split()[1]) == parent:
+                    return int(status.parent.name)
+        return None
+
+    found = until(child)
+    time.sleep(0.5)
+    os.kill(found, signal.SIGKILL)
+
+
 def changing(checks, site):
     """Files that are truncated, grow or vanish while they are read are named, and the rest is kept."""
     site.files.mkdir()
-    for name in ("cut", "grows", "vanishes", "zz"):
+    for name in ("cut", "grows", "stays", "vanishes"):
         (site.files / name).write_bytes(bytes([7]) * 16_000_000)
-    (site.files / "vanishes").rename(site.files / "y")
-    with standin.StandIn(delay=0.3) as daemon:
-        def change():
-            while daemon.taken < 1_000_000:
-                time.sleep(0.01)
-            os.truncate(site.files / "cut", 100)
-            with open(site.files / "grows", "ab") as file:
-                file.write(bytes(3_000_000))
-            os.utime(site.files / "zz")
+    changes = {"cut": (lambda path: os.truncate(path, 100), "File shrank by"),
+               "grows": (lambda path: append_to(path, 3_000_000), "file changed as we read it"),
+               "vanishes": (os.unlink, "File removed before we read it")}
+    with standin.StandIn() as daemon:
+        for name, (change, told) in changes.items():
+            # Each piece waits for a stage that is slow, so that tar is still within the first file of several.
+            paths = [site.files] if name == "vanishes" else [site.files / name, site.files / "stays"]
+            before = daemon.taken
 
-        # Each piece waits for a stage that is slow, so that tar is still within the first file.
-        slow = "sh -c 'head -c 1500000; sleep 4; cat'"
-        changer = threading.Thread(target=change)
-        changer.start()
-        came = said_by(site, daemon.port, "backup", "j", "--through", slow, site.files)
-        changer.join()
-        is_told(checks, "backup", came, 3, "cut: File shrank by", "kept, but for")
-        rows = json.loads(said_by(site, daemon.port, "files", "j", "--json")[0])
-        checks.check("in the catalogue", any(row["kind"] == "!" and row["path"].endswith("/cut") for row in rows), rows)
-        is_told(checks, "restore", said_by(site, daemon.port, "restore", "j", "--undo", "cat", "--to", site.folder / "back"), 0)
-        back = site.folder / "back" / str(site.files).lstrip("/")
-        checks.same("the others", (back / "y").read_bytes(), (site.files / "y").read_bytes())
+            def work():
+                until(lambda: daemon.taken > before + 500_000)
+                change(site.files / name)
+
+            changer = threading.Thread(target=work)
+            changer.start()
+            came = said_by(site, daemon.port, "backup", name, "--through", slow("cat"), *paths)
+            changer.join()
+            is_told(checks, f"{name}: backup", came, 3, f"/{name}: {told}", "kept, but for")
+            rows = json.loads(said_by(site, daemon.port, "files", name, "--json")[0])
+            checks.check(f"{name}: in the catalogue", any(row["kind"] == "!" and row["path"].endswith(f"/{name}") for row in rows), rows)
+            back = site.folder / f"back-{name}"
+            is_told(checks, f"{name}: restore", said_by(site, daemon.port, "restore", name, "--undo", "cat", "--to", back), 0)
+            got = back / str(site.files).lstrip("/") / "stays"
+            checks.same(f"{name}: the others", got.read_bytes(), (site.files / "stays").read_bytes())
+
+
+def append_to(path, count):
+    with open(path, "ab") as file:
+        file.write(bytes(count))
 
 
 def refusals(checks, site):
@@ -139,6 +187,50 @@ def ended_clients(checks, site):
                 checks.check("not closed", all(one.status != "closed" for one in daemon.sessions))
 
 
+def ended_restores(checks, site):
+    """A restore that is ended, or loses a stage, names what it lacks, and leaves no half file; nor does a read."""
+    site.files.mkdir()
+    for name in "abc":
+        (site.files / name).write_bytes(bytes([ord(name)]) * 4_000_000)
+    with standin.StandIn() as daemon:
+        is_told(checks, "backup", said_by(site, daemon.port, "backup", "j", "--through", "cat", site.files), 0)
+        checks.same("append", said_by(site, daemon.port, "append", site.files / "a", site.folder / "spans"), ("", 0))
+        stuck, failing = "sh -c 'head -c 6000000; exec sleep 20'", "sh -c 'head -c 6000000; exit 3'"
+        for number in (signal.SIGTERM, signal.SIGINT, signal.SIGHUP, signal.SIGKILL):
+            out = site.folder / number.name
+            words = ["restore", "j", "--undo", stuck, "--to", out]
+            status, said = ended_at(site, daemon.port, number, words, lambda: list(out.rglob("b")))
+            checks.same(f"restore {number.name}", status, -number if number == signal.SIGKILL else 128 + number)
+            if number != signal.SIGKILL:
+                checks.same(f"whole {number.name}", {path.name: path.stat().st_size for path in out.rglob("[abc]")}, {"a": 4_000_000})
+                checks.check(f"named {number.name}", all(f"/{name}: not restored whole" in said for name in "bc"), said)
+            words = ["read", site.folder / "spans", site.folder / "got", "--undo", stuck]
+            status, said = ended_at(site, daemon.port, number, words, lambda: True)
+            checks.same(f"read {number.name}", status, -number if number == signal.SIGKILL else 128 + number)
+            left = [*site.folder.glob("*.part"), *site.folder.glob(".sdd*"), *site.folder.glob("got")]
+            checks.same(f"nothing left {number.name}", left, [])
+        out = site.folder / "stage"
+        is_told(checks, "a stage", said_by(site, daemon.port, "restore", "j", "--undo", failing, "--to", out), 3, "not restored whole")
+        checks.same("whole", {path.name: path.stat().st_size for path in out.rglob("[abc]")}, {"a": 4_000_000})
+        is_told(checks, "read by a stage", said_by(site, daemon.port, "read", site.folder / "spans", site.folder / "got", "--undo", failing),
+                1, "ended with status 3")
+        checks.same("not there", (site.folder / "got").exists(), False)
+        for words, told in ((["--undo", "false"], "nothing is restored"), (["--undo", "cat", "--undo", "cat"], "--undo is given for 2")):
+            is_told(checks, f"{words}", said_by(site, daemon.port, "restore", "j", *words, "--to", site.folder / "no"), 1, told)
+
+
+def ended_at(site, port, number, words, is_time):
+    """The status of a command that gets a signal at some time, and what it said."""
+    command = [CLIENT, "--port", str(port), *map(str, words)]
+    with open(site.folder / "said", "w+") as said, subprocess.Popen(command, env=site.env, stderr=said) as one:
+        until(is_time)
+        time.sleep(0.5)
+        one.send_signal(number)
+        status = one.wait(timeout=WAIT)
+        said.seek(0)
+        return status, said.read()
+
+
 def broken_restores(checks, site):
     """A restore that the daemon breaks off names what it lacks, and leaves no half file."""
     site.files.mkdir()
@@ -178,41 +270,55 @@ def hanging(checks, site):
 
 
 def killed_daemons(checks, site):
-    """The daemon is killed at a drawn moment. A job of status 0 is found on the volumes alone, one of status 1 is not."""
+    """The daemon is killed at drawn moments of a job: once so much of it is on the volume, or soon after all of it. A job of
+    status 0 is found on the volumes alone, and restored from them; one of status 1 is not."""
     site.draw()
-    numbers, came, whole = random.Random(SEED), collections.Counter(), 0.0
-    command = [CLIENT, "--port", str(site.port), "--retry", "0", "backup"]
+    numbers, came, growth = random.Random(SEED), {}, 0
+    volume = site.volumes / "Vol-0001"
     for turn in range(KILLS):
         later_second()
+        moment = 1.2 * (turn - 1 + numbers.random()) / (KILLS - 1)
         with site.daemon() as daemon:
             if turn:
                 site.say("adopt-all", site.conf)
             else:
-                site.label("Vol-0001")
-            words = [*command, f"job{turn}", "--session", "60K", site.files]
-            with subprocess.Popen(words, env=site.env, stderr=subprocess.DEVNULL) as one:
-                # The first job has its time; the others are broken off within it, or soon after.
-                begun = time.monotonic()
-                ending = threading.Timer(numbers.uniform(0.05, 1.2) * whole, daemon.kill)
-                if whole:
-                    ending.start()
-                status = one.wait(timeout=4 * WAIT)
-                whole = whole or time.monotonic() - begun
-                ending.cancel()
-        came[status] += 1
-        checks.check("status", status in (0, 1, 3), status)
-        found = found_anew(checks, site)
-        checks.check(f"turn {turn} of status {status}", (f"job{turn}" in found) == (status == 0) or status == 3, found)
-    print("daemons killed:", *(f"status {status} {count}" for status, count in sorted(came.items())))
+                site.label(volume.name)
+            before = volume.stat().st_size
+            command = [CLIENT, "--port", str(site.port), "--retry", "0", "backup", f"job{turn}", "--session", "60K", site.files]
+            with subprocess.Popen(command, env=site.env, stderr=subprocess.DEVNULL) as one:
+                if turn:
+                    until(lambda: volume.stat().st_size >= before + moment * growth or one.poll() is not None, 4 * WAIT)
+                    daemon.kill()
+                came[f"job{turn}"] = one.wait(timeout=4 * WAIT)
+            growth = growth or volume.stat().st_size - before
+    noted, found = by_names(site), by_names(site, found_anew(checks, site))
+    for name, status in came.items():
+        if status == 3:
+            checks.same(f"{name} is unknown", noted.get(name), "unknown")
+        else:
+            checks.same(f"{name} of status {status}", (noted.get(name), found.get(name)),
+                        ("kept", "kept") if status == 0 else ("failed", None))
+    for name in [name for name, status in came.items() if status == 0][:2]:
+        words = ["--catalogue", site.folder / "anew", "--volumes", site.volumes, "restore", name, "--to", site.folder / name]
+        is_told(checks, f"restore {name}", site.say(*words), 0)
+        checks.same(f"the same {name}", differences(site.files, site.folder / name / str(site.files).lstrip("/")), "")
+    counts = collections.Counter(came.values())
+    print("daemons killed:", *(f"status {status} {count}" for status, count in sorted(counts.items())))
+    checks.check("enough of each", counts[0] >= 1 and counts[1] >= 3 and set(counts) <= {0, 1, 3}, counts)
 
 
 def found_anew(checks, site):
-    """The names of the jobs that a new catalogue finds on the volumes."""
+    """A new catalogue, made from the volumes alone."""
     anew = site.folder / "anew"
-    anew.unlink(missing_ok=True)
-    came = site.say("--catalogue", anew, "rebuild", site.volumes)
-    checks.same("rebuilt", came[1], 0)
-    return {row["name"] for row in json.loads(site.say("--catalogue", anew, "list", "--json")[0])}
+    checks.same("rebuilt", site.say("--catalogue", anew, "rebuild", site.volumes)[1], 0)
+    return anew
 
 
-GROUPS = dict.fromkeys([stages, changing, refusals, slow_replies, ended_clients, broken_restores, hanging, killed_daemons], "")
+def by_names(site, catalogue=None):
+    """How the jobs of a catalogue stand, by their names."""
+    words = ["--catalogue", catalogue] if catalogue else []
+    return {row["name"]: row["status"] for row in json.loads(site.say(*words, "list", "--json")[0])}
+
+
+GROUPS = dict.fromkeys([stages, killed_tars, changing, refusals, slow_replies, ended_clients, ended_restores, broken_restores, hanging,
+                        killed_daemons], "")

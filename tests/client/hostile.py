@@ -6,7 +6,7 @@ import tarfile
 
 import standin
 from clients import client
-from sdd_client.catalogue import Catalogue
+from sdd_client.catalogue import Catalogue, listed
 from sdd_client.filelist import Row, plain
 from sdd_client.head import Head, Place
 from sdd_client.tarcut import END, Members
@@ -44,7 +44,7 @@ def planted(site, port, number, data):
         head = Head("host", f"evil{number}", number, number, number, "Default", "File", len(rows), 4, 0, sessions=[place])
         last = session(talk, [(3, head.encoded()), (4, gzip.compress(b"".join(map(encoded, rows))))])
     with Catalogue(site.catalogue) as catalogue:
-        catalogue.keep(head, last, rows)
+        catalogue.keep(head, last, listed(rows))
     return head.job
 
 

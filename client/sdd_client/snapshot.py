@@ -1,0 +1,105 @@
+"""GNU tar's snapshot of a listed-incremental run: which folders it found, and which names in them. An increment stands on the
+one of the job before.
+
+Before a snapshot is used, folders are taken out of it whose contents must be sent anew, since tar takes a folder that it
+doesn't know as new: those that were renamed or are gone, and those with names that weren't kept as they were. What else is
+told of folders by tar's own codes, renames, then never comes.
+"""
+from __future__ import annotations
+
+import contextlib
+import dataclasses
+import json
+import os
+import typing
+import zlib
+
+from .errors import Failed
+from .filelist import GZIP, LEVEL
+
+# Of a folder's record: whether it is on NFS, the seconds and nanoseconds of its time, its device, its number, its name.
+FIELDS, NUMBER, NAME = 6, 4, 5
+
+
+class Unknown(Failed):
+    """A snapshot that can't be read."""
+
+
+@dataclasses.dataclass
+class Snapshot:
+    """A snapshot, and the options of the run that it is of: another run with other ones can't stand on it."""
+
+    options: list[typing.Any]
+    text: bytes
+
+    def encoded(self) -> bytes:
+        """As it is kept: gzip of a line of JSON and the snapshot."""
+        gzip = zlib.compressobj(LEVEL, zlib.DEFLATED, GZIP)
+        return gzip.compress(json.dumps(self.options).encode() + b"\n" + self.text) + gzip.flush()
+
+
+def decoded(data: bytes) -> Snapshot:
+    try:
+        line, _, text = zlib.decompress(data, GZIP).partition(b"\n")
+        return Snapshot(json.loads(line), text)
+    except (ValueError, zlib.error) as why:
+        raise Unknown(f"the snapshot can't be read: {why}") from why
+
+
+class Folder(typing.NamedTuple):
+    """A folder's record: its path, its number in its file system, and the record as it is."""
+
+    path: bytes
+    number: int
+    record: bytes
+
+
+def folders_of(text: bytes) -> tuple[bytes, list[Folder]]:
+    """What a snapshot begins with, and its folders."""
+    try:
+        at = text.index(b"\0", text.index(b"\0", text.index(b"\n")) + 1) + 1
+        start, found = text[:at], []
+        while at < len(text):
+            begin, fields = at, []
+            for _ in range(FIELDS):
+                end = text.index(b"\0", at)
+                fields.append(text[at:end])
+                at = end + 1
+            # An empty name ends the names in it, and a zero byte the record.
+            at = at + 2 if text.startswith(b"\0", at) else text.index(b"\0\0\0", at) + 3
+            found.append(Folder(b"/" + fields[NAME].removeprefix(b"./"), int(fields[NUMBER]), text[begin:at]))
+        return start, found
+    except ValueError as why:
+        raise Unknown("the snapshot of tar can't be read") from why
+
+
+def is_below(path: bytes, folders: set[bytes]) -> bool:
+    """Whether a path is in one of the folders or below."""
+    while path not in (b"/", b""):
+        path = os.path.dirname(path)
+        if path in folders:
+            return True
+    return False
+
+
+def usable(text: bytes, faults: set[bytes], links: typing.Callable[[], typing.Iterable[tuple[bytes, bytes]]]) -> bytes:
+    """The snapshot without the folders that must be sent anew. `faults` has the names that weren't kept as they were; `links`
+    gives hard links with their targets: all names of a file are sent in one run, or they would be several files."""
+    start, folders = folders_of(text)
+    anew = {os.path.dirname(path) for path in faults} | faults
+    anew |= {folder.path for folder in folders if not is_same(folder)}
+    if anew:
+        pairs, before = list(links()), -1
+        while before != len(anew):
+            before = len(anew)
+            for pair in pairs:
+                if any(is_below(path, anew) for path in pair):
+                    anew |= {os.path.dirname(path) for path in pair}
+    return start + b"".join(folder.record for folder in folders if folder.path not in anew)
+
+
+def is_same(folder: Folder) -> bool:
+    """Whether that folder is still there."""
+    with contextlib.suppress(OSError):
+        return os.lstat(folder.path).st_ino == folder.number
+    return False
