@@ -1,0 +1,87 @@
+"""Which sessions are on the volumes of a folder, by `sdtool scan`. A volume that hasn't changed isn't read again."""
+from __future__ import annotations
+
+import pathlib
+import re
+import subprocess
+import typing
+
+from sdd_client.dialogue import SPAN, VOLUME_NAME
+from sdd_client.errors import Failed
+
+from keeper.folders import moment_of, volumes_in
+from keeper.state import Key, Session, State, Volume
+
+SESSION = re.compile(r"session (\d+) (\d+) job \d+ pool \S+ (ended|cut) .*")
+KEY = re.compile(r"session (\d+) (\d+)")
+DAMAGE = re.compile(rf"damage ({VOLUME_NAME.pattern}) \d+ \w+")
+
+Tool = typing.Callable[[list[str]], "subprocess.CompletedProcess[str]"]
+
+
+class Scan(typing.NamedTuple):
+    """What a scan found: the sessions, and of each damaged volume the lines that say so."""
+
+    sessions: list[Session]
+    damage: dict[str, list[str]]
+
+
+def run_tool(words: list[str]) -> subprocess.CompletedProcess[str]:
+    try:
+        return subprocess.run(["sdtool", *words], stdout=subprocess.PIPE, text=True, errors="replace")
+    except OSError as why:
+        raise Failed(f"sdtool: {why.strerror}") from why
+
+
+def scan(folder: pathlib.Path, names: list[str], tool: Tool = run_tool) -> Scan:
+    """Reads volumes of a folder, in this order."""
+    run = tool(["scan", str(folder), *names])
+    lines = run.stdout.splitlines()
+    if run.returncode or not lines or not lines[-1].startswith("ok scan "):
+        raise Failed(f"{folder}: {lines[-1] if lines else 'sdtool broke off'}")
+    found = Scan([], {})
+    ended = False
+    for line in lines:
+        if head := SESSION.fullmatch(line):
+            ended = head[3] == "ended"
+        elif key := KEY.fullmatch(line):
+            found.sessions.append(Session((int(key[1]), int(key[2])), ended, [line]))
+        elif SPAN.fullmatch(line):
+            found.sessions[-1].lines.append(line)
+        elif damage := DAMAGE.fullmatch(line):
+            found.damage.setdefault(damage[1], []).append(line)
+    return found
+
+
+def look(state: State, folder: pathlib.Path, now: float, growing: set[str], every: float, tool: Tool = run_tool) -> None:
+    """Brings what is known of a folder up to what is in it. Volumes that grow are read again after so many seconds, and no
+    earlier."""
+    there, known = volumes_in(folder), state.volumes(folder)
+    if lost := set(known) - set(there):
+        state.forget(lost)
+    changed = [name for name, identity in there.items()
+               if name not in known or known[name].identity != identity
+               and (name not in growing or now - known[name].scanned >= every)]
+    if not changed:
+        return
+    found = scan(folder, in_order(folder, changed), tool)
+    if also := parts_elsewhere(state, found, set(changed)) & set(there):
+        changed += also
+        found = scan(folder, in_order(folder, changed), tool)
+    volumes = []
+    for name in changed:
+        old = known.get(name)
+        since = old.since if old and old.identity == there[name] else now
+        volumes.append(Volume(name, folder, there[name], now, since, found.damage.get(name, [])))
+    state.put_scan(volumes, found.sessions)
+
+
+def in_order(folder: pathlib.Path, names: list[str]) -> list[str]:
+    """By when they were labelled, as a session goes from one to the next."""
+    return sorted(names, key=lambda name: (moment_of(folder / name), name))
+
+
+def parts_elsewhere(state: State, found: Scan, read: set[str]) -> set[str]:
+    """The volumes that weren't read and have a part of a session that was cut in these."""
+    cut: set[Key] = {one.key for one in found.sessions if not one.ended}
+    return {name for name, keys in state.keys_on().items() if keys & cut} - read

@@ -1,0 +1,163 @@
+"""Simulated days of three clients on a small disk, without an operator; with the keeper, the daemon and clients killed at
+random. Beside it stands a reader of the folders that shares nothing with the keeper."""
+import datetime
+import os
+import random
+import threading
+
+import words_of_keeping
+from reader import Reader
+from world import BEGIN, DAY, World
+
+DAYS = int(os.environ.get("KEEPER_DAYS", "90"))
+VOLUME, RESERVE, CAPACITY = 2_000_000, 5_000_000, 62_000_000
+KEEP, MIN_AGE, MIN_GOOD, UNKNOWN = {"last": 2, "daily": 7, "weekly": 2}, 4 * DAY, 2, 9 * DAY
+POOLS = "".join(
+    f'[pool.{name}]\ndrives = [{drive}]\nnames = "{name}-%05d"\nready = 1\nreserve = "{RESERVE}"\nmin_age = "4d"\n'
+    f'min_good = 2\nunknown = "9d"\nkeep = {{ last = 2, daily = 7, weekly = 2 }}\n' for drive, name in ((1, "Daily"), (2, "Other")))
+# A client, its job, its pool, and the bytes of a full and of an incremental job.
+CLIENTS = [("www", "home", "Daily", 1_300_000, 200_000), ("desk", "home", "Daily", 900_000, 150_000),
+           ("mail", "spool", "Other", 1_200_000, 300_000)]
+
+
+class Simulation:
+    def __init__(self, checks, world):
+        self.checks, self.world, self.draw = checks, world, random.Random(83)
+        self.reader, self.counts = Reader(world.folders), {}
+        self.chains, self.lost = {}, []
+
+    def run(self):
+        for day in range(DAYS):
+            self.world.now = BEGIN + day * DAY + 3600.0
+            for client in CLIENTS:
+                self.job(day, client)
+            self.keep()
+            self.world.now += 6 * 3600
+            self.keep()
+            self.look()
+            if self.checks.failed:
+                break
+        self.ended()
+
+    def count(self, what):
+        self.counts[what] = self.counts.get(what, 0) + 1
+
+    # Jobs.
+
+    def job(self, day, client):
+        """A job, with rounds of the keeper beside it. At times its client or the daemon is killed, and it runs again."""
+        name, job, pool, full, more = client
+        self.world.now += 600
+        if self.draw.random() < 0.06:
+            self.count("client killed")
+            self.beside(lambda: self.world.backup(name, job, pool, [full // 2, full // 2], stop_after=self.draw.randrange(1, 9)))
+        if self.draw.random() < 0.06:
+            self.count("daemon killed in a job")
+            self.beside(lambda: self.world.backup(name, job, pool, [full]), kill=True)
+        chain = self.chains.get(name, [])
+        is_full = day % 7 == 0 or not chain
+        sizes = [full // 3, full - full // 3] if is_full else [more]
+        self.world.now += 60
+        made = self.beside(lambda: self.world.backup(name, job, pool, sizes, [] if is_full else chain))
+        self.checks.check(f"day {day}: {name}'s job is kept", made, self.lost)
+        self.count("full" if is_full else "incremental")
+        if made:
+            self.chains[name] = [made.key()] if is_full else [*chain, made.key()]
+
+    def beside(self, job, kill=False):
+        """Runs a job in a thread, with rounds of the keeper until it ends; maybe the daemon is killed meanwhile."""
+        made = []
+
+        def hold():
+            try:
+                made.append(job())
+            except Exception as why:
+                self.lost.append(repr(why))
+
+        thread = threading.Thread(target=hold, daemon=True)
+        thread.start()
+        if kill:
+            thread.join(self.draw.random() * 0.05)
+            self.world.restart()
+        rounds = 0
+        while thread.is_alive() and rounds < 400:
+            self.keep(whole=False)
+            thread.join(0.02)
+            rounds += 1
+        self.checks.check("no job is stuck", not thread.is_alive(), self.world.say("status"), self.world.say("requests"))
+        return made[0] if made else None
+
+    # The keeper.
+
+    def keep(self, whole=True):
+        """A round; at times it is killed before a step, or the daemon is, and then the next round goes on."""
+        before = self.needed()
+        there = self.world.volumes()
+        if whole and self.draw.random() < 0.4:
+            if self.world.killed(self.draw.randrange(1, 14)):
+                self.count("keeper killed")
+        if whole and self.draw.random() < 0.06:
+            self.count("daemon killed")
+            self.world.restart()
+        self.world.round(lambda _: self.check_free())
+        self.check_free()
+        for name in set(there) - set(self.world.volumes()):
+            self.count("removed")
+            self.checks.check(f"{name} was of no kept job", name not in before, before.get(name))
+
+    def check_free(self):
+        if self.world.free() < RESERVE:
+            self.checks.check("never under the reserve", False, self.world.free())
+
+    def needed(self):
+        """What the reader says is needed: for each volume a job that is kept and has a block on it."""
+        heads = self.reader.heads()
+        groups = {}
+        for key, (head, names) in heads.items():
+            groups.setdefault((head["pool"], head["client"], head["job"]), []).append((head["began"] / 1e6, key))
+        kept = set()
+        for moments in groups.values():
+            chosen = words_of_keeping.model([moment for moment, _ in moments], KEEP, None, self.world.now)
+            last = sorted(moments)[-MIN_GOOD:]
+            kept |= {key for moment, key in moments if moment in chosen or self.world.now - moment < MIN_AGE or (moment, key) in last}
+        for key in list(kept):
+            kept |= {tuple(one) for one in heads[key][0]["chain"]}
+        return {name: key for key in kept if key in heads for name in heads[key][1]}
+
+    # The checks of a day.
+
+    def look(self):
+        """Each job that the reader says is kept is there, and one of them restores."""
+        needed = set(self.needed().values())
+        kept = [one for one in self.world.kept if one.key() in needed]
+        if kept:
+            one = self.draw.choice(kept)
+            self.checks.same(f"{one.head.client}'s job of {moment(one)} restores", self.world.restores(one), True)
+        pools = {name: status for name, status in self.world.status().items()}
+        ready = [name for name, status in pools.items() if status == "append" and name in self.world.volumes()]
+        self.checks.check("one is ready", len(ready) >= 2, pools)
+
+    def ended(self):
+        """In the end every kept job restores."""
+        heads, needed = self.reader.heads(), self.needed()
+        kept = set(needed.values())
+        for one in self.world.kept:
+            if one.key() in kept:
+                self.count("restored")
+                self.checks.same(f"{one.head.client}'s job of {moment(one)} restores", self.world.restores(one), True)
+        self.checks.check("the last jobs are among them", all(chain[-1] in kept for chain in self.chains.values()))
+        self.checks.check("the reader knows the jobs", kept <= set(heads))
+        print(f"{DAYS} days:", ", ".join(f"{what} {count}" for what, count in sorted(self.counts.items())),
+              f"and {len(self.world.volumes())} volumes are left")
+        for what, least in (("removed", DAYS // 3), ("keeper killed", DAYS // 9), ("daemon killed", DAYS // 20),
+                            ("client killed", DAYS // 20), ("daemon killed in a job", DAYS // 20), ("restored", 20)):
+            self.checks.check(f"{what} came up", self.counts.get(what, 0) >= least, self.counts)
+
+
+def moment(backup):
+    return datetime.datetime.fromtimestamp(backup.head.began // 1_000_000, datetime.timezone.utc).strftime("%Y-%m-%d")
+
+
+def run(checks, folder):
+    with World(folder / "world", POOLS, drives=2, volume=VOLUME, block=64_512, capacity=CAPACITY) as world:
+        Simulation(checks, world).run()
