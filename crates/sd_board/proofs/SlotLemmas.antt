@@ -1,10 +1,9 @@
 -- The slots of a drive: which lane is free, and what changes with one of them.
-use Rattle.std.proofs.Common.{◌≡◌, ℕ, zero, suc, ◌+◌, ◌-◌, ◌≤◌, ◌<◌, refl, sym, ap, subst, ◌∙◌, inl, inr, arith, Bool, true, false, cond, not, count_by, Option, Some, None, List, [], ◌∷◌, ◌++◌, length, map, get_or, slice_get, slice_set, take}
-use Rattle.std.specs.Prelude.{◌↔◌, IsSome, IsTrue, IfNone, is_none, is_some}
-use Rattle.std.proofs.lemmas.Bool.{and_parts, false_from_ne_true}
+use Rattle.std.proofs.Common.{◌≡◌, ℕ, zero, suc, ◌+◌, ◌-◌, ◌≤◌, ◌<◌, refl, sym, ap, subst, ◌∙◌, inl, inr, arith, Bool, true, false, cond, not, Option, Some, None, List, [], ◌∷◌, ◌++◌, length, map, get_or, slice_get, slice_set, take}
+use Rattle.std.specs.Prelude.{◌↔◌, IsSome, IsTrue, IfNone, IfSome, MatchBool, is_none, is_some}
+use Rattle.std.proofs.lemmas.Bool.{and_parts}
 use Rattle.std.specs.Option.{option_to_list}
 use Rattle.std.proofs.lemmas.List.{append_assoc, append-nil, length-append, length-map, map-append, take_more}
-use Rattle.std.proofs.lemmas.List.Sums.{sum_by-cons}
 use Rattle.std.proofs.lemmas.Option.{get_or_from_slice_get}
 use Rattle.sd_base.proofs.ChoiceLemmas.{NoneBelow, same_some}
 use Rattle.sd_base.specs.Choice.{FirstOf, NoneOf}
@@ -13,7 +12,7 @@ use Rattle.sd_drive.proofs.Places.{get_mapped, length_set}
 use Rattle.sd_line.specs.Ends.{EndIs, LastIsOver}
 use Rattle.sd_world.proofs.Lookups.{get_set-tells}
 use Rattle.sd_board.specs.Changes.{change_at}
-use Rattle.sd_board.specs.Slots.{AreNew, DriveLanesIs, IsAtHome, IsFree, KeepsLanes, MayLie, SlotIs, TakesLowest, arrived, ends_in, is_busy, is_free, is_what, lies_in, new_lanes, new_slot, slot_with}
+use Rattle.sd_board.specs.Slots.{AreNew, DriveLanesIs, IsAtHome, IsFree, KeepsLanes, MayLie, SlotIs, TakesLowest, arrived, ends_in, is_free, is_what, lies_in, new_lanes, new_slot, numbered, slot_with}
 use Rattle.sd_board.specs.declared.sent.Sent.{Sent}
 
 -- Free lanes.
@@ -22,20 +21,16 @@ use Rattle.sd_board.specs.declared.sent.Sent.{Sent}
 pub free_end : (s : SlotIs) → IsFree s → IsSome s.end
 free_end s free = (and_parts (is_some s.end) (not (is_some s.on_its_way)) free).0
 
--- if no lane is free, each is counted
-pub none_free : (ss : List SlotIs) → NoneOf IsFree ss → count_by is_busy ss ≡ length ss
-none_free [] none = refl
-none_free (s ∷ ss) none =
-    let more = sum_by-cons (λ (x : SlotIs). cond (is_busy x) 1 0) s ss in
-    let own : is_free s ≡ false = false_from_ne_true (is_free s) (none zero s refl) in
-    let one : ◌≡◌ {A = ℕ} (cond (is_busy s) 1 0) 1 = ap (λ (b : Bool). cond (not b) 1 0) own in
-    let rest = none_free ss (λ k x there free. none (suc k) x there free) in
-    omega (arith, more, one, rest)
+-- if one is free, one is the lowest
+pub some_lowest : (ss : List SlotIs) (lowest : Option ℕ) → (NoneOf IsFree ss → ⊥) → IfNone lowest (NoneOf IsFree ss) → IsSome lowest
+some_lowest ss (Some at) free none = refl
+some_lowest ss None free none = absurd (free none)
 
--- if not each is busy, one is the lowest that is free
-pub some_lowest : (ss : List SlotIs) (lowest : Option ℕ) → count_by is_busy ss < length ss → IfNone lowest (NoneOf IsFree ss) → IsSome lowest
-some_lowest ss (Some at) few none = refl
-some_lowest ss None few none = let all = none_free ss none in absurd (omega (arith, all, few))
+-- so whether there is a lowest says whether one is free
+pub free_by : (ss : List SlotIs) (lowest : Option ℕ) → IfSome lowest (FirstOf IsFree (λ _ _. ⊥) ss) → IfNone lowest (NoneOf IsFree ss)
+    → MatchBool (is_some lowest) (NoneOf IsFree ss → ⊥) (NoneOf IsFree ss)
+free_by ss (Some at) first none = λ never. never at first.first first.there first.is_candidate
+free_by ss None first none = none
 
 -- the one after others that aren't free is the lowest
 pub first_free : (ss : List SlotIs) (at : ℕ) (s : SlotIs) → NoneBelow IsFree ss at → slice_get ss at ≡ Some s → IsFree s → FirstOf IsFree (λ _ _. ⊥) ss at
@@ -81,7 +76,7 @@ keeps_set d at new h own = record {
 
 -- A slot out of which the end was taken.
 module _ (d : DriveLanesIs) (at : ℕ) (e : EndIs) (slot new : SlotIs) (h : KeepsLanes d) (there : slice_get d.slots at ≡ Some slot)
-    (is : new ≡ record slot { end = None }) where
+    (is : new ≡ record slot { end = None; held = true }) where
   pub keeps_taken : KeepsLanes (record d { slots = slice_set d.slots at new })
   keeps_taken = keeps_set d at new h (λ x lies. absurd (cc (sym (ap (λ (s : SlotIs). s.end) is) ∙ lies)))
 
@@ -93,7 +88,7 @@ module _ (d : DriveLanesIs) (at : ℕ) (e : EndIs) (slot new : SlotIs) (h : Keep
         lowest = f;
         end_is = ap (λ (s : SlotIs). s.end) (sym same) ∙ lies;
         home = h.ends at slot e there lies;
-        is = ap (λ (s : SlotIs). record d { slots = slice_set d.slots at s }) (is ∙ ap (λ (s : SlotIs). record s { end = None }) same);
+        is = ap (λ (s : SlotIs). record d { slots = slice_set d.slots at s }) (is ∙ ap (λ (s : SlotIs). record s { end = None; held = true }) same);
       }
 
 -- a slot in which its lane's end was laid
@@ -124,6 +119,12 @@ pub keeps_arrived : (d : DriveLanesIs) (sent : Sent) (at : ℕ) (slot new : Slot
     → KeepsLanes (record d { slots = slice_set d.slots at new })
 keeps_arrived d sent at slot new h there is =
     keeps_set d at new h (λ e lies. h.ends at slot e there (sym (end_stays sent slot) ∙ sym (ap (λ (s : SlotIs). s.end) is) ∙ lies))
+
+-- a slot whose session has its number
+pub keeps_numbered : (d : DriveLanesIs) (at : ℕ) (slot new : SlotIs) → KeepsLanes d → slice_get d.slots at ≡ Some slot → new ≡ numbered slot
+    → KeepsLanes (record d { slots = slice_set d.slots at new })
+keeps_numbered d at slot new h there is =
+    keeps_set d at new h (λ e lies. h.ends at slot e there (sym (ap (λ (s : SlotIs). s.end) is) ∙ lies))
 
 -- Slots of new lanes.
 

@@ -1,17 +1,19 @@
 -- What decides of each drive whether it takes a session.
-use Rattle.std.proofs.Common.{◌≡◌, ℕ, zero, suc, ◌+◌, ◌≤◌, ◌<◌, refl, sym, ap, subst, ◌∙◌, inl, inr, arith, Some, None, List, [], ◌∷◌, length, take, get_or, slice_get, slice_set}
+use Rattle.std.proofs.Common.{◌≡◌, ℕ, zero, suc, ◌+◌, ◌≤◌, ◌<◌, refl, sym, ap, subst, ◌∙◌, inl, inr, arith, Bool, Some, None, List, [], ◌∷◌, length, take, get_or, slice_get, slice_set}
+use Rattle.std.specs.Prelude.{◌↔◌, IsTrue}
+use Rattle.std.proofs.lemmas.Bool.{cases_lt}
 use Rattle.std.proofs.lemmas.Option.{slice_get-get_or, slice_get_within}
 use Rattle.sd_base.proofs.ChoiceLemmas.{same_some}
-use Rattle.sd_base.specs.Choice.{NoneOf}
+use Rattle.sd_base.specs.Choice.{FirstOf, NoneOf}
 use Rattle.sd_base.specs.declared.refusal.Refusal.{Refusal}
 use Rattle.sd_reserve.specs.Refusals.{refusal_of_reserve}
-use Rattle.sd_reserve.specs.Reserve.{TakesMedia, IsOnline, IsCandidate}
+use Rattle.sd_reserve.specs.Reserve.{TakesMedia, IsOnline, IsCandidate, Precedes}
 use Rattle.sd_reserve.specs.declared.drive.DriveView.{DriveView}
 use Rattle.sd_reserve.specs.declared.drive.ReserveFault.{ReserveFault}
 use Rattle.sd_reserve.specs.declared.drive.ReserveFault.TheVariants.{NoDriveOfMedia, DriveOffline, NoFreeLane}
 use Rattle.sd_world.proofs.Lookups.{one_or_two, get_set-same, get_set-other}
 use Rattle.sd_board.specs.Opening.{IsFirst, NoneTakes, view_of, views_of}
-use Rattle.sd_board.specs.Slots.{DriveLanesIs, busy_lanes}
+use Rattle.sd_board.specs.Slots.{DriveLanesIs}
 use Rattle.sd_board.specs.declared.seen.DriveSeen.{DriveSeen}
 
 -- Views as they are made.
@@ -80,13 +82,41 @@ none_takes ds seen pool media views NoFreeLane why are is no_drive offline no_la
     let p = subst (λ (vs : List DriveView). (NoneOf (IsOnline media) vs → ⊥) × NoneOf (IsCandidate pool media) vs) are (no_lane refl) in
     inr (λ none. p.0 (λ place v there online. none place v there online.takes), p.1, is)
 
--- The drive that takes a session has a lane that is free.
+-- Whether a drive takes a session.
+
+-- there is one first candidate
+one_first : {A : Type 0} (C : A → Type 0) (P : A → A → Type 0) (xs : List A) (a b : ℕ) → FirstOf C P xs a → FirstOf C P xs b → a ≡ b
+one_first C P xs a b f g = elim (one_or_two a b) [
+  | inl same ↦ same
+  | inr apart ↦ elim (cases_lt a b) [
+    | inl lt ↦ absurd (f.behind b g.first lt g.there g.is_candidate (g.before a f.first lt f.there f.is_candidate))
+    | inr le ↦ (let lt : b < a = omega (arith, le, apart) in absurd (g.behind a f.first lt f.there f.is_candidate (f.before b g.first lt g.there g.is_candidate)))
+  ]
+]
+
+-- this is the drive that takes it exactly if it is the one that was found
+module _ (ds : List DriveLanesIs) (seen : List DriveSeen) (pool media : List ℕ) (drive : ℕ) where
+  pub found : (first : ℕ) (b : Bool) → (place : ℕ) × (first ≡ place + 1) × IsFirst (views_of ds seen) pool media place → IsTrue b ↔ (first ≡ drive)
+      → IsTrue b ↔ ((place : ℕ) × (drive ≡ place + 1) × IsFirst (views_of ds seen) pool media place)
+  found first b told by = (
+    λ yes. (told.0, sym (by.0 yes) ∙ told.1, told.2),
+    λ (place, is, takes).
+        let same = one_first (IsCandidate pool media) (Precedes pool) (views_of ds seen) told.0 place told.2 takes in
+        by.1 (told.1 ∙ ap (λ n. n + 1) same ∙ sym is),
+  )
+
+  -- if none takes it, this one doesn't
+  pub found_none : (why : Refusal) → NoneTakes (views_of ds seen) pool media why
+      → ((place : ℕ) × (drive ≡ place + 1) × IsFirst (views_of ds seen) pool media place) → ⊥
+  found_none why (inl none) (place, is, first) = none.0 place first.first first.there first.is_candidate.online.takes
+  found_none why (inr none) (place, is, first) = none.1 place first.first first.there first.is_candidate
+
+-- The drive that takes a session.
 pub record IsReached (ds : List DriveLanesIs) (seen : List DriveSeen) (pool media : List ℕ) (drive place : ℕ) : Type 0 where
   pub number_is : drive ≡ place + 1
   pub first : IsFirst (views_of ds seen) pool media place
   pub lanes : DriveLanesIs
   pub there : slice_get ds place ≡ Some lanes
-  pub free : busy_lanes lanes < length lanes.slots
   pub within : place < length ds
 
 pub reached : (ds : List DriveLanesIs) (seen : List DriveSeen) (pool media : List ℕ) (drive place : ℕ) → drive ≡ place + 1
@@ -95,11 +125,4 @@ reached ds seen pool media drive place is told =
     let same : told.0 ≡ place = omega (arith, is, told.1) in
     let first = subst (IsFirst (views_of ds seen) pool media) same told.2 in
     let r = viewed ds seen place first.first first.there in
-    let candidate : IsCandidate pool media (view_of r.lanes (slice_get seen place)) = subst (IsCandidate pool media) r.is first.is_candidate in
-    record { number_is = is; first = first; lanes = r.lanes; there = r.there; free = candidate.lane_free; within = slice_get_within ds place r.lanes r.there }
-
--- as it was read there
-pub free_there : (ds : List DriveLanesIs) (seen : List DriveSeen) (pool media : List ℕ) (drive place : ℕ) (read : DriveLanesIs) → IsReached ds seen pool media drive place
-    → slice_get ds place ≡ Some read → busy_lanes read < length read.slots
-free_there ds seen pool media drive place read r there =
-    subst (λ (d : DriveLanesIs). busy_lanes d < length d.slots) (same_some (sym r.there ∙ there)) r.free
+    record { number_is = is; first = first; lanes = r.lanes; there = r.there; within = slice_get_within ds place r.lanes r.there }

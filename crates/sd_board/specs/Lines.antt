@@ -7,7 +7,7 @@ use Rattle.sd_core.specs.declared.view.SessionLine.{SessionLine}
 use Rattle.sd_board.specs.Changes.{change_at}
 use Rattle.sd_board.specs.declared.posted.Posted.{Posted}
 use Rattle.sd_board.specs.declared.lines.Numbered.{Numbered}
-use Rattle.sd_board.specs.declared.lines.Numbered.TheVariants.{Given, Next, NoneLeft, NoRoom}
+use Rattle.sd_board.specs.declared.lines.Numbered.TheVariants.{Given, Elsewhere, Next, NoneLeft, NoRoom}
 
 -- A line for each session that has a number, in the order of the numbers; and to how many sessions without one a line is
 -- promised: each of them has room for it, whatever others open meanwhile.
@@ -44,10 +44,12 @@ new_line ticket drive lane = record { ticket = ticket; drive = drive; lane = lan
 abbrev pub given_in : ℕ → ℕ → ℕ → LinesIs → LinesIs
 given_in ticket drive lane l = record { sessions = l.sessions ++ new_line ticket drive lane ∷ []; promised = l.promised - 1 }
 
--- What giving a number comes to. It is given exactly if it is the next one; another one isn't, and the next one is told.
--- There is always room for a line that was promised. If the number isn't given, nothing changes.
+-- What giving a number comes to at the lines. It is given exactly if it is the next one; another one isn't, and the next one is
+-- told. There is always room for a line that was promised. If the number isn't given, nothing changes. (Of drives the lines know
+-- nothing.)
 abbrev pub GivesNumber : Numbered → ℕ → ℕ → ℕ → LinesIs → LinesIs → Type 0
 GivesNumber Given ticket drive lane old new = (ticket ≡ next_number old) × (new ≡ given_in ticket drive lane old)
+GivesNumber Elsewhere ticket drive lane old new = ⊥
 GivesNumber (Next next) ticket drive lane old new = (next ≡ next_number old) × (ticket ≢ next) × (new ≡ old)
 GivesNumber NoneLeft ticket drive lane old new = (count_of old ≡ most_number) × (new ≡ old)
 GivesNumber NoRoom ticket drive lane old new = (old.promised ≡ 0) × (new ≡ old)

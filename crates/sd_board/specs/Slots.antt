@@ -1,5 +1,5 @@
 -- The lanes of a drive at the desk: where the end of each lies while no session uses it.
-use Rattle.std.specs.Prelude.{◌≡◌, ℕ, ◌+◌, ◌-◌, ◌≤◌, ◌==◌, Bool, false, not, ◌&&◌, if◌then◌else◌, IsTrue, is_some, Option, Some, None, List, [], ◌++◌, ◌∷◌, length, map, slice_get, slice_set}
+use Rattle.std.specs.Prelude.{◌≡◌, ℕ, ◌+◌, ◌-◌, ◌≤◌, ◌==◌, Bool, true, false, not, ◌&&◌, if◌then◌else◌, IsTrue, is_some, Option, Some, None, List, [], ◌++◌, ◌∷◌, length, map, slice_get, slice_set}
 use Rattle.std.specs.List.{count_by}
 use Rattle.std.specs.Option.{option_and_then, option_to_list}
 use Rattle.sd_base.specs.Choice.{FirstOf}
@@ -8,11 +8,12 @@ use Rattle.sd_line.specs.Ends.{EndIs, LastIsOver}
 use Rattle.sd_board.specs.Changes.{change_at}
 use Rattle.sd_board.specs.declared.sent.Sent.{Sent}
 
--- A lane: its end, unless a session uses it; and what its last session sent, while pieces of that may still be on their way
--- to a volume.
+-- A lane: its end, unless a session uses it or an open holds it; what its last session sent, while pieces of that may still be on
+-- their way to a volume; and whether an open holds it, which has taken the end and has no number yet.
 pub record SlotIs : Type 0 where
   pub end : Option EndIs
   pub on_its_way : Option Sent
+  pub held : Bool
 
 -- The lanes 1, 2 and on of the drive of this number, which takes this media.
 pub record DriveLanesIs : Type 0 where
@@ -22,7 +23,7 @@ pub record DriveLanesIs : Type 0 where
 
 -- the slot in which this end lies
 abbrev pub slot_with : EndIs → Option Sent → SlotIs
-slot_with e way = record { end = Some e; on_its_way = way }
+slot_with e way = record { end = Some e; on_its_way = way; held = false }
 
 -- that of a lane that no session used
 abbrev pub new_slot : EndIs → SlotIs
@@ -36,11 +37,11 @@ is_free s = is_some s.end && not (is_some s.on_its_way)
 abbrev pub IsFree : SlotIs → Type 0
 IsFree s = IsTrue (is_free s)
 
--- the lane isn't free
+-- whether the lane has a session, or something of its last one is on its way: it isn't free, and no open holds it
 abbrev pub is_busy : SlotIs → Bool
-is_busy s = not (is_free s)
+is_busy s = not (is_free s) && not s.held
 
--- how many lanes of the drive aren't free
+-- how many lanes of the drive are busy
 abbrev pub busy_lanes : DriveLanesIs → ℕ
 busy_lanes d = count_by is_busy d.slots
 
@@ -67,13 +68,13 @@ AreNew own ends = (at : ℕ) (e : EndIs) → slice_get ends at ≡ Some e → Is
 abbrev pub new_lanes : ℕ → List ℕ → List EndIs → DriveLanesIs
 new_lanes own media ends = record { no = own; media = media; slots = map new_slot ends }
 
--- the end of the lowest lane that is free is taken from its slot; nothing else changes
+-- the end of the lowest lane that is free is taken from its slot, and the lane is held; nothing else changes
 pub record TakesLowest (d : DriveLanesIs) (e : EndIs) (d' : DriveLanesIs) : Type 0 where
   pub at : ℕ
   pub lowest : FirstOf IsFree (λ _ _. ⊥) d.slots at
   pub end_is : lowest.first.end ≡ Some e
   pub home : IsAtHome d.no (at + 1) e
-  pub is : d' ≡ record d { slots = slice_set d.slots at (record lowest.first { end = None }) }
+  pub is : d' ≡ record d { slots = slice_set d.slots at (record lowest.first { end = None; held = true }) }
 
 -- the slot of this end is there and empty, and its last session goes on no more
 pub record MayLie (d : DriveLanesIs) (e : EndIs) : Type 0 where
@@ -107,6 +108,18 @@ arrived_in sent lane d = record d { slots = change_at (arrived sent) (lane - 1) 
 abbrev pub arrived_at : Sent → ℕ → ℕ → List DriveLanesIs → List DriveLanesIs
 arrived_at sent drive lane ds = change_at (arrived_in sent lane) (drive - 1) ds
 
+-- the slot of a lane by which a session has its number: nobody holds it any more
+abbrev pub numbered : SlotIs → SlotIs
+numbered s = record s { held = false }
+
+-- so for this lane of a drive
+abbrev pub numbered_in : ℕ → DriveLanesIs → DriveLanesIs
+numbered_in lane d = record d { slots = change_at numbered (lane - 1) d.slots }
+
+-- so for this lane of this drive
+abbrev pub numbered_at : ℕ → ℕ → List DriveLanesIs → List DriveLanesIs
+numbered_at drive lane ds = change_at (numbered_in lane) (drive - 1) ds
+
 -- the slot of this lane of this drive, if there is such a lane
 abbrev pub slot_at : ℕ → ℕ → List DriveLanesIs → Option SlotIs
 slot_at drive lane ds = option_and_then (λ (d : DriveLanesIs). slice_get d.slots (lane - 1)) (slice_get ds (drive - 1))
@@ -135,7 +148,7 @@ ends_of (Some d) = ends_in d.slots
 abbrev pub without_lanes : DriveLanesIs → DriveLanesIs
 without_lanes d = record d { slots = [] }
 
--- how many lanes of this drive aren't free, if there is one
+-- how many lanes of this drive are busy, if there is one
 abbrev pub busy_of : Option DriveLanesIs → ℕ
 busy_of None = 0
 busy_of (Some d) = busy_lanes d

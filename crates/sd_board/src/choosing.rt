@@ -1,5 +1,5 @@
 // The drive that a new session gets.
-ghost use Rattle.std.specs.Prelude.{◌≡◌, ◌+◌, ◌≤◌, length, take, slice_get, IfErr, IfOk};
+ghost use Rattle.std.specs.Prelude.{◌≡◌, ◌+◌, ◌≤◌, ◌↔◌, length, take, slice_get, IfErr, IfOk, IsTrue};
 ghost use Rattle.sd_base.specs.Limits.{most_drives};
 ghost use Rattle.sd_board.specs.Opening.{IsFirst, NoneTakes, loaded_in, pool_in, view_of, views_of};
 
@@ -31,6 +31,24 @@ pub(crate) fn choose<N: Naming, S: SpoolStore + Drop>(
     match reserve(&views[..drives.len()], pool, media) {
         Ok(drive) => Ok(drive),
         Err(fault) => Err(fault.refusal()),
+    }
+}
+
+/// Whether this is the drive that takes it.
+pub(crate) fn is_choice<N: Naming, S: SpoolStore + Drop>(
+    drives: &[DriveLanes<N, S>],
+    seen: &[DriveSeen],
+    pool: &PoolName,
+    media: &MediaName,
+    drive: DriveNo,
+) -> bool
+    requires { length drives.now ≤ most_drives }
+    ensures { IsTrue result ↔ ((place : _) × (drive ≡ place + 1)
+        × IsFirst (views_of drives.now seen.now) pool.now media.now place) }
+{
+    match choose(drives, seen, pool, media) {
+        Ok(first) => first.get() == drive.get(),
+        Err(_) => false,
     }
 }
 

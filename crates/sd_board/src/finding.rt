@@ -9,14 +9,14 @@ use crate::slot::LaneSlot;
 use sd_line::Naming;
 use sd_spool::SpoolStore;
 
-/// How many of the lanes aren't free.
+/// How many of the lanes are busy.
 pub(crate) fn count_busy<N: Naming, S: SpoolStore + Drop>(slots: &[LaneSlot<N, S>]) -> u32
     requires { length slots.now ≤ most_lanes }
     ensures { result ≡ count_by is_busy slots.now }
 {
     let mut busy = 0;
     for slot in slots {
-        if !slot.is_free() {
+        if slot.is_busy() {
             busy += 1;
         }
     }

@@ -1,9 +1,10 @@
 // The lanes of a drive, as the desk has them.
-ghost use Rattle.std.specs.Prelude.{◌≡◌, ◌-◌, ◌≤◌, ◌<◌, None, [], length, map, slice_get, IfErr, OnOk, OnErr};
+ghost use Rattle.std.specs.Prelude.{◌≡◌, ◌-◌, ◌≤◌, None, [], length, map, slice_get, IfErr, MatchBool, OnOk, OnErr};
 ghost use Rattle.std.specs.Option.{option_copied};
 ghost use Rattle.std.specs.Vec.{vec_capacity};
+ghost use Rattle.sd_base.specs.Choice.{NoneOf};
 ghost use Rattle.sd_base.specs.Limits.{most_lanes};
-ghost use Rattle.sd_board.specs.Slots.{AreNew, MayLie, TakesLowest, arrived_in, busy_lanes, is_free_of, lies_in, new_lanes, new_slot, on_its_way_of, without_lanes};
+ghost use Rattle.sd_board.specs.Slots.{AreNew, IsFree, MayLie, TakesLowest, arrived_in, busy_lanes, is_free_of, lies_in, new_lanes, new_slot, numbered_in, on_its_way_of, without_lanes};
 
 use crate::finding::{count_busy, is_empty_at, lowest_free};
 use crate::place::lane_place;
@@ -80,16 +81,24 @@ impl<N: Naming, S: SpoolStore + Drop> DriveLanes<N, S> {
         self.slots.len() as u32
     }
 
-    /// How many of them aren't free.
+    /// How many of them are busy.
     pub(crate) fn busy(&self) -> u32
         ensures { result ≡ busy_lanes self.now }
     {
         count_busy(&self.slots)
     }
 
-    /// Takes the end of the lowest lane that is free.
+    /// Whether one of them is free.
+    pub(crate) fn has_free(&self) -> bool
+        ensures { MatchBool result (NoneOf IsFree self.now.slots → ⊥)
+            (NoneOf IsFree self.now.slots) }
+    {
+        lowest_free(&self.slots).is_some()
+    }
+
+    /// Takes the end of the lowest lane that is free, for an open, which holds the lane from then on.
     pub(crate) fn take_lowest(&mut self) -> LaneEnd<N, S>
-        requires { busy_lanes self.old < length self.old.slots }
+        requires { NoneOf IsFree self.old.slots → ⊥ }
         ensures { TakesLowest self.old result self.new }
     {
         let at = lowest_free(&self.slots).unwrap();
@@ -131,6 +140,18 @@ impl<N: Naming, S: SpoolStore + Drop> DriveLanes<N, S> {
         }
         let slot = &mut self.slots[at];
         slot.arrived(sent);
+    }
+
+    /// The session of the open that holds the lane has its number.
+    pub(crate) fn numbered(&mut self, lane: LaneNo)
+        ensures { self.new ≡ numbered_in lane self.old }
+    {
+        let at = lane_place(lane);
+        if at >= self.slots.len() {
+            return;
+        }
+        let slot = &mut self.slots[at];
+        slot.numbered();
     }
 
     /// Whether the lane is free, if there is one.

@@ -16,6 +16,8 @@ use std::marker::Model;
 pub enum Numbered {
     /// The session has it.
     Given,
+    /// Another drive takes the session now, or none does: its lane is to be chosen again.
+    Elsewhere,
     /// Another session got that number meanwhile; this is the next one now.
     Next(Ticket),
     /// No number is left.

@@ -1,12 +1,13 @@
 // A session gets its drive and its lane, and then its number.
-ghost use Rattle.std.specs.Prelude.{◌≡◌, IfErr, IfOk, OnErr, OnOk, None};
+ghost use Rattle.std.specs.Prelude.{◌≡◌, IfErr, IfNone, IfOk, IfSome, OnErr, OnOk, None};
 ghost use Rattle.sd_line.specs.Ends.{LastIsOver};
 ghost use Rattle.sd_board.specs.Board.{MayRest, Rests};
-ghost use Rattle.sd_board.specs.Lines.{GivesNumber, promised_less};
-ghost use Rattle.sd_board.specs.Opening.{ChoosesLane, ChoosesNone};
+ghost use Rattle.sd_board.specs.Lines.{promised_less};
+ghost use Rattle.sd_board.specs.Opening.{ChoosesLane, ChoosesLater, ChoosesNone, Numbers};
+ghost use Rattle.sd_board.specs.Slots.{numbered_at};
 
 use crate::board::Board;
-use crate::choosing::choose;
+use crate::choosing::{choose, is_choice};
 use crate::lines::Numbered;
 use crate::place::drive_place;
 use crate::resting::rest_in;
@@ -27,19 +28,24 @@ pub struct Chosen<N: Naming, S: SpoolStore> {
 
 impl<N: Naming, S: SpoolStore + Drop> Board<N, S> {
     /// Chooses the lane of a new session of this pool and media: the lowest free one of the drive that takes it, by what was seen
-    /// of each drive. There is room for the session's line from then on. No number is given yet. The refusals, in this
-    /// order: no session number is left; no drive of the media; no free lane; out of memory. A refused session changes
-    /// nothing.
+    /// of each drive, and by its sessions that have a number. The lane is held from then on, and there is room for the session's
+    /// line. No number is given yet. The refusals, in this order: no session number is left; no drive of the media; no free lane;
+    /// out of memory. A refused session changes nothing.
+    ///
+    /// `None` if other opens hold all lanes of that drive that aren't busy: whether one of them is left is known once one of these
+    /// opens has its number, or has given its lane back. Nothing changes then either.
     pub fn choose(
         &mut self,
         seen: &[DriveSeen],
         pool: &PoolName,
         media: &MediaName,
-    ) -> Result<Chosen<N, S>, Refusal>
-        ensures ok { IfOk result (λ chosen. ChoosesLane self.old seen.now pool.now media.now
-            chosen.ticket chosen.drive chosen.end self.new) }
-        ensures home { IfOk result (λ chosen. (chosen.end.seat.no ≡ chosen.drive)
-            × LastIsOver chosen.end.sessions) }
+    ) -> Result<Option<Chosen<N, S>>, Refusal>
+        ensures ok { IfOk result (λ choice. IfSome choice (λ chosen. ChoosesLane self.old seen.now
+            pool.now media.now chosen.ticket chosen.drive chosen.end self.new)) }
+        ensures home { IfOk result (λ choice. IfSome choice (λ chosen.
+            (chosen.end.seat.no ≡ chosen.drive) × LastIsOver chosen.end.sessions)) }
+        ensures later { IfOk result (λ choice. IfNone choice
+            (ChoosesLater self.old seen.now pool.now media.now × (self.new ≡ self.old))) }
         ensures why { IfErr result
             (λ why. ChoosesNone self.old seen.now pool.now media.now why) }
         ensures err { OnErr result (self.new ≡ self.old) }
@@ -51,22 +57,54 @@ impl<N: Naming, S: SpoolStore + Drop> Board<N, S> {
             Ok(drive) => drive,
             Err(why) => return Err(why),
         };
+        let place = drive_place(drive);
+        if !self.drives[place].has_free() {
+            return Ok(None);
+        }
         if let Err(AllocError) = self.lines.promise() {
             return Err(Refusal::Memory);
         }
-        let place = drive_place(drive);
         let lanes = &mut self.drives[place];
         let end = lanes.take_lowest();
-        Ok(Chosen { ticket, drive, end })
+        Ok(Some(Chosen { ticket, drive, end }))
     }
 
-    /// Gives the session that was chosen for this lane of this drive its number, if that is still the one that comes next:
-    /// its line comes after the others. Takes no memory while a line is promised.
-    pub fn number(&mut self, ticket: Ticket, drive: DriveNo, lane: LaneNo) -> Numbered
-        ensures gives { GivesNumber result ticket drive lane self.old.lines self.new.lines }
-        ensures same { self.new ≡ record self.old { lines = self.new.lines } }
+    /// Gives a session of this pool and media its number, for which a lane of this drive was chosen, if by what is seen of each
+    /// drive now that drive takes it still, and if the number is still the one that comes next: its line comes after the others,
+    /// and its lane is held no longer. Takes no memory while a line is promised.
+    pub fn number(
+        &mut self,
+        seen: &[DriveSeen],
+        pool: &PoolName,
+        media: &MediaName,
+        ticket: Ticket,
+        drive: DriveNo,
+        lane: LaneNo,
+    ) -> Numbered
+        ensures { Numbers result self.old seen.now pool.now media.now ticket drive lane self.new }
     {
-        self.lines.give(ticket, drive, lane)
+        if !is_choice(&self.drives, seen, pool, media, drive) {
+            return Numbered::Elsewhere;
+        }
+        let numbered = self.lines.give(ticket, drive, lane);
+        if let Numbered::Given = numbered {
+            self.hold_no_more(drive, lane);
+        }
+        numbered
+    }
+
+    // Nobody holds the lane any more.
+    fn hold_no_more(&mut self, drive: DriveNo, lane: LaneNo)
+        ensures { self.new ≡ record self.old {
+          drives = numbered_at drive lane self.old.drives;
+        } }
+    {
+        let place = drive_place(drive);
+        if place >= self.drives.len() {
+            return;
+        }
+        let lanes = &mut self.drives[place];
+        lanes.numbered(lane);
     }
 
     /// Takes the lane of a session back that does not begin. The end lies in its slot again, with nothing on its way, and the

@@ -62,7 +62,7 @@ impl<N: Naming, S: SpoolStore + Drop> Board<N, S> {
         }
     }
 
-    /// How many lanes of the drive aren't free.
+    /// How many lanes of the drive are busy: each has a session, or something of its last one is on its way.
     pub fn busy(&self, drive: DriveNo) -> u32
         ensures { result ≡ busy_of (slice_get self.now.drives (drive - 1)) }
     {

@@ -1,6 +1,6 @@
 // The slot of a lane: where the lane's end lies while no session uses it.
-ghost use Rattle.std.specs.Prelude.{◌≡◌, None, Some, is_none};
-ghost use Rattle.sd_board.specs.Slots.{IsFree, arrived, is_free, new_slot, slot_with};
+ghost use Rattle.std.specs.Prelude.{◌≡◌, None, Some, is_none, true};
+ghost use Rattle.sd_board.specs.Slots.{IsFree, arrived, is_busy, is_free, new_slot, numbered, slot_with};
 
 use crate::sent::Sent;
 use sd_line::{LaneEnd, Naming};
@@ -10,10 +10,12 @@ use std::marker::Model;
 /// A lane at the desk. In a contract it is a `SlotIs`.
 #[derive(Drop)]
 pub(crate) struct LaneSlot<N: Naming, S: SpoolStore> {
-    // None while a session uses the lane.
+    // None while a session uses the lane, or an open holds it.
     end: Option<LaneEnd<N, S>>,
     // Of the session that used the lane last, while pieces that it sent may be on their way to a volume.
     on_its_way: Option<Sent>,
+    // Whether an open holds the lane, which has no number yet.
+    held: bool,
 }
 
 impl<N: Naming, S: SpoolStore> Model for LaneSlot<N, S> {
@@ -21,7 +23,7 @@ impl<N: Naming, S: SpoolStore> Model for LaneSlot<N, S> {
 
     ghost Value = { SlotIs };
 
-    ghost view = { λ s. record { end = s.end; on_its_way = s.on_its_way } };
+    ghost view = { λ s. record { end = s.end; on_its_way = s.on_its_way; held = s.held } };
 }
 
 impl<N: Naming, S: SpoolStore + Drop> LaneSlot<N, S> {
@@ -32,6 +34,7 @@ impl<N: Naming, S: SpoolStore + Drop> LaneSlot<N, S> {
         LaneSlot {
             end: Some(end),
             on_its_way: None,
+            held: false,
         }
     }
 
@@ -40,6 +43,13 @@ impl<N: Naming, S: SpoolStore + Drop> LaneSlot<N, S> {
         ensures { result ≡ is_free self.now }
     {
         self.end.is_some() && self.on_its_way.is_none()
+    }
+
+    /// Whether the lane has a session, or something of its last one is on its way.
+    pub(crate) fn is_busy(&self) -> bool
+        ensures { result ≡ is_busy self.now }
+    {
+        !self.is_free() && !self.held
     }
 
     /// Whether no end lies here.
@@ -56,13 +66,21 @@ impl<N: Naming, S: SpoolStore + Drop> LaneSlot<N, S> {
         self.on_its_way
     }
 
-    /// Takes the end of a lane that is free.
+    /// Takes the end of a lane that is free, for an open, which holds the lane from then on.
     pub(crate) fn take_end(&mut self) -> LaneEnd<N, S>
         requires { IsFree self.old }
         ensures end { self.old.end ≡ Some result }
-        ensures left { self.new ≡ record self.old { end = None } }
+        ensures left { self.new ≡ record self.old { end = None; held = true } }
     {
+        self.held = true;
         self.end.take().unwrap()
+    }
+
+    /// The session of the open that holds the lane has its number.
+    pub(crate) fn numbered(&mut self)
+        ensures { self.new ≡ numbered self.old }
+    {
+        self.held = false;
     }
 
     /// The end that lies here, if one does.
@@ -78,6 +96,7 @@ impl<N: Naming, S: SpoolStore + Drop> LaneSlot<N, S> {
     {
         self.end = Some(end);
         self.on_its_way = on_its_way;
+        self.held = false;
     }
 
     /// This has arrived: if it is what is on its way, nothing is any more.

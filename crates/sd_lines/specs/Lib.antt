@@ -1,5 +1,6 @@
 pub mod Held
 pub mod Opening
+pub mod Pools
 pub mod Port
 pub mod Receipts
 pub mod Taken

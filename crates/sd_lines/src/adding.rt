@@ -37,6 +37,7 @@ impl<D: Driver + Drop, N: Naming, R: Wait + Clock + Drop, S: SpoolStore + Drop> 
             posts: Vec::new(alloc),
             front: Mutex::new(Front::new(Board::new(alloc))),
             claimed: Condvar::new(),
+            numbered: Condvar::new(),
             given: AmountCounter::new(),
             answers: AnswerCounter::new(),
             time,

@@ -1,10 +1,10 @@
 // What lies under the lock of the desk.
-ghost use Rattle.std.specs.Prelude.{◌≡◌, List, None, IfOk, IfErr, OnErr};
+ghost use Rattle.std.specs.Prelude.{◌≡◌, ◌-◌, None, Some, IfErr, IfNone, IfOk, IfSome, OnErr, slice_get};
 ghost use Rattle.sd_board.specs.Board.{MayRest, Rests};
-ghost use Rattle.sd_board.specs.Lines.{GivesNumber, posted_in};
-ghost use Rattle.sd_board.specs.Opening.{ChoosesLane, ChoosesNone};
-ghost use Rattle.sd_board.specs.declared.seen.DriveSeen.{DriveSeen};
+ghost use Rattle.sd_board.specs.Lines.{posted_in};
+ghost use Rattle.sd_board.specs.Opening.{ChoosesLane, ChoosesLater, ChoosesNone, Numbers};
 ghost use Rattle.sd_line.specs.Ends.{LastIsOver};
+ghost use Rattle.sd_lines.specs.Pools.{pools_by, seen_of};
 
 use crate::standings::Standings;
 use sd_base::{DriveNo, LaneNo, MOST_DRIVES, MediaName, PoolName, Refusal, Ticket};
@@ -17,9 +17,9 @@ use std::array;
 /// For how many drives there is room.
 pub(crate) const DRIVES: usize = MOST_DRIVES as usize;
 
-/// The board; of the drives 1, 2 and on the pool of the session for which a lane was chosen there last; and how many of the
-/// board's sessions have each status. A drive itself learns of the pool a little later, and who opens a session in between
-/// must not be told of the one before.
+/// The board; of the drives 1, 2 and on the pool of the session that got its number last there; and how many of the board's
+/// sessions have each status. A drive itself learns of the pool a little later, and who opens a session in between must not be
+/// told of the one before.
 #[derive(Drop)]
 pub struct Front<N: Naming, S: SpoolStore> {
     pub board: Board<N, S>,
@@ -44,39 +44,53 @@ impl<N: Naming, S: SpoolStore + Drop> Front<N, S> {
         loaded: &[Option<PoolName>; DRIVES],
         pool: &PoolName,
         media: &MediaName,
-    ) -> Result<Chosen<N, S>, Refusal>
-        ensures ok { IfOk result (λ chosen. (seen : List DriveSeen)
-            × ChoosesLane self.old.board seen pool.now media.now chosen.ticket chosen.drive
-            chosen.end self.new.board) }
-        ensures home { IfOk result (λ chosen. (chosen.end.seat.no ≡ chosen.drive)
-            × LastIsOver chosen.end.sessions) }
-        ensures why { IfErr result (λ why. (seen : List DriveSeen)
-            × ChoosesNone self.old.board seen pool.now media.now why) }
+    ) -> Result<Option<Chosen<N, S>>, Refusal>
+        ensures ok { IfOk result (λ choice. IfSome choice (λ chosen.
+            ChoosesLane self.old.board (seen_of self.old.pools loaded.now) pool.now media.now
+            chosen.ticket chosen.drive chosen.end self.new.board)) }
+        ensures home { IfOk result (λ choice. IfSome choice (λ chosen.
+            (chosen.end.seat.no ≡ chosen.drive) × LastIsOver chosen.end.sessions)) }
+        ensures later { IfOk result (λ choice. IfNone choice
+            (ChoosesLater self.old.board (seen_of self.old.pools loaded.now) pool.now media.now
+            × (self.new.board ≡ self.old.board))) }
+        ensures why { IfErr result (λ why. ChoosesNone self.old.board
+            (seen_of self.old.pools loaded.now) pool.now media.now why) }
         ensures err { OnErr result (self.new.board ≡ self.old.board) }
+        ensures pools { self.new.pools ≡ self.old.pools }
     {
         let seen = seen(&self.pools, loaded);
-        let chosen = match self.board.choose(&seen, pool, media) {
-            Ok(chosen) => chosen,
-            Err(why) => return Err(why),
-        };
-        let place = chosen.drive.get() as usize - 1;
-        if place < DRIVES {
-            self.pools[place] = Some(pool.copy());
-        }
-        Ok(chosen)
+        self.board.choose(&seen, pool, media)
     }
 
-    /// Gives the session that was chosen for this lane its number, as the board does.
-    pub(crate) fn number(&mut self, ticket: Ticket, drive: DriveNo, lane: LaneNo) -> Numbered
-        ensures gives { GivesNumber result ticket drive lane self.old.board.lines
-            self.new.board.lines }
-        ensures same { self.new.board ≡ record self.old.board { lines = self.new.board.lines } }
+    /// Gives the session that was chosen for this lane its number, as the board does, by what is loaded now. Its pool is the
+    /// drive's from then on.
+    pub(crate) fn number(
+        &mut self,
+        loaded: &[Option<PoolName>; DRIVES],
+        pool: &PoolName,
+        media: &MediaName,
+        ticket: Ticket,
+        drive: DriveNo,
+        lane: LaneNo,
+    ) -> Numbered
+        ensures numbers { Numbers result self.old.board (seen_of self.old.pools loaded.now)
+            pool.now media.now ticket drive lane self.new.board }
+        ensures pools { self.new.pools ≡ pools_by result drive pool.now self.old.pools }
     {
-        let numbered = self.board.number(ticket, drive, lane);
+        let seen = seen(&self.pools, loaded);
+        let numbered = self.board.number(&seen, pool, media, ticket, drive, lane);
         if let Numbered::Given = numbered {
             self.standings.add(Status::Active);
+            self.pools[drive.get() as usize - 1] = Some(pool.copy());
         }
         numbered
+    }
+
+    /// The pool of the session that got its number last at a drive.
+    pub(crate) fn pool(&self, drive: DriveNo) -> Option<PoolName>
+        ensures { Some result ≡ slice_get self.now.pools (drive - 1) }
+    {
+        PoolName::copy_of(&self.pools[drive.get() as usize - 1])
     }
 
     /// Takes the lane of a session back that does not begin, as the board does.
@@ -120,7 +134,9 @@ impl<N: Naming, S: SpoolStore + Drop> Front<N, S> {
 fn seen(
     pools: &[Option<PoolName>; DRIVES],
     loaded: &[Option<PoolName>; DRIVES],
-) -> [DriveSeen; DRIVES] {
+) -> [DriveSeen; DRIVES]
+    ensures { result ≡ seen_of pools.now loaded.now }
+{
     let mut seen = array::from_fn(|_| DriveSeen {
         loaded: None,
         pool: None,

@@ -1,14 +1,13 @@
 // What all talks of a daemon share.
-ghost use Rattle.std.specs.Prelude.{◌≡◌, IfOk, IfSome};
-ghost use Rattle.sd_line.specs.Ends.{LastIsOver};
+ghost use Rattle.std.specs.Prelude.{◌≡◌, IfSome};
 
 use crate::amount::AmountCounter;
 use crate::answers::AnswerCounter;
 use crate::front::Front;
 use crate::receipts::Receipts;
 use crate::tally::Tally;
-use sd_base::{DriveNo, LaneNo, MediaName, PoolName, Refusal, Ticket};
-use sd_board::{Chosen, Numbered, Sent};
+use sd_base::{DriveNo, LaneNo, Ticket};
+use sd_board::Sent;
 use sd_drive::Receipt;
 use sd_driver::Driver;
 use sd_line::{LaneEnd, Naming};
@@ -57,6 +56,9 @@ pub struct Hub<D: Driver, N: Naming, R: Wait + Drop, S: SpoolStore> {
     pub front: Mutex<Front<N, S>>,
     /// Where those wait who name a volume that somebody else is claiming. They are woken when a claiming ends.
     pub claimed: Condvar,
+    /// Where those wait who open a session while other opens hold the lanes that are left. They are woken when one of these has its
+    /// number, or gives its lane back, and when a session leaves its lane.
+    pub numbered: Condvar,
     /// What was given back in restores.
     pub given: AmountCounter,
     /// The answers that were counted.
@@ -80,34 +82,6 @@ impl<D: Driver, N: Naming, R: Wait + Clock + Drop, S: SpoolStore + Drop> Hub<D, 
         }
     }
 
-    /// What the desk chooses for a new session: the end of a lane of its drive, and the number that it gets if nobody else
-    /// is given that meanwhile. What the drives have published is looked at while the desk's lock is held, so that nobody
-    /// changes the desk in between.
-    pub(crate) fn choose(&self, pool: &PoolName, media: &MediaName) -> Result<Chosen<N, S>, Refusal>
-        ensures { IfOk result (λ chosen. (chosen.end.seat.no ≡ chosen.drive)
-            × LastIsOver chosen.end.sessions) }
-    {
-        let mut front = self.front.lock(&self.rt);
-        let front: &mut Front<N, S> = &mut front;
-        self.free_arrived(&mut front.board);
-        let loaded = self.loaded();
-        front.choose(&loaded, pool, media)
-    }
-
-    /// Gives the session that was chosen for this lane its number, if that is still the next one.
-    pub(crate) fn number(&self, ticket: Ticket, drive: DriveNo, lane: LaneNo) -> Numbered {
-        let mut front = self.front.lock(&self.rt);
-        let front: &mut Front<N, S> = &mut front;
-        front.number(ticket, drive, lane)
-    }
-
-    /// Takes the lane of a session back that does not begin.
-    pub(crate) fn give_back(&self, end: LaneEnd<N, S>) {
-        let mut front = self.front.lock(&self.rt);
-        let front: &mut Front<N, S> = &mut front;
-        front.give_back(end);
-    }
-
     /// The end of a lane lies at the desk from now on, and the line of its last session says that it has this status.
     pub(crate) fn come_back(
         &self,
@@ -117,12 +91,15 @@ impl<D: Driver, N: Naming, R: Wait + Clock + Drop, S: SpoolStore + Drop> Hub<D, 
         status: Status,
         records: u64,
     ) {
-        let mut front = self.front.lock(&self.rt);
-        let front: &mut Front<N, S> = &mut front;
-        if let Some(ticket) = Ticket::new(id) {
-            front.post(ticket, status, records);
+        {
+            let mut front = self.front.lock(&self.rt);
+            let front: &mut Front<N, S> = &mut front;
+            if let Some(ticket) = Ticket::new(id) {
+                front.post(ticket, status, records);
+            }
+            front.rest(end, on_its_way);
         }
-        front.rest(end, on_its_way);
+        self.numbered.notify_all();
     }
 
     /// Tells that a session has its end label, and how many records it took.

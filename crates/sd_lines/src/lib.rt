@@ -14,6 +14,7 @@ mod front;
 mod held;
 mod hub;
 mod labelling;
+mod numbering;
 mod opening;
 mod over;
 mod port;

@@ -23,15 +23,18 @@ use sd_spool::SpoolStore;
 use std::alloc::{AllocError, Global};
 use std::marker::Model;
 use std::sync::atomic::{AtomicU64, Ordering};
-use std::sync::{Mutex, Wait};
-use std::time::{Clock, Instant};
+use std::sync::{Condvar, Mutex, Wait};
+use std::time::{Clock, Duration, Instant};
+
+// How long who waits for the drive's pool waits at once, in seconds. Then he looks again, whether he was woken or not.
+const PIECE_SECONDS: u64 = 1;
 
 /// A drive that threads share: its line, what its worker and the talks of its sessions tell one another, what is counted of
 /// its work, and what others may know of it. In a contract it is the line, a `LineIs`.
 ///
 /// Its locks: the line's, under which the drive is; the status's, which is taken with the line's held, and by whoever asks;
 /// and the watch's, which nobody takes with one of the others held. Under the status's lock and the watch's no device is
-/// called and no other lock taken; nobody waits under the line's or the status's.
+/// called and no other lock taken; nobody waits under the line's or the status's, but at `settled`, which gives the latter back.
 #[derive(Drop)]
 pub struct Station<D: Driver, N: Naming, R: Wait + Drop> {
     alloc: Global,
@@ -39,6 +42,9 @@ pub struct Station<D: Driver, N: Naming, R: Wait + Drop> {
     watch: Watch,
     meter: Meter,
     status: Mutex<DriveStatus>,
+    // Where those wait who would mount a volume while a session of another pool is about to begin, or number such a session while
+    // a volume is being mounted. They are woken when it has begun, and when that has ended.
+    settled: Condvar,
     // How many sessions have a body to send, and wait for a volume that takes it.
     wishing: AtomicU64,
 }
@@ -91,6 +97,31 @@ fn is_change(was_loaded: bool, reply: &Reply) -> bool {
     }
 }
 
+// Whether an event looks at the drive's pool, and mounts a volume.
+fn is_mount(event: &Event) -> bool {
+    matches!(event, Event::Mount { .. } | Event::Seek { .. })
+}
+
+// Notes an event's reply in what is published. The volume that was loaded, if the device failed with it.
+fn failed_by<D: Driver>(
+    status: &mut DriveStatus,
+    drive: &Drive<D>,
+    was_loaded: Option<usize>,
+    reply: &Reply,
+) -> Option<VolName> {
+    match reply {
+        Reply::Mounted { name } => {
+            status.pass_over(name, false);
+            None
+        }
+        Reply::Refused(Refusal::DeviceFault) => {
+            status.look_for_failed(drive);
+            status.has_failed(was_loaded)
+        }
+        _ => None,
+    }
+}
+
 // Whether an event has the loaded volume synced, if blocks await that.
 fn is_sync(event: &Event) -> bool {
     matches!(event, Event::Sync { .. } | Event::Unmount { .. })
@@ -138,6 +169,15 @@ impl Came {
 // Whether a volume can't be loaded for this cause: it isn't there, or the device failed.
 fn is_load_fault(why: Refusal) -> bool {
     why == Refusal::VolumeNotOnShelf || why == Refusal::DeviceFault
+}
+
+// What a worker loads next.
+#[derive(Drop)]
+enum Next {
+    Volume(NextVolume),
+    Nothing,
+    // A session of another pool is about to begin. So none goes on at the drive, and nobody needs a volume of the drive's pool.
+    Unsettled,
 }
 
 // What came of an event.
@@ -197,6 +237,7 @@ impl<D: Driver, N: Naming, R: Wait + Clock + Drop> Station<D, N, R> {
             watch: Watch::new(),
             meter: Meter::new(),
             status: Mutex::new(DriveStatus::new(alloc)),
+            settled: Condvar::new(),
             wishing: AtomicU64::new(0),
         }
     }
@@ -217,6 +258,7 @@ impl<D: Driver, N: Naming, R: Wait + Clock + Drop> Station<D, N, R> {
             watch: _,
             meter: _,
             status: _,
+            settled: _,
             wishing: _,
         } = self;
         line
@@ -240,8 +282,52 @@ impl<D: Driver, N: Naming, R: Wait + Clock + Drop> Station<D, N, R> {
     // Publishes a session that begins.
     fn note_begun<S: SpoolStore + Drop>(&self, rt: &R, prepared: &Prepared<N, S>) {
         let opening = prepared.opening();
-        let mut status = self.status.lock(rt);
-        status.begins(opening.key, opening.lane, &opening.pool);
+        let settles = {
+            let mut status = self.status.lock(rt);
+            let status: &mut DriveStatus = &mut status;
+            let was_settled = status.is_settled();
+            status.begins(opening.key, opening.lane, &opening.pool);
+            !was_settled && status.is_settled()
+        };
+        if settles {
+            self.settled.notify_all();
+        }
+    }
+
+    /// A session of this pool is to get its number, for who has the desk's lock. From then on no volume is mounted for another
+    /// pool, until the session has begun, or `was_numbered` takes that back. The answer is no while one is being mounted.
+    pub fn numbers(&self, rt: &R, pool: &PoolName) -> bool {
+        self.status.lock(rt).numbers(pool)
+    }
+
+    /// The session that got its number last is of this pool, for who has the desk's lock.
+    pub fn was_numbered(&self, rt: &R, pool: Option<PoolName>) {
+        self.status.lock(rt).was_numbered(pool);
+        self.settled.notify_all();
+    }
+
+    /// Waits until no volume is being mounted, and no longer than a second.
+    pub fn wait_for_mount(&self, rt: &R) {
+        let piece = Duration::from_secs(PIECE_SECONDS);
+        let _ = self.settled.wait_timeout_while(
+            rt,
+            self.status.lock(rt),
+            piece,
+            |status| status.is_mounting(),
+        );
+    }
+
+    // Waits until each session that has a number has begun, if its pool is another than that of those before, and no longer than a
+    // second. No lock is held meanwhile. It takes no longer than others hold the drive's lock: a session that has its number waits
+    // for nothing else, can't be refused any more, and no other of another pool gets one before it has begun and is over.
+    fn wait_to_settle(&self, rt: &R) {
+        let piece = Duration::from_secs(PIECE_SECONDS);
+        let _ = self.settled.wait_timeout_while(
+            rt,
+            self.status.lock(rt),
+            piece,
+            |status| !status.is_settled(),
+        );
     }
 
     /// Waits until the worker has something to do, and does it.
@@ -335,24 +421,29 @@ impl<D: Driver, N: Naming, R: Wait + Clock + Drop> Station<D, N, R> {
         let Some(pool) = side.drive().wanted_pool() else {
             return Came::turned(Headway::Halted { holding });
         };
-        let Some(next) = self.next_volume(rt, &pool) else {
-            return Came {
+        match self.next_volume(rt, &pool) {
+            Next::Volume(next) => self.load(rt, side, holding, next),
+            Next::Nothing => Came {
                 headway: Headway::Halted { holding },
                 worked: Worked::NeedsVolume(pool),
-            };
-        };
-        self.load(rt, side, holding, next)
+            },
+            Next::Unsettled => Came::turned(Headway::Halted { holding }),
+        }
     }
 
-    // The volume that is loaded next for this pool. If there is none, that is published.
-    fn next_volume(&self, rt: &R, pool: &PoolName) -> Option<NextVolume> {
+    // The volume that is loaded next for this pool, which is being mounted from then on. If there is none, that is published.
+    fn next_volume(&self, rt: &R, pool: &PoolName) -> Next {
         let mut status = self.status.lock(rt);
         let status: &mut DriveStatus = &mut status;
-        let next = status.next(pool);
-        if next.is_none() {
+        let Some(next) = status.next(pool) else {
             status.waits();
+            return Next::Nothing;
+        };
+        if status.mounts() {
+            Next::Volume(next)
+        } else {
+            Next::Unsettled
         }
-        next
     }
 
     // Loads that volume.
@@ -393,18 +484,39 @@ impl<D: Driver, N: Naming, R: Wait + Clock + Drop> Station<D, N, R> {
 
     /// Answers an event of the operator at the drive, as `Line::operate`; the worker and the talks are told of it. For a label
     /// or an adoption there is room in what is published, or it is refused with 3960, after all that is looked at without the
-    /// device.
+    /// device. A mount waits first until each session that has its number has begun, if that changes the drive's pool.
     pub fn operate(&self, rt: &R, event: Event) -> Reply
         ensures answers { MayOperate (λ d. D.meaning d) self.now.no event result }
         ensures elsewhere { operated_at event ≢ Some self.now.no → result ≡ Refused BadCommand }
     {
-        let operated = {
-            let mut side = self.line.lock();
-            let side: &mut DriveSide<D, N> = &mut side;
-            self.operate_on(rt, side, event)
-        };
-        self.tell_operated(rt, &operated);
-        operated.reply
+        let mut event = event;
+        for _look in rt.forever() {
+            match self.try_operate(rt, event) {
+                Ok(operated) => {
+                    self.tell_operated(rt, &operated);
+                    return operated.reply;
+                }
+                Err(waits) => event = waits,
+            }
+            self.wait_to_settle(rt);
+        }
+        unreachable!()
+    }
+
+    // Answers an event, unless it is a mount, and a session is about to begin that changes the drive's pool.
+    fn try_operate(&self, rt: &R, event: Event) -> Result<Operated, Event>
+        ensures answers { IfOk result (λ operated.
+            MayOperate (λ d. D.meaning d) self.now.no event operated.reply) }
+        ensures elsewhere { IfOk result (λ operated. operated_at event ≢ Some self.now.no
+            → operated.reply ≡ Refused BadCommand) }
+        ensures back { IfErr result (λ back. back ≡ event) }
+    {
+        let mut side = self.line.lock();
+        let side: &mut DriveSide<D, N> = &mut side;
+        if is_mount(&event) && !self.status.lock(rt).mounts() {
+            return Err(event);
+        }
+        Ok(self.operate_on(rt, side, event))
     }
 
     // Tells the worker and the talks of an event.
@@ -463,20 +575,19 @@ impl<D: Driver, N: Naming, R: Wait + Clock + Drop> Station<D, N, R> {
         was_loaded: Option<usize>,
         reply: &Reply,
     ) -> Option<VolName> {
-        let mut status = self.status.lock(rt);
-        let status: &mut DriveStatus = &mut status;
-        status.look(drive, was_loaded);
-        match reply {
-            Reply::Mounted { name } => {
-                status.pass_over(name, false);
-                None
-            }
-            Reply::Refused(Refusal::DeviceFault) => {
-                status.look_for_failed(drive);
-                status.has_failed(was_loaded)
-            }
-            _ => None,
+        let (has_mounted, failed) = {
+            let mut status = self.status.lock(rt);
+            let status: &mut DriveStatus = &mut status;
+            status.look(drive, was_loaded);
+            (
+                status.ends_mount(),
+                failed_by(status, drive, was_loaded, reply),
+            )
+        };
+        if has_mounted {
+            self.settled.notify_all();
         }
+        failed
     }
 
     /// The receipt by which a close of the session is due; none if something of it is outstanding. If blocks of an ended

@@ -88,6 +88,10 @@ pub(crate) struct DriveStatus {
     loaded: Option<usize>,
     // The pool of the session that began last.
     pool: Option<PoolName>,
+    // The pool of the session that got its number last, which is the same but for the moment until that begins.
+    numbered: Option<PoolName>,
+    // Whether a volume is being mounted by an event that looks at the pool.
+    is_mounting: bool,
     // Whether the worker found no volume for that pool, and none came since.
     is_waiting: bool,
     // Of each lane the session that began last there.
@@ -101,6 +105,8 @@ impl DriveStatus {
             volumes: Vec::new(alloc),
             loaded: None,
             pool: None,
+            numbered: None,
+            is_mounting: false,
             is_waiting: false,
             lanes: [None; LANES],
         }
@@ -216,6 +222,49 @@ impl DriveStatus {
         self.is_waiting
     }
 
+    /// A session of this pool gets its number, unless a volume is being mounted for another pool than its own. Whether it does.
+    pub(crate) fn numbers(&mut self, pool: &PoolName) -> bool {
+        if is_pool(&self.numbered, pool) {
+            return true;
+        }
+        if self.is_mounting {
+            return false;
+        }
+        self.numbered = Some(pool.copy());
+        true
+    }
+
+    /// The session that got its number last is of this pool.
+    pub(crate) fn was_numbered(&mut self, pool: Option<PoolName>) {
+        self.numbered = pool;
+    }
+
+    /// Whether no session has a number and another pool than the drive, at which it is about to begin.
+    pub(crate) fn is_settled(&self) -> bool {
+        match &self.numbered {
+            Some(pool) => is_pool(&self.pool, pool),
+            None => true,
+        }
+    }
+
+    /// A volume is being mounted from now on, if the drive's pool is settled. Whether it is.
+    pub(crate) fn mounts(&mut self) -> bool {
+        self.is_mounting = self.is_settled();
+        self.is_mounting
+    }
+
+    /// An event has ended. Whether it mounted a volume, or tried to.
+    pub(crate) fn ends_mount(&mut self) -> bool {
+        let was_mounting = self.is_mounting;
+        self.is_mounting = false;
+        was_mounting
+    }
+
+    /// Whether a volume is being mounted.
+    pub(crate) fn is_mounting(&self) -> bool {
+        self.is_mounting
+    }
+
     /// A session begins at a lane.
     pub(crate) fn begins(&mut self, key: SessionKey, lane: LaneNo, pool: &PoolName) {
         let at = lane.get() as usize - 1;
@@ -226,16 +275,9 @@ impl DriveStatus {
                 has_failed: false,
             });
         }
-        if !self.has_pool(pool) {
+        if !is_pool(&self.pool, pool) {
             self.pool = Some(pool.copy());
             self.is_waiting = false;
-        }
-    }
-
-    fn has_pool(&self, pool: &PoolName) -> bool {
-        match &self.pool {
-            Some(own) => own.is_same(pool),
-            None => false,
         }
     }
 
@@ -294,5 +336,13 @@ impl DriveStatus {
         } else {
             None
         }
+    }
+}
+
+// Whether the pool is this one.
+fn is_pool(own: &Option<PoolName>, pool: &PoolName) -> bool {
+    match own {
+        Some(own) => own.is_same(pool),
+        None => false,
     }
 }

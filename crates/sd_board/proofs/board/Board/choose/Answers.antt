@@ -1,12 +1,14 @@
 use Rattle.std.proofs.Common.{◌≡◌, ◌≢◌, ◌+◌, ◌≤◌, ℕ, refl, sym, subst, ◌∙◌, inl, inr, arith, List, length, slice_set}
 use Rattle.std.proofs.lemmas.Option.{slice_get_read}
+use Rattle.sd_base.proofs.ChoiceLemmas.{same_some}
+use Rattle.sd_base.specs.Choice.{NoneOf}
 use Rattle.sd_base.specs.Limits.{most_drives, most_number}
 use Rattle.sd_board.specs.Board.{BoardIs}
 use Rattle.sd_board.specs.Lines.{count_of}
-use Rattle.sd_board.specs.Opening.{IsFirst, NoneTakes, ChoosesLane, ChoosesNone, views_of}
-use Rattle.sd_board.specs.Slots.{DriveLanesIs}
+use Rattle.sd_board.specs.Opening.{IsFirst, NoneTakes, ChoosesLane, ChoosesLater, ChoosesNone, views_of}
+use Rattle.sd_board.specs.Slots.{DriveLanesIs, IsFree}
 use Rattle.sd_board.proofs.BoardLemmas.{chooses, keeps_chosen}
-use Rattle.sd_board.proofs.ViewLemmas.{free_there, reached}
+use Rattle.sd_board.proofs.ViewLemmas.{reached}
 use Rattle.sd_board.proofs.board.Board.choose.Goals as goal
 
 pub returns-in_default-clause-why : goal.returns-in_default-clause-why
@@ -18,6 +20,22 @@ returns-in_default-clause-why g c =
 pub choose-requires-after_bounds : goal.choose-requires-after_bounds
 choose-requires-after_bounds g c κs within = subst (λ (ds : List DriveLanesIs). length ds ≤ most_drives) (sym c.deref.ensures.value) c.self.invariant.most
 
+pub index-requires : goal.index-requires
+index-requires g c =
+    let r = reached c.deref.result.now c.args.seen.now c.args.pool.now c.args.media.now c.in-Ok.drive c.drive_place-place.result c.drive_place-place.ensures.number c.in-Ok.ensures.ok in
+    omega (arith, r.within, c.deref.ensures.len)
+
+pub returns-then-not-has_free-clause-later : goal.returns-then-not-has_free-clause-later
+returns-then-not-has_free-clause-later g c =
+    let b : BoardIs = record { names = c.self.inside.names; drives = c.self.inside.drives.items; lines = c.self.inside.lines } in
+    let ds = b.drives in
+    let place = c.drive_place-place.result in
+    let r = reached ds c.args.seen.now c.args.pool.now c.args.media.now c.in-Ok.drive place c.drive_place-place.ensures.number
+    (subst (λ (xs : List DriveLanesIs). (at : ℕ) × (c.in-Ok.drive ≡ at + 1) × IsFirst (views_of xs c.args.seen.now) c.args.pool.now c.args.media.now at) c.deref.ensures.value c.in-Ok.ensures.ok) in
+    let there = slice_get_read ds (length ds) place c.index.result.now refl r.within c.index.ensures in
+    let later : ChoosesLater b c.args.seen.now c.args.pool.now c.args.media.now = (place, r.first, c.index.result.now, there, c.if-not-has_free.ensures) in
+    (subst (λ (old : BoardIs). ChoosesLater old c.args.seen.now c.args.pool.now c.args.media.now) c.self.view_is later, refl)
+
 pub index_mut-lanes-requires : goal.index_mut-lanes-requires
 index_mut-lanes-requires g c =
     let r = reached c.deref.result.now c.args.seen.now c.args.pool.now c.args.media.now c.in-Ok.drive c.drive_place-place.result c.drive_place-place.ensures.number c.in-Ok.ensures.ok in
@@ -27,10 +45,11 @@ pub take_lowest-end-requires-after_bounds : goal.take_lowest-end-requires-after_
 take_lowest-end-requires-after_bounds g c κs within =
     let ds = c.self.inside.drives.items in
     let place = c.drive_place-place.result in
-    let read = c.index_mut-lanes.result.now in
     let r = reached ds c.args.seen.now c.args.pool.now c.args.media.now c.in-Ok.drive place c.drive_place-place.ensures.number
     (subst (λ (xs : List DriveLanesIs). (at : ℕ) × (c.in-Ok.drive ≡ at + 1) × IsFirst (views_of xs c.args.seen.now) c.args.pool.now c.args.media.now at) c.deref.ensures.value c.in-Ok.ensures.ok) in
-    free_there ds c.args.seen.now c.args.pool.now c.args.media.now c.in-Ok.drive place read r (slice_get_read ds (length ds) place read refl r.within c.index_mut-lanes.ensures.value)
+    let looked = slice_get_read ds (length ds) place c.index.result.now refl r.within c.index.ensures in
+    let taken = slice_get_read ds (length ds) place c.index_mut-lanes.result.now refl r.within c.index_mut-lanes.ensures.value in
+    subst (λ (d : DriveLanesIs). NoneOf IsFree d.slots → ⊥) (same_some (sym looked ∙ taken)) c.if-not-has_free.ensures
 
 pub invariant_of-self-2 : goal.invariant_of-self-2
 invariant_of-self-2 g c =

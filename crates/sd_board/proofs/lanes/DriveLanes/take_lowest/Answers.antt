@@ -1,14 +1,14 @@
-use Rattle.std.proofs.Common.{◌<◌, sym, subst, arith, count_by, List, length, slice_set}
+use Rattle.std.proofs.Common.{◌<◌, sym, subst, arith, List, length, slice_set}
 use Rattle.std.specs.Prelude.{IfSome}
-use Rattle.sd_base.specs.Choice.{FirstOf}
-use Rattle.sd_board.specs.Slots.{DriveLanesIs, IsFree, SlotIs, TakesLowest, busy_lanes, is_busy}
+use Rattle.sd_base.specs.Choice.{FirstOf, NoneOf}
+use Rattle.sd_board.specs.Slots.{DriveLanesIs, IsFree, SlotIs, TakesLowest}
 use Rattle.sd_board.proofs.SlotLemmas.{keeps_taken, lowest_read, some_lowest, takes}
 use Rattle.sd_board.proofs.lanes.DriveLanes.take_lowest.Goals as goal
 
 pub unwrap-at-requires : goal.unwrap-at-requires
 unwrap-at-requires g c =
-    let few = subst (λ (d : DriveLanesIs). busy_lanes d < length d.slots) (sym c.self.view_is) c.requires in
-    some_lowest c.deref.result.now c.lowest_free.result (subst (λ (ss : List SlotIs). count_by is_busy ss < length ss) (sym c.deref.ensures.value) few) c.lowest_free.ensures.none
+    let free = subst (λ (d : DriveLanesIs). NoneOf IsFree d.slots → ⊥) (sym c.self.view_is) c.requires in
+    some_lowest c.deref.result.now c.lowest_free.result (subst (λ (ss : List SlotIs). NoneOf IsFree ss → ⊥) (sym c.deref.ensures.value) free) c.lowest_free.ensures.none
 
 pub index_mut-slot-requires : goal.index_mut-slot-requires
 index_mut-slot-requires g c =
