@@ -2,8 +2,7 @@
 small model of names, tickets, lanes and volumes that was written from docs/PROTOCOL.md and docs/REFUSALS.md.
 
 A line is one step of the model, but for a close: that is the placing of its one block, before which its drive may have mounted the
-next volume of the pool, and then the end of its session. If there is no such order, there may be one by steps: then an
-open takes its lane, its number and its drive's pool one after another, and any drive that has room for it.
+next volume of the pool, and then the end of its session.
 """
 import dataclasses
 import typing
@@ -15,10 +14,9 @@ NOT_THERE, NO_DRIVE, NO_LANE = "3930 Volume not on the shelf", "3910 No drive of
 
 
 class Drive(typing.NamedTuple):
-    """A drive: the loaded volume; its own pool, and the desk's for it; whose its lanes are; its volumes with their pools."""
+    """A drive: the loaded volume; the pool of its last session; whose its lanes are; its volumes with their pools."""
     loaded: Name
     pool: Name
-    desk_pool: Name
     lanes: tuple[int, ...]
     volumes: tuple[tuple[str, str], ...]
 
@@ -66,8 +64,8 @@ Moves = typing.Iterator[tuple[State, typing.Any]]
 class Model:
     """What each line may do next, and what it is answered then."""
 
-    def __init__(self, setting: Setting, lines: list[Line], by_steps: bool):
-        self.setting, self.lines, self.by_steps = setting, lines, by_steps
+    def __init__(self, setting: Setting, lines: list[Line]):
+        self.setting, self.lines = setting, lines
 
     def moves(self, state: State, place: int, phase: typing.Any) -> Moves:
         """The states after a step of that line, and how far the line is then; none if its answer would be another."""
@@ -133,37 +131,22 @@ class Model:
         if all(parts):
             yield state, DONE
 
-    def open(self, state: State, place: int, phase: typing.Any) -> Moves:
+    def open(self, state: State, place: int, _: typing.Any) -> Moves:
         pool, media = self.lines[place].words
-        if phase is None:
-            yield from self._chosen(state, place, pool, media)
-        elif phase[0] == "lane":
-            if self.lines[place].answer == ("ticket", state.ticket):
-                yield self._numbered(state, place), ("number", phase[1])
-        else:
-            yield state.at(phase[1], pool=pool), DONE
-
-    def _numbered(self, state: State, place: int) -> State:
-        return state._replace(ticket=state.ticket + 1, live=state.live | {(place, state.ticket)})
-
-    def _chosen(self, state: State, place: int, pool: str, media: str) -> Moves:
         of_media = [at for at, one in enumerate(self.setting.media) if one == media]
         free = [at for at in of_media if len(state.drives[at].lanes) < self.setting.lanes
-                and (not state.drives[at].lanes or state.drives[at].desk_pool == pool)]
+                and (not state.drives[at].lanes or state.drives[at].pool == pool)]
         if not free:
-            yield from self._answers(place, NO_LANE if of_media else NO_DRIVE, state)
-            return
+            return self._answers(place, NO_LANE if of_media else NO_DRIVE, state)
 
         def rank(at: int) -> tuple[bool, int, int]:
             drive = state.drives[at]
             return drive.pool_of(drive.loaded) != pool, len(drive.lanes), at
 
-        for at in free if self.by_steps else [min(free, key=rank)]:
-            taken = state.at(at, lanes=tuple(sorted((*state.drives[at].lanes, place))), desk_pool=pool)
-            if self.by_steps:
-                yield taken, ("lane", at)
-            elif self.lines[place].answer == ("ticket", state.ticket):
-                yield self._numbered(taken, place).at(at, pool=pool), DONE
+        at = min(free, key=rank)
+        opened = state.at(at, lanes=tuple(sorted((*state.drives[at].lanes, place))), pool=pool)
+        opened = opened._replace(ticket=state.ticket + 1, live=state.live | {(place, state.ticket)})
+        return self._answers(place, ("ticket", state.ticket), opened)
 
     def _drive_of(self, state: State, place: int) -> typing.Optional[int]:
         """The drive of the session that this line is about, if it goes on."""
@@ -197,9 +180,9 @@ class Model:
             yield state.at(at, loaded=following), "sought"
 
 
-def is_explained(setting: Setting, begin: State, lines: list[Line], by_steps: bool) -> bool:
+def is_explained(setting: Setting, begin: State, lines: list[Line]) -> bool:
     """Whether there is an order of the lines, each within the time of its own, by which the model gives their answers."""
-    model = Model(setting, lines, by_steps)
+    model = Model(setting, lines)
     stack: list[tuple[tuple[typing.Any, ...], State]] = [((None,) * len(lines), begin)]
     seen = set(stack)
     while stack:

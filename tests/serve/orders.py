@@ -70,7 +70,7 @@ class Drives:
         self.ticket += len(MEDIA)
         with self.talk() as talk:
             seen, _, _ = seen_in(talk.console("status"))
-        return State(tuple(Drive(None, POOLS[0], POOLS[0], (), volumes) for _, volumes in seen), self.ticket, frozenset())
+        return State(tuple(Drive(None, POOLS[0], (), volumes) for _, volumes in seen), self.ticket, frozenset())
 
 
 class Run:
@@ -211,7 +211,7 @@ def orders(checks: Checks, folder: pathlib.Path, library: pathlib.Path):
     """All answers of each run have an order that explains them. Numbers of sessions have no gap, as the next run begins."""
     runs = int(sys.argv[sys.argv.index("--runs") + 1]) if "--runs" in sys.argv else RUNS
     counts: collections.Counter = collections.Counter()
-    drives, by_steps = None, []
+    drives = None
     try:
         for number in range(runs):
             if number % A_DAEMON == 0:
@@ -225,17 +225,14 @@ def orders(checks: Checks, folder: pathlib.Path, library: pathlib.Path):
             checks.same(f"numbers of run {number}", tickets, list(range(drives.ticket, drives.ticket + len(tickets))))
             drives.ticket += len(tickets)
             counts.update(map(counted, run.lines))
-            if order.is_explained(run.setting(), begin, run.lines, by_steps=False):
+            is_so = order.is_explained(run.setting(), begin, run.lines)
+            checks.check(f"run {number} has an order", is_so, begin, *told(run.lines))
+            if is_so:
                 plant(run, begin, counts)
-                continue
-            by_steps.append(number)
-            is_so = order.is_explained(run.setting(), begin, run.lines, by_steps=True)
-            checks.check(f"run {number} has an order", is_so, *told(run.lines))
     finally:
         if drives:
             drives.daemon.kill()
-    print(f"orders: {runs} runs of seed {SEED}, of which {len(by_steps)} {by_steps[:5]} by the steps of opens:",
-          ", ".join(f"{count} {kind}" for kind, count in sorted(counts.items())))
+    print(f"orders: {runs} runs of seed {SEED}:", ", ".join(f"{count} {kind}" for kind, count in sorted(counts.items())))
     few = {kind: counts[kind] for kind, least in LEAST.items() if counts[kind] < least * runs // 100}
     checks.same("what came too rarely", few, {})
 
@@ -260,7 +257,7 @@ def plant(run: Run, begin: State, counts: collections.Counter):
     at, answer = run.numbers.choice([(at, wrong(line)) for at, line in enumerate(run.lines) if wrong(line) is not None])
     lines = [*run.lines[:at], dataclasses.replace(run.lines[at], answer=answer), *run.lines[at + 1:]]
     counts["planted"] += 1
-    counts["found"] += not order.is_explained(run.setting(), begin, lines, by_steps=False)
+    counts["found"] += not order.is_explained(run.setting(), begin, lines)
 
 
 def told(lines: list[Line]) -> list[str]:
@@ -271,42 +268,41 @@ def told(lines: list[Line]) -> list[str]:
 
 
 RED = (("Base", "Red"),)
-# Lines of a drive `File` with a lane, in which a volume is loaded, and one without; and whether they have an order, in one step
-# each, and by steps.
+# Lines of a drive `File` with a lane, in which a volume is loaded, and one without; and whether they have an order.
 KNOWN = (
     ("a name that is taken for a while",
      [Line("label", (0, "X", "Red", "File"), 0, 9, order.IN_USE), Line("label", (1, "X", "Red", "File"), 1, 2, order.LABELLED)],
-     (False, False)),
+     False),
     ("a name that was taken", [Line("label", (1, "X", "Red", "File"), 0, 9, "ok labelled"),
-                               Line("label", (1, "X", "Red", "File"), 1, 2, order.LABELLED)], (True, True)),
+                               Line("label", (1, "X", "Red", "File"), 1, 2, order.LABELLED)], True),
     ("a name that was taken later", [Line("label", (1, "X", "Red", "File"), 3, 9, "ok labelled"),
-                                     Line("label", (1, "X", "Red", "File"), 1, 2, order.LABELLED)], (False, False)),
-    ("a number that is left out", [Line("open", ("Red", "File"), 0, 9, ("ticket", 2))], (False, False)),
-    ("a number that is given twice", [Line("open", ("Red", "File"), at, 9, ("ticket", 1)) for at in range(2)], (False, False)),
+                                     Line("label", (1, "X", "Red", "File"), 1, 2, order.LABELLED)], False),
+    ("a number that is left out", [Line("open", ("Red", "File"), 0, 9, ("ticket", 2))], False),
+    ("a number that is given twice", [Line("open", ("Red", "File"), at, 9, ("ticket", 1)) for at in range(2)], False),
     ("numbers against the time", [Line("open", ("Red", "File"), 0, 1, ("ticket", 2)),
-                                  Line("open", ("Red", "File"), 2, 3, ("ticket", 1))], (False, False)),
-    ("a lane for two", [Line("open", ("Red", "File"), at, 9, ("ticket", 1 + at)) for at in range(3)], (False, False)),
+                                  Line("open", ("Red", "File"), 2, 3, ("ticket", 1))], False),
+    ("a lane for two", [Line("open", ("Red", "File"), at, 9, ("ticket", 1 + at)) for at in range(3)], False),
     ("no lane beside one that is given back",
      [Line("open", ("Red", "File"), 0, 1, ("ticket", 1)), Line("open", ("Red", "File"), 2, 3, ("ticket", 2)),
-      Line("cancel", (), 4, 9, "ok cancelled", 0), Line("open", ("Red", "File"), 5, 6, order.NO_LANE)], (True, True)),
+      Line("cancel", (), 4, 9, "ok cancelled", 0), Line("open", ("Red", "File"), 5, 6, order.NO_LANE)], True),
     ("no lane after one was given back",
      [Line("open", ("Red", "File"), 0, 1, ("ticket", 1)), Line("open", ("Red", "File"), 2, 3, ("ticket", 2)),
-      Line("cancel", (), 4, 5, "ok cancelled", 0), Line("open", ("Red", "File"), 6, 7, order.NO_LANE)], (False, False)),
+      Line("cancel", (), 4, 5, "ok cancelled", 0), Line("open", ("Red", "File"), 6, 7, order.NO_LANE)], False),
     ("a number that others were given before",
      [Line("open", ("Red", "File"), 0, 9, ("ticket", 3)), Line("open", ("Red", "File"), 1, 2, ("ticket", 1)),
       Line("open", ("Red", "File"), 3, 4, order.NO_LANE), Line("cancel", (), 5, 6, "ok cancelled", 1),
-      Line("open", ("Red", "File"), 7, 8, ("ticket", 2))], (False, True)),
+      Line("open", ("Red", "File"), 7, 8, ("ticket", 2))], False),
     ("a close on another volume", [Line("open", ("Red", "File"), 0, 1, ("ticket", 1)),
-                                   Line("close", (), 2, 3, ("closed", "Other"), 0)], (False, False)),
+                                   Line("close", (), 2, 3, ("closed", "Other"), 0)], False),
 )
 
 
 def known_orders(checks: Checks, _: pathlib.Path, __: pathlib.Path):
     """The search for an order, over lines of which it is known whether they have one."""
-    begin = State((Drive("Base", None, None, (), RED), Drive(None, None, None, (), (("Base-2", "Red"),))), 1, frozenset())
+    begin = State((Drive("Base", None, (), RED), Drive(None, None, (), (("Base-2", "Red"),))), 1, frozenset())
     setting = Setting(("File", "File"), 1, ({}, {}))
     for what, lines, wanted in KNOWN:
-        checks.same(what, tuple(order.is_explained(setting, begin, lines, by_steps) for by_steps in (False, True)), wanted)
+        checks.same(what, order.is_explained(setting, begin, lines), wanted)
 
 
 GROUPS = (known_orders, orders)
