@@ -25,8 +25,9 @@ pub(crate) fn view<D: Driver, N: Naming, R: Wait + Clock + Drop, S: SpoolStore +
     let mut drives = Vec::with_capacity(hub.alloc, hub.posts.len())?;
     let mut volumes = Vec::new(hub.alloc);
     for post in &hub.posts {
-        show_volumes(hub, post, &mut volumes)?;
-        drives.push(drive_line(hub, post, board))?;
+        let (rows, loaded) = post.station.volumes(&hub.rt, hub.alloc)?;
+        show_volumes(rows, &mut volumes)?;
+        drives.push(drive_line(post, loaded, board))?;
     }
     let mut sessions = board.session_lines()?.into_vec();
     for line in &mut sessions {
@@ -39,17 +40,17 @@ pub(crate) fn view<D: Driver, N: Naming, R: Wait + Clock + Drop, S: SpoolStore +
     })
 }
 
-// The line of a drive.
+// The line of a drive, in which this volume is loaded.
 fn drive_line<D: Driver, N: Naming, R: Wait + Clock + Drop, S: SpoolStore + Drop>(
-    hub: &Hub<D, N, R, S>,
     post: &Post<D, N, R>,
+    loaded: Option<VolumeRow>,
     board: &Board<N, S>,
 ) -> DriveLine {
     let line = post.station.line();
     DriveLine {
         drive: line.no(),
         media: line.media().copy(),
-        loaded: match post.station.loaded(&hub.rt) {
+        loaded: match loaded {
             Some(row) => Loaded::Volume(row.name),
             None => Loaded::Nothing,
         },
@@ -82,12 +83,8 @@ impl<D: Driver, N: Naming, R: Wait + Clock + Drop, S: SpoolStore + Drop> Hub<D, 
 }
 
 // Adds a line for each volume of a drive.
-fn show_volumes<D: Driver, N: Naming, R: Wait + Clock + Drop, S: SpoolStore + Drop>(
-    hub: &Hub<D, N, R, S>,
-    post: &Post<D, N, R>,
-    volumes: &mut Vec<VolumeLine>,
-) -> Result<(), AllocError> {
-    for row in post.station.rows(&hub.rt, hub.alloc)? {
+fn show_volumes(rows: Vec<VolumeRow>, volumes: &mut Vec<VolumeLine>) -> Result<(), AllocError> {
+    for row in rows {
         let VolumeRow {
             name,
             pool,

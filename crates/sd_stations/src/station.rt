@@ -665,6 +665,17 @@ impl<D: Driver, N: Naming, R: Wait + Clock + Drop> Station<D, N, R> {
         self.status.lock(rt).rows(alloc)
     }
 
+    /// The drive's volumes, and which of them is loaded, as both are at one moment. Takes no drive's lock.
+    pub fn volumes(
+        &self,
+        rt: &R,
+        alloc: Global,
+    ) -> Result<(Vec<VolumeRow>, Option<VolumeRow>), AllocError> {
+        let status = self.status.lock(rt);
+        let rows = status.rows(alloc)?;
+        Ok((rows, status.loaded()))
+    }
+
     /// The volume that is loaded in the drive. Takes no drive's lock.
     pub fn loaded(&self, rt: &R) -> Option<VolumeRow> {
         self.status.lock(rt).loaded()
