@@ -12,7 +12,7 @@ use Rattle.sd_drive.proofs.Places.{get_mapped, length_set}
 use Rattle.sd_line.specs.Ends.{EndIs, LastIsOver}
 use Rattle.sd_world.proofs.Lookups.{get_set-tells}
 use Rattle.sd_board.specs.Changes.{change_at}
-use Rattle.sd_board.specs.Slots.{AreNew, DriveLanesIs, IsAtHome, IsFree, KeepsLanes, MayLie, SlotIs, TakesLowest, arrived, ends_in, is_free, is_what, lies_in, new_lanes, new_slot, numbered, slot_with}
+use Rattle.sd_board.specs.Slots.{AreNew, DriveLanesIs, IsAtHome, IsFree, KeepsLanes, MayLie, SlotIs, TakesLowest, arrived, ends_in, is_what, lies_in, new_lanes, new_slot, numbered, slot_with}
 use Rattle.sd_board.specs.declared.sent.Sent.{Sent}
 
 -- Free lanes.

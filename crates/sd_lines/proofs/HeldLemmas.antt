@@ -1,7 +1,7 @@
 -- What an event of a talk's session says of the records that it took.
 use Rattle.std.proofs.Common.{◌≡◌, ℕ, ℤ, ◌-◌, refl, sym, ap, subst, ◌∙◌, inl, inr, List, [], ◌∷◌, ◌++◌}
 use Rattle.std.proofs.lemmas.List.{append-nil}
-use Rattle.std.specs.Prelude.{Option}
+use Rattle.std.specs.Prelude.{IfSome, Option, Some}
 use Rattle.sd_append.specs.Port.{Exchange, Stepped}
 use Rattle.sd_base.specs.Record.{Record}
 use Rattle.sd_base.specs.declared.number.SessionKey.{SessionKey}
@@ -151,6 +151,12 @@ numbered_so p ticket is = ap (λ (n : ℕ). record p { opening = record p.openin
 pub numbered_anew : (first old new : PreparedIs) (ticket next : ℕ) → IsNumbered ticket first old → IsNumbered next old new → IsNumbered next first new
 numbered_anew first old new ticket next was is =
     is ∙ ap (λ (x : PreparedIs). record x { opening = record x.opening { key = record x.opening.key { id = next } } }) was
+
+-- one that came of numbering is so numbered
+
+pub numbered_in : (given : Option (ℕ × PreparedIs)) (old : PreparedIs) (ticket : ℕ) (new : PreparedIs) → given ≡ Some (ticket, new)
+    → IfSome given (λ g. IsNumbered g.0 old g.1) → IsNumbered ticket old new
+numbered_in given old ticket new is numbered = subst (λ o. IfSome o (λ g. IsNumbered g.0 old g.1)) is numbered
 
 -- a session that was prepared for this at the end of a lane of this drive, and numbered, begins
 pub begins : {line : LineIs} {id : ℕ} {job : ℕ} {pool : List ℕ} {moment : ℤ} {e : EndIs} {drive : ℕ} {made given : PreparedIs} {ticket : ℕ} {p : PartIs}

@@ -1,4 +1,4 @@
-use Rattle.std.proofs.Common.{◌≡◌, sym, subst, List}
+use Rattle.std.proofs.Common.{sym, subst, List}
 use Rattle.std.specs.Prelude.{MatchBool}
 use Rattle.sd_base.specs.Choice.{NoneOf}
 use Rattle.sd_board.specs.Slots.{DriveLanesIs, IsFree, SlotIs}
