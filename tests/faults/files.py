@@ -4,6 +4,7 @@ what is no file.
 import errno
 import os
 import re
+import shutil
 import socket
 import stat
 
@@ -24,18 +25,19 @@ MOMENT = TIME * 1_000_000
 HOST = "localhost"
 
 # The calls that operations make, in their order. A file is opened once for many calls, and the folder is synced once for
-# each create or load. Each talk reads by a device of its own, which loads also the volume that its drive has loaded.
-LABEL_CALLS = ["open V", "stat V", "write V", "datasync V", "open .", "sync ."]
+# each create or load. After each sync it is looked whether the file has its name still. Each talk reads by a device of its
+# own, which loads also the volume that its drive has loaded.
+LOOK_CALLS = ["look V", "stat V"]
+SYNC_CALLS = ["datasync V", "open .", "sync .", *LOOK_CALLS]
+LABEL_CALLS = ["open V", "write V", *SYNC_CALLS]
 LOAD_CALLS = ["look V", "open V", "stat V"]
 READ_CALLS = [*LOAD_CALLS, "stat V", "read V", "read V"]
-SYNC_CALLS = ["datasync V", "open .", "sync ."]
 
 # What a label answers if one of its calls fails: the call's kind, which of the kind, how, and the system's error; what
 # the same label answers then, and how much of the label the file has.
 LABELS = [
     *(("open", 1, "fail", number, FAULT, OK_LABEL, "whole") for number in (
         errno.ENOENT, errno.ENOMEM, errno.EEXIST, errno.ENOSPC, errno.EDQUOT, errno.EACCES, errno.EIO)),
-    ("stat", 1, "fail", errno.EIO, FAULT, LABELLED, "nothing"),
     *(("write", 1, "fail", number, NO_ROOM, LABELLED, "nothing") for number in FULL_ERRORS),
     *(("write", 1, "fail", number, FAULT, LABELLED, "nothing") for number in (errno.EIO, errno.ENOMEM, errno.EACCES)),
     ("write", 1, "fail", errno.EINTR, OK_LABEL, LABELLED, "whole"),
@@ -45,6 +47,9 @@ LABELS = [
     *(("datasync", 1, "fail", number, FAULT, LABELLED, "whole") for number in (errno.EIO, errno.ENOSPC, errno.EDQUOT)),
     *(("open", 2, "fail", number, FAULT, LABELLED, "whole") for number in (errno.EMFILE, errno.EACCES)),
     ("sync", 1, "fail", errno.EIO, FAULT, LABELLED, "whole"),
+    *(("look", 1, *how, FAULT, LABELLED, "whole") for how in (
+        ("fail", errno.ENOENT), ("fail", errno.EACCES), ("elsewhere", 0), ("abroad", 0))),
+    ("stat", 1, "fail", errno.EIO, FAULT, LABELLED, "whole"),
 ]
 # What a label answers if a file of that name is there already: the call's kind, which of the kind, how, the system's
 # error, and the answer.
@@ -63,8 +68,12 @@ ADOPTIONS = [
     ("stat", 2, "fail", errno.EIO, FAULT), ("read", 1, "fail", errno.EIO, FAULT), ("read", 2, "fail", errno.EIO, FAULT),
     ("read", 1, "fail", errno.EINTR, None), ("read", 1, "short", 0, None), ("stat", 4, "fail", errno.EIO, FAULT),
     ("truncate", 1, "fail", errno.EIO, FAULT), ("truncate", 1, "fail", errno.EACCES, FAULT),
-    ("datasync", 1, "fail", errno.EIO, FAULT), ("datasync", 1, "fail", errno.ENOSPC, FAULT),
-    ("open", 3, "fail", errno.EACCES, FAULT), ("sync", 1, "fail", errno.EIO, FAULT),
+]
+# The calls of its sync. If one fails, what the disk has isn't known: the volume isn't adopted in this run.
+TORN = [
+    ("datasync", 1, "fail", errno.EIO), ("datasync", 1, "fail", errno.ENOSPC), ("open", 3, "fail", errno.EACCES),
+    ("sync", 1, "fail", errno.EIO), ("look", 3, "fail", errno.ENOENT), ("look", 3, "elsewhere", 0),
+    ("look", 3, "abroad", 0), ("stat", 5, "fail", errno.EIO),
 ]
 # What a reading answers if another of its calls fails; None if it goes on.
 READINGS = [
@@ -87,6 +96,8 @@ JOBS = [
     ("write", 2, "fail", errno.EINTR, "A", "append"),
     *(("datasync", 1, "fail", number, "lost", "error") for number in (errno.EIO, errno.ENOSPC, errno.EDQUOT)),
     ("open", 2, "fail", errno.EMFILE, "lost", "error"), ("sync", 1, "fail", errno.EIO, "lost", "error"),
+    ("look", 2, "fail", errno.ENOENT, "lost", "error"), ("look", 2, "elsewhere", 0, "lost", "error"),
+    ("stat", 3, "fail", errno.EIO, "lost", "error"),
 ]
 RECORDS = [b"x" * 2000, b"", b"last"]
 
@@ -113,7 +124,7 @@ def calls_made(site):
     lines = site.job(RECORDS, "Calls")
     yield from differs("calls of a first job", made("Vol-A"), ["stat V", *3 * ["write V"], *SYNC_CALLS])
     site.job(RECORDS, "Calls")
-    yield from differs("calls of a second job", made("Vol-A"), [*3 * ["write V"], "datasync V"])
+    yield from differs("calls of a second job", made("Vol-A"), [*3 * ["write V"], "datasync V", *LOOK_CALLS])
     yield from differs("a job is read", site.read(lines), (RECORDS, whole(RECORDS)))
     yield from differs("calls of a reading from the loaded volume", made("Vol-A"), READ_CALLS)
     site.say("unmount 1")
@@ -172,8 +183,8 @@ def mounts(site):
 
 def adoptions(site):
     """An adoption whose calls fail in turn, and then the same one. The volume is cut after its last whole block."""
-    rows = [(kind, nth, *rest) for kind, *rest in LOADS for nth in (1, 3 if kind == "stat" else 2)]
-    for at, (*call, answer) in enumerate(rows + ADOPTIONS):
+    rows = [(kind, nth, *rest) for kind, *rest in LOADS for nth in (1, 3 if kind == "stat" else 2)] + ADOPTIONS
+    for at, (*call, answer) in enumerate(rows + [(*call, FAULT) for call in TORN]):
         name = f"Adopt-{at}"
         bytes_ = volume_of(name, [session_body([b"hello"])])
         path = site.volumes / name
@@ -182,7 +193,8 @@ def adoptions(site):
         site.fail(*call)
         yield from differs(f"adopt, {said(*call)}", site.say(f"adopt 1 {name}"), answer or adopted)
         site.well()
-        yield from differs(f"adopt behind {said(*call)}", site.say(f"adopt 1 {name}"), adopted if answer else LABELLED)
+        again = LABELLED if not answer else FAULT if tuple(call) in TORN else adopted
+        yield from differs(f"adopt behind {said(*call)}", site.say(f"adopt 1 {name}"), again)
         yield from differs(f"bytes behind {said(*call)}", path.read_bytes(), bytes_)
 
 
@@ -316,6 +328,37 @@ def replaced(site):
     yield from differs("the target", (site.folder / "target").read_bytes(), b"kept")
 
 
+# What becomes of the file of a loaded volume while a job is open.
+TAKEN = {
+    "removed": lambda path, away: path.unlink(), "moved": lambda path, away: path.rename(away),
+    "replaced": lambda path, away: (shutil.copyfile(path, away), os.replace(away, path)),
+    "linked": lambda path, away: (path.rename(away), path.symlink_to(away)),
+}
+
+
+def taken(site):
+    """The file of the loaded volume is removed, moved or replaced while a job is open: the job isn't told as closed, and
+    the next one goes to another volume. A volume that was moved takes no more in this run, also if it is back."""
+    for at, (how, take) in enumerate(TAKEN.items()):
+        names = {f"Taken{letter}-{at}": letter for letter in "AB"}
+        pool, away = f"Taken{at}", site.folder / f"away-{at}"
+        for name in names:
+            yield from differs(f"label {name}", site.say(f"label 1 {name} {pool} File"), OK_LABEL)
+        path = site.volumes / f"TakenA-{at}"
+        first = site.job(RECORDS, pool)
+        lost = site.job(RECORDS, pool, between=lambda: take(path, away))
+        yield from differs(f"a job whose file is {how}", lost, ["3905 Session failed"])
+        yield from differs(f"volume that is {how}", site.status(path.name), "error")
+        lines = site.job(RECORDS, pool)
+        yield from differs(f"job after one is {how}", [names[line.split(" ")[1]] for line in lines[1:]], ["B"])
+        yield from differs(f"reading after one is {how}", site.read(lines), (RECORDS, whole(RECORDS)))
+        if how == "moved":
+            away.rename(path)
+        if how in ("moved", "replaced"):
+            yield from differs(f"reading what is {how}", site.read(first), (RECORDS, whole(RECORDS)))
+        site.say("unmount 1")
+
+
 def full_device(site):
     """No write finds room any more: a label and a job are refused, all volumes are full. Once there is room, another volume
     is labelled and another job is closed; what was closed before is read at any time."""
@@ -376,7 +419,7 @@ def readers(folder, shim):
     yield from differs("ls, its last read", site.tool("ls", site.volumes / "Vol-0001"), (f"{listed}{FAULT}\n", 1))
 
 
-OPERATIONS = (bytes_written, calls_made, labels, mounts, adoptions, readings, jobs, full_device, cut_volumes, other_volumes,
+OPERATIONS = (bytes_written, calls_made, labels, mounts, adoptions, readings, jobs, taken, full_device, cut_volumes, other_volumes,
               no_files, replaced, no_folders, modes)
 DRIVES = (("File", "volumes"), ("Lost", "lost"), ("Blocked", "file"), ("Proc", "/proc"))
 

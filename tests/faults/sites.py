@@ -75,12 +75,13 @@ class Site:
                     break
             return "\n".join(lines)
 
-    def job(self, records, pool="Default", media="File"):
-        """Appends the records and closes. The lines of the close, or the refusal alone."""
+    def job(self, records, pool="Default", media="File", between=lambda: None):
+        """Appends the records and closes; in between something else is done. The lines of the close, or the refusal alone."""
         with Talk(self.port) as talk:
             try:
                 ticket = client.open_session(talk, 7, pool, media)
                 client.append_packets(talk, ticket, map(client.packet, records))
+                between()
                 return client.close_session(talk, ticket)
             except client.Refused as why:
                 return [never_wanting(str(why))]

@@ -3,7 +3,7 @@ use Rattle.std.proofs.Common.{◌≡◌, ◌≢◌, ℕ, suc, ◌++◌, ◌∷�
 use Rattle.std.specs.List.{AllZip}
 use Rattle.std.proofs.lemmas.List.{map-append}
 use Rattle.sd_core.proofs.NewBays.{zip_push}
-use Rattle.sd_filedrive.specs.Place.{folder_named}
+use Rattle.sd_folder.specs.Place.{folder_named}
 use Rattle.sd_spool.specs.FileSpool.{path_of}
 use Rattle.sd_spool.specs.declared.file.FileSpool.{FileSpool}
 use Rattle.sd_daemon.specs.Setup.{lane_path, lane_paths}

@@ -4,7 +4,7 @@ use Rattle.std.specs.List.{AllZip}
 use Rattle.std.specs.Option.{IsSomeAnd}
 use Rattle.sd_conf.specs.declared.conf.Conf.{Conf}
 use Rattle.sd_conf.specs.declared.conf.DriveConf.{DriveConf}
-use Rattle.sd_filedrive.specs.Place.{folder_named}
+use Rattle.sd_folder.specs.Place.{folder_named}
 use Rattle.sd_daemon.specs.declared.daemon.ServeFault.{ServeFault}
 use Rattle.sd_daemon.specs.declared.daemon.ServeFault.TheVariants as serves
 use Rattle.sd_daemon.specs.declared.locks.FolderLock.{FolderLock}

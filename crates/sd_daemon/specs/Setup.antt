@@ -5,8 +5,11 @@ use Rattle.sd_conf.specs.declared.conf.Conf.{Conf}
 use Rattle.sd_conf.specs.declared.conf.DriveConf.{DriveConf}
 use Rattle.sd_drive.specs.declared.limits.Limits.{Limits}
 use Rattle.sd_filedrive.specs.Drive.{folder_of}
-use Rattle.sd_filedrive.specs.Place.{folder_named}
-use Rattle.sd_filedrive.specs.declared.drive.FileDrive.{FileDrive}
+use Rattle.sd_folder.specs.Place.{folder_named}
+use Rattle.sd_folder.specs.declared.folder.Folder.{Ghosts}
+use Rattle.sd_folder.specs.declared.system.SystemFile.{SystemFile}
+use Rattle.sd_folder.specs.declared.system.SystemFolder.{SystemFolder}
+use Rattle.sd_filedrive.specs.declared.drive.FolderDrive.{FolderDrive}
 use Rattle.sd_lines.specs.Unused.{UnusedIs}
 use Rattle.sd_spool.specs.FileSpool.{lane_file}
 
@@ -31,7 +34,8 @@ abbrev pub spool_folder_of : Conf → List ℕ
 spool_folder_of conf = unwrap_or conf.spool_folder (codes ".")
 
 -- the device is over the folder of the drive
-abbrev pub HasFolder : {R F D : Type 0} → DriveConf → FileDrive R F D → Type 0
+abbrev pub HasFolder : {R F D : Type 0} {g : Ghosts (SystemFolder R F D) (SystemFile F)}
+    → DriveConf → FolderDrive (SystemFolder R F D) (SystemFile F) g → Type 0
 HasFolder d device = folder_of device ≡ folder_named d.folder
 
 -- the path of the spool of a lane of a drive, in that folder

@@ -1,7 +1,7 @@
 // The locks of the folders that a daemon has its volumes and its spools in.
 ghost use Rattle.std.specs.Prelude.{◌≡◌, IfErr, IfOk, string_bytes};
 ghost use Rattle.std.specs.List.{AllZip};
-ghost use Rattle.sd_filedrive.specs.Place.{folder_named};
+ghost use Rattle.sd_folder.specs.Place.{folder_named};
 ghost use Rattle.sd_daemon.specs.Locks.{AddsLock, AreLocksOf, IsFaultAmong, IsFaultAt, IsFaultIn, IsFaultOfSpools, IsLockAt, IsLockOf, IsLockOfSpools, lock_path};
 
 use crate::daemon::ServeFault;

@@ -1,0 +1,6 @@
+pub mod Shelves
+pub mod Torn
+pub mod Filling
+pub mod Changing
+pub mod Cutting
+pub mod Lifting

@@ -1,5 +1,4 @@
-pub mod Fault
-pub mod Place
-pub mod Loaded
-pub mod Volumes
+pub mod Torn
+pub mod Known
+pub mod Parts
 pub mod Drive

@@ -1,14 +1,13 @@
 //! A device that is a folder of files: each volume is a file of its name.
 //!
-//! It claims nothing of what a file holds. Its calls are safe whatever the folder has and the system answers,
-//! its failures are counted, and the loaded name and the count of its `NoRoom` answers are exact.
+//! It is honest exactly if its folder is (`sd_folder`; docs/FILES.md). Whatever the folder is, its calls are safe, its
+//! failures are counted, and the loaded name and the count of its `NoRoom` answers are exact.
 #![tactic(auto)]
 
 mod drive;
-mod folder;
-mod loaded;
-mod reader;
+mod files;
+mod steps;
 mod tally;
 mod volumes;
 
-pub use drive::FileDrive;
+pub use drive::{FileDrive, FolderDrive};

@@ -37,7 +37,7 @@ pub trait Host {
 
 /// The system. Its files and folders are only read, and none is made.
 impl Host for HostRuntime {
-    ghost use Rattle.sd_filedrive.specs.Place.{folder_named};
+    ghost use Rattle.sd_folder.specs.Place.{folder_named};
     ghost use Rattle.sd_files.specs.Host.{folder_inside, told_of, unknown_text, unused_device};
 
     type Text = File;

@@ -1,5 +1,5 @@
 use Rattle.std.proofs.Common.{ap, ◌∙◌}
-use Rattle.sd_filedrive.specs.Place.{folder_named}
+use Rattle.sd_folder.specs.Place.{folder_named}
 use Rattle.sd_daemon.specs.Setup.{HasFolder}
 use Rattle.sd_daemon.proofs.SetupLemmas.{zip_more}
 use Rattle.sd_daemon.proofs.drives.+devices_of.Goals as goal

@@ -1,5 +1,5 @@
 use Rattle.std.proofs.Common.{◌-◌, ◌++◌, refl, ap, ◌∙◌, arith}
-use Rattle.sd_filedrive.specs.Place.{folder_named}
+use Rattle.sd_folder.specs.Place.{folder_named}
 use Rattle.sd_spool.specs.FileSpool.{lane_file, path_of}
 use Rattle.sd_daemon.proofs.SetupLemmas.{path_is, paths_more}
 use Rattle.sd_daemon.proofs.hub.+lanes_of.Goals as goal
