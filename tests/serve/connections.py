@@ -19,6 +19,7 @@ from metered import FILE, PERIOD, metered, refused as figure_of, samples_in
 # How many of those who hold a place the log names.
 NAMED = 5
 HOLDER = re.compile(r"talk (\d+) of 127\.0\.0\.1:(\d+) for (\d+) s with (\d+) bytes(?: in session (\d+))?")
+HOLDING = "sdd_holding_talk_seconds"
 ALL_TAKEN = f"all {MOST_TALKS} connections are taken; the oldest: "
 # What is drawn of an operator's lines on volumes, and how often.
 LINES, SEED = 300, 74
@@ -80,6 +81,9 @@ def all_taken(checks, folder, _):
         checks.same("the figures", figures, [MOST_TALKS, MOST_TALKS, 2, MOST_TALKS + 1])
         age = samples["sdd_oldest_talk_seconds"]
         checks.check("the age of the oldest", 0 <= age <= time.monotonic() - begun + 1, age)
+        holding = {name: age for name, age in samples.items() if name.startswith(HOLDING)}
+        checks.same("who holds them", list(holding), [f'{HOLDING}{{talk="{one[0]}",client="127.0.0.1:{one[1]}"}}' for one in named])
+        checks.check("for how long", all(0 <= age <= time.monotonic() - begun + 1 for age in holding.values()), holding)
         with place.talk() as more:
             more.send(client.text_packet("console requests"))
             talks[-1].terminate()
@@ -91,6 +95,7 @@ def all_taken(checks, folder, _):
         samples = written(place, lambda some: some["sdd_talks"] == 0)
         checks.same("none is left", [samples[name] for name in ("sdd_talks", "sdd_talks_with_session", "sdd_oldest_talk_seconds")],
                     [0, 0, 0])
+        checks.check("nobody is named", not any(name.startswith(HOLDING) for name in samples), samples)
 
 
 def refused_jobs(checks, folder, _):

@@ -1,7 +1,7 @@
 // The figures of a daemon in the text form that Prometheus reads.
 use crate::drive_figure::{DRIVE_FIGURES, DriveFigure};
 use sd_lines::{DriveFigures, Figures, RefusedJobs, Tries, VolumeFaults};
-use sd_serve::ConnectionFigures;
+use sd_serve::{ConnectionFigures, Holder};
 use std::fmt;
 
 /// The figures of a daemon. Displays them: of each its help, its type, and its values.
@@ -9,6 +9,8 @@ use std::fmt;
 pub(crate) struct FiguresText {
     pub(crate) figures: Figures,
     pub(crate) connections: ConnectionFigures,
+    /// Who has held a connection longest, if as many are open as there may be.
+    pub(crate) holders: Vec<Holder>,
 }
 
 /// Whether a figure only rises, or goes up and down.
@@ -277,6 +279,29 @@ impl fmt::Display for Talks {
     }
 }
 
+/// Who has held a connection longest, while all are taken.
+#[derive(Clone, Copy)]
+struct Holders<'f> {
+    holders: &'f [Holder],
+}
+
+impl fmt::Display for Holders<'_> {
+    fn fmt<W: fmt::Write>(&self, f: &mut fmt::Formatter<W>) -> fmt::Result {
+        let name = "sdd_holding_talk_seconds";
+        let heading = Heading {
+            name,
+            kind: Kind::Gauge,
+            help: "Seconds since the oldest talks began, if as many are held as can be.",
+        };
+        write!(f, "{heading}")?;
+        for holder in self.holders {
+            let (talk, peer, age) = (holder.talk, holder.peer, holder.age);
+            write!(f, "{name}{{talk=\"{talk}\",client=\"{peer}\"}} {age}\n")?;
+        }
+        Ok(())
+    }
+}
+
 impl fmt::Display for FiguresText {
     fn fmt<W: fmt::Write>(&self, f: &mut fmt::Formatter<W>) -> fmt::Result {
         let drives = self.figures.drives.as_slice();
@@ -317,6 +342,9 @@ impl fmt::Display for FiguresText {
         let talks = Talks {
             connections: self.connections,
         };
-        write!(f, "{records}{bytes}{refused}{named}{talks}")
+        let holders = Holders {
+            holders: self.holders.as_slice(),
+        };
+        write!(f, "{records}{bytes}{refused}{named}{talks}{holders}")
     }
 }

@@ -109,9 +109,16 @@ impl<N: Naming, W: Wait + Clock + Copy + Drop, L: Write> FileTalks<'_, N, W, L> 
     // Writes them beside the file, which then takes its name: whoever reads it finds these or the ones before, and no part.
     fn try_write_to(&self, file: &str) -> io::Result<()> {
         let alloc = self.rt.alloc();
+        let connections = self.connections.figures(&self.wait);
+        let holders = if connections.open < connections.most {
+            Vec::new(alloc)
+        } else {
+            self.oldest_holders()
+        };
         let figures = FiguresText {
             figures: self.hub.figures()?,
-            connections: self.connections.figures(&self.wait),
+            connections,
+            holders,
         };
         let text = format!(in alloc; "{figures}")?;
         let part = format!(in alloc; "{file}.part")?;

@@ -15,7 +15,7 @@ use std::net::TcpStream;
 use std::sync::Wait;
 use std::time::{Clock, Duration};
 
-/// How many of those who hold all connections the log names.
+/// How many of those who hold all connections the log and the figures name.
 const NAMED_HOLDERS: usize = 5;
 
 /// What holds the talks of a daemon: each by a port of its own, with devices of its own by which sessions are read.
@@ -68,8 +68,8 @@ impl<N: Naming + Send + Sync, W: Wait + Clock + Sync + Copy + Drop, L: Write + S
 }
 
 impl<N: Naming, W: Wait + Clock + Drop, L> FileTalks<'_, N, W, L> {
-    // Who has held a connection longest: a few of them, fewer if there is no memory.
-    fn oldest_holders(&self) -> Vec<Holder> {
+    /// Who has held a connection longest: a few of them, fewer if there is no memory.
+    pub(crate) fn oldest_holders(&self) -> Vec<Holder> {
         let mut oldest = Vec::new(self.rt.alloc());
         let mut talk = 0;
         for _named in 0..NAMED_HOLDERS {
