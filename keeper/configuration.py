@@ -80,8 +80,8 @@ class Configuration:
     pools: tuple[Pool, ...]
 
     def folders(self) -> list[pathlib.Path]:
-        """The folders of the pools' drives, each once."""
-        return list(dict.fromkeys(drive.folder for pool in self.pools for drive in pool.drives))
+        """The folders of the drives, each once."""
+        return list(dict.fromkeys(drive.folder for drive in self.drives))
 
 
 def toml_in(path: str | pathlib.Path) -> dict[str, typing.Any]:

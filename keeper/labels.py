@@ -24,15 +24,14 @@ class Wanted(typing.NamedTuple):
 
 def wanted(configuration: Configuration, there: Now) -> list[Wanted]:
     """The drives that ask for a volume of a pool first, and then those that have too few ready and no job."""
-    ask, ahead = [], []
+    # The daemon chooses a job's drive by its media: so it may ask on one that isn't the pool's.
+    ask = [Wanted(pool, drive, True) for pool in configuration.pools for drive in configuration.drives
+           if there.requests.get(drive.number) == pool.name]
+    ahead = []
     for pool in configuration.pools:
         for drive in pool.drives:
             now = there.drives.get(drive.number)
-            if now is None or now.is_offline:
-                continue
-            if there.requests.get(drive.number) == pool.name:
-                ask.append(Wanted(pool, drive, True))
-            elif not now.sessions and drive.number not in there.requests:
+            if now and not now.is_offline and not now.sessions and drive.number not in there.requests:
                 missing = pool.ready - ready_on(configuration, pool, drive, there)
                 ahead += [Wanted(pool, drive, False)] * missing
     return ask + ahead

@@ -18,7 +18,7 @@ from keeper.state import Key, State, Volume
 from keeper.verdicts import TAKES_BLOCKS, Verdict
 
 # So often a reading is held to its rate, in seconds.
-CHECK = 0.1
+CHECK = 0.02
 
 
 class Throttle:
@@ -96,7 +96,11 @@ def verify(volume: Volume, known: set[Key], rate: int | None) -> Verified | None
     it isn't as it was."""
     if identity_of(volume.folder / volume.name) != volume.identity:
         return None
+    began = time.monotonic()
     found = scan(volume.folder, [volume.name], Throttle(rate))
+    if rate:
+        # What was read between two looks at it is waited for.
+        time.sleep(max(0.0, volume.identity.size / rate - (time.monotonic() - began)))
     return Verified(found.damage.get(volume.name, []), known - {one.key for one in found.sessions})
 
 
