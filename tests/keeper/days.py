@@ -11,10 +11,11 @@ from world import BEGIN, DAY, World
 
 DAYS = int(os.environ.get("KEEPER_DAYS", "90"))
 VOLUME, RESERVE, CAPACITY = 2_000_000, 5_000_000, 62_000_000
-KEEP, MIN_AGE, MIN_GOOD, UNKNOWN = {"last": 2, "daily": 7, "weekly": 2}, 4 * DAY, 2, 9 * DAY
+KEEP, MIN_AGE, MIN_GOOD = {"last": 2, "daily": 7, "weekly": 2}, 4 * DAY, 2
+POOLS_ON = (("Daily", 1), ("Other", 2))
 POOLS = "".join(
     f'[pool.{name}]\ndrives = [{drive}]\nnames = "{name}-%05d"\nready = 1\nreserve = "{RESERVE}"\nmin_age = "4d"\n'
-    f'min_good = 2\nunknown = "9d"\nkeep = {{ last = 2, daily = 7, weekly = 2 }}\n' for drive, name in ((1, "Daily"), (2, "Other")))
+    'min_good = 2\nunknown = "9d"\nkeep = { last = 2, daily = 7, weekly = 2 }\n' for name, drive in POOLS_ON)
 # A client, its job, its pool, and the bytes of a full and of an incremental job.
 CLIENTS = [("www", "home", "Daily", 1_300_000, 200_000), ("desk", "home", "Daily", 900_000, 150_000),
            ("mail", "spool", "Other", 1_200_000, 300_000)]
@@ -50,7 +51,8 @@ class Simulation:
         self.world.now += 600
         if self.draw.random() < 0.06:
             self.count("client killed")
-            self.beside(lambda: self.world.backup(name, job, pool, [full // 2, full // 2], stop_after=self.draw.randrange(1, 9)))
+            stop = self.draw.randrange(1, 9)
+            self.beside(lambda: self.world.backup(name, job, pool, [full // 2, full // 2], stop_after=stop))
         if self.draw.random() < 0.06:
             self.count("daemon killed in a job")
             self.beside(lambda: self.world.backup(name, job, pool, [full]), kill=True)
@@ -99,54 +101,59 @@ class Simulation:
         if whole and self.draw.random() < 0.06:
             self.count("daemon killed")
             self.world.restart()
-        self.world.round(lambda _: self.check_free())
+        seen = self.world.round(lambda _: self.check_free())
         self.check_free()
         for name in set(there) - set(self.world.volumes()):
             self.count("removed")
-            self.checks.check(f"{name} was of no kept job", name not in before, before.get(name))
+            known = [(job.key, job.name(), seen.kept.get(job.key)) for job in seen.jobs]
+            self.checks.check(f"{name} was of no kept job", name not in before, before.get(name), known)
 
     def check_free(self):
         if self.world.free() < RESERVE:
             self.checks.check("never under the reserve", False, self.world.free())
 
-    def needed(self):
-        """What the reader says is needed: for each volume a job that is kept and has a block on it."""
+    def kept(self):
+        """The jobs that are to be kept, by the reader and the model: for each its volumes."""
         heads = self.reader.heads()
         groups = {}
-        for key, (head, names) in heads.items():
+        for key, (head, _) in heads.items():
             groups.setdefault((head["pool"], head["client"], head["job"]), []).append((head["began"] / 1e6, key))
         kept = set()
         for moments in groups.values():
             chosen = words_of_keeping.model([moment for moment, _ in moments], KEEP, None, self.world.now)
             last = sorted(moments)[-MIN_GOOD:]
-            kept |= {key for moment, key in moments if moment in chosen or self.world.now - moment < MIN_AGE or (moment, key) in last}
+            kept |= {key for moment, key in moments
+                     if moment in chosen or self.world.now - moment < MIN_AGE or (moment, key) in last}
         for key in list(kept):
             kept |= {tuple(one) for one in heads[key][0]["chain"]}
-        return {name: key for key in kept if key in heads for name in heads[key][1]}
+        return {key: heads[key][1] for key in kept if key in heads}
+
+    def needed(self):
+        """For each volume a job that is kept and has a block on it."""
+        return {name: key for key, names in self.kept().items() for name in names}
 
     # The checks of a day.
 
     def look(self):
         """Each job that the reader says is kept is there, and one of them restores."""
-        needed = set(self.needed().values())
-        kept = [one for one in self.world.kept if one.key() in needed]
+        keys = self.kept()
+        kept = [one for one in self.world.kept if one.key() in keys]
         if kept:
             one = self.draw.choice(kept)
             self.checks.same(f"{one.head.client}'s job of {moment(one)} restores", self.world.restores(one), True)
-        pools = {name: status for name, status in self.world.status().items()}
-        ready = [name for name, status in pools.items() if status == "append" and name in self.world.volumes()]
-        self.checks.check("one is ready", len(ready) >= 2, pools)
+        status, there = self.world.status(), self.world.volumes()
+        for pool, _ in POOLS_ON:
+            ready = [name for name in there if name.startswith(pool) and status.get(name) == "append"]
+            self.checks.check(f"one of {pool} is ready", ready, status)
 
     def ended(self):
         """In the end every kept job restores."""
-        heads, needed = self.reader.heads(), self.needed()
-        kept = set(needed.values())
+        kept = self.kept()
         for one in self.world.kept:
             if one.key() in kept:
                 self.count("restored")
                 self.checks.same(f"{one.head.client}'s job of {moment(one)} restores", self.world.restores(one), True)
         self.checks.check("the last jobs are among them", all(chain[-1] in kept for chain in self.chains.values()))
-        self.checks.check("the reader knows the jobs", kept <= set(heads))
         print(f"{DAYS} days:", ", ".join(f"{what} {count}" for what, count in sorted(self.counts.items())),
               f"and {len(self.world.volumes())} volumes are left")
         for what, least in (("removed", DAYS // 3), ("keeper killed", DAYS // 9), ("daemon killed", DAYS // 20),

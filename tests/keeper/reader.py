@@ -26,7 +26,7 @@ class Reader:
     """What is on the volumes of some folders. A volume of the same size isn't read again: volumes only grow."""
 
     def __init__(self, folders):
-        self.folders, self.read = folders, {}
+        self.folders, self.read, self.found = folders, {}, {}
 
     def volumes(self):
         """For each volume its blocks' sessions and bodies in order."""
@@ -51,7 +51,9 @@ class Reader:
                 sessions[key][1].add(name)
         found = {}
         for key, (bodies, names) in sessions.items():
-            if head := head_in(bodies):
+            if self.found.get(key, (0, None))[0] != len(bodies):
+                self.found[key] = len(bodies), head_in(bodies)
+            if head := self.found[key][1]:
                 keys = {tuple(map(int, place["lines"][0].split()[1:])) for place in head["sessions"]}
                 needed = names.union(*(sessions[one][1] for one in keys if one in sessions))
                 found[key] = head, needed

@@ -19,8 +19,9 @@ def period(moment, word):
 def model(moments, counts, within, now):
     kept = {one for one in moments if within is not None and now - one <= within}
     for word, count in counts.items():
-        heads = [one for one in moments if not any(other > one and period(other, word) == period(one, word) for other in moments)]
-        kept.update(sorted(heads)[-count:])
+        newest = [one for one in moments
+                  if not any(other > one and period(other, word) == period(one, word) for other in moments)]
+        kept.update(sorted(newest)[-count:])
     return kept
 
 
@@ -42,5 +43,5 @@ def run(checks, _folder):
         checks.check(f"{word} was drawn", kinds.get(word, 0) > 100, kinds)
     # A week of two years: its Sunday is of the later one.
     new_year = [calendar.timegm((2027, 12, 31, 9, 0, 0)), calendar.timegm((2028, 1, 2, 9, 0, 0))]
-    checks.same("a week over the year's end", list(Retention({"weekly": 5}).kept([(one, one) for one in new_year], new_year[1])),
-                new_year[1:])
+    kept = Retention({"weekly": 5}).kept([(one, one) for one in new_year], new_year[1])
+    checks.same("a week over the year's end", list(kept), new_year[1:])
