@@ -26,4 +26,4 @@ hub_sync D N R S d n s r p b q =
     let f = front_send N S n s b q in
     recorded_sync (hub.the_field D N R S d n s).row _ _ (hub.the_type D N R S d n s).to_one
     (struct_sync (shape (hub.the_type D N R S d n s))
-    (search (sendable, crosses) depth 12, (search (sendable, crosses) depth 12, (search (sendable, crosses, p) depth 12, (search (sendable, crosses, f) depth 12, (search (sendable, crosses) depth 12, (search (sendable, crosses) depth 12, (search (sendable, crosses) depth 12, (search sendable, (search sendable, tt))))))))))
+    (search (sendable, crosses) depth 12, (search (sendable, crosses) depth 12, (search (sendable, crosses, p) depth 12, (search (sendable, crosses, f) depth 12, (search (sendable, crosses) depth 12, (search (sendable, crosses) depth 12, (search (sendable, crosses) depth 12, (search (sendable, crosses) depth 12, (search sendable, (search sendable, tt)))))))))))
