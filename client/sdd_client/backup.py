@@ -18,11 +18,12 @@ from .errors import Ended, Failed, Lost, Partly, Refused, complain
 from .filelist import FAULT, Piece, Writer, plain
 from .head import HEAD_STREAM, LIST_STREAM, SNAPSHOT_STREAM, Head, Place
 from .lanes import Alive, Way, opened, pieces_of
+from .progress import Now, Shown
 from .snapshot import Snapshot, decoded, usable
 from .stages import Chain, Feeder, words_of
 from .state import INCREMENT, State, links_of
 from .tarcut import Damaged
-from .tarrun import ARCHIVE, TarRun
+from .tarrun import ARCHIVE, CHANGED, TarRun
 
 # So many names are told on standard error; the catalogue has all.
 TOLD = 100
@@ -42,6 +43,7 @@ class Wanted(typing.NamedTuple):
     is_one_system: bool = False
     skips_caches: bool = False
     is_incremental: bool = False
+    is_full_due: bool = False
 
 
     def options(self) -> list[typing.Any]:
@@ -84,7 +86,8 @@ def snapshot_for(catalogue: Catalogue, job: Job, wanted: Wanted) -> bytes:
     if job.ended > microseconds():
         raise Failed("the clock was set back since the last run")
     state = State(catalogue, job)
-    faults = {row.path for row in catalogue.rows(job.id) if row.kind == FAULT}
+    # What changed while it was read has a time that tar finds to be new.
+    faults = {row.path for row in catalogue.rows(job.id) if row.kind == FAULT and row.text != CHANGED}
     if b"" in faults:
         raise Failed("the last run lacks something without a name")
     return usable(snapshot.text, faults, lambda: links_of(state))
@@ -176,7 +179,7 @@ class Backup:
             for path in self.wanted.paths:
                 files.ask(path)
             wanted, way = self.wanted, self.way
-            ground = ground_of(self.catalogue, wanted) if wanted.is_incremental else None
+            ground = ground_of(self.catalogue, wanted) if wanted.is_incremental and not wanted.is_full_due else None
             snapshot.write(ground.text if ground else b"")
             places = self._send(files, snapshot if wanted.is_incremental else None)
             files.finish()
@@ -206,7 +209,8 @@ class Backup:
                 options["pass_fds"] = [snapshot.fileno()]
             with TarRun(tar_words(wanted, self.catalogue.path, snapshot), **options) as tar:
                 try:
-                    cutter.run(tar.process.stdout)
+                    with Shown(lambda: Now(sum(one.raw for one in list(cutter.sessions)), files.files), self._expected()):
+                        cutter.run(tar.process.stdout)
                 except Damaged:
                     # What became of tar says more, if it didn't end by itself.
                     tar.wait()
@@ -216,6 +220,14 @@ class Backup:
             if not files.files and not (snapshot and os.fstat(snapshot.fileno()).st_size):
                 raise Failed("there is nothing that can be backed up")
         return [Place(one.lines, one.raw, one.stored) for one in cutter.sessions]
+
+    def _expected(self) -> int | None:
+        """The bytes of the stream, if the job is a full one and had a full run."""
+        wanted, runs = self.wanted, self.catalogue.jobs(self.wanted.job, self.wanted.client)
+        full = [job for job in runs if job.status in (KEPT, PARTLY) and not job.chain and not job.copy_of]
+        if not full or wanted.is_incremental and not wanted.is_full_due:
+            return None
+        return sum(place.raw for number, place in self.catalogue.places(full[-1].id).items() if number)
 
     def _note(self, head: Head, last: Place, kept: Kept, snapshot: typing.BinaryIO | None) -> None:
         try:

@@ -15,6 +15,8 @@ from .newfile import print_lines
 FORMS = {"label": "DRIVE VOLUME POOL MEDIA", "adopt": "DRIVE VOLUME", "mount": "DRIVE VOLUME", "unmount": "DRIVE",
          "retire": "DRIVE", "purge": "DRIVE VOLUME", "cancel": "TICKET", "jobmedia": "TICKET", "status": "", "requests": ""}
 BAD_COMMAND = "3901"
+# How long a volume may get, in bytes, if the configuration doesn't say it.
+VOLUME = 68_719_476_736
 
 
 def form_of(word: str) -> str:
@@ -45,9 +47,11 @@ def print_forms() -> None:
 
 
 class Configuration(typing.NamedTuple):
-    """What the daemon's configuration says to its clients: its port, and the folders of its drives."""
+    """What the daemon's configuration says to its clients: its port, how long a volume may get, and the folders of its
+    drives."""
 
     port: int
+    volume: int
     folders: list[str]
 
 
@@ -55,7 +59,7 @@ def configured(path: str) -> Configuration:
     with open(path, "rb") as file:
         try:
             text = tomllib.load(file)
-            return Configuration(int(text.get("port", PORT)), [str(drive["folder"]) for drive in text["drive"]])
+            return Configuration(int(text.get("port", PORT)), int(text.get("volume", VOLUME)), [str(drive["folder"]) for drive in text["drive"]])
         except (ValueError, KeyError, TypeError, AttributeError) as why:
             raise Unfit(f"{path} is no configuration; 'sdd check' says why") from why
 

@@ -48,5 +48,9 @@ class Ended(BaseException):
         self.number = number
 
 
+# What a line begins with while the terminal has another one.
+before = ""
+
+
 def complain(text: object) -> None:
-    print(f"sdd-client: {text}", file=sys.stderr, flush=True)
+    print(f"{before}sdd-client: {text}", file=sys.stderr, flush=True)

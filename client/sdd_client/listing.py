@@ -12,19 +12,14 @@ from .catalogue import KEPT, PARTLY, Catalogue, Job
 from .chosen import Choice, dated
 from .errors import Failed
 from .filelist import Row
+from .head import Head
+from .progress import size_of
 from .state import State
 
 
-def size_of(count: int | None) -> str:
-    """Bytes in three digits or so."""
-    size = float(count or 0)
-    if size < 1000:
-        return f"{size:.0f} bytes"
-    for unit in ("KB", "MB", "GB", "TB"):
-        size /= 1000
-        if size < 1000:
-            break
-    return f"{size:.1f} {unit}"
+def sent(head: Head) -> str:
+    """A job that is kept, in a line."""
+    return f"job {head.job}, number {head.number}: {head.files} files, {size_of(head.bytes)}, {len(head.sessions)} sessions"
 
 
 def print_all(rows: typing.Iterable[dict[str, typing.Any]], line: typing.Callable[[dict[str, typing.Any]], str],

@@ -11,21 +11,23 @@ import time
 import types
 import typing
 
-from . import backup, console, copies, listing, plainfiles, rebuild, restore, retention, streams, verify
+from . import backup, console, copies, dialogue, listing, plainfiles, rebuild, report, restore, retention, settings, streams, unattended, verify
 from .catalogue import Catalogue, Job, usual_place
 from .chosen import Choice, Undo, job_at, moment_of
 from .connection import Address, Connection, connect
 from .dialogue import BUSY, Target, terminate
 from .errors import Ended, Failed, Lost, Misused, Partly, Refused, Unfit, complain
 from .lanes import RECORD, Way
-from .newfile import lines_in
+from .newfile import lines_in, output
 from .options import job_name, parsed
+from .progress import size_of
 from .sources import DaemonSource, Source, VolumesSource
 from .state import State
 
 # A job waits longer than the daemon's unit does for a volume.
 JOB_TIMEOUT, TIMEOUT = 4000, 300
 PLAIN_RECORD = 65536
+POOL, MEDIA = "Default", "File"
 # So many seconds a daemon may take to listen that has just been started, and so many pass between two tries.
 START, PAUSE = 20, 0.1
 Asked = argparse.Namespace
@@ -56,7 +58,7 @@ def way_of(asked: Asked, port: int | None = None) -> Way:
     record = (asked.record or [RECORD])[0]
     if asked.task == "backup" and not asked.spans and record % 512:
         raise Misused("the records of a backup are multiples of 512 bytes")
-    target = Target(asked.job, asked.pool, asked.media)
+    target = Target(asked.job, asked.pool or POOL, asked.media or MEDIA)
     if port:
         address = Address(port, address.timeout)
     return Way(address, target, asked.retry, tuple(getattr(asked, "through", ())), record)
@@ -97,8 +99,7 @@ def do_backup(asked: Asked) -> None:
                            asked.caches, asked.incremental)
     with catalogue_of(asked) as catalogue:
         head = backup.backup(wanted, catalogue)
-    complain(f"job {name}, number {head.number}: {head.files} files, {listing.size_of(head.bytes)}, "
-             f"{len(head.sessions)} sessions")
+    complain(listing.sent(head))
     if head.faults:
         raise Partly(f"kept, but for the {head.faults} named")
 
@@ -146,7 +147,7 @@ def do_check(asked: Asked) -> None:
         job = job_of(catalogue, asked, asked.name)
         count = verify.check(State(catalogue, job), source_of(asked), Undo(asked.undo, asked.identity))
     complain(f"job {job.name}, number {job.number}: {count.sessions} sessions, {count.files} files, "
-             f"{listing.size_of(count.bytes)} are as they were kept")
+             f"{size_of(count.bytes)} are as they were kept")
 
 
 def do_compare(asked: Asked) -> None:
@@ -171,6 +172,45 @@ def do_rebuild(asked: Asked) -> None:
         rebuilt = rebuild.rebuild(catalogue, asked.folders, Undo(asked.undo, asked.identity))
     complain(f"{rebuilt.jobs} jobs, {rebuilt.added} of them new to the catalogue")
     rebuild.told(rebuilt)
+
+
+def settings_of(asked: Asked, is_needed: bool = True) -> settings.Settings:
+    """What jobs.toml says. What the command line says of the way to the daemon counts before it."""
+    path = pathlib.Path(asked.jobs) if asked.jobs else settings.usual_file()
+    is_there = is_needed or asked.jobs or path.exists()
+    said = settings.settings_in(path) if is_there else settings.Settings({}, "", {})
+    way = dict(said.way)
+    asked.client = asked.client or way.pop("client", None) or backup.this_client()
+    if not (asked.port or asked.rsh or asked.tls):
+        vars(asked).update(way)
+    return said
+
+
+def do_run(asked: Asked) -> None:
+    said = settings_of(asked)
+    if job_name(asked.name) not in said.jobs:
+        raise Misused(f"jobs.toml has no job {asked.name}")
+    job = said.jobs[asked.name]
+    asked.pool, asked.media = asked.pool or job.pool, asked.media or job.media
+    way = way_of(asked)._replace(stages=tuple(job.through))
+    with catalogue_of(asked) as catalogue:
+        unattended.Run(catalogue, asked.name, asked.client, job, way).run(said.metrics)
+
+
+def do_report(asked: Asked) -> None:
+    jobs = settings_of(asked, is_needed=False).jobs
+    with catalogue_of(asked) as catalogue:
+        facts = report.facts_of(catalogue, asked.client, jobs)
+    try:
+        with talking(address_of(asked)) as talk:
+            facts.volumes = report.volumes_of(dialogue.console(talk, "status"), console.configured(asked.conf).volume if asked.conf else None)
+    except Failed as why:
+        facts.lacking = str(why)
+    with output(asked.html) as file:
+        file.write(report.page(facts).encode())
+        file.finish()
+    if facts.lacking:
+        raise Partly(f"the page lacks the volumes: {facts.lacking}")
 
 
 def do_forget(asked: Asked) -> None:
@@ -252,7 +292,7 @@ def do_adopt_all(asked: Asked) -> None:
 
 
 WORK = {"backup": do_backup, "restore": do_restore, "check": do_check, "compare": do_compare, "copy": do_copy,
-        "rebuild": do_rebuild, "forget": do_forget, "list": do_list, "files": do_files, "find": do_find, "append": do_append, "read": do_read,
+        "rebuild": do_rebuild, "run": do_run, "report": do_report, "forget": do_forget, "list": do_list, "files": do_files, "find": do_find, "append": do_append, "read": do_read,
         "console": do_console, "adopt-all": do_adopt_all}
 
 

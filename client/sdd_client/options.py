@@ -85,15 +85,15 @@ def parser() -> Parser:
     add("--retry", type=patience, default=600, metavar="SECONDS",
         help="how long a job tries again if the daemon is busy; 600 if it isn't given")
     add("--job", type=int, default=1, help="the JobId of append and of backup --spans; 1 if it isn't given")
-    add("--pool", default="Default", help="the pool of a job's volumes; Default if it isn't given")
-    add("--media", default="File", help="their media; File if it isn't given")
+    add("--pool", help="the pool of a job's volumes; Default if it isn't given")
+    add("--media", help="their media; File if it isn't given")
     add("--record", type=sizes, metavar="SIZE[,SIZE..]",
         help=f"bytes of a record, {RECORD} for backup JOB and else 65536 if it isn't given; several sizes are taken in turn")
     add("--volumes", metavar="FOLDER", help="sessions are read from the volumes in this folder, by sdtool, without a daemon")
     add("--catalogue", metavar="FILE", default=os.environ.get("SDD_CATALOGUE"), help="the catalogue's file")
     add("--client", metavar="NAME", help="the client whose job it is; this host's name if it isn't given")
     tasks = made.add_subparsers(required=True, metavar="COMMAND", dest="task")
-    for make in (of_backups, of_restores, of_retention, of_lists, of_streams, of_operators):
+    for make in (of_backups, of_the_unattended, of_restores, of_retention, of_lists, of_streams, of_operators):
         make(tasks)
     return made
 
@@ -144,6 +144,19 @@ def of_the_way_back(add: typing.Callable[..., typing.Any]) -> None:
     """A command undoes stages."""
     add("--identity", metavar="FILE", help="the key for what age encrypted")
     add("--undo", action="append", default=[], metavar="STAGE", help="undoes a stage, in place of what is known of it")
+
+
+def of_jobs_file(add: typing.Callable[..., typing.Any]) -> None:
+    add("--jobs", metavar="FILE", help="jobs.toml; else SDD_JOBS, or /etc/sdd-client/jobs.toml for root")
+
+
+def of_the_unattended(tasks: typing.Any) -> None:
+    add = task(tasks, "run", "runs a job of jobs.toml, as a timer does")
+    add("name", metavar="JOB")
+    of_jobs_file(add)
+    add = task(tasks, "report", "writes a page about the jobs and the volumes")
+    add("--html", required=True, metavar="FILE", help="the page, which needs no network")
+    of_jobs_file(add)
 
 
 def of_restores(tasks: typing.Any) -> None:

@@ -13,6 +13,7 @@ from .connection import Buffer
 from .errors import Ended, Failed, Partly, complain
 from .filelist import plain
 from .lanes import DATA_STREAM
+from .progress import Now, Shown
 from .sources import Reader, Source
 from .state import State
 from .tarcut import END
@@ -99,7 +100,8 @@ def restore(choice: Choice, streams: Streams, folder: str, may_replace: bool) ->
     with TarRun(words, stdin=subprocess.PIPE, bufsize=BUFFER) as tar:
         feeding = Feeding(streams, tar)
         try:
-            count = feeding.all(runs)
+            with Shown(lambda: Now(feeding.written, feeding.members)):
+                count = feeding.all(runs)
         except (Failed, OSError, Ended) as broken:
             why = broken
         with contextlib.suppress(OSError):

@@ -14,7 +14,7 @@ from .catalogue import FORGOTTEN, KEPT, PARTLY, Catalogue, Job
 from .chosen import dated
 from .dialogue import SPAN
 from .errors import Failed, Misused
-from .listing import size_of
+from .progress import size_of
 
 PERIODS = {"hourly": "%Y-%m-%d %H %z", "daily": "%Y-%m-%d", "weekly": "%G-%V", "monthly": "%Y-%m", "yearly": "%Y"}
 DURATION = re.compile(r"(?:(\d{1,4})y)?(?:(\d{1,5})m)?(?:(\d{1,5})w)?(?:(\d{1,6})d)?(?:(\d{1,7})h)?")

@@ -1,9 +1,9 @@
 """GNU tar's snapshot of a listed-incremental run: which folders it found, and which names in them. An increment stands on the
 one of the job before.
 
-Before a snapshot is used, folders are taken out of it whose contents must be sent anew, since tar takes a folder that it
-doesn't know as new: those that were renamed or are gone, and those with names that weren't kept as they were. What else is
-told of folders by tar's own codes, renames, then never comes.
+Before a snapshot is used, what must be sent anew is taken out of it, since tar takes what it doesn't know as new: folders
+that were renamed, with all that is in them, and names that weren't kept as they were. What tar tells of renames by codes of
+its own then never comes.
 """
 from __future__ import annotations
 
@@ -47,11 +47,19 @@ def decoded(data: bytes) -> Snapshot:
 
 
 class Folder(typing.NamedTuple):
-    """A folder's record: its path, its number in its file system, and the record as it is."""
+    """A folder's record: its path, its number in its file system, its fields as they are, and the names in it, each behind a
+    letter."""
 
     path: bytes
     number: int
-    record: bytes
+    fields: bytes
+    names: list[bytes]
+
+    def without(self, paths: set[bytes]) -> bytes:
+        """The record without some names."""
+        above = self.path.rstrip(b"/") + b"/"
+        kept = [one for one in self.names if above + one[1:] not in paths]
+        return self.fields + b"".join(one + b"\0" for one in kept) + b"\0\0"
 
 
 def folders_of(text: bytes) -> tuple[bytes, list[Folder]]:
@@ -66,8 +74,10 @@ def folders_of(text: bytes) -> tuple[bytes, list[Folder]]:
                 fields.append(text[at:end])
                 at = end + 1
             # An empty name ends the names in it, and a zero byte the record.
-            at = at + 2 if text.startswith(b"\0", at) else text.index(b"\0\0\0", at) + 3
-            found.append(Folder(b"/" + fields[NAME].removeprefix(b"./"), int(fields[NUMBER]), text[begin:at]))
+            end = at if text.startswith(b"\0\0", at) else text.index(b"\0\0\0", at) + 1
+            names = text[at:end].split(b"\0")[:-1]
+            found.append(Folder(b"/" + fields[NAME].removeprefix(b"./"), int(fields[NUMBER]), text[begin:at], names))
+            at = end + 2
         return start, found
     except ValueError as why:
         raise Unknown("the snapshot of tar can't be read") from why
@@ -83,19 +93,19 @@ def is_below(path: bytes, folders: set[bytes]) -> bool:
 
 
 def usable(text: bytes, faults: set[bytes], links: typing.Callable[[], typing.Iterable[tuple[bytes, bytes]]]) -> bytes:
-    """The snapshot without the folders that must be sent anew. `faults` has the names that weren't kept as they were; `links`
-    gives hard links with their targets: all names of a file are sent in one run, or they would be several files."""
+    """The snapshot without what must be sent anew. `faults` has the names that weren't kept as they were; `links` gives hard
+    links with their targets: all names of a file are sent in one run, or they would be several files."""
     start, folders = folders_of(text)
-    anew = {os.path.dirname(path) for path in faults} | faults
-    anew |= {folder.path for folder in folders if not is_same(folder)}
-    if anew:
+    anew = {folder.path for folder in folders if folder.path in faults or not is_same(folder)}
+    names = set(faults)
+    if anew or names:
         pairs, before = list(links()), -1
-        while before != len(anew):
-            before = len(anew)
+        while before != len(names):
+            before = len(names)
             for pair in pairs:
-                if any(is_below(path, anew) for path in pair):
-                    anew |= {os.path.dirname(path) for path in pair}
-    return start + b"".join(folder.record for folder in folders if folder.path not in anew)
+                if any(path in names or is_below(path, anew) for path in pair):
+                    names.update(pair)
+    return start + b"".join(folder.without(names) for folder in folders if folder.path not in anew)
 
 
 def is_same(folder: Folder) -> bool:

@@ -19,6 +19,8 @@ LEFT_OUT = re.compile(rb"socket ignored|door ignored|file is on a different file
                       rb"contains a cache directory tag .*|Unknown file type; file ignored")
 NO_MATTER = re.compile(rb"Exiting with failure status due to previous errors|Error is not recoverable: exiting now|"
                        rb"Removing leading .*|Error exit delayed from previous errors")
+# What it says of a file or a folder that changed between its beginning and its end.
+CHANGED = b"file changed as we read it"
 # A name, in which a colon is escaped, and what is said of it.
 NAMED = re.compile(rb"tar: ((?:[^\\:]|\\.)+): (.*)")
 ESCAPED = re.compile(rb"\\([0-7]{3}|.)", re.DOTALL)

@@ -19,7 +19,7 @@ from trees import Tree, differences
 
 SEED, DAYS = 85, 30
 # Of each kind of change so many must have come.
-LEAST = 3
+LEAST = 2
 
 
 class Changes:
@@ -55,7 +55,9 @@ class Changes:
         return os.path.join(where or self.numbers.choice([self.folder, self.a_folder()]), b"n%d" % self.count)
 
     def fill(self, path):
-        with open(path, "wb") as file:
+        # In a sticky folder even root may not make a file that is there and another's.
+        flags = os.O_WRONLY | (os.O_TRUNC if os.path.lexists(path) else os.O_CREAT | os.O_EXCL)
+        with open(os.open(path, flags, 0o644), "wb") as file:
             file.write(self.numbers.randbytes(self.numbers.choice([0, 3, 700, 5000])))
 
     def add(self):
@@ -140,7 +142,7 @@ def days(checks, site):
     with standin.StandIn() as daemon:
         for day in range(DAYS):
             if day:
-                changes.day(numbers.randrange(9))
+                changes.day(numbers.randrange(3, 9))
             subprocess.run(["cp", "-a", "--sparse=always", site.files, kept / str(day)], check=True)
             came = backup(site, daemon.port, *(("--session", "20K") if day % 3 == 1 else ()), *(("--through", "gzip") if day % 4 == 2 else ()))
             is_told(checks, f"day {day}", came, 0, "job j, number")
@@ -156,6 +158,7 @@ def days(checks, site):
         some_paths(checks, site, daemon.port, rows)
         sizes = sum(row["bytes"] for row in rows[1:])
     print("changes:", *(f"{kind} {count}" for kind, count in sorted(changes.drawn.items())), "bytes:", rows[0]["bytes"], sizes)
+    checks.check("less than full runs", sizes < DAYS * rows[0]["bytes"] / 2, sizes, rows[0]["bytes"])
     checks.check("enough changes", len(changes.drawn) == len(changes.kinds) and min(changes.drawn.values()) >= LEAST, changes.drawn)
 
 
@@ -246,7 +249,8 @@ def faults(checks, site):
     with standin.StandIn() as daemon:
         is_told(checks, "first", backup(site, daemon.port), 0)
         for name, message, anew in (("under/a/folder", "Read error at byte 0, while reading 512 bytes: Input/output error", {"under/a/folder"}),
-                                    ("39", "File shrank by 3 bytes; padding with zeros", None), ("under", "Cannot open: Permission denied", None)):
+                                    ("39", "File shrank by 3 bytes; padding with zeros", {"39"}),
+                                    ("under", "Cannot open: Permission denied", {"under/a/folder", "under/another"})):
             tar.write_text(f"#!/bin/sh\n{shutil.which('tar')} \"$@\"\necho 'tar: {site.files}/{name}: {message}' >&2\nexit 1\n")
             tar.chmod(0o755)
             is_told(checks, f"fault of {name}", backup(site, daemon.port), 3, f"{name}: {message}")
@@ -256,7 +260,7 @@ def faults(checks, site):
             found = json.loads(say(daemon.port, "files", "j", "--json", env=site.env)[0])
             sent = {one["path"].removeprefix(f"{site.files}/") for one in found if one["member_of"] == row["id"] and one["kind"] == "f"}
             checks.check(f"{name} is sent", row["level"] == "incremental" and any(one.startswith(name) for one in sent), row["level"], sent)
-            checks.check(f"{name}: no more", anew is None or sent == anew, sent)
+            checks.same(f"{name}: no more", sent, anew)
         is_told(checks, "restore", say(daemon.port, "restore", "j", "--to", site.folder / "out", env=site.env), 0)
         checks.same("the same", differences(site.files, restored(site, "out")), "")
 
