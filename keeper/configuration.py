@@ -2,6 +2,7 @@
 from __future__ import annotations
 
 import dataclasses
+import datetime
 import os
 import pathlib
 import re
@@ -11,9 +12,9 @@ import typing
 from sdd_client.connection import PORT
 from sdd_client.dialogue import VOLUME_NAME
 from sdd_client.errors import Misused
+from sdd_client.retention import PERIODS, Rules, begin_of
 from sdd_client.transport_local import SOCKET
 
-from keeper.retention import WORDS, Retention
 
 STATE, EVERY, SCAN = "/var/lib/sdd-keeper", 10, 3600
 # The number in a pattern of names.
@@ -43,7 +44,7 @@ class Pool:
     ready: int
     most: int | None
     reserve: int
-    retention: Retention
+    rules: Rules
     min_age: int
     min_good: int
     unknown: int | None
@@ -148,7 +149,7 @@ def pool_of(name: str, table: Table, drives: tuple[Drive, ...]) -> Pool:
     return Pool(
         name=name, drives=tuple(drives[one - 1] for one in dict.fromkeys(numbers)), names=names,
         ready=table.number("ready", 1, 0, 1000) or 0, most=table.number("most", None, 1, 10**9),
-        reserve=table.size("reserve", None) or 0, retention=table.retention("keep"),
+        reserve=table.size("reserve", None) or 0, rules=table.rules("keep"),
         min_age=table.time("min_age", 7 * SECONDS["d"]) or 0, min_good=table.number("min_good", 1, 1, 10**6) or 1,
         unknown=unknown, verify=table.time("verify", None), rate=table.size("rate", None))
 
@@ -200,14 +201,20 @@ class Table:
             raise Misused(f"{self.where}: {key} is a size as \"20G\", with K, M, G or T")
         return int(found[1]) * FACTORS[found[2]]
 
-    def retention(self, key: str) -> Retention:
-        """The words of what is kept."""
+    def rules(self, key: str) -> Rules:
+        """Which jobs are kept, in the client's words."""
         table = Table(f"{self.where}: {key}", self.keys.get(key, {}))
         if not isinstance(table.keys, dict):
             raise Misused(f"{self.where}: {key} is a table, as {{ daily = 7, within = \"30d\" }}")
-        table.known(*WORDS, "within")
-        counts = {word: count for word in WORDS if (count := table.number(word, None, 1, 10**6))}
-        retention = Retention(counts, table.time("within", None))
-        if not retention.says_something():
-            raise Misused(f"{self.where}: {key} has one at least of {', '.join(WORDS)} and within")
-        return retention
+        words = ("last", *PERIODS)
+        table.known(*words, "within")
+        counts = {word: count for word in words if (count := table.number(word, None, 1, 10**6))}
+        rules = Rules(within=table.text("within", ""), **counts)
+        if not any(rules):
+            raise Misused(f"{self.where}: {key} has one at least of {', '.join(words)} and within")
+        if rules.within:
+            try:
+                begin_of(datetime.datetime.now(), rules.within)
+            except Misused as why:
+                raise Misused(f"{self.where}: {key}: within: {why}") from why
+        return rules

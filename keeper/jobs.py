@@ -6,6 +6,7 @@ import typing
 
 from sdd_client.errors import Failed
 from sdd_client.head import Head, head_in
+from sdd_client.retention import reasons
 from sdd_client.sources import VolumesSource
 from sdd_client.verify import head_of
 
@@ -99,8 +100,11 @@ def kept_of_group(group: list[Job], pool: Pool | None, now: float) -> dict[Key, 
     kept: dict[Key, str] = {}
     # A job that isn't whole takes the place of no other.
     for some in (whole, group):
-        for key, word in pool.retention.kept([(job.began(), job.key) for job in some], now).items():
-            kept.setdefault(key, word)
+        # A clock that is ahead puts no other job behind.
+        moments = [min(job.head.began, int(job.seen * 1_000_000)) for job in some]
+        for job, words in zip(some, reasons(moments, pool.rules)):
+            if words:
+                kept.setdefault(job.key, ", ".join(words))
     for job in sorted(whole, key=Job.began)[-pool.min_good:]:
         kept.setdefault(job.key, "one of the last good ones")
     for job in group:

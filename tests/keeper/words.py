@@ -24,7 +24,7 @@ FAULTS = [
     ({"ready": "-1"}, "ready is a number"), ({"ready": '"1"'}, "ready is a number"), ({"most": "0"}, "most is a number"),
     ({"reserve": "7"}, "is a text"), ({"reserve": '"7 GB"'}, "is a size"), ({"keep": "{}"}, "one at least"),
     ({"keep": "{ daily = 0 }"}, "daily is a number"), ({"keep": "{ often = 1 }"}, "no key"), ({"keep": "7"}, "is a table"),
-    ({"keep": '{ within = "30" }'}, "is a time"), ({"min_age": '"1x"'}, "is a time"), ({"min_good": "0"}, "is a number"),
+    ({"keep": '{ within = "30" }'}, "is no duration"), ({"min_age": '"1x"'}, "is a time"), ({"min_good": "0"}, "is a number"),
     ({"unknown": "true"}, "is a text"), ({"unknown": '"1h"'}, "at least a day"), ({"verify": '"0d"'}, "is a time"),
     ({"rate": '"fast"'}, "is a size"), ({"drive": "[1]"}, "no key"),
 ]
