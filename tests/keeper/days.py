@@ -93,28 +93,26 @@ class Simulation:
 
     def keep(self, whole=True):
         """A round; at times it is killed before a step, or the daemon is, and then the next round goes on."""
-        before = self.needed()
-        there = self.world.volumes()
-        if whole and self.draw.random() < 0.4:
-            if self.world.killed(self.draw.randrange(1, 14)):
-                self.count("keeper killed")
+        there, heads = self.world.volumes(), self.reader.heads()
+        if self.draw.random() < 0.5 and self.world.killed(self.draw.randrange(1, 9)):
+            self.count("keeper killed")
         if whole and self.draw.random() < 0.06:
             self.count("daemon killed")
             self.world.restart()
-        seen = self.world.round(lambda _: self.check_free())
+        self.world.round(lambda _: self.check_free())
         self.check_free()
+        # The job beside it may have ended before the round looked, or after.
+        before, after = self.needed(heads), self.needed({**heads, **self.reader.heads()})
         for name in set(there) - set(self.world.volumes()):
             self.count("removed")
-            known = [(job.key, job.name(), seen.kept.get(job.key)) for job in seen.jobs]
-            self.checks.check(f"{name} was of no kept job", name not in before, before.get(name), known)
+            self.checks.check(f"{name} was of no kept job", name not in before or name not in after, before.get(name))
 
     def check_free(self):
         if self.world.free() < RESERVE:
             self.checks.check("never under the reserve", False, self.world.free())
 
-    def kept(self):
-        """The jobs that are to be kept, by the reader and the model: for each its volumes."""
-        heads = self.reader.heads()
+    def kept(self, heads):
+        """The jobs that are to be kept of these, by the model: for each its volumes."""
         groups = {}
         for key, (head, _) in heads.items():
             groups.setdefault((head["pool"], head["client"], head["job"]), []).append((head["began"] / 1e6, key))
@@ -128,15 +126,15 @@ class Simulation:
             kept |= {tuple(one) for one in heads[key][0]["chain"]}
         return {key: heads[key][1] for key in kept if key in heads}
 
-    def needed(self):
+    def needed(self, heads):
         """For each volume a job that is kept and has a block on it."""
-        return {name: key for key, names in self.kept().items() for name in names}
+        return {name: key for key, names in self.kept(heads).items() for name in names}
 
     # The checks of a day.
 
     def look(self):
         """Each job that the reader says is kept is there, and one of them restores."""
-        keys = self.kept()
+        keys = self.kept(self.reader.heads())
         kept = [one for one in self.world.kept if one.key() in keys]
         if kept:
             one = self.draw.choice(kept)
@@ -148,7 +146,7 @@ class Simulation:
 
     def ended(self):
         """In the end every kept job restores."""
-        kept = self.kept()
+        kept = self.kept(self.reader.heads())
         for one in self.world.kept:
             if one.key() in kept:
                 self.count("restored")

@@ -312,7 +312,8 @@ class Hardships(Places):
             for name, wanted in (("www", "sdd-client: 3907 Not yet"), ("admin", "sdd-client: the daemon says: ok requests 1")):
                 rsh = f"{RELAY} --conf {place.conf} --as {name}"
                 words = ["--rsh", rsh, "--retry", "0", "--job", "7", "append", data, place.folder / "spans"]
-                run = subprocess.run([CLIENT, *words], stdin=subprocess.DEVNULL, capture_output=True, text=True, timeout=WAIT)
+                run = subprocess.run([CLIENT, *words], stdin=subprocess.DEVNULL, capture_output=True, text=True,
+                                     timeout=10 * WAIT)
                 said = [one for one in run.stderr.splitlines() if one.startswith("sdd-client")]
                 self.checks.check(f"{name} is told", wanted in said and said[-1] == "sdd-client: 3907 Not yet", run.stderr)
                 self.checks.same(f"{name}'s status", run.returncode, 1)
