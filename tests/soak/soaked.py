@@ -17,11 +17,11 @@ DRIVES, LANES = 4, 8
 POOLS = ("Default", "Default", "Default", "Other")
 VOLUME, BLOCKS, SPOOLS = 2_000_000, (4096, 64_512), (0, 200_000)
 # How long a job waits for a volume, and a client for the daemon; and how long it takes until all of it is idle.
-WAITS, PATIENCE, IDLE = 20, 2 * WAIT, 4 * WAIT
+WAITS, PATIENCE, IDLE = 20, 2 * WAIT, 20 * WAIT
 # So many volumes of a drive stay at a restart; the older ones are read, and taken away.
 STAY = 8
-# What it takes besides for each block and each session of a run (docs/OPERATIONS.md, 'Memory'), and for all else.
-A_BLOCK, A_SESSION, ALL_ELSE = 80, 3_200, 24_000_000
+# What it takes for each block and each session of a run at most (docs/OPERATIONS.md, 'Memory'), and what may differ besides.
+A_BLOCK, A_SESSION, ALL_ELSE = 80, 3_200, 16_000_000
 
 
 class Site:
@@ -41,7 +41,8 @@ class Site:
         self.daemon: typing.Optional[Daemon] = None
         # The numbers of the run's sessions, as they were answered.
         self.tickets: list[int] = []
-        self.begin: dict[str, int] = {}
+        # The threads at the begin of the run, and the memory when all clients rested for the first time.
+        self.threads, self.memory = 0, 0
 
     def talk(self) -> client.Talk:
         return client.Talk(self.port, timeout=PATIENCE)
@@ -66,7 +67,10 @@ class Site:
                     self.adopt(talk, number, path.name)
                 for pool in sorted(set(POOLS)):
                     talk.console(f"label {number} {self.name(number)} {pool} File")
-        self.begin = self.figures()
+            talk.terminate()
+        if not self.daemon.logs("talk 1 ended: finished"):
+            raise OSError("the talk of the begin doesn't end")
+        self.threads, self.memory = min(self.figures()["Threads"] for _ in range(50)), 0
 
     def adopt(self, talk: client.Talk, number: int, name: str):
         try:
@@ -96,10 +100,12 @@ class Site:
     def kill(self):
         self.daemon.kill()
 
-    def gentle(self) -> tuple[str, int]:
-        """Ends the daemon by its file. What it printed, and its status."""
+    def gentle(self, noticed: typing.Callable[[], None]) -> tuple[str, int]:
+        """Ends the daemon by its file. Once the daemon has noticed that, so does the caller. What it printed, and its status."""
         self.stop_file.touch()
         try:
+            until(lambda: "is there: no connection is taken any more" in self.daemon.logged.read_text(), IDLE)
+            noticed()
             status = self.daemon.process.wait(timeout=IDLE)
         finally:
             self.stop_file.unlink()
@@ -178,13 +184,17 @@ def idle(site: Site):
 
 
 def resources(site: Site):
-    """Memory and threads are as at the begin of the run, but for what a block and a session take."""
-    def is_so() -> bool:
-        return site.figures()["Threads"] == site.begin["Threads"]
-
-    if not until(is_so, WAIT):
-        site.kept.fault(f"threads: {site.figures()} in place of {site.begin}")
+    """Threads are as at the begin of the run. Memory is as at the first rest of all clients in it, when each lane had been taken, but
+    for what blocks and sessions take."""
+    kept = site.kept
+    if not until(lambda: site.figures()["Threads"] == site.threads, WAIT):
+        kept.fault(f"threads: {site.figures()['Threads']} in place of {site.threads}")
+    kept.count("rests with the threads of the begin")
     blocks = sum(path.stat().st_size for folder in site.folders for path in folder.glob("D*")) // 2000
-    most = site.begin["VmRSS"] + blocks * A_BLOCK + len(site.tickets) * A_SESSION + ALL_ELSE
-    if site.figures()["VmRSS"] > most:
-        site.kept.fault(f"memory: {site.figures()} in place of {site.begin}, at most {most}")
+    has, most = site.figures()["VmRSS"], site.memory + blocks * A_BLOCK + len(site.tickets) * A_SESSION + ALL_ELSE
+    if not site.memory:
+        site.memory = has
+        return
+    if has > most:
+        kept.fault(f"memory: {has} in place of {site.memory}, {most} at most")
+    kept.count("rests with the memory of the run's first")
