@@ -1,7 +1,10 @@
 """Damage on volumes that aren't written any more: found when it is due, at a rate, and told with the jobs that it hits."""
 import contextlib
+import os
 import time
 
+import keeper.main
+import keeper.rounds
 from keeper.configuration import configured
 from keeper.main import scrub
 from world import DAY, World
@@ -37,8 +40,6 @@ def scrubbed(world):
 @contextlib.contextmanager
 def replaced(told):
     """What is told goes into a list."""
-    import keeper.main
-    import keeper.rounds
     before = keeper.main.tell
     keeper.main.tell = keeper.rounds.tell = lambda text: told.append(str(text))
     try:
@@ -58,7 +59,6 @@ def found(checks, world):
     with open(path, "r+b") as file:
         file.write(data)
     # A disk that forgets changes no file's time.
-    import os
     os.utime(path, ns=(when.st_atime_ns, when.st_mtime_ns))
     checks.same("not yet due", scrubbed(world), ([], 0))
     world.now += 31 * DAY
@@ -80,8 +80,11 @@ def rate(checks, folder):
     with World(folder, POOL.format('rate = "1M"'), volume=2_000_000, block=64_512) as world:
         world.round()
         world.backup("www", "home", "Daily", [2_500_000])
-        world.round()
-        world.now += 31 * DAY
+        for days in (0, 1, 31):
+            # The session's end is found a day later, by reading both of its volumes.
+            world.now += days * DAY
+            if days < 31:
+                world.round()
         began = time.monotonic()
         told, status = scrubbed(world)
         took = time.monotonic() - began
