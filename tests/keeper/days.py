@@ -5,7 +5,7 @@ import os
 import random
 import threading
 
-import words_of_keeping
+import rules
 from reader import Reader
 from world import BEGIN, DAY, World
 
@@ -118,7 +118,7 @@ class Simulation:
             groups.setdefault((head["pool"], head["client"], head["job"]), []).append((head["began"] / 1e6, key))
         kept = set()
         for moments in groups.values():
-            chosen = words_of_keeping.model([moment for moment, _ in moments], KEEP, None, self.world.now)
+            chosen = rules.kept_by([moment for moment, _ in moments], KEEP)
             last = sorted(moments)[-MIN_GOOD:]
             kept |= {key for moment, key in moments
                      if moment in chosen or self.world.now - moment < MIN_AGE or (moment, key) in last}
