@@ -1,5 +1,7 @@
 """What `sdtool scan` and `sdtool verify` print of a folder: a model of its own, over whole files in memory, by
 docs/FORMATS.md alone."""
+import datetime
+import json
 import re
 import struct
 import zlib
@@ -62,15 +64,15 @@ def label_of(name, image):
 
 
 def session_label(index, stream, data):
-    """The job, the pool and the totals of a session's label, or none if it is none."""
+    """The job, the pool and the totals of a session's end label, or the moment of its start label; none if it is no label."""
     if not data.startswith(PROFILE) or len(data) < len(PROFILE) + 16:
         return None
-    version, job, _ = struct.unpack_from(">IIq", data, len(PROFILE))
+    version, job, moment = struct.unpack_from(">IIq", data, len(PROFILE))
     texts = names_in(data[len(PROFILE) + 16:], 2)
     if version != 1 or not 1 <= job < 2**31 or job != stream or texts is None:
         return None
     if index == -4:
-        return None if texts[1] else (job, texts[0][0], None)
+        return None if texts[1] else (job, texts[0][0], moment)
     if len(texts[1]) != 20 or struct.unpack_from(">I", texts[1], 16)[0] != 84:
         return None
     return job, texts[0][0], struct.unpack_from(">QQ", texts[1])
@@ -85,7 +87,7 @@ class Session:
         self.began = self.ended = self.damaged = False
         self.due = None
         first = self.fragments(body)
-        if first and first[0][0] == -4:
+        if first and first[0] and first[0][0] == -4:
             self.start = session_label(*first[0][:2], first[0][3]) if len(first[0][3]) == first[0][2] else None
 
     @staticmethod
@@ -180,14 +182,22 @@ def take_run(name, image, at, number, sessions):
         at, number = at + size, number + 1
 
 
+def shown(moment):
+    """What a clock of UTC shows at so many microseconds after 1970, with as many digits of a second as it takes."""
+    if moment is None:
+        return "-"
+    text = (datetime.datetime(1970, 1, 1) + datetime.timedelta(microseconds=moment)).isoformat()
+    return (text.rstrip("0") if "." in text else text) + "Z"
+
+
 def told(key, session, with_spans):
     """The lines of a session."""
-    job, pool, _ = session.start or (0, "-", None)
+    job, pool, moment = session.start or (0, "-", None)
     ended = session.ended and not session.damaged
     line = (f"session {key[0]} {key[1]} job {job} pool {pool} {'ended' if ended else 'cut'} "
-            f"records {session.records} bytes {session.whole_bytes()}\n")
+            f"records {session.records} bytes {session.whole_bytes()} at {shown(moment)}\n")
     if not with_spans:
-        return "" if ended else line
+        return ("" if ended else line) + (f"broken {key[0]} {key[1]}\n" if session.damaged else "")
     spans = "".join(f"span {volume} {number} {first} {last} {start} {end}\n"
                     for number, (volume, first, last, start, end) in enumerate(session.runs, 1))
     return f"{line}session {key[0]} {key[1]}\n{spans}"
@@ -209,10 +219,12 @@ def behind(name, image, at, with_spans):
             yield told(key, session, with_spans)
 
 
-def lines_of(files, names, with_spans):
+def lines_of(files, names, with_spans, expected=()):
     if names is None:
         labels = {name: label_of(name, image) for name, image in files.items() if NAME.fullmatch(name)}
-        yield "".join(sorted(f"foreign {name}\n" for name, label in labels.items() if label is None))
+        for name in sorted(name for name, label in labels.items() if label is None):
+            yield f"damage {name} 0 label\n" if name in expected else f"foreign {name}\n"
+        yield "".join(f"missing {name}\n" for name in expected if name not in labels)
         names = sorted((name for name, label in labels.items() if label), key=lambda name: (labels[name][0], name))
     sessions = {}
     for name in names:
@@ -231,6 +243,33 @@ def scanned(files, names=None):
     return "".join(lines_of(files, names, True))
 
 
-def verified(files):
-    """What `sdtool verify` prints of these files."""
-    return "".join(lines_of(files, None, False))
+def verified(files, expected=()):
+    """What `sdtool verify` prints of these files, and its status; some files are to be volumes."""
+    lines = "".join(lines_of(files, None, False, expected))
+    heads = [line.split()[0] for line in lines.splitlines()]
+    if "damage" in heads or "broken" in heads:
+        return lines, 1
+    if "missing" in heads or "volume" not in heads:
+        return lines, 4
+    return lines, 3 if "session" in heads else 0
+
+
+KEYS = {"foreign": ["volume"], "volume": ["volume", "bytes"], "damage": ["volume", "place", "kind"], "behind": ["volume", "place"],
+        "missing": ["volume"], "broken": ["time", "id"], "ok": ["volumes", "sessions"], "fault": ["fault"]}
+
+
+def as_json(lines):
+    """The lines of a verification as `--json` prints them."""
+    for line in lines.splitlines():
+        word, *rest = line.split()
+        if word == "session":
+            values = {"time": rest[0], "id": rest[1], "job": rest[3], "pool": rest[5], "end": rest[6], "records": rest[8],
+                      "bytes": rest[10], "moment": rest[12]}
+        elif word[0].isdigit():
+            word, values = "refused", {"refusal": line}
+        else:
+            values = dict(zip(KEYS[word], rest[word == "ok":]))
+        texts = ("volume", "pool", "end", "kind", "moment", "fault", "refusal")
+        found = {"line": "done" if word == "ok" else word}
+        found.update({key: value if key in texts else int(value) for key, value in values.items()})
+        yield json.dumps(found, separators=(",", ":")) + "\n"

@@ -12,7 +12,7 @@ use Rattle.sd_arguments.proofs.LineLemmas.{AreGiven, IsOneOf, IsProgram, Named, 
 
 pub tool_is : IsProgram tool_line
 unfolding tool_line
-tool_is = record { simple = refl; helps = refl; wants = refl; one = (refl, (refl, (refl, (refl, (refl, (refl, tt)))))) }
+tool_is = record { simple = refl; helps = refl; wants = refl; one = (refl, (refl, (refl, (refl, (refl, (refl, (refl, tt))))))) }
 
 known : (s : Shape) → IsOneOf s (built tool_line).subs → (s.name ≡ codes "help" → ⊥) → IsToolCommand s.name
 unfolding tool_line
@@ -20,9 +20,10 @@ known s (inl e) none = inl (ap (λ x. x.name) e)
 known s (inr (inl e)) none = inr (inl (ap (λ x. x.name) e))
 known s (inr (inr (inl e))) none = inr (inr (inl (ap (λ x. x.name) e)))
 known s (inr (inr (inr (inl e)))) none = inr (inr (inr (inl (ap (λ x. x.name) e))))
-known s (inr (inr (inr (inr (inl e))))) none = inr (inr (inr (inr (ap (λ x. x.name) e))))
-known s (inr (inr (inr (inr (inr (inl e)))))) none = absurd (none (ap (λ x. x.name) e))
-known s (inr (inr (inr (inr (inr (inr other)))))) none = elim other [ ]
+known s (inr (inr (inr (inr (inl e))))) none = inr (inr (inr (inr (inl (ap (λ x. x.name) e)))))
+known s (inr (inr (inr (inr (inr (inl e)))))) none = inr (inr (inr (inr (inr (ap (λ x. x.name) e)))))
+known s (inr (inr (inr (inr (inr (inr (inl e))))))) none = absurd (none (ap (λ x. x.name) e))
+known s (inr (inr (inr (inr (inr (inr (inr other))))))) none = elim other [ ]
 
 -- the subcommand is one of the tool's
 pub names_command : (words : List Text) (m : ArgMatches) (n : Named tool_line words m) (name : Text) → subcommand_name_of m ≡ Some name → IsToolCommand name
@@ -40,19 +41,21 @@ asks_for words m n name given task named rows is = go task
     go asks.Run h = (n.given.0, n.given.1, n.names, h)
     go (asks.List volume tells) h = (n.given.0, n.given.1, n.names, h)
     go (asks.Read spans folder tells) h = (n.given.0, n.given.1, n.names, h)
-    go (asks.Scan folder volumes tells) h = (n.given.0, n.given.1, n.names, h)
-    go (asks.Verify folder) h = (n.given.0, n.given.1, n.names, h)
+    go (asks.Salvage spans folder tells) h = (n.given.0, n.given.1, n.names, h)
+    go (asks.Scan folder volumes texts tells) h = (n.given.0, n.given.1, n.names, h)
+    go (asks.Verify folder expected json) h = (n.given.0, n.given.1, n.names, h)
     go (asks.Print cause) h = absurd h
     go asks.NoMemory h = absurd h
 
 -- a subcommand that is none of the others runs a script
-pub runs : (name : Text) → IsToolCommand name → (name ≡ codes "ls" → ⊥) → (name ≡ codes "read" → ⊥) → (name ≡ codes "scan" → ⊥)
+pub runs : (name : Text) → IsToolCommand name → (name ≡ codes "ls" → ⊥) → (name ≡ codes "read" → ⊥) → (name ≡ codes "salvage" → ⊥) → (name ≡ codes "scan" → ⊥)
     → (name ≡ codes "verify" → ⊥) → name ≡ codes "run"
-runs name (inl e) ls read scan verify = e
-runs name (inr (inl e)) ls read scan verify = absurd (ls e)
-runs name (inr (inr (inl e))) ls read scan verify = absurd (read e)
-runs name (inr (inr (inr (inl e)))) ls read scan verify = absurd (scan e)
-runs name (inr (inr (inr (inr e)))) ls read scan verify = absurd (verify e)
+runs name (inl e) ls read salvage scan verify = e
+runs name (inr (inl e)) ls read salvage scan verify = absurd (ls e)
+runs name (inr (inr (inl e))) ls read salvage scan verify = absurd (read e)
+runs name (inr (inr (inr (inl e)))) ls read salvage scan verify = absurd (salvage e)
+runs name (inr (inr (inr (inr (inl e))))) ls read salvage scan verify = absurd (scan e)
+runs name (inr (inr (inr (inr (inr e))))) ls read salvage scan verify = absurd (verify e)
 
 words_in : (s : Shape) → IsOneOf s (built tool_line).subs → (rest : List Text) (rows : List Row) → rows ≡ rows_after s.rules [] rest
     → (s.subcommand_negates_reqs ≡ false → AreGiven s.rules rows) → HasItsWords s.name rows
@@ -60,40 +63,53 @@ unfolding tool_line
 words_in s (inl e) rest rows walked given = record {
   ls = λ named. absurd (true≢false (ap (bytes_eq (codes "run")) (sym (ap (λ x. x.name) e) ∙ named)));
   read = λ named. absurd (true≢false (ap (bytes_eq (codes "run")) (sym (ap (λ x. x.name) e) ∙ named)));
+  salvage = λ named. absurd (true≢false (ap (bytes_eq (codes "run")) (sym (ap (λ x. x.name) e) ∙ named)));
   scan = λ named. absurd (true≢false (ap (bytes_eq (codes "run")) (sym (ap (λ x. x.name) e) ∙ named)));
   verify = λ named. absurd (true≢false (ap (bytes_eq (codes "run")) (sym (ap (λ x. x.name) e) ∙ named)));
 }
 words_in s (inr (inl e)) rest rows walked given = record {
   ls = λ named. given_word (codes "VOLUME") s _ rest rows e walked refl refl given (λ all. all.0 refl);
   read = λ named. absurd (true≢false (ap (bytes_eq (codes "ls")) (sym (ap (λ x. x.name) e) ∙ named)));
+  salvage = λ named. absurd (true≢false (ap (bytes_eq (codes "ls")) (sym (ap (λ x. x.name) e) ∙ named)));
   scan = λ named. absurd (true≢false (ap (bytes_eq (codes "ls")) (sym (ap (λ x. x.name) e) ∙ named)));
   verify = λ named. absurd (true≢false (ap (bytes_eq (codes "ls")) (sym (ap (λ x. x.name) e) ∙ named)));
 }
 words_in s (inr (inr (inl e))) rest rows walked given = record {
   ls = λ named. absurd (true≢false (ap (bytes_eq (codes "read")) (sym (ap (λ x. x.name) e) ∙ named)));
   read = λ named. (given_word (codes "SPANS") s _ rest rows e walked refl refl given (λ all. all.0 refl), given_word (codes "FOLDER") s _ rest rows e walked refl refl given (λ all. all.1.0 refl));
+  salvage = λ named. absurd (true≢false (ap (bytes_eq (codes "read")) (sym (ap (λ x. x.name) e) ∙ named)));
   scan = λ named. absurd (true≢false (ap (bytes_eq (codes "read")) (sym (ap (λ x. x.name) e) ∙ named)));
   verify = λ named. absurd (true≢false (ap (bytes_eq (codes "read")) (sym (ap (λ x. x.name) e) ∙ named)));
 }
 words_in s (inr (inr (inr (inl e)))) rest rows walked given = record {
+  ls = λ named. absurd (true≢false (ap (bytes_eq (codes "salvage")) (sym (ap (λ x. x.name) e) ∙ named)));
+  read = λ named. absurd (true≢false (ap (bytes_eq (codes "salvage")) (sym (ap (λ x. x.name) e) ∙ named)));
+  salvage = λ named. (given_word (codes "SPANS") s _ rest rows e walked refl refl given (λ all. all.0 refl), given_word (codes "FOLDER") s _ rest rows e walked refl refl given (λ all. all.1.0 refl));
+  scan = λ named. absurd (true≢false (ap (bytes_eq (codes "salvage")) (sym (ap (λ x. x.name) e) ∙ named)));
+  verify = λ named. absurd (true≢false (ap (bytes_eq (codes "salvage")) (sym (ap (λ x. x.name) e) ∙ named)));
+}
+words_in s (inr (inr (inr (inr (inl e))))) rest rows walked given = record {
   ls = λ named. absurd (true≢false (ap (bytes_eq (codes "scan")) (sym (ap (λ x. x.name) e) ∙ named)));
   read = λ named. absurd (true≢false (ap (bytes_eq (codes "scan")) (sym (ap (λ x. x.name) e) ∙ named)));
+  salvage = λ named. absurd (true≢false (ap (bytes_eq (codes "scan")) (sym (ap (λ x. x.name) e) ∙ named)));
   scan = λ named. given_word (codes "FOLDER") s _ rest rows e walked refl refl given (λ all. all.0 refl);
   verify = λ named. absurd (true≢false (ap (bytes_eq (codes "scan")) (sym (ap (λ x. x.name) e) ∙ named)));
 }
-words_in s (inr (inr (inr (inr (inl e))))) rest rows walked given = record {
+words_in s (inr (inr (inr (inr (inr (inl e)))))) rest rows walked given = record {
   ls = λ named. absurd (true≢false (ap (bytes_eq (codes "verify")) (sym (ap (λ x. x.name) e) ∙ named)));
   read = λ named. absurd (true≢false (ap (bytes_eq (codes "verify")) (sym (ap (λ x. x.name) e) ∙ named)));
+  salvage = λ named. absurd (true≢false (ap (bytes_eq (codes "verify")) (sym (ap (λ x. x.name) e) ∙ named)));
   scan = λ named. absurd (true≢false (ap (bytes_eq (codes "verify")) (sym (ap (λ x. x.name) e) ∙ named)));
   verify = λ named. given_word (codes "FOLDER") s _ rest rows e walked refl refl given (λ all. all.0 refl);
 }
-words_in s (inr (inr (inr (inr (inr (inl e)))))) rest rows walked given = record {
+words_in s (inr (inr (inr (inr (inr (inr (inl e))))))) rest rows walked given = record {
   ls = λ named. absurd (true≢false (ap (bytes_eq (codes "help")) (sym (ap (λ x. x.name) e) ∙ named)));
   read = λ named. absurd (true≢false (ap (bytes_eq (codes "help")) (sym (ap (λ x. x.name) e) ∙ named)));
+  salvage = λ named. absurd (true≢false (ap (bytes_eq (codes "help")) (sym (ap (λ x. x.name) e) ∙ named)));
   scan = λ named. absurd (true≢false (ap (bytes_eq (codes "help")) (sym (ap (λ x. x.name) e) ∙ named)));
   verify = λ named. absurd (true≢false (ap (bytes_eq (codes "help")) (sym (ap (λ x. x.name) e) ∙ named)));
 }
-words_in s (inr (inr (inr (inr (inr (inr other)))))) rest rows walked given = elim other [ ]
+words_in s (inr (inr (inr (inr (inr (inr (inr other))))))) rest rows walked given = elim other [ ]
 
 -- the words that the subcommand requires are there
 pub words_are_given : (words : List Text) (m : ArgMatches) (n : Named tool_line words m) (name : Text) (given : List Row)

@@ -3,7 +3,7 @@ use Rattle.std.specs.Prelude.{◌≡◌, List, [], ◌∷◌, Some, codes, optio
 use Rattle.clap.specs.Words.{App, IsAmong, Row, Rule, Shape, Text, fault_of, first_of, kind_of, new_rule, one_of}
 use Rattle.clap.specs.declared.builder.ArgAction.TheVariants.{Set}
 use Rattle.clap.specs.declared.builder.ValueParser.TheVariants as parser
-use Rattle.sd_arguments.specs.Lines.{IsCountOf, IsFlagOf, NamesCommand, command_shape, flag_rule, program_line, required_rule}
+use Rattle.sd_arguments.specs.Lines.{IsCountOf, IsFlagOf, NamesCommand, command_shape, file_rule, flag_rule, program_line, required_rule}
 use Rattle.sd_arguments.specs.declared.daemon.DaemonTask.{DaemonTask}
 use Rattle.sd_arguments.specs.declared.daemon.DaemonTask.TheVariants.{Check, Serve, Print, NoMemory}
 use Rattle.sd_arguments.specs.declared.daemon.Serving.{Serving}
@@ -25,10 +25,6 @@ talks_rule = count_rule (codes "talks")
 -- `--wait SECONDS`
 abbrev pub wait_rule : Rule
 wait_rule = count_rule (codes "wait")
-
--- `--name FILE`: a word, if it is given
-abbrev pub file_rule : Text → Rule
-file_rule name = record (new_rule name) { long = Some name; action = Some Set; value_names = 1 }
 
 -- `--metrics FILE`
 abbrev pub metrics_rule : Rule

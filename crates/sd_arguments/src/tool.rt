@@ -1,10 +1,10 @@
 // The command line of the tool.
-ghost use Rattle.std.specs.Prelude.{◌≡◌, IfErr, IfOk, Some, [], codes, false, map, string_bytes};
-ghost use Rattle.clap.specs.Words.{HasKind, app_of, fault_of, first_of, found_of, rows_of, rule_of, shape_of};
+ghost use Rattle.std.specs.Prelude.{◌≡◌, IfErr, IfOk, Some, [], codes, false, map, option_map, string_bytes};
+ghost use Rattle.clap.specs.Words.{HasKind, app_of, fault_of, first_of, found_of, one_of, rows_of, rule_of, shape_of};
 ghost use Rattle.clap.specs.declared.builder.command.Command.TheViews.{out-Command as fields_of};
-ghost use Rattle.sd_arguments.specs.Lines.{IsGiven, command_shape, flag_rule, required_rule};
+ghost use Rattle.sd_arguments.specs.Lines.{IsFlagOf, IsGiven, command_shape, file_rule, flag_rule, required_rule};
 ghost use Rattle.sd_arguments.specs.Tool.{AsksTool, HasItsWords, IsProgress, IsToolCommand, IsToolTask, list_shape};
-ghost use Rattle.sd_arguments.specs.Tool.{read_shape, scan_shape, texts_at, tool_line, verify_shape, volumes_rule};
+ghost use Rattle.sd_arguments.specs.Tool.{read_shape, salvage_shape, scan_shape, texts_at, tool_line, verify_shape, volumes_rule};
 
 use crate::status::lacks_memory;
 use clap::{Arg, ArgAction, ArgMatches, Command, Error};
@@ -26,15 +26,26 @@ pub enum ToolTask<'a> {
         folder: &'a str,
         progress: bool,
     },
+    /// To salvage the session whose JobMedia text is in the file `spans`, from the volumes in `folder`, past damage.
+    Salvage {
+        spans: &'a str,
+        folder: &'a str,
+        progress: bool,
+    },
     /// To find the sessions on the volumes of these names in `folder`; of all volumes there if none is named.
     Scan {
         folder: &'a str,
         volumes: Vec<&'a str>,
+        /// The folder in which the JobMedia texts are to be written.
+        texts: Option<&'a str>,
         progress: bool,
     },
     /// To look for damage on all volumes in `folder`.
     Verify {
         folder: &'a str,
+        /// The file that names the volumes that are to be there.
+        expected: Option<&'a str>,
+        json: bool,
     },
     /// To print this: help or the version, or what is wrong with the command line.
     Print(Error),
@@ -51,6 +62,12 @@ const FOLDER: &str = "FOLDER";
 const VOLUMES: &str = "VOLUMES";
 
 const PROGRESS: &str = "progress";
+
+const WRITE: &str = "write";
+
+const EXPECT: &str = "expect";
+
+const JSON: &str = "json";
 
 /// What `words`, the program's name first, ask for.
 pub fn tool_task<'a>(alloc: Global, words: &'a [String]) -> ToolTask<'a>
@@ -94,13 +111,21 @@ fn task_of<'a>(
             folder: word(given, FOLDER),
             progress: progress_of(given),
         }),
+        "salvage" => Ok(ToolTask::Salvage {
+            spans: word(given, SPANS),
+            folder: word(given, FOLDER),
+            progress: progress_of(given),
+        }),
         "scan" => Ok(ToolTask::Scan {
             folder: word(given, FOLDER),
             volumes: words_of(alloc, given, VOLUMES)?,
+            texts: word_if_given(given, WRITE),
             progress: progress_of(given),
         }),
         "verify" => Ok(ToolTask::Verify {
             folder: word(given, FOLDER),
+            expected: word_if_given(given, EXPECT),
+            json: is_given(given, JSON),
         }),
         _ => Ok(ToolTask::Run),
     }
@@ -129,10 +154,24 @@ fn words_of<'a>(
     }
 }
 
+/// The word that was given for an argument that may be left out.
+fn word_if_given<'a>(given: &ArgMatches<'a>, argument: &str) -> Option<&'a str>
+    ensures { option_map (λ w. w.now) result ≡ first_of argument.now (rows_of (found_of given.now)) }
+{
+    given.get_str(argument)
+}
+
 fn progress_of(given: &ArgMatches<'_>) -> bool
     ensures { IsProgress (rows_of (found_of given.now)) result }
 {
-    given.get_flag(PROGRESS)
+    is_given(given, PROGRESS)
+}
+
+/// Whether a flag was given.
+fn is_given(given: &ArgMatches<'_>, flag: &str) -> bool
+    ensures { IsFlagOf (one_of flag.now (rows_of (found_of given.now))) result }
+{
+    given.get_flag(flag)
 }
 
 fn command<'a>(alloc: Global) -> Result<Command<'a>, AllocError>
@@ -141,18 +180,20 @@ fn command<'a>(alloc: Global) -> Result<Command<'a>, AllocError>
     let run = run_command(alloc);
     let list = list_command(alloc)?;
     let read = read_command(alloc)?;
+    let salvage = salvage_command(alloc)?;
     let scan = scan_command(alloc)?;
     let verify = verify_command(alloc)?;
     Command::new(alloc, "sdtool")
         .version("0.1.0")
         .about(
-            "Runs scripts over the core of the storage daemon, lists, scans and verifies volumes, and reads sessions back",
+            "Runs scripts over the core of the storage daemon, lists, scans and verifies volumes, reads sessions back and salvages them",
         )
         .subcommand_required(true)
         .arg_required_else_help(true)
         .subcommand(run)?
         .subcommand(list)?
         .subcommand(read)?
+        .subcommand(salvage)?
         .subcommand(scan)?
         .subcommand(verify)
 }
@@ -192,12 +233,32 @@ fn read_command<'a>(alloc: Global) -> Result<Command<'a>, AllocError>
         .arg(progress)
 }
 
+fn salvage_command<'a>(alloc: Global) -> Result<Command<'a>, AllocError>
+    ensures shape { IfOk result (λ c. shape_of c ≡ salvage_shape) }
+    ensures local { IfOk result (λ c. (fields_of c).has_globals ≡ false) }
+{
+    let spans = required(alloc, SPANS, "The file of the session's JobMedia text");
+    let folder = required(alloc, FOLDER, "The folder of the volumes");
+    let progress = progress(alloc);
+    Command::new(alloc, "salvage")
+        .about("Reads a session back past damage, and writes all its records that are whole")
+        .arg(spans)?
+        .arg(folder)?
+        .arg(progress)
+}
+
 fn scan_command<'a>(alloc: Global) -> Result<Command<'a>, AllocError>
     ensures shape { IfOk result (λ c. shape_of c ≡ scan_shape) }
     ensures local { IfOk result (λ c. (fields_of c).has_globals ≡ false) }
 {
     let folder = required(alloc, FOLDER, "The folder of the volumes");
     let volumes = volumes(alloc);
+    let texts = file_argument(
+        alloc,
+        WRITE,
+        "TEXTS",
+        "Makes a file in this folder for each session, with its JobMedia text",
+    );
     let progress = progress(alloc);
     Command::new(alloc, "scan")
         .about(
@@ -205,6 +266,7 @@ fn scan_command<'a>(alloc: Global) -> Result<Command<'a>, AllocError>
         )
         .arg(folder)?
         .arg(volumes)?
+        .arg(texts)?
         .arg(progress)
 }
 
@@ -213,11 +275,20 @@ fn verify_command<'a>(alloc: Global) -> Result<Command<'a>, AllocError>
     ensures local { IfOk result (λ c. (fields_of c).has_globals ≡ false) }
 {
     let folder = required(alloc, FOLDER, "The folder of the volumes");
+    let expected = file_argument(
+        alloc,
+        EXPECT,
+        "FILE",
+        "Names the volumes that are to be there, one a line",
+    );
+    let json = flag_argument(alloc, JSON, "Prints each line as a JSON object");
     Command::new(alloc, "verify")
         .about(
             "Looks for damage on all volumes of a folder, and for sessions of which not all is there",
         )
-        .arg(folder)
+        .arg(folder)?
+        .arg(expected)?
+        .arg(json)
 }
 
 fn required<'a>(alloc: Global, name: &'a str, help: &'a str) -> Arg<'a>
@@ -242,8 +313,30 @@ fn progress<'a>(alloc: Global) -> Arg<'a>
     ensures rule { rule_of result ≡ flag_rule (codes "progress") }
     ensures local { result.global ≡ false }
 {
-    Arg::new(alloc, PROGRESS)
-        .long(PROGRESS)
+    flag_argument(
+        alloc,
+        PROGRESS,
+        "Writes a line to standard error every 256 MB that are read",
+    )
+}
+
+fn flag_argument<'a>(alloc: Global, name: &'a str, help: &'a str) -> Arg<'a>
+    ensures rule { rule_of result ≡ flag_rule name.entry.now }
+    ensures local { result.global ≡ false }
+{
+    Arg::new(alloc, name)
+        .long(name)
         .action(ArgAction::SetTrue)
-        .help("Writes a line to standard error every 256 MB that are read")
+        .help(help)
+}
+
+fn file_argument<'a>(alloc: Global, name: &'a str, value: &'a str, help: &'a str) -> Arg<'a>
+    ensures rule { rule_of result ≡ file_rule name.entry.now }
+    ensures local { result.global ≡ false }
+{
+    Arg::new(alloc, name)
+        .long(name)
+        .value_name(value)
+        .action(ArgAction::Set)
+        .help(help)
 }

@@ -1,5 +1,6 @@
 pub mod FaultLemmas
 pub mod IndexLemmas
+pub mod JsonLemmas
 pub mod KindLemmas
 pub mod LineLemmas
 pub mod RunLemmas

@@ -16,7 +16,7 @@ use Rattle.sd_unpack.specs.Unpacking.{Unpacking, Unpacks}
 use Rattle.sd_readback.proofs.FaultLemmas.{total_bytes-append}
 use Rattle.sd_readback.proofs.ListLemmas.{push_not_nil}
 use Rattle.sd_readback.proofs.ReaderLemmas.{nothing_held, unpacked_holds}
-use Rattle.sd_scan.specs.Session.{counted, HoldsSome, ReadsTo, Took, Stops}
+use Rattle.sd_scan.specs.Session.{Breaks, counted, HoldsSome, ReadsTo, Took, Stops}
 use Rattle.sd_scan.specs.declared.session.Session.{Session}
 
 -- Of the records that waited, some were counted and let go.
@@ -258,6 +258,13 @@ reads_to bodies view records bytes damaged ended took tells = record {
         let all = all_followed bodies took.front took.rest took.bodies_are (took.whole is).0 in
         let closed = (cutting_unpacked took.front list took.taken view took.unpacks).1 (subst (λ l. Cuts l list true) all cuts) in
         tells.1 (is, ap standing_at closed.1)
+
+-- whether it is broken
+pub breaks : (bodies : List (List ℕ)) (view : Unpacking) (records bytes : ℕ) (damaged : Bool) → Took bodies view records bytes damaged → (d : Bool) → damaged ≡ d → Breaks bodies d
+breaks bodies view records bytes damaged took true is = (took.front, took.rest, took.bodies_are, took.stopped is)
+breaks bodies view records bytes damaged took false is =
+    let all = all_followed bodies took.front took.rest took.bodies_are (took.whole is).0 in
+    (took.taken, subst (λ l. HoldsSome l took.taken) (sym all) (holds_some took.front took.taken view took.unpacks took.none_waits))
 
 pub on_ok : {X E P Q : Type 0} (answer : Result X E) → (P → Q) → OnOk answer P → OnOk answer Q
 on_ok (Ok x) f p = f p

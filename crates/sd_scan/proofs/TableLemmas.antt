@@ -15,7 +15,7 @@ use Rattle.sd_span.specs.Spans.{numbered_from, placements_of, spans_of, stretche
 use Rattle.sd_span.specs.declared.placement.Placement.{Placement}
 use Rattle.sd_volume.specs.Image.{Block}
 use Rattle.sd_scan.specs.Found.{Found, ArePlacements, IsPlacementOf, blocks_in, bodies_of}
-use Rattle.sd_scan.specs.Session.{IsStartOf, ReadsTo, StandsFor}
+use Rattle.sd_scan.specs.Session.{Breaks, IsStartOf, ReadsTo, StandsFor}
 use Rattle.sd_scan.specs.declared.report.Report.{Report}
 use Rattle.sd_scan.specs.Sessions.{KeepsBy, Reports, Stands, keys_behind, keys_of, with_key}
 use Rattle.sd_scan.specs.declared.session.Session.{Session}
@@ -309,9 +309,10 @@ pub told_of : {E : Type 0} (answer : Result Report E) (sessions : List Session) 
     → IfOk answer (λ report. (first : List ℕ) (own : List Placement) (bodies : List (List ℕ)) → StandsFor first own bodies s → report.spans ≡ numbered_from 1 (stretches own))
     → IfOk answer (λ report. report.start ≡ s.start)
     → IfOk answer (λ report. (first : List ℕ) (own : List Placement) (bodies : List (List ℕ)) → StandsFor first own bodies s → ReadsTo bodies report.records report.bytes report.ended)
+    → IfOk answer (λ report. (first : List ℕ) (own : List Placement) (bodies : List (List ℕ)) → StandsFor first own bodies s → Breaks bodies report.broken)
     → IfOk answer (λ report. (found : List Found) (placements : List Placement) → KeepsBy found placements sessions → Reports found placements report)
-told_of (Err e) sessions at s there key spans start reads = tt
-told_of (Ok report) sessions at s there key spans start reads = λ found placements keeps.
+told_of (Err e) sessions at s there key spans start reads breaks = tt
+told_of (Ok report) sessions at s there key spans start reads breaks = λ found placements keeps.
     let stands = keeps.each at s there in record {
       first = stands.first;
       rest = stands.rest;
@@ -319,4 +320,5 @@ told_of (Ok report) sessions at s there key spans start reads = λ found placeme
       start_is = subst (IsStartOf stands.first) (sym start) stands.stands.start_is;
       spans_are = spans stands.first _ _ stands.stands ∙ ap (λ k. spans_of k placements) (sym key);
       reads = subst (λ k. ReadsTo (bodies_of k found) report.records report.bytes report.ended) (sym key) (reads stands.first _ _ stands.stands);
+      breaks = subst (λ k. Breaks (bodies_of k found) report.broken) (sym key) (breaks stands.first _ _ stands.stands);
     }

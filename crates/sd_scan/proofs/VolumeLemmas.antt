@@ -23,16 +23,17 @@ use Rattle.sd_span.specs.declared.placement.Placement.{Placement}
 use Rattle.sd_text.specs.Lines.{line}
 use Rattle.sd_volume.specs.Adopt.{BlockStandsAt}
 use Rattle.sd_volume.specs.Image.{BeginsWithBlock, Block, images}
-use Rattle.sd_scan.specs.Lines.{all_ended, cut_lines, found_of, found_text, line_text, report_lines, reports_lines, whole_lines}
+use Rattle.sd_scan.specs.Lines.{broken_lines, cut_lines, found_of, found_text, of_report, of_reports, of_volumes, report_lines, reports_lines, told_text, unsound_lines, whole_lines, worse}
 use Rattle.sd_scan.specs.declared.line.Found.{Found}
-use Rattle.sd_scan.specs.declared.print.Told.{Told}
 use Rattle.sd_scan.specs.Run.{IsFirstWhole, NoneAt, NoneBetween, RunTo, found_from}
-use Rattle.sd_scan.specs.Scan.{Scans, ScansVolumes, outcome_of}
-use Rattle.sd_scan.specs.declared.volumes.Outcome.{Outcome}
+use Rattle.sd_scan.specs.Scan.{Scans, ScansVolumes}
+use Rattle.sd_scan.specs.declared.outcome.Outcome.{Outcome}
+use Rattle.sd_scan.specs.declared.outcome.Outcome.TheVariants.{Sound, Unended, Damaged}
+use Rattle.sd_scan.specs.declared.told.Told.{Told}
 use Rattle.sd_scan.specs.Volume.{Region, ScansVolume, TellsBehind, TellsRun, damage_line}
 use Rattle.sd_scan.specs.Kind.{IsKind}
 use Rattle.sd_scan.specs.declared.kind.Kind.{Kind}
-use Rattle.sd_scan.specs.declared.line.ScanLine.TheVariants.{Behind, Done}
+use Rattle.sd_scan.specs.declared.line.ScanLine.TheVariants.{Behind, Broken, Done, Session}
 
 -- The first whole block after a place.
 
@@ -91,15 +92,15 @@ some_is : {X : Type 0} {a b : X} → Some a ≡ Some b → a ≡ b
 some_is e = cc
 
 -- what is told of the first of them
-pub record PrintsFirst (told : Told) (found : List FoundBlock) (placements : List Placement) (keys : List SessionKey) (count : ℕ) (due : List ℕ) (ended : Bool) : Type 0 where
+pub record PrintsFirst (told : Told) (found : List FoundBlock) (placements : List Placement) (keys : List SessionKey) (count : ℕ) (due : List ℕ) (outcome : Outcome) : Type 0 where
   pub reports : List Report
   pub keys_are : map (λ r. r.key) reports ≡ take count keys
   pub each : ReportsEach found placements reports
   pub due_is : due ≡ reports_lines told reports
-  pub ended_is : ended ≡ all_ended reports
+  pub outcome_is : outcome ≡ of_reports reports
 
-pub prints_none : (told : Told) (found : List FoundBlock) (placements : List Placement) (keys : List SessionKey) → PrintsFirst told found placements keys 0 [] true
-prints_none told found placements keys = record { reports = []; keys_are = refl; each = tt; due_is = refl; ended_is = refl }
+pub prints_none : (told : Told) (found : List FoundBlock) (placements : List Placement) (keys : List SessionKey) → PrintsFirst told found placements keys 0 [] Sound
+prints_none told found placements keys = record { reports = []; keys_are = refl; each = tt; due_is = refl; outcome_is = refl }
 
 each_more : (found : List FoundBlock) (placements : List Placement) (reports : List Report) (r : Report) → ReportsEach found placements reports → Reports found placements r
     → ReportsEach found placements (reports ++ r ∷ [])
@@ -122,23 +123,41 @@ and_true : (b : Bool) → (b && true) ≡ b
 and_true true = refl
 and_true false = refl
 
+worse_assoc : (a b c : Outcome) → worse (worse a b) c ≡ worse a (worse b c)
+worse_assoc Damaged b c = refl
+worse_assoc Unended Damaged c = refl
+worse_assoc Unended Unended Damaged = refl
+worse_assoc Unended Unended Unended = refl
+worse_assoc Unended Unended Sound = refl
+worse_assoc Unended Sound c = refl
+worse_assoc Sound b c = refl
+
+worse_sound : (a : Outcome) → worse a Sound ≡ a
+worse_sound Damaged = refl
+worse_sound Unended = refl
+worse_sound Sound = refl
+
+of_reports-more : (rs : List Report) (r : Report) → of_reports (rs ++ r ∷ []) ≡ worse (of_reports rs) (of_report r)
+of_reports-more [] r = worse_sound (of_report r)
+of_reports-more (s ∷ rs) r = ap (worse (of_report s)) (of_reports-more rs r) ∙ sym (worse_assoc (of_report s) (of_reports rs) (of_report r))
+
 -- one more
-pub prints_more : (told : Told) (found : List FoundBlock) (placements : List Placement) (keys : List SessionKey) (count : ℕ) (due : List ℕ) (ended both : Bool) (r : Report) (lines : List ℕ)
-    → PrintsFirst told found placements keys count due ended → slice_get keys count ≡ Some r.key → Reports found placements r → lines ≡ report_lines told r → both ≡ (ended && r.ended)
+pub prints_more : (told : Told) (found : List FoundBlock) (placements : List Placement) (keys : List SessionKey) (count : ℕ) (due : List ℕ) (outcome this both : Outcome) (r : Report) (lines : List ℕ)
+    → PrintsFirst told found placements keys count due outcome → slice_get keys count ≡ Some r.key → Reports found placements r → lines ≡ report_lines told r → this ≡ of_report r → both ≡ worse outcome this
     → PrintsFirst told found placements keys (count + 1) (due ++ lines) both
-prints_more told found placements keys count due ended both r lines first key one lines_are both_is = record {
+prints_more told found placements keys count due outcome this both r lines first key one lines_are this_is both_is = record {
   reports = first.reports ++ r ∷ [];
   keys_are = map-append (λ (x : Report). x.key) first.reports (r ∷ []) ∙ ap (λ (l : List SessionKey). l ++ r.key ∷ []) first.keys_are ∙ sym (take_one keys count r.key key);
   each = each_more found placements first.reports r first.each one;
   due_is = ap₂ (λ (x y : List ℕ). x ++ y) first.due_is (lines_are ∙ sym (append-nil (report_lines told r))) ∙ sym (flat_map-append (report_lines told) first.reports (r ∷ []));
-  ended_is = both_is ∙ ap₂ (λ x y. x && y) first.ended_is (sym (and_true r.ended)) ∙ sym (list_all-append (λ (x : Report). x.ended) first.reports (r ∷ []));
+  outcome_is = both_is ∙ ap₂ worse first.outcome_is this_is ∙ sym (of_reports-more first.reports r);
 }
 
 -- all of them
-pub prints_all : (told : Told) (found : List FoundBlock) (placements : List Placement) (s : Sessions) (count : ℕ) (due : List ℕ) (ended : Bool) → KeepsBy found placements (sessions_in s)
-    → length (keys_in s) ≤ count → PrintsFirst told found placements (keys_in s) count due ended
-    → (reports : List Report) × AreReports found reports × (due ≡ reports_lines told reports) × (ended ≡ all_ended reports)
-prints_all told found placements s count due ended keeps many first = (
+pub prints_all : (told : Told) (found : List FoundBlock) (placements : List Placement) (s : Sessions) (count : ℕ) (due : List ℕ) (outcome : Outcome) → KeepsBy found placements (sessions_in s)
+    → length (keys_in s) ≤ count → PrintsFirst told found placements (keys_in s) count due outcome
+    → (reports : List Report) × AreReports found reports × (due ≡ reports_lines told reports) × (outcome ≡ of_reports reports)
+prints_all told found placements s count due outcome keeps many first = (
   first.reports,
   record {
     placements = placements;
@@ -147,7 +166,7 @@ prints_all told found placements s count due ended keeps many first = (
     each = first.each;
   },
   first.due_is,
-  first.ended_is,
+  first.outcome_is,
 )
 
 -- of one session
@@ -156,12 +175,18 @@ pub prints_whole : (a b c : SaidView) (r : Report) (f : Found) (text : List ℕ)
 prints_whole a b c r f text f_is text_is first then =
     says_then a b c (line (found_text (found_of r))) (jobmedia_text r.key r.spans) (subst (λ x. Says a b (line (found_text x))) f_is first) (subst (Says b c) text_is then)
 
-pub prints_ended : (a : SaidView) (r : Report) → r.ended ≡ true → Says a a (cut_lines r.ended (found_of r))
-prints_ended a r is = subst (λ e. Says a a (cut_lines e (found_of r))) (sym is) (says_none a)
+pub prints_ended : (told : Told) (a : SaidView) (r : Report) → r.ended ≡ true → Says a a (cut_lines told r.ended (found_of r))
+prints_ended told a r is = subst (λ e. Says a a (cut_lines told e (found_of r))) (sym is) (says_none a)
 
-pub prints_cut : (a b : SaidView) (r : Report) (f : Found) → r.ended ≡ false → f ≡ found_of r → Says a b (line (found_text f)) → Says a b (cut_lines r.ended (found_of r))
-prints_cut a b r f is f_is says =
-    subst (λ e. Says a b (cut_lines e (found_of r))) (sym is) (subst (λ x. Says a b (line (found_text x))) f_is says)
+pub prints_cut : (told : Told) (a b : SaidView) (r : Report) (f : Found) → r.ended ≡ false → f ≡ found_of r → Says a b (line (told_text told (Session f))) → Says a b (cut_lines told r.ended (found_of r))
+prints_cut told a b r f is f_is says =
+    subst (λ e. Says a b (cut_lines told e (found_of r))) (sym is) (subst (λ x. Says a b (line (told_text told (Session x)))) f_is says)
+
+pub prints_unbroken : (told : Told) (a : SaidView) (r : Report) → r.broken ≡ false → Says a a (broken_lines told r.broken r.key)
+prints_unbroken told a r is = subst (λ e. Says a a (broken_lines told e r.key)) (sym is) (says_none a)
+
+pub prints_broken : (told : Told) (a b : SaidView) (r : Report) → r.broken ≡ true → Says a b (line (told_text told (Broken r.key))) → Says a b (broken_lines told r.broken r.key)
+prints_broken told a b r is says = subst (λ e. Says a b (broken_lines told e r.key)) (sym is) says
 
 -- What comes after damage.
 
@@ -179,7 +204,7 @@ run_goes_on bytes at number end (b ∷ bs) key body (next, stand, ended) begins 
 pub tells_run : (told : Told) (name bytes : List ℕ) (at number end result : ℕ) (more : List FoundBlock) (blocks : List Block) (reports : List Report) (lines : List ℕ) (key : SessionKey) (body : List ℕ)
     → more ≡ found_from name at blocks → RunTo bytes at number blocks end → AreReports more reports → lines ≡ reports_lines told reports → result ≡ max end (at + 1)
     → BeginsWithBlock (drop at bytes) key number body
-    → TellsRun told name bytes at number result (line (line_text (Behind name at)) ++ lines)
+    → TellsRun told name bytes at number result (line (told_text told (Behind name at)) ++ lines)
 tells_run told name bytes at number end result more blocks reports lines key body more_is run are lines_are result_is begins =
     let goes = run_goes_on bytes at number end blocks key body run begins in
     let same : end ≡ result = omega (arith, goes) in
@@ -188,7 +213,7 @@ tells_run told name bytes at number end result more blocks reports lines key bod
       run = subst (RunTo bytes at number blocks) same run;
       reports = reports;
       reports_are = subst (λ (l : List FoundBlock). AreReports l reports) more_is are;
-      due_is = ap (λ (l : List ℕ). line (line_text (Behind name at)) ++ l) lines_are;
+      due_is = ap (λ (l : List ℕ). line (told_text told (Behind name at)) ++ l) lines_are;
     }
 
 -- what was printed from one place on goes on with what is printed from another on
@@ -201,11 +226,11 @@ goes_none told name bytes end rs rest tells = (rs, tells)
 
 pub goes_more : (told : Told) (name bytes : List ℕ) (end from next : ℕ) (due lines : List ℕ) (kind : Kind) (at number : ℕ) → GoesOn told name bytes end from due → from < length bytes
     → IsKind (drop from bytes) kind → IsFirstWhole bytes from at number → TellsRun told name bytes at number next lines
-    → GoesOn told name bytes end next (due ++ (damage_line name from kind ++ lines))
+    → GoesOn told name bytes end next (due ++ (damage_line told name from kind ++ lines))
 goes_more told name bytes end from next due lines kind at number goes within kind_is first tells rs rest then =
     let r : Region = record { kind = kind; at = at; number = number; end = next; due = lines } in
-    let here = goes (r ∷ rs) (damage_line name from kind ++ (lines ++ rest)) (record { within = within; kind_is = kind_is; first = first; tells = tells }, (rest, then, refl)) in
-    (here.0, subst (TellsBehind told name bytes end here.0) (regrouped due (damage_line name from kind) lines rest) here.1)
+    let here = goes (r ∷ rs) (damage_line told name from kind ++ (lines ++ rest)) (record { within = within; kind_is = kind_is; first = first; tells = tells }, (rest, then, refl)) in
+    (here.0, subst (TellsBehind told name bytes end here.0) (regrouped due (damage_line told name from kind) lines rest) here.1)
   where
     regrouped : (a b c d : List ℕ) → a ++ (b ++ (c ++ d)) ≡ (a ++ (b ++ c)) ++ d
     regrouped a b c d = ap (λ (l : List ℕ). a ++ l) (sym (append_assoc b c d)) ∙ sym (append_assoc a (b ++ c) d)
@@ -213,8 +238,8 @@ goes_more told name bytes end from next due lines kind at number goes within kin
 -- damage after which there is no whole block
 pub goes_damaged : (told : Told) (name bytes : List ℕ) (end from : ℕ) (due : List ℕ) (kind : Kind) → GoesOn told name bytes end from due → from < length bytes
     → IsKind (drop from bytes) kind → NoneBetween bytes from (length bytes)
-    → (all : List Region) × TellsBehind told name bytes end all (due ++ damage_line name from kind)
-goes_damaged told name bytes end from due kind goes within kind_is none = goes [] (damage_line name from kind) (inr (within, (kind, kind_is, none, refl)))
+    → (all : List Region) × TellsBehind told name bytes end all (due ++ damage_line told name from kind)
+goes_damaged told name bytes end from due kind goes within kind_is none = goes [] (damage_line told name from kind) (inr (within, (kind, kind_is, none, refl)))
 
 -- the volume's end
 pub goes_ended : (told : Told) (name bytes : List ℕ) (end from : ℕ) (due : List ℕ) → GoesOn told name bytes end from due → length bytes ≤ from
@@ -279,17 +304,17 @@ pub keeps_join : (found more others : List FoundBlock) (s : Sessions) → Keeps 
 keeps_join found more others s keeps = subst (λ (l : List FoundBlock). Keeps l s) (append_assoc found more others) keeps
 
 -- a whole scan
-pub scans_all : (told : Told) (shelf : Shelf) (names : List (List ℕ)) (front lines : List ℕ) (found : List FoundBlock) (undamaged ended : Bool) (reports : List Report) (s : Sessions) (count : ℕ) (outcome : Outcome)
-    → ScansVolumes told shelf names found front undamaged → Keeps found s → AreReports found reports → lines ≡ reports_lines told reports → ended ≡ all_ended reports
-    → count ≡ length (keys_in s) → outcome ≡ outcome_of undamaged ended
-    → Scans told shelf names (front ++ (lines ++ line (line_text (Done (length names) count)))) outcome
-scans_all told shelf names front lines found undamaged ended reports s count outcome volumes keeps are lines_are ended_is count_is outcome_is = record {
+pub scans_all : (told : Told) (shelf : Shelf) (names : List (List ℕ)) (front lines : List ℕ) (found : List FoundBlock) (undamaged : Bool) (volumes_to printed : Outcome) (reports : List Report) (s : Sessions) (count : ℕ) (outcome : Outcome)
+    → ScansVolumes told shelf names found front undamaged → Keeps found s → AreReports found reports → lines ≡ reports_lines told reports → printed ≡ of_reports reports
+    → count ≡ length (keys_in s) → volumes_to ≡ of_volumes undamaged → outcome ≡ worse volumes_to printed
+    → Scans told shelf names (front ++ (lines ++ line (told_text told (Done (length names) count)))) outcome
+scans_all told shelf names front lines found undamaged volumes_to printed reports s count outcome volumes keeps are lines_are printed_is count_is volumes_is outcome_is = record {
   found = found;
   front = front;
   undamaged = undamaged;
   volumes = volumes;
   reports = reports;
   reports_are = are;
-  due_is = ap₂ (λ (l : List ℕ) (n : ℕ). front ++ (l ++ line (line_text (Done (length names) n)))) lines_are (count_is ∙ ap length keeps.1.keys_are);
-  outcome_is = outcome_is ∙ ap (outcome_of undamaged) ended_is;
+  due_is = ap₂ (λ (l : List ℕ) (n : ℕ). front ++ (l ++ line (told_text told (Done (length names) n)))) lines_are (count_is ∙ ap length keeps.1.keys_are);
+  outcome_is = outcome_is ∙ ap₂ worse volumes_is printed_is;
 }

@@ -1,5 +1,7 @@
 -- Blocks that were found on volumes, one after another, and what they say of the session that they are of.
-use Rattle.std.specs.Prelude.{◌≡◌, ◌≢◌, ℕ, ◌+◌, List, [], ◌∷◌, ◌++◌, map, length, Option, Some, None}
+use Rattle.std.specs.Prelude.{◌≡◌, ◌≢◌, ℕ, ◌+◌, ℤ, pos, ◌*ℤ◌, List, [], ◌∷◌, ◌++◌, map, length, Option, Some, None}
+use Rattle.jiff.specs.Words.{IsTimestampNanos, civil_nanos}
+use Rattle.jiff_core.specs.declared.civil.datetime.DateTime.{DateTime}
 use Rattle.sd_base.specs.Limits.{block_header}
 use Rattle.sd_base.specs.declared.number.SessionKey.{SessionKey}
 use Rattle.sd_label.specs.Cutting.{IsStart}
@@ -45,6 +47,11 @@ ArePlacements [] [] = Unit {0}
 ArePlacements [] (p ∷ ps) = ⊥
 ArePlacements (f ∷ fs) [] = ⊥
 ArePlacements (f ∷ fs) (p ∷ ps) = IsPlacementOf f p × ArePlacements fs ps
+
+-- what a clock of UTC shows at a moment, in microseconds since 1970; nothing, if no date has it
+abbrev pub IsShownAt : ℤ → Option DateTime → Type 0
+IsShownAt moment None = ¬ IsTimestampNanos (moment *ℤ pos 1_000)
+IsShownAt moment (Some shown) = civil_nanos shown ≡ moment *ℤ pos 1_000
 
 -- the body begins with this start label
 pub record BeginsWithStart (body : List ℕ) (label : SessionLabel) : Type 0 where

@@ -1,5 +1,6 @@
 pub mod Fault
 pub mod Found
+pub mod Json
 pub mod Kind
 pub mod Lines
 pub mod Run
@@ -7,3 +8,4 @@ pub mod Scan
 pub mod Session
 pub mod Sessions
 pub mod Volume
+pub mod Words

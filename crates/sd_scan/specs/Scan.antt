@@ -5,12 +5,11 @@ use Rattle.sd_scan.specs.Found.{Found}
 use Rattle.sd_scan.specs.Sessions.{AreReports, keys_of}
 use Rattle.sd_scan.specs.declared.report.Report.{Report}
 use Rattle.sd_text.specs.Lines.{line}
-use Rattle.sd_scan.specs.Lines.{all_ended, line_text, reports_lines}
+use Rattle.sd_scan.specs.Lines.{of_reports, of_volumes, reports_lines, told_text, worse}
 use Rattle.sd_scan.specs.Volume.{ScansVolume}
 use Rattle.sd_scan.specs.declared.line.ScanLine.TheVariants.{Done}
-use Rattle.sd_scan.specs.declared.print.Told.{Told}
-use Rattle.sd_scan.specs.declared.volumes.Outcome.{Outcome}
-use Rattle.sd_scan.specs.declared.volumes.Outcome.TheVariants.{Sound, Unsound}
+use Rattle.sd_scan.specs.declared.outcome.Outcome.{Outcome}
+use Rattle.sd_scan.specs.declared.told.Told.{Told}
 
 -- what is printed of the volumes of these names, one after another, and which blocks are found on them before all damage
 abbrev pub ScansVolumes : Told → Shelf → List (List ℕ) → List Found → List ℕ → Bool → Type 0
@@ -19,12 +18,6 @@ ScansVolumes told shelf (name ∷ names) found due undamaged =
     (here : List Found) × (rest : List Found) × (first : List ℕ) × (behind : List ℕ) × (whole : Bool) × (others : Bool)
     × ScansVolume told shelf name here first whole × ScansVolumes told shelf names rest behind others
     × (found ≡ here ++ rest) × (due ≡ first ++ behind) × (undamaged ≡ (whole && others))
-
--- a scan is sound if no volume is damaged, and all of each session is there
-abbrev pub outcome_of : Bool → Bool → Outcome
-outcome_of true true = Sound
-outcome_of true false = Unsound
-outcome_of false ended = Unsound
 
 -- What is printed of volumes. First what is damaged of each and what comes after damage; then the sessions of the
 -- blocks that were found before all damage, and of no others: of each its line, with the spans of its placements; last
@@ -36,5 +29,5 @@ pub record Scans (told : Told) (shelf : Shelf) (names : List (List ℕ)) (due : 
   pub volumes : ScansVolumes told shelf names found front undamaged
   pub reports : List Report
   pub reports_are : AreReports found reports
-  pub due_is : due ≡ front ++ (reports_lines told reports ++ line (line_text (Done (length names) (length (keys_of found)))))
-  pub outcome_is : outcome ≡ outcome_of undamaged (all_ended reports)
+  pub due_is : due ≡ front ++ (reports_lines told reports ++ line (told_text told (Done (length names) (length (keys_of found)))))
+  pub outcome_is : outcome ≡ worse (of_volumes undamaged) (of_reports reports)

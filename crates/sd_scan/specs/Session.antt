@@ -6,7 +6,7 @@ use Rattle.sd_label.specs.declared.label.SessionLabel.{SessionLabel}
 use Rattle.sd_span.specs.Spans.{stretches}
 use Rattle.sd_span.specs.declared.placement.Placement.{Placement}
 use Rattle.sd_unpack.specs.Unpacking.{Unpacking, Unpacks}
-use Rattle.sd_scan.specs.Found.{BeginsWithStart}
+use Rattle.sd_scan.specs.Found.{BeginsWithStart, IsShownAt}
 use Rattle.sd_scan.specs.declared.report.Start.{Start}
 use Rattle.sd_scan.specs.declared.session.Session.{Session}
 
@@ -14,11 +14,12 @@ use Rattle.sd_scan.specs.declared.session.Session.{Session}
 abbrev pub counted : ℕ → ℕ
 counted n = min n (2 ^ 64 - 1)
 
--- The job and the pool are those of the start label that the body begins with; none if it begins with none.
+-- The job, the pool and the moment are those of the start label that the body begins with; none if it begins with none.
 abbrev pub IsStartOf : List ℕ → Option Start → Type 0
 IsStartOf body None = (label : SessionLabel) → ¬ BeginsWithStart body label
 IsStartOf body (Some start) =
     (label : SessionLabel) × BeginsWithStart body label × (start.job ≡ label.job) × (start.pool ≡ label.pool)
+    × IsShownAt label.moment start.moment
 
 -- after these bodies the next one can't come: no cutting of records begins with them and it
 abbrev pub Stops : List (List ℕ) → List (List ℕ) → Type 0
@@ -29,6 +30,11 @@ Stops front (body ∷ rest) = (records : List Record) (standing : Standing) → 
 abbrev pub HoldsSome : List (List ℕ) → List Record → Type 0
 HoldsSome bodies records =
     ((bodies ≡ []) × (records ≡ [])) ⊎ ((standing : Standing) × Holds bodies records standing)
+
+-- Whether a session is broken: after some of its bodies the next one can't come. If it isn't, the bodies hold records.
+abbrev pub Breaks : List (List ℕ) → Bool → Type 0
+Breaks bodies true = (front : List (List ℕ)) × (rest : List (List ℕ)) × (bodies ≡ front ++ rest) × Stops front rest
+Breaks bodies false = (records : List Record) × HoldsSome bodies records
 
 -- What the bodies of a session come to. The records and bytes told are those that are whole in the first of the
 -- bodies, as many of them as begin a cutting; and it is told as ended exactly if all the bodies are a cutting with its

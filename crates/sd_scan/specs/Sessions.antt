@@ -6,7 +6,7 @@ use Rattle.sd_base.specs.declared.number.SessionKey.{SessionKey}
 use Rattle.sd_span.specs.Spans.{placements_of, spans_of}
 use Rattle.sd_span.specs.declared.placement.Placement.{Placement}
 use Rattle.sd_scan.specs.Found.{Found, ArePlacements, bodies_of}
-use Rattle.sd_scan.specs.Session.{IsStartOf, ReadsTo, StandsFor}
+use Rattle.sd_scan.specs.Session.{Breaks, IsStartOf, ReadsTo, StandsFor}
 use Rattle.sd_scan.specs.declared.report.Report.{Report}
 use Rattle.sd_scan.specs.declared.session.Session.{Session}
 use Rattle.sd_scan.specs.declared.sessions.Sessions.{Sessions}
@@ -25,7 +25,7 @@ abbrev pub keys_of : List Found → List SessionKey
 keys_of found = keys_behind [] found
 
 -- What is told of one session of the blocks, which lie at these placements: the start label of its first body, the spans of its
--- own placements, and what its bodies come to.
+-- own placements, what its bodies come to, and whether one of them can't follow those before it.
 pub record Reports (found : List Found) (placements : List Placement) (r : Report) : Type 0 where
   pub first : List ℕ
   pub rest : List (List ℕ)
@@ -33,6 +33,7 @@ pub record Reports (found : List Found) (placements : List Placement) (r : Repor
   pub start_is : IsStartOf first r.start
   pub spans_are : r.spans ≡ spans_of r.key placements
   pub reads : ReadsTo (bodies_of r.key found) r.records r.bytes r.ended
+  pub breaks : Breaks (bodies_of r.key found) r.broken
 
 -- each of them is told so
 abbrev pub ReportsEach : List Found → List Placement → List Report → Type 0

@@ -9,11 +9,11 @@ use Rattle.sd_volume.specs.Adopt.{IsLabelled}
 use Rattle.sd_volume.specs.Image.{Block, WholeImage, label_block, volume_end}
 use Rattle.sd_text.specs.Lines.{line}
 use Rattle.sd_scan.specs.Kind.{IsKind}
-use Rattle.sd_scan.specs.Lines.{line_text, reports_lines}
+use Rattle.sd_scan.specs.Lines.{reports_lines, told_text}
 use Rattle.sd_scan.specs.Run.{IsFirstWhole, NoneBetween, RunTo, found_from}
 use Rattle.sd_scan.specs.declared.kind.Kind.{Kind}
 use Rattle.sd_scan.specs.declared.line.ScanLine.TheVariants.{Volume, Damage, Behind}
-use Rattle.sd_scan.specs.declared.print.Told.{Told}
+use Rattle.sd_scan.specs.declared.told.Told.{Told}
 
 -- the bytes are a volume of this name, whose image has just these blocks, and ends there
 pub record FindsImage (name bytes : List ℕ) (found : List Found) (end : ℕ) : Type 0 where
@@ -38,11 +38,11 @@ pub record TellsRun (told : Told) (name bytes : List ℕ) (at number end : ℕ) 
   pub run : RunTo bytes at number blocks end
   pub reports : List Report
   pub reports_are : AreReports (found_from name at blocks) reports
-  pub due_is : due ≡ line (line_text (Behind name at)) ++ reports_lines told reports
+  pub due_is : due ≡ line (told_text told (Behind name at)) ++ reports_lines told reports
 
 -- the line of damage at a place of a volume
-abbrev pub damage_line : List ℕ → ℕ → Kind → List ℕ
-damage_line name at kind = line (line_text (Damage name at kind))
+abbrev pub damage_line : Told → List ℕ → ℕ → Kind → List ℕ
+damage_line told name at kind = line (told_text told (Damage name at kind))
 
 -- a part of a volume after damage: of which kind that is, where the first whole block after it lies, with which number,
 -- where the blocks end that lie one after another from there on, and what is printed of them
@@ -65,9 +65,9 @@ pub record IsRegion (told : Told) (name bytes : List ℕ) (from : ℕ) (r : Regi
 abbrev pub TellsBehind : Told → List ℕ → List ℕ → ℕ → List Region → List ℕ → Type 0
 TellsBehind told name bytes from [] due =
     ((length bytes ≤ from) × (due ≡ []))
-    ⊎ ((from < length bytes) × ((kind : Kind) × IsKind (drop from bytes) kind × NoneBetween bytes from (length bytes) × (due ≡ damage_line name from kind)))
+    ⊎ ((from < length bytes) × ((kind : Kind) × IsKind (drop from bytes) kind × NoneBetween bytes from (length bytes) × (due ≡ damage_line told name from kind)))
 TellsBehind told name bytes from (r ∷ rs) due =
-    IsRegion told name bytes from r × ((rest : List ℕ) × TellsBehind told name bytes r.end rs rest × (due ≡ damage_line name from r.kind ++ (r.due ++ rest)))
+    IsRegion told name bytes from r × ((rest : List ℕ) × TellsBehind told name bytes r.end rs rest × (due ≡ damage_line told name from r.kind ++ (r.due ++ rest)))
 
 -- What is printed of a volume, and which blocks are found on it before all damage. It is undamaged if these reach to
 -- its end.
@@ -79,5 +79,5 @@ pub record ScansVolume (told : Told) (shelf : Shelf) (name : List ℕ) (found : 
   pub regions : List Region
   pub behind : List ℕ
   pub tells : TellsBehind told name held.bytes end regions behind
-  pub due_is : due ≡ line (line_text (Volume name (length held.bytes))) ++ behind
+  pub due_is : due ≡ line (told_text told (Volume name (length held.bytes))) ++ behind
   pub undamaged_is : undamaged ≡ nat_eq end (length held.bytes)

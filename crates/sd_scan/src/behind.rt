@@ -12,10 +12,11 @@ ghost use Rattle.sd_scan.specs.Volume.{Region, TellsBehind, TellsRun};
 use crate::fault::ScanFault;
 use crate::kind::kind_at;
 use crate::line::ScanLine;
-use crate::print::{Told, print_sessions};
+use crate::print::print_sessions;
 use crate::run::take_run;
 use crate::search::{Whole, next_whole};
 use crate::sessions::Sessions;
+use crate::told::{Told, ToldLine};
 use sd_base::VolName;
 use sd_driver::Driver;
 use sd_text::Printer;
@@ -48,10 +49,13 @@ pub(crate) fn tell_behind<D: Driver, W: Write>(
     let mut from = end;
     while from < size {
         let kind = kind_at(driver, reader, from, size)?;
-        out.line(ScanLine::Damage {
-            volume: name.copy(),
-            at: from,
-            kind,
+        out.line(ToldLine {
+            told,
+            line: ScanLine::Damage {
+                volume: name.copy(),
+                at: from,
+                kind,
+            },
         });
         let Some(whole) = next_whole(driver, reader, from, size)? else {
             return Ok(());
@@ -84,17 +88,20 @@ fn tell_run<D: Driver, W: Write>(
         → (held : Held) → (D.meaning driver.old).shelf.volume reader.old.name ≡ Some held
         → size ≡ length held.bytes
         → (key : SpecKey) (body : List ℕ)
-        → BeginsWithBlock (drop whole.at held.bytes) key whole.number body
-        → IfOk result (λ end. TellsRun told name.now held.bytes whole.at whole.number end due)) }
+        → BeginsWithBlock (drop whole.at held.bytes) key whole.head.number body
+        → IfOk result (λ end. TellsRun told name.now held.bytes whole.at whole.head.number end due)) }
     ensures shows { IsHonest (D.meaning driver.old) → Shows reader.old (D.meaning driver.old).shelf
         → OnOk result (Shows reader.new (D.meaning driver.new).shelf) }
 {
-    out.line(ScanLine::Behind {
-        volume: name.copy(),
-        at: whole.at,
+    out.line(ToldLine {
+        told,
+        line: ScanLine::Behind {
+            volume: name.copy(),
+            at: whole.at,
+        },
     });
     let mut sessions = Sessions::new(alloc);
-    let number = whole.number as u64;
+    let number = whole.head.number as u64;
     let end = take_run(driver, reader, name, whole.at, number, size, &mut sessions)?;
     print_sessions(alloc, &sessions, told, out)?;
     Ok(end_behind(whole.at, end))

@@ -33,7 +33,7 @@ pub enum Kind {
 /// Displays the word for it.
 impl fmt::Display for Kind {
     ghost use Rattle.std.specs.Prelude.{Some};
-    ghost use Rattle.sd_scan.specs.Lines.{kind_text};
+    ghost use Rattle.sd_scan.specs.Words.{kind_text};
 
     ghost output = { λ k. Some (kind_text k) };
 

@@ -1,8 +1,10 @@
 // The lines of a scan.
 ghost use Rattle.std.specs.Prelude.{◌≡◌};
-ghost use Rattle.sd_scan.specs.Lines.{end_word, found_of};
+ghost use Rattle.sd_scan.specs.Lines.{found_of};
+ghost use Rattle.sd_scan.specs.Words.{end_word, shown_moment};
 
 use crate::kind::Kind;
+use crate::moment::Moment;
 use crate::report::{Report, Start};
 use sd_base::{Refusal, SessionKey, VolName};
 use std::fmt;
@@ -31,6 +33,12 @@ pub enum ScanLine {
     },
     /// What was found of a session.
     Session(Found),
+    /// One of the bodies of that session can't follow those before it.
+    Broken(SessionKey),
+    /// A file that is to be a volume, and that no label of its name begins.
+    Unlabelled(VolName),
+    /// A volume that is to be there, and isn't.
+    Missing(VolName),
     /// All volumes were read: how many, and how many sessions are on them.
     Done {
         volumes: usize,
@@ -38,6 +46,8 @@ pub enum ScanLine {
     },
     /// The folder can't be read.
     NoFolder,
+    /// The file of the volumes that are to be there can't be read.
+    NoFile,
     /// The scan is given up.
     Refused(Refusal),
 }
@@ -64,6 +74,17 @@ impl Found {
             bytes: report.bytes,
         }
     }
+
+    // The moment of its start label, if there is one.
+    pub(crate) fn moment(&self) -> Moment
+        ensures { result ≡ shown_moment self.now.start }
+    {
+        let shown = match &self.start {
+            Some(start) => start.moment,
+            None => None,
+        };
+        Moment { shown }
+    }
 }
 
 impl fmt::Display for ScanLine {
@@ -81,8 +102,12 @@ impl fmt::Display for ScanLine {
             }
             ScanLine::Behind { volume, at } => write!(f, "behind {} {at}", volume.as_str()),
             ScanLine::Session(found) => write!(f, "{found}"),
+            ScanLine::Broken(key) => write!(f, "broken {} {}", key.time, key.id),
+            ScanLine::Unlabelled(name) => write!(f, "damage {} 0 label", name.as_str()),
+            ScanLine::Missing(name) => write!(f, "missing {}", name.as_str()),
             ScanLine::Done { volumes, sessions } => write!(f, "ok scan {volumes} {sessions}"),
             ScanLine::NoFolder => write!(f, "fault folder"),
+            ScanLine::NoFile => write!(f, "fault file"),
             ScanLine::Refused(why) => write!(f, "{why}"),
         }
     }
@@ -98,25 +123,26 @@ impl fmt::Display for Found {
         let (time, id) = (self.key.time, self.key.id);
         let end = end_word(self.ended);
         let (records, bytes) = (self.records, self.bytes);
+        let moment = self.moment();
         match &self.start {
             Some(start) => {
                 let job = start.job.get();
                 let pool = start.pool.as_str();
                 write!(
                     f,
-                    "session {time} {id} job {job} pool {pool} {end} records {records} bytes {bytes}"
+                    "session {time} {id} job {job} pool {pool} {end} records {records} bytes {bytes} at {moment}"
                 )
             }
             None => write!(
                 f,
-                "session {time} {id} job 0 pool - {end} records {records} bytes {bytes}"
+                "session {time} {id} job 0 pool - {end} records {records} bytes {bytes} at {moment}"
             ),
         }
     }
 }
 
 // Whether all of a session is there, in a word.
-fn end_word(ended: bool) -> &'static str
+pub(crate) fn end_word(ended: bool) -> &'static str
     ensures { result.now ≡ end_word ended }
 {
     if ended { "ended" } else { "cut" }

@@ -4,45 +4,38 @@ ghost use Rattle.sd_scan.specs.Found.{Found as FoundBlock};
 ghost use Rattle.sd_scan.specs.Sessions.{AreReports, Keeps};
 ghost use Rattle.sd_scan.specs.declared.report.Report.{Report as SpecReport};
 ghost use Rattle.sd_text.specs.Says.{Says, said_view};
-ghost use Rattle.sd_scan.specs.Lines.{all_ended, cut_lines, found_of, report_lines, reports_lines, whole_lines};
+ghost use Rattle.sd_scan.specs.Lines.{broken_lines, cut_lines, found_of, of_reports, report_lines, reports_lines, unsound_lines, whole_lines};
 
 use crate::line::{Found, ScanLine};
+use crate::outcome::Outcome;
 use crate::report::Report;
 use crate::sessions::Sessions;
+use crate::told::{Told, ToldLine};
 use sd_span::put_jobmedia;
 use sd_text::Printer;
 use std::alloc::{AllocError, Global};
 use std::io::Write;
 
-/// What is told of the sessions that are found.
-#[derive(Clone, Copy, Debug, PartialEq, Eq)]
-pub enum Told {
-    /// Each, with the JobMedia text that it is read by.
-    All,
-    /// Those that are cut, without that text.
-    Unsound,
-}
-
-/// Prints what was found of each session, and says whether all of each is there.
+/// Prints what was found of each session, and says what they come to.
 pub(crate) fn print_sessions<W: Write>(
     alloc: Global,
     sessions: &Sessions,
     told: Told,
     out: &mut Printer<W>,
-) -> Result<bool, AllocError>
+) -> Result<Outcome, AllocError>
     ensures { (due : List ℕ)
         × Says (said_view W.contents out.old) (said_view W.contents out.new) due
-        × IfOk result (λ ended. (found : List FoundBlock) → Keeps found sessions.now
+        × IfOk result (λ outcome. (found : List FoundBlock) → Keeps found sessions.now
         → (reports : List SpecReport) × AreReports found reports
-        × (due ≡ reports_lines told reports) × (ended ≡ all_ended reports)) }
+        × (due ≡ reports_lines told reports) × (outcome ≡ of_reports reports)) }
 {
-    let mut ended = true;
+    let mut outcome = Outcome::Sound;
     for at in 0..sessions.len() {
         let report = sessions.report(at)?;
         print_report(alloc, &report, told, out)?;
-        ended = both(ended, report.ended);
+        outcome = outcome.or_worse(Outcome::of_report(&report));
     }
-    Ok(ended)
+    Ok(outcome)
 }
 
 /// Whether the one holds, and the other.
@@ -65,8 +58,8 @@ fn print_report<W: Write>(
 {
     match told {
         Told::All => print_whole(alloc, report, out),
-        Told::Unsound => {
-            print_cut(report, out);
+        Told::Unsound | Told::UnsoundJson => {
+            print_unsound(report, told, out);
             Ok(())
         }
     }
@@ -89,13 +82,38 @@ fn print_whole<W: Write>(
     Ok(())
 }
 
-// Prints the line of a session that is cut.
-fn print_cut<W: Write>(report: &Report, out: &mut Printer<W>)
+// Prints what is not sound of a session.
+fn print_unsound<W: Write>(report: &Report, told: Told, out: &mut Printer<W>)
     ensures { Says (said_view W.contents out.old) (said_view W.contents out.new)
-        (cut_lines report.now.ended (found_of report.now)) }
+        (unsound_lines told report.now) }
+{
+    print_cut(report, told, out);
+    print_broken(report, told, out);
+}
+
+// Prints the line of a session that is cut.
+fn print_cut<W: Write>(report: &Report, told: Told, out: &mut Printer<W>)
+    ensures { Says (said_view W.contents out.old) (said_view W.contents out.new)
+        (cut_lines told report.now.ended (found_of report.now)) }
 {
     if report.ended {
         return;
     }
-    out.line(ScanLine::Session(Found::of(report)));
+    out.line(ToldLine {
+        told,
+        line: ScanLine::Session(Found::of(report)),
+    });
+}
+
+// Prints that a session is broken, if it is.
+fn print_broken<W: Write>(report: &Report, told: Told, out: &mut Printer<W>)
+    ensures { Says (said_view W.contents out.old) (said_view W.contents out.new)
+        (broken_lines told report.now.broken report.now.key) }
+{
+    if report.broken {
+        out.line(ToldLine {
+            told,
+            line: ScanLine::Broken(report.key),
+        });
+    }
 }

@@ -1,6 +1,7 @@
 // What is told of a session.
 ghost use Rattle.std.specs.Prelude.{◌≡◌};
 
+use jiff::civil::DateTime;
 use sd_base::{Items, JobId, PoolName, SessionKey};
 use sd_span::Span;
 
@@ -9,16 +10,20 @@ use sd_span::Span;
 pub struct Start {
     pub job: JobId,
     pub pool: PoolName,
+    /// What a clock of UTC shows at its moment; none if no date has that.
+    pub moment: Option<DateTime>,
 }
 
-/// What was found of a session: its job and pool, if the first of its bodies begins with a start
-/// label; whether all of it is there, up to its end label; how many records are whole in the bodies
-/// before the first that can't follow, and their data bytes; and the spans of its blocks.
+/// What was found of a session: its job, pool and moment, if the first of its bodies begins with a start
+/// label; whether all of it is there, up to its end label; whether it is broken, since one of its
+/// bodies can't follow those before it; how many records are whole in the bodies before the first
+/// that can't follow, and their data bytes; and the spans of its blocks.
 #[derive(Drop)]
 pub struct Report {
     pub key: SessionKey,
     pub start: Option<Start>,
     pub ended: bool,
+    pub broken: bool,
     pub records: u64,
     pub bytes: u64,
     pub spans: Items<Span>,
@@ -33,6 +38,7 @@ impl Start {
         Some(Start {
             job: start.job,
             pool: start.pool.copy(),
+            moment: start.moment,
         })
     }
 }

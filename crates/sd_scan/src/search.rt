@@ -6,24 +6,25 @@ ghost use Rattle.sd_block.specs.declared.head.Head.{Head as SpecHead};
 ghost use Rattle.sd_driver.specs.Meaning.{IsHonest};
 ghost use Rattle.sd_driver.specs.Shelf.{Held};
 ghost use Rattle.sd_volume.specs.Device.{OnlyReads};
-ghost use Rattle.sd_volume.specs.Reader.{Shows};
+ghost use Rattle.sd_volume.specs.Image.{BeginsWithBlock};
+ghost use Rattle.sd_volume.specs.Reader.{IsBlockOf, Shows};
 ghost use Rattle.sd_scan.specs.Run.{IsFirstWhole, NoneBetween};
 
 use sd_base::{BLOCK_HEADER, MOST_BLOCK};
-use sd_block::read_head;
+use sd_block::{Head, read_head};
 use sd_driver::{Driver, DriverFault};
 use sd_volume::{VolumeReader, next_block};
 
-/// A whole block: where it lies, and its number.
+/// A whole block: where it lies, and its head.
 #[derive(Clone, Copy, Debug, PartialEq, Eq)]
-pub(crate) struct Whole {
-    pub(crate) at: u64,
-    pub(crate) number: u32,
+pub struct Whole {
+    pub at: u64,
+    pub head: Head,
 }
 
-/// The first place from `from` on at which there is a whole block, whatever its number, on a volume
-/// of that size.
-pub(crate) fn next_whole<D: Driver>(
+/// The first whole block from `from` on, whatever its number, that begins before `size`. The reader
+/// shows it then.
+pub fn next_whole<D: Driver>(
     driver: &mut D,
     reader: &mut VolumeReader,
     from: u64,
@@ -38,12 +39,16 @@ pub(crate) fn next_whole<D: Driver>(
         (λ whole. (from ≤ whole.at) × (whole.at < size))) }
     ensures found { IsHonest (D.meaning driver.old) → Shows reader.old (D.meaning driver.old).shelf
         → (held : Held) → (D.meaning driver.old).shelf.volume reader.old.name ≡ Some held
-        → size ≡ length held.bytes
         → IfOk result (λ found. IfSome found
-        (λ whole. IsFirstWhole held.bytes from whole.at whole.number)) }
+        (λ whole. IsFirstWhole held.bytes from whole.at whole.head.number)) }
+    ensures block { IfOk result (λ found. IfSome found
+        (λ whole. IsBlockOf reader.new.shown whole.head)) }
+    ensures there { IsHonest (D.meaning driver.old) → Shows reader.old (D.meaning driver.old).shelf
+        → (held : Held) → (D.meaning driver.old).shelf.volume reader.old.name ≡ Some held
+        → IfOk result (λ found. IfSome found (λ whole. BeginsWithBlock (drop whole.at held.bytes)
+        whole.head.key whole.head.number (drop block_header reader.new.shown))) }
     ensures none { IsHonest (D.meaning driver.old) → Shows reader.old (D.meaning driver.old).shelf
         → (held : Held) → (D.meaning driver.old).shelf.volume reader.old.name ≡ Some held
-        → size ≡ length held.bytes
         → IfOk result (λ found. IfNone found (NoneBetween held.bytes from size)) }
     ensures shows { IsHonest (D.meaning driver.old) → Shows reader.old (D.meaning driver.old).shelf
         → OnOk result (Shows reader.new (D.meaning driver.new).shelf) }
@@ -56,10 +61,7 @@ pub(crate) fn next_whole<D: Driver>(
             return Ok(None);
         }
         if let Some(head) = next_block(driver, reader, at)? {
-            return Ok(Some(Whole {
-                at,
-                number: head.number,
-            }));
+            return Ok(Some(Whole { at, head }));
         }
         at += 1;
     }

@@ -1,13 +1,13 @@
 // One session, as far as its blocks have come.
 ghost use Rattle.std.specs.Prelude.{◌≡◌, ◌↔◌, ◌+◌, ◌∷◌, ◌++◌, [], ℕ, List, length, OnOk, IfOk, IsTrue, Some, false};
 ghost use Rattle.sd_label.specs.Cutting.{AtEnd, total_bytes};
-ghost use Rattle.sd_scan.specs.Session.{counted, IsStartOf, StandsFor, Took, ReadsTo};
+ghost use Rattle.sd_scan.specs.Session.{counted, Breaks, IsStartOf, StandsFor, Took, ReadsTo};
 ghost use Rattle.sd_span.specs.Spans.{EndFits, stretches, numbered_from};
 ghost use Rattle.sd_span.specs.declared.placement.Placement.{Placement as SpecPlacement};
 ghost use Rattle.sd_unpack.specs.Stage.{standing_at};
 
 use crate::report::{Report, Start};
-use crate::start::start_label_in;
+use crate::start::{shown_at, start_label_in};
 use sd_base::SessionKey;
 use sd_label::SessionLabel;
 use sd_span::{Placement, Span, grow, numbered};
@@ -123,11 +123,15 @@ impl Session {
         ensures reads { IfOk result (λ report. (first : List ℕ) (own : List SpecPlacement)
             (bodies : List (List ℕ)) → StandsFor first own bodies self.now
             → ReadsTo bodies report.records report.bytes report.ended) }
+        ensures breaks { IfOk result (λ report. (first : List ℕ) (own : List SpecPlacement)
+            (bodies : List (List ℕ)) → StandsFor first own bodies self.now
+            → Breaks bodies report.broken) }
     {
         Ok(Report {
             key: self.key,
             start: Start::copy_of(&self.start),
             ended: self.is_ended(),
+            broken: self.damaged,
             records: self.records,
             bytes: self.bytes,
             spans: numbered(alloc, &self.stretches)?,
@@ -135,10 +139,19 @@ impl Session {
     }
 }
 
-// The job and the pool that a body's start label says, if it begins with one.
+// The job, the pool and the moment that a body's start label says, if it begins with one.
 fn start_in(body: &[u8]) -> Option<Start>
     ensures { IsStartOf body.now result }
 {
-    let SessionLabel { job, pool, .. } = start_label_in(body)?;
-    Some(Start { job, pool })
+    let SessionLabel {
+        job,
+        pool,
+        moment,
+        ..
+    } = start_label_in(body)?;
+    Some(Start {
+        job,
+        pool,
+        moment: shown_at(moment),
+    })
 }

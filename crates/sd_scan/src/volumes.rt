@@ -7,15 +7,17 @@ ghost use Rattle.sd_scan.specs.Sessions.{Keeps};
 ghost use Rattle.sd_text.specs.Says.{Says, said_view};
 ghost use Rattle.sd_volume.specs.Device.{OnlyReads};
 ghost use Rattle.sd_volume.specs.Reader.{Shows};
-ghost use Rattle.sd_scan.specs.Scan.{Scans, ScansVolumes, outcome_of};
+ghost use Rattle.sd_scan.specs.Scan.{Scans, ScansVolumes};
 ghost use Rattle.sd_scan.specs.Volume.{FindsOn, ScansVolume};
 
 use crate::behind::tell_behind;
 use crate::fault::ScanFault;
 use crate::line::ScanLine;
-use crate::print::{Told, both, print_sessions};
+use crate::outcome::Outcome;
+use crate::print::{both, print_sessions};
 use crate::run::take_run;
 use crate::sessions::Sessions;
+use crate::told::{Told, ToldLine};
 use sd_base::VolName;
 use sd_driver::Driver;
 use sd_text::Printer;
@@ -23,13 +25,11 @@ use sd_volume::{VolumeReader, read_label};
 use std::alloc::Global;
 use std::io::Write;
 
-/// What a scan came to.
-#[derive(Clone, Copy, Debug, PartialEq, Eq)]
-pub enum Outcome {
-    /// Nothing is damaged, and all of each session is there.
-    Sound,
-    /// Something is damaged, or of some session not all is there.
-    Unsound,
+/// A scan that was not given up: what it came to, and the sessions of the blocks before all damage.
+#[derive(Drop)]
+pub struct Scanned {
+    pub outcome: Outcome,
+    pub sessions: Sessions,
 }
 
 /// Reads the volumes of these names to their ends, in that order, and prints what is damaged of
@@ -44,32 +44,26 @@ pub fn scan<D: Driver, W: Write>(
     names: &[VolName],
     told: Told,
     out: &mut Printer<W>,
-) -> Result<Outcome, ScanFault>
+) -> Result<Scanned, ScanFault>
     ensures device { OnlyReads (IsErrOf result ScanFault.Device)
         (D.meaning driver.old) (D.meaning driver.new) }
     ensures scans { (due : List ℕ)
         × Says (said_view W.contents out.old) (said_view W.contents out.new) due
         × (IsHonest (D.meaning driver.old) → IfOk result
-        (λ outcome. Scans told (D.meaning driver.old).shelf names.now due outcome)) }
+        (λ scanned. Scans told (D.meaning driver.old).shelf names.now due scanned.outcome)) }
 {
     let mut sessions = Sessions::new(alloc);
     let undamaged = scan_volumes(alloc, driver, names, told, &mut sessions, out)?;
-    let ended = print_sessions(alloc, &sessions, told, out)?;
-    out.line(ScanLine::Done {
-        volumes: names.len(),
-        sessions: sessions.len(),
+    let printed = print_sessions(alloc, &sessions, told, out)?;
+    out.line(ToldLine {
+        told,
+        line: ScanLine::Done {
+            volumes: names.len(),
+            sessions: sessions.len(),
+        },
     });
-    Ok(outcome_of(undamaged, ended))
-}
-
-fn outcome_of(undamaged: bool, ended: bool) -> Outcome
-    ensures { result ≡ outcome_of undamaged ended }
-{
-    if undamaged && ended {
-        Outcome::Sound
-    } else {
-        Outcome::Unsound
-    }
+    let outcome = Outcome::of_volumes(undamaged).or_worse(printed);
+    Ok(Scanned { outcome, sessions })
 }
 
 // Reads the volumes of these names, and says whether none is damaged.
@@ -118,9 +112,12 @@ fn scan_volume<D: Driver, W: Write>(
 {
     let size = driver.len(name)?;
     let mut reader = VolumeReader::new(alloc, name)?;
-    out.line(ScanLine::Volume {
-        name: name.copy(),
-        size,
+    out.line(ToldLine {
+        told,
+        line: ScanLine::Volume {
+            name: name.copy(),
+            size,
+        },
     });
     let end = take_image(driver, &mut reader, name, size, sessions)?;
     tell_behind(alloc, driver, &mut reader, name, end, size, told, out)?;

@@ -22,9 +22,9 @@ use Rattle.sd_world.proofs.EndLemmas.{spans_all}
 use Rattle.sd_world.proofs.ReachLemmas.{of_if}
 use Rattle.sd_scan.specs.Scan.{Scans, ScansVolumes}
 use Rattle.sd_scan.specs.Volume.{ScansVolume}
-use Rattle.sd_scan.specs.declared.print.Told.{Told}
-use Rattle.sd_scan.specs.declared.print.Told.TheVariants as ways
-use Rattle.sd_scan.specs.declared.volumes.Outcome.{Outcome}
+use Rattle.sd_scan.specs.declared.told.Told.{Told}
+use Rattle.sd_scan.specs.declared.told.Told.TheVariants as ways
+use Rattle.sd_scan.specs.declared.outcome.Outcome.{Outcome}
 use Rattle.sd_session.specs.Session.{parts_of}
 use Rattle.sd_session.specs.declared.status.Status.{Status}
 use Rattle.sd_session.specs.declared.status.Status.TheVariants.{Closed}

@@ -19,8 +19,8 @@ use Rattle.sd_scan.specs.Lines.{found_of, found_text, line_text, report_lines, r
 use Rattle.sd_scan.specs.Scan.{Scans}
 use Rattle.sd_scan.specs.declared.line.Found.{Found as FoundSession}
 use Rattle.sd_scan.specs.declared.line.ScanLine.TheVariants.{Done}
-use Rattle.sd_scan.specs.declared.print.Told.TheVariants as told
-use Rattle.sd_scan.specs.declared.volumes.Outcome.{Outcome}
+use Rattle.sd_scan.specs.declared.told.Told.TheVariants as told
+use Rattle.sd_scan.specs.declared.outcome.Outcome.{Outcome}
 use Rattle.sd_driver.specs.Shelf.{Shelf}
 use Rattle.sd_span.specs.JobMedia.{jobmedia_text}
 use Rattle.sd_span.specs.Spans.{numbered_from, spans_of, stretches}

@@ -15,8 +15,8 @@ use Rattle.sd_readback.specs.Reading.{blocks_of, volumes_on}
 use Rattle.sd_scan.specs.Lines.{found_text}
 use Rattle.sd_scan.specs.Scan.{Scans}
 use Rattle.sd_scan.specs.declared.line.Found.{Found}
-use Rattle.sd_scan.specs.declared.print.Told.TheVariants as told
-use Rattle.sd_scan.specs.declared.volumes.Outcome.{Outcome}
+use Rattle.sd_scan.specs.declared.told.Told.TheVariants as told
+use Rattle.sd_scan.specs.declared.outcome.Outcome.{Outcome}
 use Rattle.sd_session.specs.declared.status.Status.TheVariants as status
 use Rattle.sd_span.specs.JobMedia.{jobmedia_text}
 use Rattle.sd_span.specs.Spans.{placements_of}

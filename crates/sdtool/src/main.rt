@@ -1,6 +1,6 @@
 //! The storage daemon's tool: plays scripts, and lists, reads, scans and verifies volumes. `sdtool run` reads a script on standard
 //! input, runs it over the core and prints what each line of it comes to; `sdtool ls` lists a volume; `sdtool read` reads a
-//! session back from its volumes; `sdtool scan` finds the sessions on volumes, and `sdtool verify` what is damaged of them.
+//! session back from its volumes, `sdtool salvage` past damage; `sdtool scan` finds the sessions on volumes, and `sdtool verify` what is damaged of them.
 #![tactic(auto)]
 
 use sd_arguments::{ToolTask, status_of, tool_task};
@@ -8,7 +8,8 @@ use sd_base::Refusal;
 use sd_files::{Extracted, ShownProgress, list_volume, read_back};
 use sd_lane::Lanes;
 use sd_ruled::RuledLanes;
-use sd_scan::{Told, scan_folder, scan_named};
+use sd_salvage::{Salvage, salvage_back};
+use sd_scan::{Told, scan_folder, scan_named, verify_folder};
 use sd_text::Printer;
 use sd_tool::{memory_drives, read_settings, run_lines};
 use std::io::{BufReader, BufWriter};
@@ -35,12 +36,22 @@ fn main(rt: HostRuntime) -> ExitCode {
             folder,
             progress,
         } => read(&rt, spans, folder, ShownProgress::asked(progress)),
+        ToolTask::Salvage {
+            spans,
+            folder,
+            progress,
+        } => salvage(&rt, spans, folder, ShownProgress::asked(progress)),
         ToolTask::Scan {
             folder,
             volumes,
+            texts,
             progress,
-        } => scan(&rt, folder, &volumes, ShownProgress::asked(progress)),
-        ToolTask::Verify { folder } => verify(&rt, folder),
+        } => scan(&rt, folder, &volumes, texts, ShownProgress::asked(progress)),
+        ToolTask::Verify {
+            folder,
+            expected,
+            json,
+        } => verify(&rt, folder, expected, json),
         ToolTask::Print(told) => match told.print(&rt) {
             Ok(()) => ExitCode::from(status_of(&told)),
             Err(_) => ExitCode::FAILURE,
@@ -90,28 +101,49 @@ fn read(rt: &HostRuntime, spans: &str, folder: &str, progress: ShownProgress) ->
     ExitCode::from(status)
 }
 
+/// Salvages a session by the text in the file `spans`, from the volumes in `folder`, past damage.
+fn salvage(rt: &HostRuntime, spans: &str, folder: &str, progress: ShownProgress) -> ExitCode {
+    let Ok(writer) = BufWriter::new(rt.alloc(), io::writer(rt)) else {
+        return without_memory(rt);
+    };
+    let Salvage { out, status } = salvage_back(rt, spans, folder, progress, Printer::new(writer));
+    let _ = out.into_writer().into_parts();
+    ExitCode::from(status)
+}
+
 /// Finds the sessions on these volumes of a folder, or on all of them if none is named.
-fn scan(rt: &HostRuntime, folder: &str, volumes: &[&str], progress: ShownProgress) -> ExitCode {
+fn scan(
+    rt: &HostRuntime,
+    folder: &str,
+    volumes: &[&str],
+    texts: Option<&str>,
+    progress: ShownProgress,
+) -> ExitCode {
     let Ok(writer) = BufWriter::new(rt.alloc(), io::writer(rt)) else {
         return without_memory(rt);
     };
     let mut out = Printer::new(writer);
     let status = if volumes.is_empty() {
-        scan_folder(rt, folder, Told::All, progress, &mut out)
+        scan_folder(rt, folder, texts, progress, &mut out)
     } else {
-        scan_named(rt, folder, volumes, progress, &mut out)
+        scan_named(rt, folder, volumes, texts, progress, &mut out)
     };
     let _ = out.into_writer().into_parts();
     ExitCode::from(status)
 }
 
 /// Looks for damage on all volumes of a folder, and tells how far it has come.
-fn verify(rt: &HostRuntime, folder: &str) -> ExitCode {
+fn verify(rt: &HostRuntime, folder: &str, expected: Option<&str>, json: bool) -> ExitCode {
     let Ok(writer) = BufWriter::new(rt.alloc(), io::writer(rt)) else {
         return without_memory(rt);
     };
     let mut out = Printer::new(writer);
-    let status = scan_folder(rt, folder, Told::Unsound, ShownProgress::Told, &mut out);
+    let told = if json {
+        Told::UnsoundJson
+    } else {
+        Told::Unsound
+    };
+    let status = verify_folder(rt, folder, expected, told, &mut out);
     let _ = out.into_writer().into_parts();
     ExitCode::from(status)
 }

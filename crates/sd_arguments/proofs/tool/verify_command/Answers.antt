@@ -6,6 +6,12 @@ use Rattle.sd_arguments.proofs.tool.verify_command.Goals as goal
 
 pub returns : goal.returns
 returns c = record {
-  shape = IfOk-weaker c.arg.result _ _ (λ r h. ap (λ (a : App). a.top) (with_argument _ _ h c.required-folder.ensures.local (told c.new.result c.about.result (codes "verify") _ c.new.ensures.app c.about.ensures) c.required-folder.ensures.rule)) c.arg.ensures;
-  local = IfOk-weaker c.arg.result _ _ (λ r h. (still_local h c.required-folder.ensures.local (search rules))) c.arg.ensures;
+  shape = IfOk-weaker c.arg-3.result _ _ (λ r h. ap (λ (a : App). a.top)
+      (with_argument _ _ h c.flag_argument-json.ensures.local
+      (with_argument _ _ c.in_ok-arg-2.ensures c.file_argument-expected.ensures.local
+      (with_argument _ _ c.in_ok-arg.ensures c.required-folder.ensures.local (told c.new.result c.about.result (codes "verify") _ c.new.ensures.app c.about.ensures) c.required-folder.ensures.rule)
+      c.file_argument-expected.ensures.rule) c.flag_argument-json.ensures.rule)) c.arg-3.ensures;
+  local = IfOk-weaker c.arg-3.result _ _ (λ r h. still_local h c.flag_argument-json.ensures.local
+      (still_local c.in_ok-arg-2.ensures c.file_argument-expected.ensures.local
+      (still_local c.in_ok-arg.ensures c.required-folder.ensures.local (search rules)))) c.arg-3.ensures;
 }

@@ -3,7 +3,7 @@ use Rattle.sd_text.specs.Says.{said_view}
 use Rattle.sd_scan.proofs.print.print_cut.Goals as goal
 
 pub returns-then-report : goal.returns-then-report
-returns-then-report g c = prints_ended _ c.args.report.now c.if-report.true
+returns-then-report g c = prints_ended c.args.told _ c.args.report.now c.if-report.true
 
 pub returns : goal.returns
-returns g c = prints_cut (said_view g.W.Write.contents c.args.out.now) (said_view g.W.Write.contents c.line.new.self) c.args.report.now c.of.result c.if-report.false c.of.ensures c.line.ensures.says
+returns g c = prints_cut c.args.told (said_view g.W.Write.contents c.args.out.now) (said_view g.W.Write.contents c.line.new.self) c.args.report.now c.of.result c.if-report.false c.of.ensures c.line.ensures.says

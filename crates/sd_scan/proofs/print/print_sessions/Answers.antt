@@ -16,8 +16,8 @@ loop-at-preserved g c =
       so_far.0 ++ printed.0,
       says_then _ (said_view g.W.Write.contents c.loop-at.out) _ so_far.0 printed.0 so_far.1 printed.1,
       λ found placements keeps.
-          prints_more c.args.told found placements (keys_in c.args.sessions.now) c.loop-at.at so_far.0 c.loop-at.ended c.both-ended.result c.in_ok-report.report printed.0
-          (so_far.2 found placements keeps) c.in_ok-report.ensures.key (c.in_ok-report.ensures.reports found placements keeps) printed.2 c.both-ended.ensures,
+          prints_more c.args.told found placements (keys_in c.args.sessions.now) c.loop-at.at so_far.0 c.loop-at.outcome c.of_report.result c.or_worse-outcome.result c.in_ok-report.report printed.0
+          (so_far.2 found placements keeps) c.in_ok-report.ensures.key (c.in_ok-report.ensures.reports found placements keeps) printed.2 c.of_report.ensures c.or_worse-outcome.ensures,
     )
 
 pub returns-in_err-report : goal.returns-in_err-report
@@ -37,5 +37,5 @@ returns g c =
     let so_far = c.loop-at.invariant in (
       so_far.0,
       so_far.1,
-      λ found keeps. prints_all c.args.told found keeps.0 c.args.sessions.now c.loop-at.at so_far.0 c.loop-at.ended keeps.1 (omega (arith, c.loop-at-test.false, c.len-at-end.ensures)) (so_far.2 found keeps.0 keeps.1),
+      λ found keeps. prints_all c.args.told found keeps.0 c.args.sessions.now c.loop-at.at so_far.0 c.loop-at.outcome keeps.1 (omega (arith, c.loop-at-test.false, c.len-at-end.ensures)) (so_far.2 found keeps.0 keeps.1),
     )

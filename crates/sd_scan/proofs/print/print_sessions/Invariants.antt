@@ -10,4 +10,4 @@ abbrev pub invariant-loop-at : goal.invariant-loop-at
 invariant-loop-at g l =
     (due : List ℕ) × Says (said_view g.W.Write.contents l.initial.out) (said_view g.W.Write.contents l.out) due
     × ((found : List Found) (placements : List Placement) → KeepsBy found placements (sessions_in l.sessions)
-    → PrintsFirst l.told found placements (keys_in l.sessions) l.at due l.ended)
+    → PrintsFirst l.told found placements (keys_in l.sessions) l.at due l.outcome)

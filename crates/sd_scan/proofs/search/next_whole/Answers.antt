@@ -5,6 +5,7 @@ use Rattle.sd_base.specs.Limits.{most_block}
 use Rattle.sd_volume.proofs.DeviceLemmas.{OnlyReads-trans, OnlyReads-as}
 use Rattle.sd_volume.proofs.AdoptLemmas.{shown_stands}
 use Rattle.sd_scan.specs.Run.{NoneBetween}
+use Rattle.sd_scan.proofs.RunLemmas.{shown_begins}
 use Rattle.sd_scan.proofs.VolumeLemmas.{between_headless, between_less, between_more, between_start, first_whole}
 use Rattle.sd_scan.proofs.search.next_whole.Goals as goal
 
@@ -45,7 +46,7 @@ returns-in-Some-clause-device g c =
     (OnlyReads-as _ _ _ _ (λ f. cc) (λ f. cc) c.in_ok-head.ensures.device)
 
 pub returns-then-at-size-clause-none : goal.returns-then-at-size-clause-none
-returns-then-at-size-clause-none g c = λ honest shows held there size.
+returns-then-at-size-clause-none g c = λ honest shows held there.
     let so_far = c.loop-at.invariant in
     let fill = c.in_ok-fill.ensures in
     let volume_0 = (g.D.Driver.meaning c.loop-at.driver).shelf.volume in
@@ -61,7 +62,7 @@ returns-then-at-size-clause-none g c = λ honest shows held there size.
     between_less held.bytes c.args.from c.saturating_add-at.result c.args.size c.if-at-size.true none
 
 pub returns-in-Some-clause-found : goal.returns-in-Some-clause-found
-returns-in-Some-clause-found g c = λ honest shows held there size.
+returns-in-Some-clause-found g c = λ honest shows held there.
     let so_far = c.loop-at.invariant in
     let fill = c.in_ok-fill.ensures in
     let volume_0 = (g.D.Driver.meaning c.loop-at.driver).shelf.volume in
@@ -83,6 +84,25 @@ returns-in-Some-clause-found g c = λ honest shows held there size.
     let part = (rw c.in-Some.is at (next.there honest_2 shows_2)) held there_3 in
     let stands = shown_stands held.bytes c.next_block.new.reader.shown c.saturating_add-at.result c.in-Some.head part block in
     first_whole held.bytes c.args.from c.saturating_add-at.result c.in-Some.head (omega (arith, so_far.from, c.saturating_add-at.ensures, c.loop-at-test.true)) stands none
+
+pub returns-in-Some-clause-block : goal.returns-in-Some-clause-block
+returns-in-Some-clause-block g c = rw c.in-Some.is at c.in_ok-head.ensures.block
+
+pub returns-in-Some-clause-there : goal.returns-in-Some-clause-there
+returns-in-Some-clause-there g c = λ honest shows held there.
+    let so_far = c.loop-at.invariant in
+    let fill = c.in_ok-fill.ensures in
+    let volume_0 = (g.D.Driver.meaning c.loop-at.driver).shelf.volume in
+    let volume_1 = (g.D.Driver.meaning c.fill.new.driver).shelf.volume in
+    let honest_1 = subst IsTrue (sym so_far.device.counted.honest) honest in
+    let honest_2 = subst IsTrue (sym fill.device.counted.honest) honest_1 in
+    let there_1 : volume_0 c.loop-at.reader.name ≡ Some held = ap volume_0 so_far.name ∙ (so_far.device.same honest _ ∙ there) in
+    let there_2 : volume_1 c.fill.new.self.name ≡ Some held = ap volume_1 fill.name ∙ (fill.device.same honest_1 _ ∙ there_1) in
+    let next = c.in_ok-head.ensures in
+    let volume_2 = (g.D.Driver.meaning c.next_block.new.driver).shelf.volume in
+    let there_3 : volume_2 c.next_block.new.reader.name ≡ Some held = ap volume_2 next.name ∙ (next.device.same honest_2 _ ∙ there_2) in
+    let part = (rw c.in-Some.is at (next.there honest_2 (fill.shows honest_1 (so_far.shows honest shows)))) held there_3 in
+    shown_begins (drop c.saturating_add-at.result held.bytes) c.next_block.new.reader.shown c.in-Some.head part (rw c.in-Some.is at next.block)
 
 pub loop-at-preserved : goal.loop-at-preserved
 loop-at-preserved g c = record {

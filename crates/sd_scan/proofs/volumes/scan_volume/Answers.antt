@@ -5,7 +5,7 @@ use Rattle.sd_text.specs.Says.{said_view}
 use Rattle.sd_text.proofs.SaysLemmas.{says_none, says_then}
 use Rattle.sd_volume.proofs.DeviceLemmas.{OnlyReads-trans, OnlyReads-as, only_reads_call}
 use Rattle.sd_text.specs.Lines.{line}
-use Rattle.sd_scan.specs.Lines.{line_text}
+use Rattle.sd_scan.specs.Lines.{told_text}
 use Rattle.sd_scan.specs.declared.line.ScanLine.TheVariants.{Volume}
 use Rattle.sd_scan.proofs.FaultLemmas.{OnlyReads-again, OnlyReads-scan, fault_is}
 use Rattle.sd_scan.proofs.VolumeLemmas.{says_named}
@@ -43,7 +43,7 @@ returns-in_err-end-clause-device g c =
 pub returns-in_err-end-clause-scans : goal.returns-in_err-end-clause-scans
 returns-in_err-end-clause-scans g c =
     let p = err_from_is_err_and c.from_residual-in_err-end.result c.from_residual-in_err-end.ensures.1 in
-    rw p.1 (line (line_text (Volume c.args.name.now c.in_ok-size.size)), (says_named (said_view g.W.Write.contents c.args.out.now) (said_view g.W.Write.contents c.line.new.self) (λ v. line_text (Volume v c.in_ok-size.size)) c.copy.result c.args.name.now c.copy.ensures c.line.ensures.says), tt)
+    rw p.1 (line (told_text c.args.told (Volume c.args.name.now c.in_ok-size.size)), (says_named (said_view g.W.Write.contents c.args.out.now) (said_view g.W.Write.contents c.line.new.self) (λ v. told_text c.args.told (Volume v c.in_ok-size.size)) c.copy.result c.args.name.now c.copy.ensures c.line.ensures.says), tt)
 
 pub returns-in_err-tell_behind-clause-device : goal.returns-in_err-tell_behind-clause-device
 returns-in_err-tell_behind-clause-device g c =
@@ -58,8 +58,8 @@ pub returns-in_err-tell_behind-clause-scans : goal.returns-in_err-tell_behind-cl
 returns-in_err-tell_behind-clause-scans g c =
     let p = err_from_is_err_and c.from_residual-in_err-tell_behind.result c.from_residual-in_err-tell_behind.ensures.1 in
     let tells = c.in_err-tell_behind.ensures.tells in
-    let first = line (line_text (Volume c.args.name.now c.in_ok-size.size)) in
-    rw p.1 (first ++ tells.0, says_then _ (said_view g.W.Write.contents c.line.new.self) _ first tells.0 (says_named (said_view g.W.Write.contents c.args.out.now) (said_view g.W.Write.contents c.line.new.self) (λ v. line_text (Volume v c.in_ok-size.size)) c.copy.result c.args.name.now c.copy.ensures c.line.ensures.says) tells.1, tt)
+    let first = line (told_text c.args.told (Volume c.args.name.now c.in_ok-size.size)) in
+    rw p.1 (first ++ tells.0, says_then _ (said_view g.W.Write.contents c.line.new.self) _ first tells.0 (says_named (said_view g.W.Write.contents c.args.out.now) (said_view g.W.Write.contents c.line.new.self) (λ v. told_text c.args.told (Volume v c.in_ok-size.size)) c.copy.result c.args.name.now c.copy.ensures c.line.ensures.says) tells.1, tt)
 
 pub returns-clause-device : goal.returns-clause-device
 returns-clause-device g c =
@@ -74,11 +74,11 @@ returns-clause-scans g c =
     let len = c.in_ok-size.ensures in
     let image = c.in_ok-end.ensures in
     let tells = c.in_ok-tell_behind.ensures.tells in
-    let first = line (line_text (Volume c.args.name.now c.in_ok-size.size)) in
+    let first = line (told_text c.args.told (Volume c.args.name.now c.in_ok-size.size)) in
     let volume_1 = (g.D.Driver.meaning c.len.new.self).shelf.volume in
     let volume_2 = (g.D.Driver.meaning c.take_image.new.driver).shelf.volume in (
       first ++ tells.0,
-      says_then _ (said_view g.W.Write.contents c.line.new.self) _ first tells.0 (says_named (said_view g.W.Write.contents c.args.out.now) (said_view g.W.Write.contents c.line.new.self) (λ v. line_text (Volume v c.in_ok-size.size)) c.copy.result c.args.name.now c.copy.ensures c.line.ensures.says) tells.1,
+      says_then _ (said_view g.W.Write.contents c.line.new.self) _ first tells.0 (says_named (said_view g.W.Write.contents c.args.out.now) (said_view g.W.Write.contents c.line.new.self) (λ v. told_text c.args.told (Volume v c.in_ok-size.size)) c.copy.result c.args.name.now c.copy.ensures c.line.ensures.says) tells.1,
       (
         image.takes.0,
         image.takes.1,
@@ -99,7 +99,7 @@ returns-clause-scans g c =
               regions = behind.0;
               behind = tells.0;
               tells = behind.1;
-              due_is = ap (λ (n : ℕ). line (line_text (Volume c.args.name.now n)) ++ tells.0) told.length_is;
+              due_is = ap (λ (n : ℕ). line (told_text c.args.told (Volume c.args.name.now n)) ++ tells.0) told.length_is;
               undamaged_is = ap (nat_eq c.in_ok-end.end) told.length_is;
             },
       ),

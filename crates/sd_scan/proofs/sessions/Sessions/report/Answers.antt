@@ -10,4 +10,4 @@ returns-clause-reports c =
     let items = c.args.self.now.found.items in
     let within = length-map items (λ (s : Session). s.key) in
     let there = slice_get_read items (length items) c.args.at c.index.result.now refl (omega (arith, within, c.requires)) c.index.ensures in
-    told_of c.report.result items c.args.at c.index.result.now there c.report.ensures.key c.report.ensures.spans c.report.ensures.start c.report.ensures.reads
+    told_of c.report.result items c.args.at c.index.result.now there c.report.ensures.key c.report.ensures.spans c.report.ensures.start c.report.ensures.reads c.report.ensures.breaks

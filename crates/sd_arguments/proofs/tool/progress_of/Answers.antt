@@ -1,7 +1,0 @@
-use Rattle.std.proofs.Common.{codes}
-use Rattle.clap.specs.Matches.{found_of}
-use Rattle.sd_arguments.proofs.ValueLemmas.{flag_is}
-use Rattle.sd_arguments.proofs.tool.progress_of.Goals as goal
-
-pub returns : goal.returns
-returns c = flag_is (found_of c.args.given.now) (codes "progress") c.get_flag.result c.get_flag.ensures.none c.get_flag.ensures.value c.get_flag.ensures.other

@@ -1,0 +1,3 @@
+pub mod PrinterLemmas
+pub mod ReadableLemmas
+pub mod SalvageLemmas

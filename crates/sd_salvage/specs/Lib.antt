@@ -1,0 +1,4 @@
+pub mod Lines
+pub mod Printer
+pub mod Readable
+pub mod Salvage
