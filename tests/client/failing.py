@@ -6,6 +6,7 @@ import json
 import os
 import pathlib
 import random
+import re
 import signal
 import subprocess
 import threading
@@ -223,12 +224,19 @@ def ended_at(site, port, number, words, is_time):
     """The status of a command that gets a signal at some time, and what it said."""
     command = [CLIENT, "--port", str(port), *map(str, words)]
     with open(site.folder / "said", "w+") as said, subprocess.Popen(command, env=site.env, stderr=said) as one:
-        until(is_time)
+        until(lambda: handles_signals(one.pid) and is_time())
         time.sleep(0.5)
         one.send_signal(number)
         status = one.wait(timeout=WAIT)
         said.seek(0)
         return status, said.read()
+
+
+def handles_signals(process):
+    """Whether the client is so far that it has a handler of SIGTERM: before that any program is ended at once."""
+    text = pathlib.Path(f"/proc/{process}/status").read_text()
+    caught = int(re.search(r"^SigCgt:\s*([0-9a-f]+)$", text, re.MULTILINE)[1], 16)
+    return caught >> (signal.SIGTERM - 1) & 1
 
 
 def broken_restores(checks, site):
