@@ -3,6 +3,7 @@ from __future__ import annotations
 
 import contextlib
 import io
+import itertools
 import re
 import subprocess
 import typing
@@ -102,9 +103,12 @@ class Reader:
                 yield from self._through(data)
 
     def _through(self, data: typing.Iterator[Buffer]) -> typing.Generator[Buffer, None, None]:
-        """What comes of the stages of the way back."""
+        """What comes of the stages of the way back. A session without such records gives nothing, and no stage is run."""
+        first = next(data, None)
+        if first is None:
+            return
         chain = Chain([words_of(stage) for stage in self.inverse])
-        feeder = Feeder(chain, data)
+        feeder = Feeder(chain, itertools.chain([first], data))
         try:
             yield from pieces_of(chain.output, [RECORD], lambda: None)
             feeder.ended()

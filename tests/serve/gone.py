@@ -127,16 +127,16 @@ def within(checks: Checks, place: Watched) -> list[str]:
 
 
 def loaded_file(checks: Checks, folder: pathlib.Path):
-    """The file of the loaded volume is removed: jobs are answered. Once it is unloaded the next volume is taken."""
+    """The file of the loaded volume is removed: the job that goes there isn't told as closed, and the next volume is taken."""
     place = Watched(folder / "loaded_file")
     with place.daemon() as daemon:
         place.names(checks, "Vol-0001", "Vol-0002")
         checks.same(place.of("its job"), place.volume_of(within(checks, place)), ["Vol-0001"])
         (place.volumes / "Vol-0001").unlink()
-        within(checks, place)
-        checks.same(place.of("unmount"), place.console("unmount 1"), ["ok unmounted"])
+        checks.same(place.of("the next job"), refused(place.job), "3905 Session failed")
+        failed = "drive 1: the device failed with volume Vol-0001"
+        checks.check(place.of("the log has Vol-0001"), daemon.logs(failed), daemon.log()[-5:])
         checks.same(place.of("the next one is taken"), place.volume_of(within(checks, place)), ["Vol-0002"])
-        told(checks, place, daemon, "Vol-0001", LOST)
 
 
 def whole_folder(checks: Checks, folder: pathlib.Path):
