@@ -85,7 +85,7 @@ def first_day(site):
     return day, faults
 
 
-def second_day(site, closed):
+def second_day(site, closed, labelled="Vol-0009"):
     """The volumes are adopted, at a second time if the first fails; what was closed is read; another job is closed."""
     day = Day(site)
     day.closed = dict(closed)
@@ -95,7 +95,7 @@ def second_day(site, closed):
     faults = list(day.read())
     day.job("later", JOBS["second"])
     day.say("unmount 1")
-    day.say("label 1 Vol-0009 Default File")
+    day.say(f"label 1 {labelled} Default File")
     day.job("last", JOBS["first"])
     faults += day.read()
     return day, faults
@@ -150,7 +150,7 @@ def fails_second(shim, folder, closed, call):
         if is_torn(day, call):
             with site.daemon(3000):
                 site.well()
-                day, faults = second_day(site, closed)
+                day, faults = second_day(site, closed, "Vol-0010")
             call = None
         for fault in itertools.chain(faults, not_allowed(day, call), is_kept(site, day.closed)):
             yield f"second day, {said(*call) if call else 'behind a torn one'}: {fault}"
