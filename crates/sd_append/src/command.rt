@@ -4,8 +4,7 @@ ghost use Rattle.sd_append.specs.Command.{command_refusal};
 ghost use Rattle.sd_append.specs.declared.command.CommandFault.TheVariants.{BadCommand, BadName};
 
 use sd_base::{BadName, JobId, MediaName, PoolName, Refusal, SessionKey, Ticket};
-use sd_script::Text;
-use sd_text::BadField;
+use sd_text::{BadField, Text};
 
 /// A command of a client. A ticket is `None` if the command names a number that no session has.
 #[derive(Drop)]

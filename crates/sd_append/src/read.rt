@@ -11,8 +11,7 @@ use crate::command::{Command, CommandFault, Kind};
 use crate::number::{is_decimal, number_of};
 use crate::text::{ascii_text, trimmed};
 use sd_base::{JobId, Name, Number, SessionKey, Ticket};
-use sd_script::Text;
-use sd_text::{BadField, Words};
+use sd_text::{BadField, Text, Words};
 
 /// The command of a packet.
 pub fn read_command(packet: &[u8]) -> Result<Command<'_>, CommandFault>

@@ -3,7 +3,7 @@ use Rattle.std.specs.Prelude.{◌≡◌, ◌≢◌, ℕ, ◌+◌, ◌-◌, ◌�
 use Rattle.sd_base.specs.Limits.{most_number}
 use Rattle.sd_session.specs.declared.status.Status.{Status}
 use Rattle.sd_session.specs.declared.status.Status.TheVariants.{Active}
-use Rattle.sd_core.specs.declared.view.SessionLine.{SessionLine}
+use Rattle.sd_machine.specs.declared.view.SessionLine.{SessionLine}
 use Rattle.sd_board.specs.Changes.{change_at}
 use Rattle.sd_board.specs.declared.posted.Posted.{Posted}
 use Rattle.sd_board.specs.declared.lines.Numbered.{Numbered}

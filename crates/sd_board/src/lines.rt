@@ -6,7 +6,7 @@ ghost use Rattle.sd_board.specs.Lines.{GivesNumber, KeepsLines, count_of, next_n
 use crate::place::ticket_place;
 use crate::posted::Posted;
 use sd_base::{DriveNo, Items, LaneNo, Ticket};
-use sd_core::SessionLine;
+use sd_machine::SessionLine;
 use sd_session::Status;
 use std::alloc::{AllocError, Global};
 use std::marker::Model;

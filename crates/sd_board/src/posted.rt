@@ -3,7 +3,7 @@ ghost use Rattle.std.specs.Prelude.{◌≡◌};
 ghost use Rattle.sd_board.specs.Lines.{session_line};
 
 use sd_base::{DriveNo, LaneNo, Ticket};
-use sd_core::SessionLine;
+use sd_machine::SessionLine;
 use sd_session::Status;
 
 /// What the board tells of a session: the lane of the drive to which it sends, its status, and how many records it

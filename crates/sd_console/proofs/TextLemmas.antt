@@ -5,10 +5,10 @@ use Rattle.std.proofs.lemmas.List.{append-nil}
 use Rattle.std.proofs.lemmas.List.Concat.{flat_map-append}
 use Rattle.sd_text.specs.Lines.{line}
 use Rattle.sd_desk.specs.declared.request.Request.{Request}
-use Rattle.sd_core.specs.declared.view.View.{View}
-use Rattle.sd_core.specs.declared.view.DriveLine.{DriveLine}
-use Rattle.sd_core.specs.declared.view.VolumeLine.{VolumeLine}
-use Rattle.sd_core.specs.declared.view.SessionLine.{SessionLine}
+use Rattle.sd_machine.specs.declared.view.View.{View}
+use Rattle.sd_machine.specs.declared.view.DriveLine.{DriveLine}
+use Rattle.sd_machine.specs.declared.view.VolumeLine.{VolumeLine}
+use Rattle.sd_machine.specs.declared.view.SessionLine.{SessionLine}
 use Rattle.sd_console.specs.Requests.{count_line, request_line, requests_lines}
 use Rattle.sd_console.specs.Status.{drive_line, volume_line, session_line, status_lines}
 

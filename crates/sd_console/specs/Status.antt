@@ -6,12 +6,12 @@ use Rattle.sd_session.specs.declared.status.Status.{Status}
 use Rattle.sd_session.specs.declared.status.Status.TheVariants.{Active, Ended, Closed, Cancelled, Failed, Purged}
 use Rattle.sd_volume.specs.declared.volume.VolumeStatus.{VolumeStatus}
 use Rattle.sd_volume.specs.declared.volume.VolumeStatus.TheVariants.{Append, Full, Error}
-use Rattle.sd_core.specs.declared.view.View.{View}
-use Rattle.sd_core.specs.declared.view.DriveLine.{DriveLine}
-use Rattle.sd_core.specs.declared.view.VolumeLine.{VolumeLine}
-use Rattle.sd_core.specs.declared.view.SessionLine.{SessionLine}
-use Rattle.sd_core.specs.declared.view.Loaded.{Loaded}
-use Rattle.sd_core.specs.declared.view.Loaded.TheVariants.{Offline, Nothing, Volume}
+use Rattle.sd_machine.specs.declared.view.View.{View}
+use Rattle.sd_machine.specs.declared.view.DriveLine.{DriveLine}
+use Rattle.sd_machine.specs.declared.view.VolumeLine.{VolumeLine}
+use Rattle.sd_machine.specs.declared.view.SessionLine.{SessionLine}
+use Rattle.sd_machine.specs.declared.view.Loaded.{Loaded}
+use Rattle.sd_machine.specs.declared.view.Loaded.TheVariants.{Offline, Nothing, Volume}
 
 -- what is loaded in a drive
 abbrev pub loaded_word : Loaded → List ℕ

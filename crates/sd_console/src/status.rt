@@ -5,7 +5,7 @@ ghost use Rattle.std.specs.String.{string_bytes};
 ghost use Rattle.sd_text.specs.Lines.{line};
 ghost use Rattle.sd_console.specs.Status.{drive_line, loaded_word, session_line, session_word, status_lines, volume_line, volume_word};
 
-use sd_core::{DriveLine, Loaded, SessionLine, View, VolumeLine};
+use sd_machine::{DriveLine, Loaded, SessionLine, View, VolumeLine};
 use sd_session::Status;
 use sd_volume::VolumeStatus;
 use std::alloc::{AllocError, Global};

@@ -1,8 +1,8 @@
 -- The lines that a world shows, one by one.
 use Rattle.std.proofs.Common.{◌≡◌, ℕ, zero, suc, ◌+◌, ◌<◌, ◌≤◌, sym, ap, ◌∙◌, arith, List, [], ◌∷◌, ◌++◌, length, map, take, get_or}
 use Rattle.std.proofs.lemmas.List.{take_more, map-append, append_assoc, append-nil, length-take}
-use Rattle.sd_core.specs.declared.view.DriveLine.{DriveLine}
-use Rattle.sd_core.specs.declared.view.VolumeLine.{VolumeLine}
+use Rattle.sd_machine.specs.declared.view.DriveLine.{DriveLine}
+use Rattle.sd_machine.specs.declared.view.VolumeLine.{VolumeLine}
 use Rattle.sd_world.specs.Rules.{NumbersRise}
 use Rattle.sd_world.specs.World.{WorldSession, BayView}
 use Rattle.sd_world.proofs.Pairs.{least_below}

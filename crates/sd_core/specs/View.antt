@@ -4,12 +4,12 @@ use Rattle.std.specs.Option.{option_map, option_map_or}
 use Rattle.std.specs.List.{flat_map}
 use Rattle.sd_drive.specs.View.{DriveIs, name_loaded}
 use Rattle.sd_session.specs.declared.status.Status.{Status}
-use Rattle.sd_core.specs.declared.view.DriveLine.{DriveLine}
-use Rattle.sd_core.specs.declared.view.Loaded.{Loaded}
-use Rattle.sd_core.specs.declared.view.Loaded.TheVariants.{Offline, Nothing, Volume}
-use Rattle.sd_core.specs.declared.view.SessionLine.{SessionLine}
-use Rattle.sd_core.specs.declared.view.View.{View}
-use Rattle.sd_core.specs.declared.view.VolumeLine.{VolumeLine}
+use Rattle.sd_machine.specs.declared.view.DriveLine.{DriveLine}
+use Rattle.sd_machine.specs.declared.view.Loaded.{Loaded}
+use Rattle.sd_machine.specs.declared.view.Loaded.TheVariants.{Offline, Nothing, Volume}
+use Rattle.sd_machine.specs.declared.view.SessionLine.{SessionLine}
+use Rattle.sd_machine.specs.declared.view.View.{View}
+use Rattle.sd_machine.specs.declared.view.VolumeLine.{VolumeLine}
 use Rattle.sd_volume.specs.Volume.{VolumeView}
 use Rattle.sd_world.specs.Drives.{is_running}
 use Rattle.sd_world.specs.World.{WorldView, WorldSession, BayView, session_at, busy_lanes}

@@ -18,17 +18,15 @@ mod status;
 mod syncing;
 mod tries;
 mod turns;
-mod view;
 mod world;
 
 pub use conf::{NotMade, WorldConf};
 pub use headway::Round;
 pub use rounds::{carry, drain, round};
-pub use sd_machine::{Event, Reply};
+pub use sd_machine::{DriveLine, Event, Loaded, Reply, SessionLine, View, VolumeLine};
 pub use sd_readback::{ReadEnd, Sink};
 pub use sd_session::Status;
 pub use sd_span::Span;
 pub use syncing::Syncing;
 pub use tries::answer;
-pub use view::{DriveLine, Loaded, SessionLine, View, VolumeLine};
 pub use world::World;

@@ -7,11 +7,11 @@ ghost use Rattle.sd_world.specs.World.{busy_lanes};
 ghost use Rattle.sd_core.specs.Drives.{HaveFewLanes};
 ghost use Rattle.sd_core.specs.View.{drive_line, drive_lines, lines_of, loaded_in, session_line, volume_line, volume_lines};
 
-use crate::view::{DriveLine, Loaded, SessionLine, VolumeLine};
 use sd_base::{DriveNo, Items, Ticket};
 use sd_driver::Driver;
 use sd_events::{Bay, SessionEntry, free_lanes};
 use sd_lane::Lanes;
+use sd_machine::{DriveLine, Loaded, SessionLine, VolumeLine};
 use sd_spool::SpoolStore;
 use sd_volume::Volume;
 use std::alloc::{AllocError, Global};

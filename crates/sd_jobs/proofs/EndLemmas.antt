@@ -1,9 +1,10 @@
 -- What a job comes to, by its part and by what stopped it.
 use Rattle.std.proofs.Common.{◌≡◌, ℕ, ◌≤◌, refl, Option, None, Some, take, length}
 use Rattle.sd_drive.specs.Receipt.{ReceiptIs}
-use Rattle.sd_jobs.specs.Jobs.{JobIs, JobEndIs, GoesOn, IsReceiptOf, StopsShort, StopsBy, IsGivenUp, EndsJob}
-use Rattle.sd_jobs.specs.declared.job.Stop.{Stop}
-use Rattle.sd_jobs.specs.declared.job.Stop.TheVariants.{Done, OutOfTurns, Refused, NoThread}
+use Rattle.sd_jobs.specs.Jobs.{JobIs, JobEndIs, StopsBy, EndsJob}
+use Rattle.sd_line.specs.Goes.{GoesOn, IsReceiptOf, StopsShort, IsGivenUp}
+use Rattle.sd_line.specs.declared.stop.Stop.{Stop}
+use Rattle.sd_line.specs.declared.stop.Stop.TheVariants.{Done, OutOfTurns, Refused, NoThread}
 use Rattle.sd_line.specs.Parts.{PartIs, end_of}
 
 -- what a job comes to that leaves this part

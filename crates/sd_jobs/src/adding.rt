@@ -1,12 +1,11 @@
 // A job adds its records.
 ghost use Rattle.std.specs.Prelude.{◌≡◌, ◌≤◌, [], ◌∷◌, None, take, length, IfErr, IfSome, OnOk};
-ghost use Rattle.sd_jobs.specs.Jobs.{GoesOn, StopsShort};
+ghost use Rattle.sd_line.specs.Goes.{GoesOn, StopsShort};
 
-use crate::job::Stop;
 use crate::steps::send_on;
 use sd_base::{Rec, Refusal};
 use sd_driver::Driver;
-use sd_line::{Gate, Line, Naming, Point, SessionPart};
+use sd_line::{Gate, Line, Naming, Point, SessionPart, Stop};
 use sd_spool::SpoolStore;
 use std::sync::Wait;
 use std::time::Clock;

@@ -1,12 +1,11 @@
 // A job ends and closes its session.
 ghost use Rattle.std.specs.Prelude.{◌≡◌, [], IfErr, IfOk};
-ghost use Rattle.sd_jobs.specs.Jobs.{GoesOn, StopsShort, IsReceiptOf};
+ghost use Rattle.sd_line.specs.Goes.{GoesOn, StopsShort, IsReceiptOf};
 
-use crate::job::Stop;
 use crate::steps::{pause, send_on, take_turn};
 use sd_drive::Receipt;
 use sd_driver::Driver;
-use sd_line::{Closing, Gate, Line, Naming, Point, SessionPart};
+use sd_line::{Closing, Gate, Line, Naming, Point, SessionPart, Stop};
 use sd_spool::SpoolStore;
 use std::sync::Wait;
 use std::time::Clock;

@@ -1,7 +1,7 @@
 // What a thread is to do with the part of a session, and what it came to.
-use sd_base::{Rec, Refusal};
+use sd_base::Rec;
 use sd_drive::Receipt;
-use sd_line::{LaneEnd, Naming, SessionPart};
+use sd_line::{LaneEnd, Naming, SessionPart, Stop};
 use sd_spool::SpoolStore;
 use std::marker::Model;
 
@@ -28,19 +28,6 @@ impl<N: Naming, S: SpoolStore> Model for Job<N, S> {
       recs = j.recs.items;
       moment = j.moment;
     } };
-}
-
-/// Why a job does nothing more.
-#[derive(Clone, Copy, Debug, PartialEq, Eq)]
-pub enum Stop {
-    /// Its session is closed.
-    Done,
-    /// It had no turn left.
-    OutOfTurns,
-    /// A step of its part was refused so.
-    Refused(Refusal),
-    /// No thread could be made for it. Its session is cancelled.
-    NoThread,
 }
 
 /// What a job came to. In a contract it is a `JobEndIs`.

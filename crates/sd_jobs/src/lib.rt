@@ -13,5 +13,6 @@ mod starting;
 mod steps;
 mod working;
 
-pub use job::{Job, JobEnd, Stop};
+pub use job::{Job, JobEnd};
 pub use jobs::{have_lines, run_jobs};
+pub use sd_line::Stop;

@@ -5,10 +5,10 @@ ghost use Rattle.sd_line.specs.Parts.{end_of};
 
 use crate::adding::add_all;
 use crate::finishing::finish;
-use crate::job::{Job, JobEnd, Stop};
+use crate::job::{Job, JobEnd};
 use sd_drive::Receipt;
 use sd_driver::Driver;
-use sd_line::{Gate, Line, Naming, SessionPart};
+use sd_line::{Gate, Line, Naming, SessionPart, Stop};
 use sd_spool::SpoolStore;
 use std::sync::Wait;
 use std::time::Clock;

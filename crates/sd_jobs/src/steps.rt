@@ -1,10 +1,9 @@
 // The steps that a job makes again and again, each of which takes a turn.
 ghost use Rattle.std.specs.Prelude.{◌≡◌, ◌<◌, [], IfErr, OnOk};
-ghost use Rattle.sd_jobs.specs.Jobs.{GoesOn, StopsShort};
+ghost use Rattle.sd_line.specs.Goes.{GoesOn, StopsShort};
 
-use crate::job::Stop;
 use sd_driver::Driver;
-use sd_line::{Gate, Line, Naming, Point, SessionPart};
+use sd_line::{Gate, Line, Naming, Point, SessionPart, Stop};
 use sd_session::{Despooled, Spooling};
 use sd_spool::SpoolStore;
 use std::sync::Wait;

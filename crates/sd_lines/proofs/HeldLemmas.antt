@@ -9,7 +9,7 @@ use Rattle.sd_base.specs.declared.refusal.Refusal.{Refusal}
 use Rattle.sd_base.specs.Limits.{block_header}
 use Rattle.sd_base.specs.declared.refusal.Refusal.TheVariants.{Memory, SessionNotOpen}
 use Rattle.sd_drive.specs.Receipt.{ReceiptIs}
-use Rattle.sd_jobs.specs.Jobs.{ClosedBy, GoesOn, IsReceiptOf}
+use Rattle.sd_line.specs.Goes.{ClosedBy, GoesOn, IsReceiptOf}
 use Rattle.sd_machine.specs.declared.event.Event.{Event}
 use Rattle.sd_machine.specs.declared.event.Event.TheVariants as events
 use Rattle.sd_machine.specs.declared.reply.Reply.{Reply}

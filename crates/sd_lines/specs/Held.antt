@@ -4,8 +4,8 @@ use Rattle.std.specs.Option.{option_or}
 use Rattle.sd_base.specs.Record.{Record}
 use Rattle.sd_base.specs.declared.refusal.Refusal.{Refusal}
 use Rattle.sd_base.specs.declared.refusal.Refusal.TheVariants.{BadCommand, SessionNotOpen}
-use Rattle.sd_jobs.specs.Jobs.{ClosedBy, GoesOn, StopsShort}
-use Rattle.sd_jobs.specs.declared.job.Stop.TheVariants as stops
+use Rattle.sd_line.specs.Goes.{ClosedBy, GoesOn, StopsShort}
+use Rattle.sd_line.specs.declared.stop.Stop.TheVariants as stops
 use Rattle.sd_machine.specs.declared.event.Event.{Event}
 use Rattle.sd_machine.specs.declared.event.Event.TheVariants as events
 use Rattle.sd_machine.specs.declared.reply.Reply.{Reply}

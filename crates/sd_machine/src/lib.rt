@@ -5,7 +5,9 @@
 mod event;
 mod laws;
 mod reply;
+mod view;
 
 pub use event::Event;
 pub use laws::{closed_keep_their_records, closed_keep_their_status};
 pub use reply::Reply;
+pub use view::{DriveLine, Loaded, SessionLine, View, VolumeLine};

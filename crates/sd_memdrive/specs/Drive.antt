@@ -5,14 +5,14 @@ use Rattle.sd_driver.specs.Meaning.{Meaning, IsHonest}
 use Rattle.sd_memdrive.specs.ChangeLog.{shelf_of}
 use Rattle.sd_memdrive.specs.declared.store.Store.{Store}
 use Rattle.sd_memdrive.specs.declared.drive.MemDrive.{MemDrive}
-use Rattle.sd_memdrive.specs.declared.call.Call.{Call}
-use Rattle.sd_memdrive.specs.declared.call.Call.TheVariants.{Append}
+use Rattle.sd_plan.specs.declared.call.Call.{Call}
+use Rattle.sd_plan.specs.declared.call.Call.TheVariants.{Append}
 use Rattle.sd_driver.specs.declared.driver.DriverFault.{DriverFault}
 use Rattle.sd_driver.specs.declared.driver.DriverFault.TheVariants.{Device, Memory}
 use Rattle.sd_plan.specs.Plan.{Follows, due_of, entries_of, failures_of, part_of}
 use Rattle.sd_plan.specs.Plan as plans
 use Rattle.sd_plan.specs.declared.fail.Fail.{Fail}
-use Rattle.sd_memdrive.specs.Call.{drive_calls}
+use Rattle.sd_plan.specs.Call.{drive_calls}
 
 -- the shelf of a store
 abbrev pub store_shelf : Store → Shelf

@@ -1,4 +1,3 @@
 pub mod Volumes
 pub mod ChangeLog
-pub mod Call
 pub mod Drive

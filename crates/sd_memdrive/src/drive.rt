@@ -3,13 +3,12 @@ ghost use Rattle.std.specs.Prelude.{◌≡◌, ◌≢◌, ◌↔◌, ◌≤◌, 
 ghost use Rattle.std.specs.Option.{ForSome};
 ghost use Rattle.sd_memdrive.specs.Volumes.{volume_of, StandsFirstAt};
 
-use crate::call::{Call, Fail};
 use crate::stop::left_all;
 use crate::store::Store;
 use crate::stored::Stored;
 use sd_base::VolName;
 use sd_driver::{Driver, DriverFault};
-use sd_plan::{Plan, part};
+use sd_plan::{Call, DriveFail as Fail, Plan, part};
 use std::alloc::{AllocError, Global};
 
 /// A drive in memory. Each volume has room for `capacity` bytes; calls fail as the plan says. It is honest.

@@ -6,8 +6,8 @@ use Rattle.std.specs.List.{AllByRecursion}
 use Rattle.std.specs.Str.{bytes_eq}
 use Rattle.std.proofs.lemmas.List.Elements.{All-from_recursion}
 use Rattle.std.proofs.lemmas.Slice.Eq.{bytes_eq-Decides}
-use Rattle.sd_memdrive.specs.declared.call.Call.{Call}
-use Rattle.sd_memdrive.specs.declared.call.Call.TheVariants as call
+use Rattle.sd_plan.specs.declared.call.Call.{Call}
+use Rattle.sd_plan.specs.declared.call.Call.TheVariants as call
 use Rattle.sd_plan.specs.declared.fail.When.{When}
 use Rattle.sd_plan.specs.declared.fail.When.TheVariants as «when»
 use Rattle.sd_text.specs.Fields.{Fields, HasNoBlank}

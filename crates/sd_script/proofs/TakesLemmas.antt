@@ -16,7 +16,7 @@ use Rattle.sd_script.specs.declared.line.ScriptLine.{ScriptLine}
 use Rattle.sd_script.specs.declared.line.ScriptLine.TheVariants as line
 use Rattle.sd_script.specs.Command.{command_text}
 use Rattle.sd_text.specs.Fields.{HasNoBlank, joined, Fields, fields_of}
-use Rattle.sd_memdrive.specs.declared.call.Call.{Call}
+use Rattle.sd_plan.specs.declared.call.Call.{Call}
 use Rattle.sd_plan.specs.declared.fail.When.{When}
 use Rattle.sd_script.specs.Grammar.{IsSpelled, IsWithin, IsNumber, AreWords, call_text, most_capacity, when_text}
 use Rattle.sd_text.specs.Reading.{◌>>=◌, number_at, word_at, all_read, only_number}

@@ -2,8 +2,8 @@
 use Rattle.std.specs.Prelude.{◌≡◌, ℕ, nat_le, if◌then◌else◌, pos, List, [], length, Option, Some, None, Result, Err, MatchResult}
 use Rattle.std.specs.Str.{bytes_eq}
 use Rattle.sd_base.specs.Limits.{least_block_limit, most_block, most_data, most_drives, most_lanes, most_number, most_queue, most_volume}
-use Rattle.sd_memdrive.specs.declared.call.Call.{Call}
-use Rattle.sd_memdrive.specs.declared.call.Call.TheVariants as call
+use Rattle.sd_plan.specs.declared.call.Call.{Call}
+use Rattle.sd_plan.specs.declared.call.Call.TheVariants as call
 use Rattle.sd_plan.specs.declared.fail.When.{When}
 use Rattle.sd_plan.specs.declared.fail.When.TheVariants as «when»
 use Rattle.sd_script.specs.declared.line.Setting.TheVariants as setting

@@ -5,9 +5,9 @@ ghost use Rattle.sd_script.specs.Reading.{Gives, behind_shape, shape};
 ghost use Rattle.sd_script.specs.declared.command.Command.TheVariants as commands;
 
 use crate::console::ConsoleCmd;
-use crate::line::{LineFault, MOST_MOMENT, ScriptLine, Tail, Text};
+use crate::line::{LineFault, MOST_MOMENT, ScriptLine, Tail};
 use sd_base::{MOST_DATA, MOST_NUMBER, Name, SessionKey};
-use sd_text::Words;
+use sd_text::{Text, Words};
 
 /// The greatest FileIndex, Stream and VolSessionId, as a number of the width that fields are read in.
 const MOST: u64 = MOST_NUMBER as u64;

@@ -12,6 +12,6 @@ mod settings;
 
 pub use console::ConsoleCmd;
 pub use laws::{lines_have_one_form, lines_have_one_shape};
-pub use line::{LineFault, Part, ScriptLine, Setting, Tail, Text};
+pub use line::{LineFault, Part, ScriptLine, Setting, Tail};
 pub use read::{read_console, read_line};
-pub use sd_memdrive::{Call, Fail, When};
+pub use sd_plan::{Call, DriveFail as Fail, When};

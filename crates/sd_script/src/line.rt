@@ -7,9 +7,8 @@ use crate::console::ConsoleCmd;
 use sd_base::{
     BadName, DriveNo, HostName, JobId, MediaName, PoolName, Refusal, SessionKey, Ticket, VolName,
 };
-use sd_memdrive::Fail;
-use sd_text::BadField;
-use std::marker::Model;
+use sd_plan::DriveFail as Fail;
+use sd_text::{BadField, Text};
 
 /// The last moment, in microseconds.
 pub const MOST_MOMENT: u64 = 0x7fff_ffff_ffff_ffff;
@@ -97,34 +96,6 @@ pub struct Tail {
 pub enum Part {
     Head,
     Body,
-}
-
-/// The text of a `rec` line, a slice of that line. In a contract it is the list of its bytes.
-#[derive(Drop)]
-pub struct Text<'a> {
-    bytes: &'a [u8],
-}
-
-impl<'a> Model for Text<'a> {
-    ghost use Rattle.std.specs.Prelude.{List, ℕ};
-
-    ghost Value = { List ℕ };
-
-    ghost view = { λ t. t.bytes.now };
-}
-
-impl<'a> Text<'a> {
-    pub fn new(bytes: &'a [u8]) -> Self
-        ensures { result ≡ bytes.now }
-    {
-        Text { bytes }
-    }
-
-    pub fn as_slice(&self) -> &'a [u8]
-        ensures { result.now ≡ self.now }
-    {
-        self.bytes
-    }
 }
 
 /// Why some bytes are no line.

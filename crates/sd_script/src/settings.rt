@@ -8,7 +8,7 @@ use crate::line::{LineFault, ScriptLine, Setting};
 use sd_base::{
     LEAST_BLOCK_LIMIT, MOST_BLOCK, MOST_LANES, MOST_NUMBER, MOST_QUEUE, MOST_VOLUME, Name,
 };
-use sd_memdrive::{Call, Fail, When};
+use sd_plan::{Call, DriveFail as Fail, When};
 use sd_text::{BadField, Words};
 
 /// The most bytes that a volume of a drive in memory may have room for.

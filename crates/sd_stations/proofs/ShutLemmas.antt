@@ -2,9 +2,9 @@
 use Rattle.std.proofs.Common.{◌≡◌, sym, subst, Option, Some, List, []}
 use Rattle.std.specs.Prelude.{Ok, IfSome}
 use Rattle.sd_drive.specs.Receipt.{ReceiptIs}
-use Rattle.sd_jobs.proofs.GoLemmas.{closes_on, goes_first}
-use Rattle.sd_jobs.proofs.ReceiptLemmas.{receipt_of}
-use Rattle.sd_jobs.specs.Jobs.{GoesOn, IsReceiptOf}
+use Rattle.sd_line.proofs.GoLemmas.{closes_on, goes_first}
+use Rattle.sd_line.proofs.ReceiptLemmas.{receipt_of}
+use Rattle.sd_line.specs.Goes.{GoesOn, IsReceiptOf}
 use Rattle.sd_journal.specs.Journal.{Entry}
 use Rattle.sd_line.specs.Closes.{Closes, MayCloseBy}
 use Rattle.sd_line.specs.Parts.{PartIs, with_session}

@@ -1,7 +1,7 @@
 // A session is closed once all that it sent is placed.
 ghost use Rattle.std.specs.Prelude.{◌≡◌, [], IfErr, IfOk, IfSome};
-ghost use Rattle.sd_jobs.specs.Jobs.{GoesOn, StopsShort, IsReceiptOf};
-ghost use Rattle.sd_jobs.specs.declared.job.Stop.TheVariants.{Refused};
+ghost use Rattle.sd_line.specs.Goes.{GoesOn, StopsShort, IsReceiptOf};
+ghost use Rattle.sd_line.specs.declared.stop.Stop.TheVariants.{Refused};
 
 use crate::station::Station;
 use sd_base::{Items, Refusal};

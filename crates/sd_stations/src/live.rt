@@ -1,7 +1,7 @@
 // The session that a talk goes on with.
 ghost use Rattle.std.specs.Prelude.{◌≡◌, ◌↔◌, [], ◌∷◌, IfErr, IfOk, IsTrue, OnErr, OnOk};
-ghost use Rattle.sd_jobs.specs.Jobs.{GoesOn, StopsShort, IsReceiptOf};
-ghost use Rattle.sd_jobs.specs.declared.job.Stop.TheVariants.{Refused};
+ghost use Rattle.sd_line.specs.Goes.{GoesOn, StopsShort, IsReceiptOf};
+ghost use Rattle.sd_line.specs.declared.stop.Stop.TheVariants.{Refused};
 ghost use Rattle.sd_line.specs.Parts.{OpensAt, end_of, with_session};
 ghost use Rattle.sd_session.specs.Session.{CancelsSession, EndsSession, EndRefused, NotRunning};
 

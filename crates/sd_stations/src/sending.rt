@@ -1,7 +1,7 @@
 // The bodies of a session are sent on, and waited for.
 ghost use Rattle.std.specs.Prelude.{◌≡◌, [], IfErr};
-ghost use Rattle.sd_jobs.specs.Jobs.{GoesOn, StopsShort};
-ghost use Rattle.sd_jobs.specs.declared.job.Stop.TheVariants.{Refused};
+ghost use Rattle.sd_line.specs.Goes.{GoesOn, StopsShort};
+ghost use Rattle.sd_line.specs.declared.stop.Stop.TheVariants.{Refused};
 
 use crate::patience::Patience;
 use crate::station::Station;

@@ -1,7 +1,7 @@
 // A drive with its line and its worker.
 ghost use Rattle.std.specs.Prelude.{◌≡◌, ◌≢◌, List, [], IfErr, IfOk, IfSome, Some};
-ghost use Rattle.sd_jobs.specs.Jobs.{GoesOn, StopsShort};
-ghost use Rattle.sd_jobs.specs.declared.job.Stop.TheVariants as stop;
+ghost use Rattle.sd_line.specs.Goes.{GoesOn, StopsShort};
+ghost use Rattle.sd_line.specs.declared.stop.Stop.TheVariants as stop;
 ghost use Rattle.sd_journal.specs.Journal.{Entry};
 ghost use Rattle.sd_line.specs.Closes.{MayCloseBy};
 ghost use Rattle.sd_line.specs.Operates.{MayOperate, Operates, operated_at};

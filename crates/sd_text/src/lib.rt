@@ -6,11 +6,13 @@
 mod line;
 mod lines;
 mod printer;
+mod text;
 mod words;
 mod write;
 
 pub use line::line_of;
 pub use lines::Lines;
 pub use printer::Printer;
+pub use text::Text;
 pub use words::{BadField, Words};
 pub use write::{WriteFault, write_all};

@@ -4,7 +4,7 @@ use Rattle.std.specs.Prelude.{filter, IfNone}
 use Rattle.std.proofs.lemmas.List.{take_more, map-append}
 use Rattle.std.proofs.lemmas.List.Elements.{filter-append}
 use Rattle.sd_machine.proofs.Lookups.{chosen}
-use Rattle.sd_memdrive.specs.declared.call.Call.{Call}
+use Rattle.sd_plan.specs.declared.call.Call.{Call}
 use Rattle.sd_plan.specs.declared.fail.Fail.{Fail}
 use Rattle.sd_script.specs.Grammar.{HasForm}
 use Rattle.sd_script.specs.declared.line.ScriptLine.TheVariants.{Set}

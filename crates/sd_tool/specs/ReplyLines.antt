@@ -16,7 +16,7 @@ use Rattle.sd_machine.specs.declared.reply.Reply.TheVariants.{Closed, Media, Mou
 use Rattle.sd_readback.specs.declared.read.ReadEnd.{ReadEnd}
 use Rattle.sd_files.specs.End.{end_text}
 use Rattle.sd_span.specs.JobMedia.{jobmedia_text}
-use Rattle.sd_core.specs.declared.view.View.{View}
+use Rattle.sd_machine.specs.declared.view.View.{View}
 use Rattle.sd_text.specs.Lines.{line}
 
 -- the line of a refusal

@@ -2,7 +2,7 @@
 use Rattle.std.specs.Prelude.{ℕ, ◌*◌, ◌≤◌, ◌&&◌, ◌==◌, nat_lt, if◌then◌else◌, Bool, Option, None, Some, List, [], ◌∷◌, ◌++◌, length, map, filter, All, codes}
 use Rattle.std.specs.List.{list_any}
 use Rattle.sd_base.specs.Limits.{most_drives, most_lanes}
-use Rattle.sd_memdrive.specs.declared.call.Call.{Call}
+use Rattle.sd_plan.specs.declared.call.Call.{Call}
 use Rattle.sd_plan.specs.declared.fail.Fail.{Fail}
 use Rattle.sd_script.specs.Grammar.{HasForm, IsSettingWithin}
 use Rattle.sd_script.specs.declared.line.ScriptLine.TheVariants.{Set}

@@ -1,5 +1,5 @@
 use Rattle.std.proofs.Common.{◌≡◌, take}
-use Rattle.sd_jobs.specs.Jobs.{GoesOn}
+use Rattle.sd_line.specs.Goes.{GoesOn}
 use Rattle.sd_jobs.proofs.adding.add_all.Given as goal
 
 -- the records so far were taken

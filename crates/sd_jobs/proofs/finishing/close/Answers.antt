@@ -2,7 +2,7 @@ use Rattle.std.proofs.Common.{subst}
 use Rattle.std.specs.Prelude.{Ok}
 use Rattle.sd_line.specs.Closes.{Closes}
 use Rattle.sd_line.specs.declared.closing.Closing.{Closing}
-use Rattle.sd_jobs.proofs.ReceiptLemmas.{receipt_of}
+use Rattle.sd_line.proofs.ReceiptLemmas.{receipt_of}
 use Rattle.sd_jobs.proofs.finishing.close.Goals as goal
 
 pub returns-in-Ok-Closed-clause-ok : goal.returns-in-Ok-Closed-clause-ok

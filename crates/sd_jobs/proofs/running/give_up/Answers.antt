@@ -1,6 +1,6 @@
 use Rattle.std.proofs.Common.{arith}
 use Rattle.sd_jobs.proofs.EndLemmas.{given_up}
-use Rattle.sd_jobs.proofs.GoLemmas.{gives_up}
+use Rattle.sd_line.proofs.GoLemmas.{gives_up}
 use Rattle.sd_jobs.proofs.running.give_up.Goals as goal
 
 pub returns : goal.returns

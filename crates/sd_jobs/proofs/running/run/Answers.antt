@@ -1,10 +1,10 @@
 use Rattle.std.proofs.Common.{◌≡◌, ◌≤◌, List, Option, subst, take, length}
 use Rattle.std.specs.Prelude.{IfSome}
 use Rattle.sd_base.specs.Record.{Record}
-use Rattle.sd_jobs.specs.Jobs.{GoesOn, StopsShort}
-use Rattle.sd_jobs.specs.declared.job.Stop.{Stop}
+use Rattle.sd_line.specs.Goes.{GoesOn, StopsShort}
+use Rattle.sd_line.specs.declared.stop.Stop.{Stop}
 use Rattle.sd_jobs.proofs.EndLemmas.{stopped, done}
-use Rattle.sd_jobs.proofs.GoLemmas.{goes_last}
+use Rattle.sd_line.proofs.GoLemmas.{goes_last}
 use Rattle.sd_jobs.proofs.running.run.Goals as goal
 
 pub returns-in-Some : goal.returns-in-Some

@@ -1,5 +1,5 @@
 use Rattle.std.proofs.Common.{◌≡◌, []}
-use Rattle.sd_jobs.specs.Jobs.{GoesOn}
+use Rattle.sd_line.specs.Goes.{GoesOn}
 use Rattle.sd_stations.proofs.sending.send_rest.Given as goal
 
 -- the part so far, which took no record

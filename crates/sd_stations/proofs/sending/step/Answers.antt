@@ -1,5 +1,5 @@
 use Rattle.std.proofs.Common.{[]}
-use Rattle.sd_jobs.proofs.GoLemmas.{goes_first, sends_on, spools_on}
+use Rattle.sd_line.proofs.GoLemmas.{goes_first, sends_on, spools_on}
 use Rattle.sd_stations.proofs.sending.step.Goals as goal
 
 pub returns-clause-goes_on : goal.returns-clause-goes_on

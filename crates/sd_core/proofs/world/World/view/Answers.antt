@@ -1,8 +1,8 @@
 use Rattle.std.proofs.Common.{List, map, ap, ◌∙◌}
-use Rattle.sd_core.specs.declared.view.DriveLine.{DriveLine}
-use Rattle.sd_core.specs.declared.view.SessionLine.{SessionLine}
-use Rattle.sd_core.specs.declared.view.View.{View}
-use Rattle.sd_core.specs.declared.view.VolumeLine.{VolumeLine}
+use Rattle.sd_machine.specs.declared.view.DriveLine.{DriveLine}
+use Rattle.sd_machine.specs.declared.view.SessionLine.{SessionLine}
+use Rattle.sd_machine.specs.declared.view.View.{View}
+use Rattle.sd_machine.specs.declared.view.VolumeLine.{VolumeLine}
 use Rattle.sd_world.specs.World.{WorldView, WorldSession, BayView}
 use Rattle.sd_core.specs.View.{drive_lines, volume_lines, session_line}
 use Rattle.sd_core.proofs.world.World.view.Goals as goal

@@ -1,7 +1,8 @@
-// The kinds of call of a drive, for its plan of calls that fail.
-ghost use Rattle.sd_memdrive.specs.Call.{drive_calls};
+// The kinds of call of a drive, for its plan of calls that fail. A script names them too.
+ghost use Rattle.sd_plan.specs.Call.{drive_calls};
 
-use sd_plan::Kind;
+use crate::fail::Fail;
+use crate::kind::Kind;
 
 /// A kind of call that may fail.
 #[derive(Clone, Copy, Debug, PartialEq, Eq)]
@@ -16,7 +17,7 @@ pub enum Call {
 }
 
 /// One entry of a drive's plan.
-pub type Fail = sd_plan::Fail<Call>;
+pub type DriveFail = Fail<Call>;
 
 impl Kind for Call {
     ghost kinds = { drive_calls };

@@ -4,8 +4,8 @@ use Rattle.std.specs.Prelude.{Err}
 use Rattle.sd_base.specs.Record.{Record}
 use Rattle.sd_base.specs.declared.refusal.Refusal.{Refusal}
 use Rattle.sd_base.specs.declared.refusal.Refusal.TheVariants.{SpoolFault, SessionFailed, BadFileIndex, Busy, Memory}
-use Rattle.sd_jobs.specs.Jobs.{StopsShort}
-use Rattle.sd_jobs.specs.declared.job.Stop.TheVariants.{Refused}
+use Rattle.sd_line.specs.Goes.{StopsShort}
+use Rattle.sd_line.specs.declared.stop.Stop.TheVariants.{Refused}
 use Rattle.sd_journal.specs.Journal.{Entry}
 use Rattle.sd_line.specs.Closes.{Closes}
 use Rattle.sd_session.specs.Session.{SessionView, AppendRefused, EndRefused, FailsSession, status_refusal}

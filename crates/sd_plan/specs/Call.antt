@@ -1,8 +1,8 @@
 -- The kinds of call of a drive.
 use Rattle.std.specs.Prelude.{ℕ, Bool, true, false}
 use Rattle.sd_plan.specs.Kinds.{Kinds}
-use Rattle.sd_memdrive.specs.declared.call.Call.{Call}
-use Rattle.sd_memdrive.specs.declared.call.Call.TheVariants.{Create, Load, Len, Read, Append, Sync, Cut}
+use Rattle.sd_plan.specs.declared.call.Call.{Call}
+use Rattle.sd_plan.specs.declared.call.Call.TheVariants.{Create, Load, Len, Read, Append, Sync, Cut}
 
 -- the place of the count of a kind
 abbrev pub index_of : Call → ℕ

@@ -4,7 +4,7 @@ use Rattle.std.proofs.lemmas.List.{append_assoc, append-nil}
 use Rattle.std.specs.Prelude.{Result, Ok, Err, OnOk, OnErr, IfOk, IfErr}
 use Rattle.sd_base.specs.Record.{Record}
 use Rattle.sd_base.specs.declared.refusal.Refusal.{Refusal}
-use Rattle.sd_jobs.specs.Jobs.{GoesOn, IsGivenUp, sends_more}
+use Rattle.sd_line.specs.Goes.{GoesOn, IsGivenUp, sends_more}
 use Rattle.sd_journal.specs.Journal.{Entry}
 use Rattle.sd_lane.specs.declared.piece.Piece.{Piece}
 use Rattle.sd_line.specs.Side.{SeatIs}

@@ -2,7 +2,7 @@
 use Rattle.std.proofs.Common.{◌≡◌, sym, ap, ◌∙◌, List}
 use Rattle.std.specs.Prelude.{Ok}
 use Rattle.sd_drive.specs.Receipt.{ReceiptIs}
-use Rattle.sd_jobs.specs.Jobs.{IsReceiptOf}
+use Rattle.sd_line.specs.Goes.{IsReceiptOf}
 use Rattle.sd_journal.specs.Journal.{Entry, placed_of, placements, synced_of}
 use Rattle.sd_line.specs.Closes.{Closes}
 use Rattle.sd_line.specs.declared.closing.Closing.TheVariants.{Closed}
