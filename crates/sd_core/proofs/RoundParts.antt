@@ -17,7 +17,7 @@ use Rattle.sd_world.specs.Moves.{Moves}
 use Rattle.sd_world.specs.World.{WorldView, BayView, IsOnline}
 use Rattle.sd_world.proofs.Framed.{none_there}
 use Rattle.sd_core.specs.declared.headway.Round.{Round}
-use Rattle.sd_core.specs.Rounds.{AreSends, AreTurns, IsRoundOf, IsTurn, PlaysOn, PlaysRounds, Tells, counted, drives_online, is_online, is_set, online_flags, placing, sends, turn_kind}
+use Rattle.sd_core.specs.Rounds.{AreSends, AreTurns, IsRound, IsTurn, PlaysOn, PlaysRounds, Tells, counted, drives_online, is_online, is_set, online_flags, placing, sends}
 use Rattle.sd_core.proofs.Online.{DrivesStay, IsNoRetiring, drives_same, drives_then, moves_stay}
 use Rattle.sd_core.proofs.Played.{on_and, on_none}
 use Rattle.sd_core.specs.View.{running_tickets}
@@ -67,15 +67,14 @@ placing_retires_none drive (NeedVolume ∷ Mounted name ∷ rs) = (tt, (tt, (tt,
 placing_retires_none drive (NeedVolume ∷ rs) = (tt, (tt, tt))
 placing_retires_none drive rs = (tt, tt)
 
-turn_retires_none : (syncs : Bool) (drive : ℕ) (es : List Event) (rs : List Reply) → turn_kind syncs drive es rs → RetireNone es
-turn_retires_none true drive es rs t =
+turn_retires_none : (drive : ℕ) (es : List Event) (rs : List Reply) → IsTurn drive es rs → RetireNone es
+turn_retires_none drive es rs t =
     subst RetireNone (sym t.events_are) (tt, retire_none-append (placing drive t.placed) (Sync drive ∷ []) (placing_retires_none drive t.placed) (tt, tt))
-turn_retires_none false drive es rs t = subst RetireNone (sym t.events_are) (tt, placing_retires_none drive t.placed)
 
-pub turns_retire_none : (syncs : Bool) (drives : List ℕ) (es : List Event) (rs : List Reply) → AreTurns (turn_kind syncs) drives es rs → RetireNone es
-turns_retire_none syncs [] es rs t = subst RetireNone (sym t.0) tt
-turns_retire_none syncs (d ∷ ds) es rs t =
-    subst RetireNone (sym t.6) (retire_none-append t.0 t.2 (turn_retires_none syncs d t.0 t.1 t.4) (turns_retire_none syncs ds t.2 t.3 t.5))
+pub turns_retire_none : (drives : List ℕ) (es : List Event) (rs : List Reply) → AreTurns drives es rs → RetireNone es
+turns_retire_none [] es rs t = subst RetireNone (sym t.0) tt
+turns_retire_none (d ∷ ds) es rs t =
+    subst RetireNone (sym t.6) (retire_none-append t.0 t.2 (turn_retires_none d t.0 t.1 t.4) (turns_retire_none ds t.2 t.3 t.5))
 
 -- The sessions' part, session by session.
 
@@ -119,31 +118,31 @@ below_more flags number low =
     ∙ filter-append (is_online flags) (range_with_len 1 (number - 1)) ((1 + (number - 1)) ∷ [])
     ∙ ap (λ n. online_below flags number ++ online_one flags n) here
 
-turns-append : (kind : ℕ → List Event → List Reply → Type 0) (ds ds' : List ℕ) (es fs : List Event) (rs ss : List Reply)
-    → AreTurns kind ds es rs → AreTurns kind ds' fs ss → AreTurns kind (ds ++ ds') (es ++ fs) (rs ++ ss)
-turns-append kind [] ds' es fs rs ss p q = rw (p.0, p.1) q
-turns-append kind (d ∷ ds) ds' es fs rs ss p q = (
+turns-append : (ds ds' : List ℕ) (es fs : List Event) (rs ss : List Reply)
+    → AreTurns ds es rs → AreTurns ds' fs ss → AreTurns (ds ++ ds') (es ++ fs) (rs ++ ss)
+turns-append [] ds' es fs rs ss p q = rw (p.0, p.1) q
+turns-append (d ∷ ds) ds' es fs rs ss p q = (
   p.0,
   p.1,
   p.2 ++ fs,
   p.3 ++ ss,
   p.4,
-  turns-append kind ds ds' p.2 fs p.3 ss p.5 q,
+  turns-append ds ds' p.2 fs p.3 ss p.5 q,
   ap (λ l. l ++ fs) p.6 ∙ append_assoc p.0 p.2 fs,
   ap (λ l. l ++ ss) p.7 ∙ append_assoc p.1 p.3 ss,
 )
 
-one_turn : (kind : ℕ → List Event → List Reply → Type 0) (drive : ℕ) (es : List Event) (rs : List Reply) → kind drive es rs → AreTurns kind (drive ∷ []) es rs
-one_turn kind drive es rs t = (es, rs, [], [], t, (refl, refl), sym (append-nil es), sym (append-nil rs))
+one_turn : (drive : ℕ) (es : List Event) (rs : List Reply) → IsTurn drive es rs → AreTurns (drive ∷ []) es rs
+one_turn drive es rs t = (es, rs, [], [], t, (refl, refl), sym (append-nil es), sym (append-nil rs))
 
 -- a drive's turn is that of the drives that are online, if it is one
-pub turn_online : (kind : ℕ → List Event → List Reply → Type 0) (flags : List Bool) (drive : ℕ) (es : List Event) (rs : List Reply) → is_online flags drive ≡ true
-    → kind drive es rs → AreTurns kind (online_one flags drive) es rs
-turn_online kind flags drive es rs on t = rw on (one_turn kind drive es rs t)
+pub turn_online : (flags : List Bool) (drive : ℕ) (es : List Event) (rs : List Reply) → is_online flags drive ≡ true
+    → IsTurn drive es rs → AreTurns (online_one flags drive) es rs
+turn_online flags drive es rs on t = rw on (one_turn drive es rs t)
 
 -- and if it is none, there is no turn
-pub turn_offline : (kind : ℕ → List Event → List Reply → Type 0) (flags : List Bool) (drive : ℕ) → is_online flags drive ≡ false → AreTurns kind (online_one flags drive) [] []
-turn_offline kind flags drive off = rw off (refl, refl)
+pub turn_offline : (flags : List Bool) (drive : ℕ) → is_online flags drive ≡ false → AreTurns (online_one flags drive) [] []
+turn_offline flags drive off = rw off (refl, refl)
 
 flag_at : {D : Type 0} (w : WorldView D) (drive at : ℕ) (bay : BayView D) (b : Bool) → drive ≡ at + 1 → slice_get w.bays at ≡ Some bay → is_some bay.drive ≡ b
     → is_online (online_flags w) drive ≡ b
@@ -178,55 +177,55 @@ take_answered meaning w w' drive reply other (inl m) = absurd (other m.0 m.1)
 take_answered meaning w w' drive reply other (inr a) = online_is w drive a.at a.bay a.d a.online
 
 -- The drives below a number have had their turns.
-pub record TurnedBelow {D : Type 0} (meaning : D → Meaning) (syncs : Bool) (old : WorldView D) (number : ℕ) (turned : Round) (world : WorldView D) : Type 0 where
-  pub plays : PlaysOn meaning (AreTurns (turn_kind syncs) (online_below (online_flags old) number)) old turned world
+pub record TurnedBelow {D : Type 0} (meaning : D → Meaning) (old : WorldView D) (number : ℕ) (turned : Round) (world : WorldView D) : Type 0 where
+  pub plays : PlaysOn meaning (AreTurns (online_below (online_flags old) number)) old turned world
   pub flags : online_flags world ≡ online_flags old
 
-pub turned_none : {D : Type 0} (meaning : D → Meaning) (syncs : Bool) (w : WorldView D) (turned : Round) → Tells turned [] → TurnedBelow meaning syncs w 1 turned w
-turned_none meaning syncs w turned tells = record { plays = on_none meaning (AreTurns (turn_kind syncs) []) w turned tells (refl, refl); flags = refl }
+pub turned_none : {D : Type 0} (meaning : D → Meaning) (w : WorldView D) (turned : Round) → Tells turned [] → TurnedBelow meaning w 1 turned w
+turned_none meaning w turned tells = record { plays = on_none meaning (AreTurns []) w turned tells (refl, refl); flags = refl }
 
-pub turned_more : {D : Type 0} (meaning : D → Meaning) (syncs : Bool) (old world new : WorldView D) (number : ℕ) (turned here sum : Round) → 1 ≤ number
-    → TurnedBelow meaning syncs old number turned world → PlaysOn meaning (AreTurns (turn_kind syncs) (online_one (online_flags world) number)) world here new
+pub turned_more : {D : Type 0} (meaning : D → Meaning) (old world new : WorldView D) (number : ℕ) (turned here sum : Round) → 1 ≤ number
+    → TurnedBelow meaning old number turned world → PlaysOn meaning (AreTurns (online_one (online_flags world) number)) world here new
     → sum.moved ≡ (turned.moved || here.moved) → sum.placed ≡ counted (turned.placed + here.placed)
-    → TurnedBelow meaning syncs old (number + 1) sum new
-turned_more meaning syncs old world new number turned here sum low p q moved placed =
+    → TurnedBelow meaning old (number + 1) sum new
+turned_more meaning old world new number turned here sum low p q moved placed =
     let flags = online_flags old in
-    let Turns : List ℕ → List Event → List Reply → Type 0 = AreTurns (turn_kind syncs) in
+    let Turns : List ℕ → List Event → List Reply → Type 0 = AreTurns in
     let one : PlaysOn meaning (Turns (online_one flags number)) world here new =
     subst (λ fs. PlaysOn meaning (Turns (online_one fs number)) world here new) p.flags q in
     record {
       plays = on_and meaning (Turns (online_below flags number)) (Turns (online_one flags number)) (Turns (online_below flags (number + 1)))
           old world new turned here sum p.plays one moved placed
           (λ es fs rs ss x y. subst (λ ds. Turns ds (es ++ fs) (rs ++ ss)) (sym (below_more flags number low))
-          (turns-append (turn_kind syncs) (online_below flags number) (online_one flags number) es fs rs ss x y));
-      flags = (along_stay meaning world new q.events q.replies (turns_retire_none syncs _ q.events q.replies q.is_kind) q.along).flags ∙ p.flags;
+          (turns-append (online_below flags number) (online_one flags number) es fs rs ss x y));
+      flags = (along_stay meaning world new q.events q.replies (turns_retire_none _ q.events q.replies q.is_kind) q.along).flags ∙ p.flags;
     }
 
 -- A round of both parts.
 
-pub round_of : {D : Type 0} (meaning : D → Meaning) (syncs : Bool) (old between new : WorldView D) (sent turned sum : Round)
+pub round_of : {D : Type 0} (meaning : D → Meaning) (old between new : WorldView D) (sent turned sum : Round)
     → PlaysOn meaning (AreSends (running_tickets old.sessions)) old sent between
-    → PlaysOn meaning (AreTurns (turn_kind syncs) (drives_online between)) between turned new
+    → PlaysOn meaning (AreTurns (drives_online between)) between turned new
     → sum.moved ≡ (sent.moved || turned.moved) → sum.placed ≡ counted (sent.placed + turned.placed)
-    → PlaysOn meaning (IsRoundOf (turn_kind syncs) old) old sum new
-round_of meaning syncs old between new sent turned sum p q moved placed =
+    → PlaysOn meaning (IsRound old) old sum new
+round_of meaning old between new sent turned sum p q moved placed =
     let flags = (along_stay meaning old between p.events p.replies (subst RetireNone (sym p.is_kind) (sends_retire_none (running_tickets old.sessions))) p.along).flags in
-    on_and meaning (AreSends (running_tickets old.sessions)) (AreTurns (turn_kind syncs) (drives_online between)) (IsRoundOf (turn_kind syncs) old) old between new sent turned sum p q moved placed
+    on_and meaning (AreSends (running_tickets old.sessions)) (AreTurns (drives_online between)) (IsRound old) old between new sent turned sum p q moved placed
     (λ es fs rs ss x y. record {
       sent = rs;
       turns = fs;
       turned = ss;
-      are_turns = subst (λ f. AreTurns (turn_kind syncs) (filter (is_online f) (range_with_len 1 most_drives)) fs ss) flags y;
+      are_turns = subst (λ f. AreTurns (filter (is_online f) (range_with_len 1 most_drives)) fs ss) flags y;
       events_are = ap (λ l. l ++ fs) x;
       replies_are = refl;
     })
 
 -- What rounds leave of the drives.
 
-round_retires_none : {D : Type 0} (w : WorldView D) (es : List Event) (rs : List Reply) → IsRoundOf IsTurn w es rs → RetireNone es
+round_retires_none : {D : Type 0} (w : WorldView D) (es : List Event) (rs : List Reply) → IsRound w es rs → RetireNone es
 round_retires_none w es rs r =
     subst RetireNone (sym r.events_are)
-    (retire_none-append (sends (running_tickets w.sessions)) r.turns (sends_retire_none (running_tickets w.sessions)) (turns_retire_none true (drives_online w) r.turns r.turned r.are_turns))
+    (retire_none-append (sends (running_tickets w.sessions)) r.turns (sends_retire_none (running_tickets w.sessions)) (turns_retire_none (drives_online w) r.turns r.turned r.are_turns))
 
 pub rounds_stay : {D : Type 0} (meaning : D → Meaning) (a b : WorldView D) (rounds : List (List Reply)) → PlaysRounds meaning a rounds b → DrivesStay a b
 rounds_stay meaning a b [] p = drives_same a b p

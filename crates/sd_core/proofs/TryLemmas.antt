@@ -14,23 +14,19 @@ use Rattle.sd_machine.specs.declared.reply.Reply.TheVariants.{Refused}
 use Rattle.sd_world.specs.World.{WorldView}
 use Rattle.sd_world.specs.Steps.{IsStep, StepsAlong}
 use Rattle.sd_core.specs.declared.headway.Round.{Round}
-use Rattle.sd_core.specs.declared.syncing.Syncing.{Syncing}
-use Rattle.sd_core.specs.declared.syncing.Syncing.TheVariants.{EachRound, AtRest}
-use Rattle.sd_core.specs.declared.tries.Stop.{Stop}
-use Rattle.sd_core.specs.declared.tries.Stop.TheVariants.{Given, Still}
-use Rattle.sd_core.specs.Rounds.{AllMove, Drains, IsRound, Moved, PlaysMoving, PlaysOn, PlaysOne, PlaysRound, PlaysRounds, counted, placed_in}
-use Rattle.sd_core.specs.Tries.{Answers, Asks, AsksAgain, Ends, GivesAgain, IsWait, Lacks, Rests, Stops, StopsGiven, StopsStill, Tried, Try, WaitsAs, events_tried, is_due, may_change, replies_tried, rounds_in}
+use Rattle.sd_core.specs.Rounds.{AllMove, Drains, IsRound, Moved, PlaysMoving, PlaysOne, PlaysRound, PlaysRounds, counted, placed_in}
+use Rattle.sd_core.specs.Tries.{Answers, Asks, AsksAgain, Ends, GivesAgain, Lacks, PlaysAs, Stops, Tried, Try, events_tried, is_due, may_change, replies_tried, rounds_in}
 use Rattle.sd_core.proofs.Played.{along_append, counted_sum}
 
 -- The loop.
 
-pub tried_none : {D : Type 0} (meaning : D → Meaning) (syncing : Syncing) (asked : Option Event) (w : WorldView D) (placed : ℕ) → placed ≡ counted 0 → Tried meaning syncing asked w 0 placed w
-tried_none meaning syncing asked w placed is = record { tries = []; gives = refl; count_is = refl; placed_is = is }
+pub tried_none : {D : Type 0} (meaning : D → Meaning) (asked : Option Event) (w : WorldView D) (placed : ℕ) → placed ≡ counted 0 → Tried meaning asked w 0 placed w
+tried_none meaning asked w placed is = record { tries = []; gives = refl; count_is = refl; placed_is = is }
 
-asks_append : {D : Type 0} (meaning : D → Meaning) (syncing : Syncing) (asked : Option Event) (a b c : WorldView D) (ts us : List Try) → AsksAgain meaning syncing asked a ts b → AsksAgain meaning syncing asked b us c
-    → AsksAgain meaning syncing asked a (ts ++ us) c
-asks_append meaning syncing asked a b c [] us p q = subst (λ w. AsksAgain meaning syncing asked w us c) p q
-asks_append meaning syncing asked a b c (t ∷ ts) us p q = (p.0, p.1, p.2, p.3, p.4, p.5, asks_append meaning syncing asked p.1 b c ts us p.6 q)
+asks_append : {D : Type 0} (meaning : D → Meaning) (asked : Option Event) (a b c : WorldView D) (ts us : List Try) → AsksAgain meaning asked a ts b → AsksAgain meaning asked b us c
+    → AsksAgain meaning asked a (ts ++ us) c
+asks_append meaning asked a b c [] us p q = subst (λ w. AsksAgain meaning asked w us c) p q
+asks_append meaning asked a b c (t ∷ ts) us p q = (p.0, p.1, p.2, p.3, p.4, p.5, asks_append meaning asked p.1 b c ts us p.6 q)
 
 -- the blocks of one round more
 placed_more : (rounds : List (List Reply)) (replies : List Reply) (placed here sum : ℕ) → placed ≡ counted (sum_by placed_in rounds) → here ≡ counted (placed_in replies) → sum ≡ counted (placed + here)
@@ -41,15 +37,15 @@ placed_more rounds replies placed here sum before now is =
     cc
 
 -- one try more, after which something moved
-pub tried_more : {D : Type 0} (meaning : D → Meaning) (syncing : Syncing) (asked : Option Event) (answer : Reply) (old world given new : WorldView D) (count placed sum : ℕ) (round : Round)
-    → Tried meaning syncing asked old count placed world → Asks meaning asked world answer given → is_due asked answer ≡ true
-    → PlaysOn meaning (IsWait syncing given) given round new → round.moved ≡ true → sum ≡ counted (placed + round.placed) → Tried meaning syncing asked old (count + 1) sum new
-tried_more meaning syncing asked answer old world given new count placed sum round p asks due plays moved is =
+pub tried_more : {D : Type 0} (meaning : D → Meaning) (asked : Option Event) (answer : Reply) (old world given new : WorldView D) (count placed sum : ℕ) (round : Round)
+    → Tried meaning asked old count placed world → Asks meaning asked world answer given → is_due asked answer ≡ true
+    → PlaysRound meaning given round new → round.moved ≡ true → sum ≡ counted (placed + round.placed) → Tried meaning asked old (count + 1) sum new
+tried_more meaning asked answer old world given new count placed sum round p asks due plays moved is =
     let t : Try = record { answer = answer; events = plays.events; replies = plays.replies } in
     let same : rounds_in (p.tries ++ t ∷ []) ≡ rounds_in p.tries ++ plays.replies ∷ [] = map-append (λ (x : Try). x.replies) p.tries (t ∷ []) in
     record {
       tries = p.tries ++ t ∷ [];
-      gives = asks_append meaning syncing asked old world new p.tries (t ∷ []) p.gives
+      gives = asks_append meaning asked old world new p.tries (t ∷ []) p.gives
           (given, new, asks, due, (plays.is_kind, plays.along), sym plays.tells.moved ∙ moved, refl);
       count_is = length-append p.tries (t ∷ []) ∙ ap (λ n. n + 1) p.count_is;
       placed_is = placed_more (rounds_in p.tries) plays.replies placed round.placed sum p.placed_is plays.tells.placed is ∙ ap (λ rs. counted (sum_by placed_in rs)) (sym same);
@@ -57,7 +53,7 @@ tried_more meaning syncing asked answer old world given new count placed sum rou
 
 -- A drain.
 
-one_of : {D : Type 0} (meaning : D → Meaning) (old given new : WorldView D) (es : List Event) (rs : List Reply) → given ≡ old → WaitsAs meaning EachRound given es rs new → PlaysOne meaning old rs new
+one_of : {D : Type 0} (meaning : D → Meaning) (old given new : WorldView D) (es : List Event) (rs : List Reply) → given ≡ old → PlaysAs meaning given es rs new → PlaysOne meaning old rs new
 one_of meaning old given new es rs same p = record {
   events = es;
   is_round = subst (λ w. IsRound w es rs) same p.0;
@@ -70,15 +66,15 @@ rounds_more meaning a b c [] rs p q = (c, subst (λ w. PlaysOne meaning w rs c) 
 rounds_more meaning a b c (round ∷ rounds) rs p q = (p.0, p.1, rounds_more meaning p.0 b c rounds rs p.2 q)
 
 -- if nothing is asked, the rounds are played, and something moves in each
-rounds_play : {D : Type 0} (meaning : D → Meaning) (a b : WorldView D) (ts : List Try) → AsksAgain meaning EachRound None a ts b → PlaysRounds meaning a (rounds_in ts) b × AllMove (rounds_in ts)
+rounds_play : {D : Type 0} (meaning : D → Meaning) (a b : WorldView D) (ts : List Try) → AsksAgain meaning None a ts b → PlaysRounds meaning a (rounds_in ts) b × AllMove (rounds_in ts)
 rounds_play meaning a b [] p = (p, All-nil Moved)
 rounds_play meaning a b (t ∷ ts) p =
     let later = rounds_play meaning p.1 b ts p.6 in
     ((p.1, one_of meaning a p.0 p.1 t.events t.replies p.2 p.4, later.0), All-cons Moved t.replies (rounds_in ts) p.5 later.1)
 
 -- the rounds stopped: at the first in which nothing moved, or at as many as can be counted
-pub drained : {D : Type 0} (meaning : D → Meaning) (old new : WorldView D) (stop : Stop) (placed : ℕ) → Stops meaning EachRound (2 ^ 64 - 1) None old stop placed new → Drains meaning old placed new
-drained meaning old new (Given answer) placed p =
+pub drained : {D : Type 0} (meaning : D → Meaning) (old new : WorldView D) (answer : Reply) (placed : ℕ) → Stops meaning (2 ^ 64 - 1) None old answer placed new → Drains meaning old placed new
+drained meaning old new answer placed (inl p) =
     let played = rounds_play meaning old p.middle p.tried.tries p.tried.gives in
     let out : p.count ≡ 2 ^ 64 - 1 = elim p.due [ inl e ↦ absurd (cc e) | inr e ↦ e ] in record {
       rounds = rounds_in p.tried.tries;
@@ -86,7 +82,7 @@ drained meaning old new (Given answer) placed p =
       ends = inr (played.1, length-map p.tried.tries _ ∙ p.tried.count_is ∙ out);
       placed_is = p.tried.placed_is;
     }
-drained meaning old new (Still answer) placed p =
+drained meaning old new answer placed (inr p) =
     let due = p.asked_last in
     let rounds = rounds_in due.tried.tries in
     let played = rounds_play meaning old due.middle due.tried.tries due.tried.gives in record {
@@ -98,7 +94,7 @@ drained meaning old new (Still answer) placed p =
     }
 
 -- there was no memory for one more
-pub moved_so_far : {D : Type 0} (meaning : D → Meaning) (rounds : ℕ) (old new : WorldView D) → Lacks meaning EachRound rounds None old new → PlaysMoving meaning old new
+pub moved_so_far : {D : Type 0} (meaning : D → Meaning) (rounds : ℕ) (old new : WorldView D) → Lacks meaning rounds None old new → PlaysMoving meaning old new
 moved_so_far meaning rounds old new p =
     let due = p.2 in
     let played = rounds_play meaning old due.middle due.tried.tries due.tried.gives in
@@ -107,103 +103,64 @@ moved_so_far meaning rounds old new p =
 -- An answer.
 
 -- an answer, with some events and replies
-abbrev pub AnswersSome : {D : Type 0} → (D → Meaning) → Syncing → ℕ → WorldView D → Event → Reply → WorldView D → Type 0
-AnswersSome meaning syncing rounds old event reply new =
-    (events : List Event) × (replies : List Reply) × Answers meaning syncing rounds old event reply events replies new
-
--- what comes if nothing moved, with some events and replies
-abbrev pub RestsSome : {D : Type 0} → (D → Meaning) → Syncing → Event → Reply → WorldView D → Reply → WorldView D → Type 0
-RestsSome meaning syncing event answer old reply new =
-    (events : List Event) × (replies : List Reply) × Rests meaning syncing event answer old reply events replies new
+abbrev pub AnswersSome : {D : Type 0} → (D → Meaning) → ℕ → WorldView D → Event → Reply → WorldView D → Type 0
+AnswersSome meaning rounds old event reply new =
+    (events : List Event) × (replies : List Reply) × Answers meaning rounds old event reply events replies new
 
 -- what is given again if an event is asked
-gives_again : {D : Type 0} (meaning : D → Meaning) (syncing : Syncing) (event : Event) (a b : WorldView D) (ts : List Try) → AsksAgain meaning syncing (Some event) a ts b → GivesAgain meaning syncing event a ts b
-gives_again meaning syncing event a b [] p = p
-gives_again meaning syncing event a b (t ∷ ts) p = (p.0, p.1, p.2, p.3, p.4, p.5, gives_again meaning syncing event p.1 b ts p.6)
+gives_again : {D : Type 0} (meaning : D → Meaning) (event : Event) (a b : WorldView D) (ts : List Try) → AsksAgain meaning (Some event) a ts b → GivesAgain meaning event a ts b
+gives_again meaning event a b [] p = p
+gives_again meaning event a b (t ∷ ts) p = (p.0, p.1, p.2, p.3, p.4, p.5, gives_again meaning event p.1 b ts p.6)
 
 -- tries, and what ends them
-ends_so : {D : Type 0} (meaning : D → Meaning) (syncing : Syncing) (event : Event) (reply : Reply) (old world new : WorldView D) (count placed rounds : ℕ) (es : List Event) (rs : List Reply)
-    → Tried meaning syncing (Some event) old count placed world → count ≤ rounds → Ends meaning syncing event count rounds reply world es rs new
-    → AnswersSome meaning syncing rounds old event reply new
-ends_so meaning syncing event reply old world new count placed rounds es rs p few ends = (
+ends_so : {D : Type 0} (meaning : D → Meaning) (event : Event) (reply : Reply) (old world new : WorldView D) (count placed rounds : ℕ) (es : List Event) (rs : List Reply)
+    → Tried meaning (Some event) old count placed world → count ≤ rounds → Ends meaning event count rounds reply world es rs new
+    → AnswersSome meaning rounds old event reply new
+ends_so meaning event reply old world new count placed rounds es rs p few ends = (
   events_tried event p.tries ++ es,
   replies_tried p.tries ++ rs,
   record {
     tries = p.tries;
     few = subst (λ n. n ≤ rounds) (sym p.count_is) few;
     middle = world;
-    gives = gives_again meaning syncing event old world p.tries p.gives;
+    gives = gives_again meaning event old world p.tries p.gives;
     last_events = es;
     last_replies = rs;
-    ends = subst (λ n. Ends meaning syncing event n rounds reply world es rs new) (sym p.count_is) ends;
+    ends = subst (λ n. Ends meaning event n rounds reply world es rs new) (sym p.count_is) ends;
     events_are = refl;
     replies_are = refl;
   },
 )
 
--- the world's answer is the answer
-pub answered : {D : Type 0} (meaning : D → Meaning) (syncing : Syncing) (event : Event) (reply : Reply) (old new : WorldView D) (placed rounds : ℕ) (stop : Stop)
-    → Stops meaning syncing rounds (Some event) old stop placed new → stop ≡ Given reply → AnswersSome meaning syncing rounds old event reply new
-answered meaning syncing event reply old new placed rounds stop stops is =
-    let p : StopsGiven meaning syncing rounds (Some event) old reply placed new = subst (λ s. Stops meaning syncing rounds (Some event) old s placed new) is stops in
-    ends_so meaning syncing event reply old p.middle new p.count placed rounds (event ∷ []) (reply ∷ []) p.tried p.few
+-- the world's last answer is the answer: it doesn't change any more, there are no more rounds, or nothing moved after it
+pub answered : {D : Type 0} (meaning : D → Meaning) (event : Event) (reply : Reply) (old new : WorldView D) (placed rounds : ℕ)
+    → Stops meaning rounds (Some event) old reply placed new → AnswersSome meaning rounds old event reply new
+answered meaning event reply old new placed rounds (inl p) =
+    ends_so meaning event reply old p.middle new p.count placed rounds (event ∷ []) (reply ∷ []) p.tried p.few
     (inl (record { step = p.asks; due = p.due; events_are = refl; replies_are = refl }))
-
--- nothing moved after it
-pub stood_still : {D : Type 0} (meaning : D → Meaning) (syncing : Syncing) (event : Event) (answer reply : Reply) (old world new : WorldView D) (placed rounds : ℕ) (stop : Stop)
-    → Stops meaning syncing rounds (Some event) old stop placed world → stop ≡ Still answer → RestsSome meaning syncing event answer world reply new
-    → AnswersSome meaning syncing rounds old event reply new
-stood_still meaning syncing event answer reply old world new placed rounds stop stops is rest =
-    let p : StopsStill meaning syncing rounds (Some event) old answer placed world = subst (λ s. Stops meaning syncing rounds (Some event) old s placed world) is stops in
+answered meaning event reply old new placed rounds (inr p) =
     let due = p.asked_last in
     let few : due.count ≤ rounds = (let left = due.left in omega arith) in
-    ends_so meaning syncing event reply old due.middle new due.count p.before rounds (event ∷ (p.plays.events ++ rest.0)) (answer ∷ (p.plays.replies ++ rest.1)) due.tried few
+    ends_so meaning event reply old due.middle new due.count p.before rounds (event ∷ p.plays.events) (reply ∷ p.plays.replies) due.tried few
     (inr (inl (record {
-      answer = answer;
       asked = p.given;
       step = due.asks;
       may = due.due;
       left = due.left;
       round_events = p.plays.events;
       round_replies = p.plays.replies;
-      still = world;
-      waits = (p.plays.is_kind, p.plays.along);
+      plays = (p.plays.is_kind, p.plays.along);
       nothing_moved = sym p.plays.tells.moved ∙ p.still;
-      rest_events = rest.0;
-      rest_replies = rest.1;
-      rests = rest.2;
       events_are = refl;
       replies_are = refl;
     })))
 
--- the answer stays
-pub rests_so : {D : Type 0} (meaning : D → Meaning) (syncing : Syncing) (event : Event) (answer : Reply) (w : WorldView D) → (syncing ≡ AtRest → ⊥)
-    → RestsSome meaning syncing event answer w answer w
-rests_so meaning EachRound event answer w other = ([], [], record { reply_is = refl; new_is = refl; events_are = refl; replies_are = refl })
-rests_so meaning AtRest event answer w other = absurd (other refl)
-
--- there was no memory for the sync
-pub rests_without : {D : Type 0} (meaning : D → Meaning) (syncing : Syncing) (event : Event) (answer : Reply) (old new : WorldView D) → syncing ≡ AtRest → new ≡ old
-    → RestsSome meaning syncing event answer old (Refused Memory) new
-rests_without meaning EachRound event answer old new is same = absurd (cc is)
-rests_without meaning AtRest event answer old new is same = ([], [], inr (record { reply_is = refl; new_is = same; events_are = refl; replies_are = refl }))
-
--- the drives synced, and the event was given once more
-pub rests_synced : {D : Type 0} (meaning : D → Meaning) (syncing : Syncing) (event : Event) (answer reply : Reply) (old synced new : WorldView D) (round : Round) → syncing ≡ AtRest
-    → PlaysRound meaning old round synced → IsStep meaning synced event reply new → RestsSome meaning syncing event answer old reply new
-rests_synced meaning EachRound event answer reply old synced new round is plays step = absurd (cc is)
-rests_synced meaning AtRest event answer reply old synced new round is plays step = (
-  plays.events ++ event ∷ [],
-  plays.replies ++ reply ∷ [],
-  inl (record { synced = synced; round_events = plays.events; round_replies = plays.replies; plays = (plays.is_kind, plays.along); step = step; events_are = refl; replies_are = refl }),
-)
-
 -- there was no memory for a round
-pub lacked_memory : {D : Type 0} (meaning : D → Meaning) (syncing : Syncing) (event : Event) (old new : WorldView D) (rounds : ℕ) → Lacks meaning syncing rounds (Some event) old new
-    → AnswersSome meaning syncing rounds old event (Refused Memory) new
-lacked_memory meaning syncing event old new rounds (answer, placed, due) =
+pub lacked_memory : {D : Type 0} (meaning : D → Meaning) (event : Event) (old new : WorldView D) (rounds : ℕ) → Lacks meaning rounds (Some event) old new
+    → AnswersSome meaning rounds old event (Refused Memory) new
+lacked_memory meaning event old new rounds (answer, placed, due) =
     let few : due.count ≤ rounds = (let left = due.left in omega arith) in
-    ends_so meaning syncing event (Refused Memory) old due.middle new due.count placed rounds (event ∷ []) (answer ∷ []) due.tried few
+    ends_so meaning event (Refused Memory) old due.middle new due.count placed rounds (event ∷ []) (answer ∷ []) due.tried few
     (inr (inr (record { answer = answer; step = due.asks; may = due.due; left = due.left; reply_is = refl; events_are = refl; replies_are = refl })))
 
 -- What the tries do to the world.
@@ -211,40 +168,26 @@ lacked_memory meaning syncing event old new rounds (answer, placed, due) =
 one_along : {D : Type 0} (meaning : D → Meaning) (a b : WorldView D) (event : Event) (reply : Reply) → IsStep meaning a event reply b → StepsAlong meaning a (event ∷ []) (reply ∷ []) b
 one_along meaning a b event reply step = (b, step, refl)
 
-pub gives_along : {D : Type 0} (meaning : D → Meaning) (syncing : Syncing) (event : Event) (a b : WorldView D) (ts : List Try) → GivesAgain meaning syncing event a ts b
+pub gives_along : {D : Type 0} (meaning : D → Meaning) (event : Event) (a b : WorldView D) (ts : List Try) → GivesAgain meaning event a ts b
     → StepsAlong meaning a (events_tried event ts) (replies_tried ts) b
-gives_along meaning syncing event a b [] p = p
-gives_along meaning syncing event a b (t ∷ ts) p =
-    (p.0, p.2, along_append meaning p.0 p.1 b t.events (events_tried event ts) t.replies (replies_tried ts) p.4.1 (gives_along meaning syncing event p.1 b ts p.6))
+gives_along meaning event a b [] p = p
+gives_along meaning event a b (t ∷ ts) p =
+    (p.0, p.2, along_append meaning p.0 p.1 b t.events (events_tried event ts) t.replies (replies_tried ts) p.4.1 (gives_along meaning event p.1 b ts p.6))
 
-rests_along : {D : Type 0} (meaning : D → Meaning) (syncing : Syncing) (event : Event) (answer reply : Reply) (a b : WorldView D) (es : List Event) (rs : List Reply)
-    → Rests meaning syncing event answer a reply es rs b → StepsAlong meaning a es rs b
-rests_along meaning EachRound event answer reply a b es rs p = rw (p.events_are, p.replies_are) p.new_is
-rests_along meaning AtRest event answer reply a b es rs (inl p) =
-    rw (p.events_are, p.replies_are)
-    (along_append meaning a p.synced b p.round_events (event ∷ []) p.round_replies (reply ∷ []) p.plays.1 (one_along meaning p.synced b event reply p.step))
-rests_along meaning AtRest event answer reply a b es rs (inr p) = rw (p.events_are, p.replies_are) p.new_is
-
-ends_along : {D : Type 0} (meaning : D → Meaning) (syncing : Syncing) (event : Event) (tried rounds : ℕ) (reply : Reply) (a b : WorldView D) (es : List Event) (rs : List Reply)
-    → Ends meaning syncing event tried rounds reply a es rs b → StepsAlong meaning a es rs b
-ends_along meaning syncing event tried rounds reply a b es rs (inl p) = rw (p.events_are, p.replies_are) (one_along meaning a b event reply p.step)
-ends_along meaning syncing event tried rounds reply a b es rs (inr (inl p)) =
-    rw (p.events_are, p.replies_are) (
-      p.asked,
-      p.step,
-      along_append meaning p.asked p.still b p.round_events p.rest_events p.round_replies p.rest_replies p.waits.1
-          (rests_along meaning syncing event p.answer reply p.still b p.rest_events p.rest_replies p.rests),
-    )
-ends_along meaning syncing event tried rounds reply a b es rs (inr (inr p)) = rw (p.events_are, p.replies_are) (one_along meaning a b event p.answer p.step)
+ends_along : {D : Type 0} (meaning : D → Meaning) (event : Event) (tried rounds : ℕ) (reply : Reply) (a b : WorldView D) (es : List Event) (rs : List Reply)
+    → Ends meaning event tried rounds reply a es rs b → StepsAlong meaning a es rs b
+ends_along meaning event tried rounds reply a b es rs (inl p) = rw (p.events_are, p.replies_are) (one_along meaning a b event reply p.step)
+ends_along meaning event tried rounds reply a b es rs (inr (inl p)) = rw (p.events_are, p.replies_are) (p.asked, p.step, p.plays.1)
+ends_along meaning event tried rounds reply a b es rs (inr (inr p)) = rw (p.events_are, p.replies_are) (one_along meaning a b event p.answer p.step)
 
 -- an answer is a run of the world along its events
-pub answers_along : {D : Type 0} (meaning : D → Meaning) (syncing : Syncing) (rounds : ℕ) (event : Event) (reply : Reply) (a b : WorldView D) (es : List Event) (rs : List Reply)
-    → Answers meaning syncing rounds a event reply es rs b → StepsAlong meaning a es rs b
-answers_along meaning syncing rounds event reply a b es rs p =
+pub answers_along : {D : Type 0} (meaning : D → Meaning) (rounds : ℕ) (event : Event) (reply : Reply) (a b : WorldView D) (es : List Event) (rs : List Reply)
+    → Answers meaning rounds a event reply es rs b → StepsAlong meaning a es rs b
+answers_along meaning rounds event reply a b es rs p =
     rw (p.events_are, p.replies_are)
     (along_append meaning a p.middle b (events_tried event p.tries) p.last_events (replies_tried p.tries) p.last_replies
-    (gives_along meaning syncing event a p.middle p.tries p.gives)
-    (ends_along meaning syncing event (length p.tries) rounds reply p.middle b p.last_events p.last_replies p.ends))
+    (gives_along meaning event a p.middle p.tries p.gives)
+    (ends_along meaning event (length p.tries) rounds reply p.middle b p.last_events p.last_replies p.ends))
 
 -- Other events than these two have an answer that doesn't change.
 pub never_changes : (e : Event) (reply : Reply) → ((ticket : ℕ) (r : Record) → e ≡ Append ticket r → ⊥) → ((ticket : ℕ) → e ≡ Close ticket → ⊥)

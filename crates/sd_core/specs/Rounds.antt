@@ -98,14 +98,7 @@ placing drive replies = Place drive ∷ []
 abbrev pub IsPlacing : ℕ → List Event → List Reply → Type 0
 IsPlacing drive events replies = events ≡ placing drive replies
 
--- a drive takes a body into its hand, if that is empty, and places it
-pub record IsPass (drive : ℕ) (events : List Event) (replies : List Reply) : Type 0 where
-  pub took : Reply
-  pub placed : List Reply
-  pub events_are : events ≡ Take drive ∷ placing drive placed
-  pub replies_are : replies ≡ took ∷ placed
-
--- one step of a drive's each kind
+-- A drive takes a body into its hand, if that is empty, places it and syncs.
 pub record IsTurn (drive : ℕ) (events : List Event) (replies : List Reply) : Type 0 where
   pub took : Reply
   pub placed : List Reply
@@ -113,46 +106,28 @@ pub record IsTurn (drive : ℕ) (events : List Event) (replies : List Reply) : T
   pub events_are : events ≡ Take drive ∷ placing drive placed ++ Sync drive ∷ []
   pub replies_are : replies ≡ took ∷ placed ++ synced ∷ []
 
--- what a drive plays in a round in which drives sync, and in one in which none does
-abbrev pub turn_kind : Bool → ℕ → List Event → List Reply → Type 0
-turn_kind true = IsTurn
-turn_kind false = IsPass
-
--- the drives have their turns of this kind, one after another
-abbrev pub AreTurns : (ℕ → List Event → List Reply → Type 0) → List ℕ → List Event → List Reply → Type 0
-AreTurns kind [] events replies = (events ≡ []) × (replies ≡ [])
-AreTurns kind (drive ∷ drives) events replies =
+-- the drives have their turns, one after another
+abbrev pub AreTurns : List ℕ → List Event → List Reply → Type 0
+AreTurns [] events replies = (events ≡ []) × (replies ≡ [])
+AreTurns (drive ∷ drives) events replies =
     (here : List Event) × (said : List Reply) × (later : List Event) × (rest : List Reply)
-    × kind drive here said × AreTurns kind drives later rest × (events ≡ here ++ later) × (replies ≡ said ++ rest)
+    × IsTurn drive here said × AreTurns drives later rest × (events ≡ here ++ later) × (replies ≡ said ++ rest)
 
 -- A round.
 
--- each session that is on its way spools and despools, by rising ticket; then each drive that is online has its turn, of
--- this kind, by rising number
-pub record IsRoundOf {D : Type 0} (kind : ℕ → List Event → List Reply → Type 0) (w : WorldView D) (events : List Event)
-    (replies : List Reply) : Type 0 where
+-- each session that is on its way spools and despools, by rising ticket; then each drive that is online has its turn, by
+-- rising number
+pub record IsRound {D : Type 0} (w : WorldView D) (events : List Event) (replies : List Reply) : Type 0 where
   pub sent : List Reply
   pub turns : List Event
   pub turned : List Reply
-  pub are_turns : AreTurns kind (drives_online w) turns turned
+  pub are_turns : AreTurns (drives_online w) turns turned
   pub events_are : events ≡ sends (running_tickets w.sessions) ++ turns
   pub replies_are : replies ≡ sent ++ turned
-
--- a round
-abbrev pub IsRound : {D : Type 0} → WorldView D → List Event → List Reply → Type 0
-IsRound w events replies = IsRoundOf IsTurn w events replies
-
--- a round in which no drive syncs
-abbrev pub IsCarry : {D : Type 0} → WorldView D → List Event → List Reply → Type 0
-IsCarry w events replies = IsRoundOf IsPass w events replies
 
 -- a round is played, and what came of it is told
 abbrev pub PlaysRound : {D : Type 0} → (D → Meaning) → WorldView D → Round → WorldView D → Type 0
 PlaysRound meaning old round new = PlaysOn meaning (IsRound old) old round new
-
--- a round in which no drive syncs is played, and what came of it is told
-abbrev pub PlaysCarry : {D : Type 0} → (D → Meaning) → WorldView D → Round → WorldView D → Type 0
-PlaysCarry meaning old round new = PlaysOn meaning (IsCarry old) old round new
 
 -- Rounds until nothing moves.
 

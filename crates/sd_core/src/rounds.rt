@@ -1,10 +1,9 @@
 // Rounds, and rounds until nothing moves.
 ghost use Rattle.std.specs.Prelude.{◌≡◌, IfOk, OnErr};
-ghost use Rattle.sd_core.specs.Rounds.{Drains, IsRoundOf, PlaysCarry, PlaysMoving, PlaysOn, PlaysRound, turn_kind};
+ghost use Rattle.sd_core.specs.Rounds.{Drains, PlaysMoving, PlaysRound};
 
 use crate::headway::Round;
 use crate::sending::send_all;
-use crate::syncing::Syncing;
 use crate::tries::repeat;
 use crate::turns::turn_all;
 use crate::world::World;
@@ -22,31 +21,9 @@ pub fn round<D: Driver + Drop, Q: Lanes, S: SpoolStore + Drop>(
     ensures plays { IfOk result (λ round. PlaysRound (λ d. D.meaning d) world.old round world.new) }
     ensures err { OnErr result (world.new ≡ world.old) }
 {
-    play(world, true)
-}
-
-/// A round in which no drive syncs: what is on its way moves one step on, and stays unsynced.
-pub fn carry<D: Driver + Drop, Q: Lanes, S: SpoolStore + Drop>(
-    world: &mut World<D, Q, S>,
-) -> Result<Round, AllocError>
-    ensures plays { IfOk result (λ round. PlaysCarry (λ d. D.meaning d) world.old round world.new) }
-    ensures err { OnErr result (world.new ≡ world.old) }
-{
-    play(world, false)
-}
-
-// A round, in which the drives sync or none does.
-fn play<D: Driver + Drop, Q: Lanes, S: SpoolStore + Drop>(
-    world: &mut World<D, Q, S>,
-    syncs: bool,
-) -> Result<Round, AllocError>
-    ensures plays { IfOk result (λ round. PlaysOn (λ d. D.meaning d)
-        (IsRoundOf (turn_kind syncs) world.old) world.old round world.new) }
-    ensures err { OnErr result (world.new ≡ world.old) }
-{
     let tickets = world.tickets()?;
     let sent = send_all(world, &tickets);
-    Ok(sent.and(turn_all(world, syncs)))
+    Ok(sent.and(turn_all(world)))
 }
 
 /// Plays rounds to the first in which nothing moves, and counts the blocks that were placed in them. An `Err` comes
@@ -57,6 +34,6 @@ pub fn drain<D: Driver + Drop, Q: Lanes, S: SpoolStore + Drop>(
     ensures drains { IfOk result (λ placed. Drains (λ d. D.meaning d) world.old placed world.new) }
     ensures err { OnErr result (PlaysMoving (λ d. D.meaning d) world.old world.new) }
 {
-    let (_, placed) = repeat(world, Syncing::EachRound, u64::MAX, None)?;
+    let (_, placed) = repeat(world, u64::MAX, None)?;
     Ok(placed)
 }

@@ -7,7 +7,6 @@ ghost use Rattle.sd_core.specs.Tries.{Answers, Asks, Lacks, Stops, is_due};
 
 use crate::headway::Round;
 use crate::rounds::round;
-use crate::syncing::{Syncing, wait};
 use crate::world::World;
 use sd_base::{Rec, Refusal, Ticket};
 use sd_driver::Driver;
@@ -50,90 +49,66 @@ fn is_due(asked: Option<&Again>, answer: &Reply) -> bool
     }
 }
 
-/// How rounds stopped, with the last answer.
-#[derive(Drop)]
-pub(crate) enum Stop {
-    /// At this answer: it doesn't change any more, or there are no more rounds.
-    Given(Reply),
-    /// At the first round in which nothing moved.
-    Still(Reply),
-}
-
 /// Gives what is asked, if anything is, and plays a round after it, again and again: to the first
 /// answer that doesn't change any more, to the first round in which nothing moves, or to the answer
-/// after as many rounds as there may be. Counts the blocks that were placed. An `Err` comes before a
-/// round; what was given and played before it stays so.
+/// after as many rounds as there may be. Says the last answer, and counts the blocks that were placed. An `Err` comes
+/// before a round; what was given and played before it stays so.
 pub(crate) fn repeat<D: Driver + Drop, Q: Lanes, S: SpoolStore + Drop>(
     world: &mut World<D, Q, S>,
-    syncing: Syncing,
     rounds: u64,
     asked: Option<&Again>,
-) -> Result<(Stop, u64), AllocError>
-    ensures stops { IfOk result (λ stop. Stops (λ d. D.meaning d) syncing rounds
-        (option_map event_again (option_copied asked.entry)) world.old stop.0 stop.1 world.new) }
-    ensures err { OnErr result (Lacks (λ d. D.meaning d) syncing rounds
+) -> Result<(Reply, u64), AllocError>
+    ensures stops { IfOk result (λ last. Stops (λ d. D.meaning d) rounds
+        (option_map event_again (option_copied asked.entry)) world.old last.0 last.1 world.new) }
+    ensures err { OnErr result (Lacks (λ d. D.meaning d) rounds
         (option_map event_again (option_copied asked.entry)) world.old world.new) }
 {
     let mut all = Round::new();
     for _played in 0..rounds {
         let answer = give(world, asked);
         if !is_due(asked, &answer) {
-            return Ok((Stop::Given(answer), all.placed));
+            return Ok((answer, all.placed));
         }
-        let played = wait(world, syncing)?;
+        let played = round(world)?;
         all = all.and(played);
         if !played.moved {
-            return Ok((Stop::Still(answer), all.placed));
+            return Ok((answer, all.placed));
         }
     }
-    Ok((Stop::Given(give(world, asked)), all.placed))
+    Ok((give(world, asked), all.placed))
 }
 
 /// Gives the event to the world, and again after each round in which something moved, as long as the answer may change;
-/// at most so many rounds. If the drives sync at rest, it is given once more after the sync. A round that there is no
-/// memory for is the answer `Memory`.
+/// at most so many rounds. A round that there is no memory for is the answer `Memory`.
 pub fn answer<D: Driver + Drop, Q: Lanes, S: SpoolStore + Drop>(
     world: &mut World<D, Q, S>,
-    syncing: Syncing,
     rounds: u32,
     event: Event,
 ) -> Reply
     ensures { (events : List SpecEvent) × (replies : List SpecReply)
-        × Answers (λ d. D.meaning d) syncing rounds world.old event result events replies
+        × Answers (λ d. D.meaning d) rounds world.old event result events replies
         world.new }
 {
     match event {
         Event::Append { ticket, rec } => {
-            give_again(world, syncing, rounds, &Again::Append { ticket, rec })
+            give_again(world, rounds, &Again::Append { ticket, rec })
         }
-        Event::Close { ticket } => give_again(world, syncing, rounds, &Again::Close { ticket }),
+        Event::Close { ticket } => give_again(world, rounds, &Again::Close { ticket }),
         other => world.step(other),
     }
 }
 
 fn give_again<D: Driver + Drop, Q: Lanes, S: SpoolStore + Drop>(
     world: &mut World<D, Q, S>,
-    syncing: Syncing,
     rounds: u32,
     event: &Again,
 ) -> Reply
     ensures { (events : List SpecEvent) × (replies : List SpecReply)
-        × Answers (λ d. D.meaning d) syncing rounds world.old
+        × Answers (λ d. D.meaning d) rounds world.old
         (event_again event.now) result events replies world.new }
 {
-    let Ok((stop, _)) = repeat(world, syncing, rounds as u64, Some(event)) else {
-        return Reply::Refused(Refusal::Memory);
-    };
-    let answer = match stop {
-        Stop::Given(answer) => return answer,
-        Stop::Still(answer) => answer,
-    };
-    // Nothing moved after this answer: it stays, or the drives sync and the event is given again.
-    let Syncing::AtRest = syncing else {
-        return answer;
-    };
-    let Ok(_) = round(world) else {
-        return Reply::Refused(Refusal::Memory);
-    };
-    give(world, Some(event))
+    match repeat(world, rounds as u64, Some(event)) {
+        Ok((answer, _)) => answer,
+        Err(_) => Reply::Refused(Refusal::Memory),
+    }
 }

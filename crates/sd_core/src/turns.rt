@@ -1,6 +1,6 @@
 // The drives' part of a round.
 ghost use Rattle.std.specs.Prelude.{◌∷◌, [], filter};
-ghost use Rattle.sd_core.specs.Rounds.{AreTurns, IsPlacing, PlaysOn, drives_online, is_online, online_flags, turn_kind};
+ghost use Rattle.sd_core.specs.Rounds.{AreTurns, IsPlacing, PlaysOn, drives_online, is_online, online_flags};
 
 use crate::headway::Round;
 use crate::world::World;
@@ -10,30 +10,27 @@ use sd_lane::Lanes;
 use sd_machine::{Event, Reply};
 use sd_spool::SpoolStore;
 
-/// A turn of each drive that is online, by rising number, with its sync or without.
+/// A turn of each drive that is online, by rising number.
 pub(crate) fn turn_all<D: Driver + Drop, Q: Lanes, S: SpoolStore + Drop>(
     world: &mut World<D, Q, S>,
-    syncs: bool,
 ) -> Round
-    ensures { PlaysOn (λ d. D.meaning d) (AreTurns (turn_kind syncs) (drives_online world.old))
+    ensures { PlaysOn (λ d. D.meaning d) (AreTurns (drives_online world.old))
         world.old result world.new }
 {
     let mut turned = Round::new();
     for number in 1..MOST_DRIVES + 1 {
-        turned = turned.and(turn(world, DriveNo::new(number).unwrap(), syncs));
+        turned = turned.and(turn(world, DriveNo::new(number).unwrap()));
     }
     turned
 }
 
-// A take and a place of the drive, and a sync if it is to sync; none if the drive isn't there or is offline, which the
-// take tells.
+// Takes, places and syncs. Does nothing at a missing or offline drive.
 fn turn<D: Driver + Drop, Q: Lanes, S: SpoolStore + Drop>(
     world: &mut World<D, Q, S>,
     drive: DriveNo,
-    syncs: bool,
 ) -> Round
     ensures { PlaysOn (λ d. D.meaning d)
-        (AreTurns (turn_kind syncs) (filter (is_online (online_flags world.old)) (drive ∷ [])))
+        (AreTurns (filter (is_online (online_flags world.old)) (drive ∷ [])))
         world.old result world.new }
 {
     let took = world.step(Event::Take { drive });
@@ -42,9 +39,6 @@ fn turn<D: Driver + Drop, Q: Lanes, S: SpoolStore + Drop>(
     }
     let placed = place(world, drive);
     let passed = Round::of(&took).and(placed);
-    if !syncs {
-        return passed;
-    }
     let synced = world.step(Event::Sync { drive });
     passed.and(Round::of(&synced))
 }

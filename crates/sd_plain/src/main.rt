@@ -8,7 +8,6 @@ mod talks;
 mod world;
 
 use sd_base::Refusal;
-use sd_core::Syncing;
 use sd_lane::PlainLanes;
 use sd_port::WorldPort;
 use sd_tool::{memory_drives, read_settings, run_lines};
@@ -74,7 +73,7 @@ fn hold<R: Input + Print + Eprint + AllocGlobal>(rt: &R) -> ExitCode {
         let _ = rt.eprintln(Refusal::Memory);
         return ExitCode::FAILURE;
     };
-    let mut port = WorldPort::new(alloc, world, 0, Syncing::AtRest, ROUNDS);
+    let mut port = WorldPort::new(alloc, world, 0, ROUNDS);
     if hold_talks(alloc, &mut reader, io::writer(rt), &mut port) {
         ExitCode::SUCCESS
     } else {

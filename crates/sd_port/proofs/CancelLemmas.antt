@@ -14,7 +14,6 @@ use Rattle.sd_session.specs.Session.{IsRunning, SessionView}
 use Rattle.sd_session.specs.declared.status.Status.{Status}
 use Rattle.sd_session.specs.declared.status.Status.TheVariants as status
 use Rattle.sd_core.specs.Tries.{Answers, GivesAgain, Try}
-use Rattle.sd_core.specs.declared.syncing.Syncing.{Syncing}
 
 pub cancelled_ends : {D : Type 0} (meaning : D → Meaning) (a b : WorldView D) (ticket : ℕ) (reply : Reply) → Moves meaning a (Cancel ticket) reply b
     → (e : WorldSession) → HasTicket b ticket e → IsRunning e.session.status → ⊥
@@ -33,13 +32,13 @@ cancelled_ends meaning a b ticket (Refused why) m e there is = elim m.0 [
 cancelled_ends meaning a b ticket reply m e there is = absurd m
 
 -- a cancel is never given again
-tries_none : {D : Type 0} (meaning : D → Meaning) (syncing : Syncing) (ticket : ℕ) (a b : WorldView D) (tries : List Try) → GivesAgain meaning syncing (Cancel ticket) a tries b → b ≡ a
-tries_none meaning syncing ticket a b [] gives = gives
-tries_none meaning syncing ticket a b (t ∷ tries) gives = absurd (cc gives.3)
+tries_none : {D : Type 0} (meaning : D → Meaning) (ticket : ℕ) (a b : WorldView D) (tries : List Try) → GivesAgain meaning (Cancel ticket) a tries b → b ≡ a
+tries_none meaning ticket a b [] gives = gives
+tries_none meaning ticket a b (t ∷ tries) gives = absurd (cc gives.3)
 
-pub given_up : {D : Type 0} (meaning : D → Meaning) (syncing : Syncing) (rounds : ℕ) (a b : WorldView D) (ticket : ℕ) (reply : Reply) (events : List Event) (replies : List Reply)
-    → Answers meaning syncing rounds a (Cancel ticket) reply events replies b → (e : WorldSession) → HasTicket b ticket e → IsRunning e.session.status → ⊥
-given_up meaning syncing rounds a b ticket reply events replies answers = elim answers.ends [
+pub given_up : {D : Type 0} (meaning : D → Meaning) (rounds : ℕ) (a b : WorldView D) (ticket : ℕ) (reply : Reply) (events : List Event) (replies : List Reply)
+    → Answers meaning rounds a (Cancel ticket) reply events replies b → (e : WorldSession) → HasTicket b ticket e → IsRunning e.session.status → ⊥
+given_up meaning rounds a b ticket reply events replies answers = elim answers.ends [
   | inl last ↦ cancelled_ends meaning answers.middle b ticket reply last.step.moves
   | inr (inl last) ↦ absurd (cc last.may)
   | inr (inr last) ↦ absurd (cc last.may)

@@ -23,8 +23,6 @@ use Rattle.sd_script.specs.declared.line.ScriptLine.TheVariants.{Console}
 use Rattle.sd_console.specs.Told.{Answer}
 use Rattle.sd_console.proofs.AnswerLemmas.{AreLines, one_line, shown_lines, told_lines}
 use Rattle.sd_port.specs.Console.{CommandDoes, GivesNone, GivesOne, LineDoes, Operates, told_adopted, told_done}
-use Rattle.sd_core.specs.declared.syncing.Syncing.{Syncing}
-use Rattle.sd_core.specs.declared.syncing.Syncing.TheVariants.{EachRound, AtRest}
 
 -- The world moves along what it is given.
 
@@ -40,39 +38,32 @@ operates_along : {D : Type 0} (meaning : D → Meaning) (e : Event) (told : Repl
 operates_along meaning e told answer es rs a b (inl p) = none_along meaning es rs a b p.1
 operates_along meaning e told answer es rs a b (inr p) = one_along meaning e p.0 es rs a b p.1
 
-command_along : {D : Type 0} (meaning : D → Meaning) (syncing : Syncing) (moment : ℤ) (command : ConsoleCmd) (answer : Answer) (es : List Event) (rs : List Reply) (a b : WorldView D)
-    → CommandDoes meaning syncing moment command answer es rs a b → StepsAlong meaning a es rs b
-command_along meaning syncing moment (Label drive volume pool media) answer es rs a b p = operates_along meaning _ _ answer es rs a b p
-command_along meaning syncing moment (Adopt drive volume) answer es rs a b p = operates_along meaning _ _ answer es rs a b p
-command_along meaning syncing moment (Mount drive volume) answer es rs a b p = operates_along meaning _ _ answer es rs a b p
-command_along meaning syncing moment (Unmount drive) answer es rs a b p = operates_along meaning _ _ answer es rs a b p
-command_along meaning syncing moment (Retire drive) answer es rs a b p = operates_along meaning _ _ answer es rs a b p
-command_along meaning EachRound moment (Purge drive volume) answer es rs a b p = operates_along meaning _ _ answer es rs a b p
-command_along meaning AtRest moment (Purge drive volume) answer es rs a b p = none_along meaning es rs a b p.0
-command_along meaning syncing moment (Cancel ticket) answer es rs a b p = operates_along meaning _ _ answer es rs a b p
-command_along meaning syncing moment (JobMedia ticket) answer es rs a b p = one_along meaning _ p.0 es rs a b p.1
-command_along meaning syncing moment Status answer es rs a b p = none_along meaning es rs a b p.0
-command_along meaning syncing moment Requests answer es rs a b p = none_along meaning es rs a b p.0
+command_along : {D : Type 0} (meaning : D → Meaning) (moment : ℤ) (command : ConsoleCmd) (answer : Answer) (es : List Event) (rs : List Reply) (a b : WorldView D)
+    → CommandDoes meaning moment command answer es rs a b → StepsAlong meaning a es rs b
+command_along meaning moment (Label drive volume pool media) answer es rs a b p = operates_along meaning _ _ answer es rs a b p
+command_along meaning moment (Adopt drive volume) answer es rs a b p = operates_along meaning _ _ answer es rs a b p
+command_along meaning moment (Mount drive volume) answer es rs a b p = operates_along meaning _ _ answer es rs a b p
+command_along meaning moment (Unmount drive) answer es rs a b p = operates_along meaning _ _ answer es rs a b p
+command_along meaning moment (Retire drive) answer es rs a b p = operates_along meaning _ _ answer es rs a b p
+command_along meaning moment (Purge drive volume) answer es rs a b p = operates_along meaning _ _ answer es rs a b p
+command_along meaning moment (Cancel ticket) answer es rs a b p = operates_along meaning _ _ answer es rs a b p
+command_along meaning moment (JobMedia ticket) answer es rs a b p = one_along meaning _ p.0 es rs a b p.1
+command_along meaning moment Status answer es rs a b p = none_along meaning es rs a b p.0
+command_along meaning moment Requests answer es rs a b p = none_along meaning es rs a b p.0
 
-pub line_along : {D : Type 0} (meaning : D → Meaning) (syncing : Syncing) (moment : ℤ) (text : List ℕ) (answer : Answer) (es : List Event) (rs : List Reply) (a b : WorldView D)
-    → LineDoes meaning syncing moment text answer es rs a b → StepsAlong meaning a es rs b
-line_along meaning syncing moment text answer es rs a b (inl p) = command_along meaning syncing moment p.0 answer es rs a b p.2
-line_along meaning syncing moment text answer es rs a b (inr (inl p)) = none_along meaning es rs a b p.4
-line_along meaning syncing moment text answer es rs a b (inr (inr p)) = none_along meaning es rs a b p.2
+pub line_along : {D : Type 0} (meaning : D → Meaning) (moment : ℤ) (text : List ℕ) (answer : Answer) (es : List Event) (rs : List Reply) (a b : WorldView D)
+    → LineDoes meaning moment text answer es rs a b → StepsAlong meaning a es rs b
+line_along meaning moment text answer es rs a b (inl p) = command_along meaning moment p.0 answer es rs a b p.2
+line_along meaning moment text answer es rs a b (inr (inl p)) = none_along meaning es rs a b p.4
+line_along meaning moment text answer es rs a b (inr (inr p)) = none_along meaning es rs a b p.2
 
 -- what a command does, with some events and replies
-abbrev pub CommandDone : {D : Type 0} → (D → Meaning) → Syncing → ℤ → ConsoleCmd → Answer → WorldView D → WorldView D → Type 0
-CommandDone meaning syncing moment command answer old new = (events : List Event) × (replies : List Reply) × CommandDoes meaning syncing moment command answer events replies old new
-
--- a purge is the same at any moment
-pub purge_any_moment : {D : Type 0} (meaning : D → Meaning) (syncing : Syncing) (moment moment' : ℤ) (drive : ℕ) (volume : List ℕ) (answer : Answer) (a b : WorldView D)
-    → CommandDone meaning syncing moment (Purge drive volume) answer a b → CommandDone meaning syncing moment' (Purge drive volume) answer a b
-purge_any_moment meaning EachRound moment moment' drive volume answer a b p = p
-purge_any_moment meaning AtRest moment moment' drive volume answer a b p = p
+abbrev pub CommandDone : {D : Type 0} → (D → Meaning) → ℤ → ConsoleCmd → Answer → WorldView D → WorldView D → Type 0
+CommandDone meaning moment command answer old new = (events : List Event) × (replies : List Reply) × CommandDoes meaning moment command answer events replies old new
 
 -- what a line does, with some events and replies
-abbrev pub LineDone : {D : Type 0} → (D → Meaning) → Syncing → ℤ → List ℕ → Answer → WorldView D → WorldView D → Type 0
-LineDone meaning syncing moment text answer old new = (events : List Event) × (replies : List Reply) × LineDoes meaning syncing moment text answer events replies old new
+abbrev pub LineDone : {D : Type 0} → (D → Meaning) → ℤ → List ℕ → Answer → WorldView D → WorldView D → Type 0
+LineDone meaning moment text answer old new = (events : List Event) × (replies : List Reply) × LineDoes meaning moment text answer events replies old new
 
 -- An answer is lines, each with its newline.
 
@@ -90,25 +81,24 @@ operates_lines : {D : Type 0} (meaning : D → Meaning) (e : Event) (told : Repl
 operates_lines meaning e told answer es rs a b all (inl p) = subst (λ (x : Answer). AreLines x) (sym p.0) tt
 operates_lines meaning e told answer es rs a b all (inr p) = subst (λ (x : Answer). AreLines x) (sym p.2) (all p.0)
 
-command_lines : {D : Type 0} (meaning : D → Meaning) (syncing : Syncing) (moment : ℤ) (command : ConsoleCmd) (answer : Answer) (es : List Event) (rs : List Reply) (a b : WorldView D)
-    → CommandDoes meaning syncing moment command answer es rs a b → AreLines answer
-command_lines meaning syncing moment (Label drive volume pool media) answer es rs a b p = operates_lines meaning _ _ answer es rs a b (done_lines (codes "ok labelled")) p
-command_lines meaning syncing moment (Adopt drive volume) answer es rs a b p = operates_lines meaning _ _ answer es rs a b adopted_lines p
-command_lines meaning syncing moment (Mount drive volume) answer es rs a b p = operates_lines meaning _ _ answer es rs a b (done_lines (codes "ok mounted")) p
-command_lines meaning syncing moment (Unmount drive) answer es rs a b p = operates_lines meaning _ _ answer es rs a b (done_lines (codes "ok unmounted")) p
-command_lines meaning syncing moment (Retire drive) answer es rs a b p = operates_lines meaning _ _ answer es rs a b (done_lines (codes "ok retired")) p
-command_lines meaning EachRound moment (Purge drive volume) answer es rs a b p = operates_lines meaning _ _ answer es rs a b (done_lines (codes "ok purged")) p
-command_lines meaning AtRest moment (Purge drive volume) answer es rs a b p = subst (λ (x : Answer). AreLines x) (sym p.1) tt
-command_lines meaning syncing moment (Cancel ticket) answer es rs a b p = operates_lines meaning _ _ answer es rs a b (done_lines (codes "ok cancelled")) p
-command_lines meaning syncing moment (JobMedia ticket) answer es rs a b p = told_lines (record { time = a.limits.time; id = ticket }) p.0 answer p.2
-command_lines meaning syncing moment Status answer es rs a b p = shown_lines (flat_map line (status_lines (view_of a))) answer p.1
-command_lines meaning syncing moment Requests answer es rs a b p = shown_lines (flat_map line (requests_lines a.desk.requests)) answer p.1
+command_lines : {D : Type 0} (meaning : D → Meaning) (moment : ℤ) (command : ConsoleCmd) (answer : Answer) (es : List Event) (rs : List Reply) (a b : WorldView D)
+    → CommandDoes meaning moment command answer es rs a b → AreLines answer
+command_lines meaning moment (Label drive volume pool media) answer es rs a b p = operates_lines meaning _ _ answer es rs a b (done_lines (codes "ok labelled")) p
+command_lines meaning moment (Adopt drive volume) answer es rs a b p = operates_lines meaning _ _ answer es rs a b adopted_lines p
+command_lines meaning moment (Mount drive volume) answer es rs a b p = operates_lines meaning _ _ answer es rs a b (done_lines (codes "ok mounted")) p
+command_lines meaning moment (Unmount drive) answer es rs a b p = operates_lines meaning _ _ answer es rs a b (done_lines (codes "ok unmounted")) p
+command_lines meaning moment (Retire drive) answer es rs a b p = operates_lines meaning _ _ answer es rs a b (done_lines (codes "ok retired")) p
+command_lines meaning moment (Purge drive volume) answer es rs a b p = operates_lines meaning _ _ answer es rs a b (done_lines (codes "ok purged")) p
+command_lines meaning moment (Cancel ticket) answer es rs a b p = operates_lines meaning _ _ answer es rs a b (done_lines (codes "ok cancelled")) p
+command_lines meaning moment (JobMedia ticket) answer es rs a b p = told_lines (record { time = a.limits.time; id = ticket }) p.0 answer p.2
+command_lines meaning moment Status answer es rs a b p = shown_lines (flat_map line (status_lines (view_of a))) answer p.1
+command_lines meaning moment Requests answer es rs a b p = shown_lines (flat_map line (requests_lines a.desk.requests)) answer p.1
 
-pub line_lines : {D : Type 0} (meaning : D → Meaning) (syncing : Syncing) (moment : ℤ) (text : List ℕ) (answer : Answer) (es : List Event) (rs : List Reply) (a b : WorldView D)
-    → LineDoes meaning syncing moment text answer es rs a b → AreLines answer
-line_lines meaning syncing moment text answer es rs a b (inl p) = command_lines meaning syncing moment p.0 answer es rs a b p.2
-line_lines meaning syncing moment text answer es rs a b (inr (inl p)) = subst (λ (x : Answer). AreLines x) (sym p.3) tt
-line_lines meaning syncing moment text answer es rs a b (inr (inr p)) = subst (λ (x : Answer). AreLines x) (sym p.1) tt
+pub line_lines : {D : Type 0} (meaning : D → Meaning) (moment : ℤ) (text : List ℕ) (answer : Answer) (es : List Event) (rs : List Reply) (a b : WorldView D)
+    → LineDoes meaning moment text answer es rs a b → AreLines answer
+line_lines meaning moment text answer es rs a b (inl p) = command_lines meaning moment p.0 answer es rs a b p.2
+line_lines meaning moment text answer es rs a b (inr (inl p)) = subst (λ (x : Answer). AreLines x) (sym p.3) tt
+line_lines meaning moment text answer es rs a b (inr (inr p)) = subst (λ (x : Answer). AreLines x) (sym p.1) tt
 
 -- A reply that is no refusal.
 
@@ -137,14 +127,14 @@ no_shape : (text : List ℕ) (why : Refusal) → IsNoForm text (Err why) → (Ha
 no_shape text why found no_bad command shape =
     no_bad (command, shape, λ names. (let e = found command (record { ascii = shape.ascii; spelled = shape.spelled; within = shape.within; names = names }) in cc))
 
-pub refused_line : {D : Type 0} (meaning : D → Meaning) (syncing : Syncing) (moment : ℤ) (text : List ℕ) (w : WorldView D) (why : Refusal) → IsNoForm text (Err why)
+pub refused_line : {D : Type 0} (meaning : D → Meaning) (moment : ℤ) (text : List ℕ) (w : WorldView D) (why : Refusal) → IsNoForm text (Err why)
     → (as_refused why ≡ Err BadName ↔ HasBadName text) → (as_refused why ≡ Err BadCommand ↔ HasNoShape text)
-    → LineDoes meaning syncing moment text (Err why) [] [] w w
-refused_line meaning syncing moment text w BadName found names commands =
+    → LineDoes meaning moment text (Err why) [] [] w w
+refused_line meaning moment text w BadName found names commands =
     let s = names.0 refl in
     inr (inl (s.0, s.1, s.2, refl, (refl, refl, refl)))
-refused_line meaning syncing moment text w BadCommand found names commands = inr (inr (commands.0 refl, refl, (refl, refl, refl)))
-refused_line meaning syncing moment text w why found names commands =
+refused_line meaning moment text w BadCommand found names commands = inr (inr (commands.0 refl, refl, (refl, refl, refl)))
+refused_line meaning moment text w why found names commands =
     let none : HasNoShape text = no_shape text why found (λ bad. (let e = names.1 bad in cc)) in
     let e = commands.1 none in
     absurd cc

@@ -11,12 +11,11 @@ use Rattle.sd_world.specs.World.{WorldView}
 use Rattle.sd_core.specs.declared.headway.Round.{Round}
 use Rattle.sd_core.specs.Rounds.{PlaysRound}
 use Rattle.sd_port.specs.Port.{PortDeed, Exchanged, Played, IsPortDeed, IsOver, PortLeadsTo, PortView, asked_in}
-use Rattle.sd_core.specs.declared.syncing.Syncing.{Syncing}
 
-leads_more : {D : Type 0} (meaning : D → Meaning) (syncing : Syncing) (rounds : ℕ) (a b c : WorldView D) (ds : List PortDeed) (d : PortDeed) → PortLeadsTo meaning syncing rounds a ds b
-    → IsPortDeed meaning syncing rounds d b c → PortLeadsTo meaning syncing rounds a (ds ++ d ∷ []) c
-leads_more {D} meaning syncing rounds a b c [] d p q = (c, subst (λ (w : WorldView D). IsPortDeed meaning syncing rounds d w c) p q, refl)
-leads_more meaning syncing rounds a b c (x ∷ ds) d p q = (p.0, p.1, leads_more meaning syncing rounds p.0 b c ds d p.2 q)
+leads_more : {D : Type 0} (meaning : D → Meaning) (rounds : ℕ) (a b c : WorldView D) (ds : List PortDeed) (d : PortDeed) → PortLeadsTo meaning rounds a ds b
+    → IsPortDeed meaning rounds d b c → PortLeadsTo meaning rounds a (ds ++ d ∷ []) c
+leads_more {D} meaning rounds a b c [] d p q = (c, subst (λ (w : WorldView D). IsPortDeed meaning rounds d w c) p q, refl)
+leads_more meaning rounds a b c (x ∷ ds) d p q = (p.0, p.1, leads_more meaning rounds p.0 b c ds d p.2 q)
 
 asked_more : (ds : List PortDeed) (d : PortDeed) → asked_in (ds ++ d ∷ []) ≡ asked_in ds ++ asked_in (d ∷ [])
 asked_more [] d = refl
@@ -25,12 +24,12 @@ asked_more (Played es rs ∷ ds) d = asked_more ds d
 
 -- one exchange more
 pub over_exchange : {D : Type 0} (meaning : D → Meaning) (p : PortView D) (x : Exchange) (es : List Event) (rs : List Reply) (w : WorldView D) (asked : List Exchange) → IsOver meaning p
-    → IsPortDeed meaning p.syncing p.rounds (Exchanged x es rs) p.world w → asked ≡ p.asked ++ x ∷ [] → IsOver meaning (record p { world = w; asked = asked })
+    → IsPortDeed meaning p.rounds (Exchanged x es rs) p.world w → asked ≡ p.asked ++ x ∷ [] → IsOver meaning (record p { world = w; asked = asked })
 over_exchange meaning p x es rs w asked over done is =
     let d : PortDeed = Exchanged x es rs in record {
       opens = over.opens;
       deeds = over.deeds ++ d ∷ [];
-      leads = leads_more meaning p.syncing p.rounds p.opening p.world w over.deeds d over.leads done;
+      leads = leads_more meaning p.rounds p.opening p.world w over.deeds d over.leads done;
       asked_are = is ∙ ap (λ (xs : List Exchange). xs ++ x ∷ []) over.asked_are ∙ sym (asked_more over.deeds d);
     }
 
@@ -41,7 +40,7 @@ over_round meaning p round w over plays =
     let d : PortDeed = Played plays.events plays.replies in record {
       opens = over.opens;
       deeds = over.deeds ++ d ∷ [];
-      leads = leads_more meaning p.syncing p.rounds p.opening p.world w over.deeds d over.leads (plays.is_kind, plays.along);
+      leads = leads_more meaning p.rounds p.opening p.world w over.deeds d over.leads (plays.is_kind, plays.along);
       asked_are = over.asked_are ∙ sym (asked_more over.deeds d ∙ append-nil (asked_in over.deeds));
     }
 

@@ -1,8 +1,7 @@
 -- What a console's line does to a world, and what it is answered.
-use Rattle.std.specs.Prelude.{◌≡◌, ◌⊎◌, ℕ, ℤ, if◌then◌else◌, nat_lt, Ok, Err, List, [], ◌∷◌, length, codes}
+use Rattle.std.specs.Prelude.{◌≡◌, ◌⊎◌, ℕ, ℤ, Ok, Err, List, [], ◌∷◌, codes}
 use Rattle.std.specs.List.{flat_map}
-use Rattle.sd_base.specs.declared.refusal.Refusal.{Refusal}
-use Rattle.sd_base.specs.declared.refusal.Refusal.TheVariants.{BadCommand, BadName, NoSuchDrive, InUse, Memory}
+use Rattle.sd_base.specs.declared.refusal.Refusal.TheVariants.{BadCommand, BadName, Memory}
 use Rattle.sd_text.specs.Lines.{line}
 use Rattle.sd_driver.specs.Meaning.{Meaning}
 use Rattle.sd_machine.specs.declared.event.Event.{Event}
@@ -21,8 +20,6 @@ use Rattle.sd_console.specs.Requests.{requests_lines}
 use Rattle.sd_console.specs.Status.{status_lines}
 use Rattle.sd_console.specs.Lines.{Shows}
 use Rattle.sd_console.specs.Told.{Answer, TellsReply}
-use Rattle.sd_core.specs.declared.syncing.Syncing.{Syncing}
-use Rattle.sd_core.specs.declared.syncing.Syncing.TheVariants.{EachRound, AtRest}
 
 -- no event is given to the world, which stays
 abbrev pub GivesNone : {D : Type 0} → List Event → List Reply → WorldView D → WorldView D → Type 0
@@ -56,40 +53,33 @@ AsksSpans meaning ticket answer events replies old new = (reply : Reply)
     × GivesOne meaning (event.Media ticket) reply events replies old new
     × TellsReply (record { time = old.limits.time; id = ticket }) reply answer
 
--- why a server purges no volume of this drive, of so many
-abbrev pub purge_refusal : ℕ → ℕ → Refusal
-purge_refusal drives drive = if nat_lt drives drive then NoSuchDrive else InUse
-
--- What a console's command does at this moment, and its answer. A port whose drives sync at rest is a running server's, which
--- purges none of their volumes.
-abbrev pub CommandDoes : {D : Type 0} → (D → Meaning) → Syncing → ℤ → ConsoleCmd → Answer → List Event → List Reply → WorldView D → WorldView D → Type 0
-CommandDoes meaning syncing moment (Label drive volume pool media) answer events replies old new =
+-- What a console's command does at this moment, and its answer.
+abbrev pub CommandDoes : {D : Type 0} → (D → Meaning) → ℤ → ConsoleCmd → Answer → List Event → List Reply → WorldView D → WorldView D → Type 0
+CommandDoes meaning moment (Label drive volume pool media) answer events replies old new =
     Operates meaning (event.Label drive volume pool media moment) (told_done (codes "ok labelled")) answer events replies old new
-CommandDoes meaning syncing moment (Adopt drive volume) answer events replies old new =
+CommandDoes meaning moment (Adopt drive volume) answer events replies old new =
     Operates meaning (event.Adopt drive volume) told_adopted answer events replies old new
-CommandDoes meaning syncing moment (Mount drive volume) answer events replies old new =
+CommandDoes meaning moment (Mount drive volume) answer events replies old new =
     Operates meaning (event.Mount drive volume) (told_done (codes "ok mounted")) answer events replies old new
-CommandDoes meaning syncing moment (Unmount drive) answer events replies old new =
+CommandDoes meaning moment (Unmount drive) answer events replies old new =
     Operates meaning (event.Unmount drive) (told_done (codes "ok unmounted")) answer events replies old new
-CommandDoes meaning syncing moment (Retire drive) answer events replies old new =
+CommandDoes meaning moment (Retire drive) answer events replies old new =
     Operates meaning (event.Retire drive) (told_done (codes "ok retired")) answer events replies old new
-CommandDoes meaning EachRound moment (Purge drive volume) answer events replies old new =
+CommandDoes meaning moment (Purge drive volume) answer events replies old new =
     Operates meaning (event.Purge drive volume) (told_done (codes "ok purged")) answer events replies old new
-CommandDoes meaning AtRest moment (Purge drive volume) answer events replies old new =
-    GivesNone events replies old new × (answer ≡ Err (purge_refusal (length old.bays) drive))
-CommandDoes meaning syncing moment (Cancel ticket) answer events replies old new =
+CommandDoes meaning moment (Cancel ticket) answer events replies old new =
     Operates meaning (event.Cancel ticket) (told_done (codes "ok cancelled")) answer events replies old new
-CommandDoes meaning syncing moment (JobMedia ticket) answer events replies old new = AsksSpans meaning ticket answer events replies old new
-CommandDoes meaning syncing moment Status answer events replies old new =
+CommandDoes meaning moment (JobMedia ticket) answer events replies old new = AsksSpans meaning ticket answer events replies old new
+CommandDoes meaning moment Status answer events replies old new =
     GivesNone events replies old new × Shows (flat_map line (status_lines (view_of old))) answer
-CommandDoes meaning syncing moment Requests answer events replies old new =
+CommandDoes meaning moment Requests answer events replies old new =
     GivesNone events replies old new × Shows (flat_map line (requests_lines old.desk.requests)) answer
 
 -- What a console's line does: what its command does; or, if it is a command but for a word that is no name, nothing,
 -- and it is refused as a bad name; or, if it is none, nothing, and it is refused as a bad command.
-abbrev pub LineDoes : {D : Type 0} → (D → Meaning) → Syncing → ℤ → List ℕ → Answer → List Event → List Reply → WorldView D → WorldView D → Type 0
-LineDoes meaning syncing moment text answer events replies old new =
-    ((command : ConsoleCmd) × HasForm text (Console command) × CommandDoes meaning syncing moment command answer events replies old new)
+abbrev pub LineDoes : {D : Type 0} → (D → Meaning) → ℤ → List ℕ → Answer → List Event → List Reply → WorldView D → WorldView D → Type 0
+LineDoes meaning moment text answer events replies old new =
+    ((command : ConsoleCmd) × HasForm text (Console command) × CommandDoes meaning moment command answer events replies old new)
     ⊎ ((command : ConsoleCmd) × HasShape text (Console command) × (AreNames (Console command) → ⊥)
     × (answer ≡ Err BadName) × GivesNone events replies old new)
     ⊎ (((command : ConsoleCmd) → HasShape text (Console command) → ⊥)

@@ -9,24 +9,23 @@ use Rattle.sd_world.specs.Deeds.{LeadsTo, answered}
 use Rattle.sd_session.specs.Session.{IsRunning}
 use Rattle.sd_port.specs.Port.{PortDeed, PortLeadsTo, world_deeds_in}
 use Rattle.sd_core.specs.Tries.{Answers}
-use Rattle.sd_core.specs.declared.syncing.Syncing.{Syncing}
 
 -- However often an event is given, the world's deeds for it are that all its events are answered so: those of rounds among
 -- them.
 abbrev pub AnswersLead : Type 0 → Type 0
-AnswersLead D = (meaning : D → Meaning) (syncing : Syncing) (rounds : ℕ) (old new : WorldView D) (event : Event) (reply : Reply) (events : List Event) (replies : List Reply)
-    → Answers meaning syncing rounds old event reply events replies new
+AnswersLead D = (meaning : D → Meaning) (rounds : ℕ) (old new : WorldView D) (event : Event) (reply : Reply) (events : List Event) (replies : List Reply)
+    → Answers meaning rounds old event reply events replies new
     → LeadsTo meaning old (answered events replies) new
 
 -- However often a cancel is given, its session doesn't go on in the world after it.
 abbrev pub GivenUp : Type 0 → Type 0
-GivenUp D = (meaning : D → Meaning) (syncing : Syncing) (rounds : ℕ) (old new : WorldView D) (ticket : ℕ) (reply : Reply) (events : List Event) (replies : List Reply)
-    → Answers meaning syncing rounds old (Cancel ticket) reply events replies new
+GivenUp D = (meaning : D → Meaning) (rounds : ℕ) (old new : WorldView D) (ticket : ℕ) (reply : Reply) (events : List Event) (replies : List Reply)
+    → Answers meaning rounds old (Cancel ticket) reply events replies new
     → (e : WorldSession) → HasTicket new ticket e → IsRunning e.session.status → ⊥
 
 -- Whatever a port did, its world's deeds lead from the one world to the other: the events of rounds and of a console's
 -- lines among them, and each session that is read back.
 abbrev pub PortLeads : Type 0 → Type 0
-PortLeads D = (meaning : D → Meaning) (syncing : Syncing) (rounds : ℕ) (old new : WorldView D) (deeds : List PortDeed)
-    → PortLeadsTo meaning syncing rounds old deeds new
+PortLeads D = (meaning : D → Meaning) (rounds : ℕ) (old new : WorldView D) (deeds : List PortDeed)
+    → PortLeadsTo meaning rounds old deeds new
     → LeadsTo meaning old (world_deeds_in deeds) new

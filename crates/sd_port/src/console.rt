@@ -1,6 +1,5 @@
 // What a console's line does to a world, and the lines that answer it.
-ghost use Rattle.std.specs.Prelude.{◌≡◌, ◌<◌, List, length, pos};
-ghost use Rattle.sd_script.specs.declared.console.ConsoleCmd.TheVariants.{Purge};
+ghost use Rattle.std.specs.Prelude.{◌<◌, List, length};
 ghost use Rattle.std.specs.List.{flat_map};
 ghost use Rattle.sd_machine.specs.declared.event.Event.{Event as SpecEvent};
 ghost use Rattle.sd_machine.specs.declared.event.Event.TheVariants.{Adopt};
@@ -10,12 +9,12 @@ ghost use Rattle.sd_core.specs.View.{view_of};
 ghost use Rattle.sd_console.specs.Requests.{requests_lines};
 ghost use Rattle.sd_console.specs.Status.{status_lines};
 ghost use Rattle.sd_console.specs.Lines.{Shows};
-ghost use Rattle.sd_port.specs.Console.{AsksSpans, CommandDoes, LineDoes, Operates, purge_refusal, told_adopted, told_done};
+ghost use Rattle.sd_port.specs.Console.{AsksSpans, CommandDoes, LineDoes, Operates, told_adopted, told_done};
 
 use sd_base::{DriveNo, Items, Refusal, SessionKey, Ticket, VolName};
 use sd_bnet::Payload;
 use sd_console::{AdoptedLine, command, one_line, requests_text, show, status_text, tell};
-use sd_core::{Syncing, World};
+use sd_core::World;
 use sd_desk::Request;
 use sd_driver::Driver;
 use sd_lane::Lanes;
@@ -30,15 +29,14 @@ use std::alloc::Global;
 pub(crate) fn obey_line<D: Driver + Drop, Q: Lanes, S: SpoolStore + Drop>(
     alloc: Global,
     world: &mut World<D, Q, S>,
-    syncing: Syncing,
     moment: i64,
     line: &[u8],
 ) -> Result<Items<Payload>, Refusal>
     ensures { (events : List SpecEvent) × (replies : List SpecReply)
-        × LineDoes (λ d. D.meaning d) syncing moment line.now result events replies world.old world.new }
+        × LineDoes (λ d. D.meaning d) moment line.now result events replies world.old world.new }
 {
     match command(line) {
-        Ok(command) => obey(alloc, world, syncing, moment, command),
+        Ok(command) => obey(alloc, world, moment, command),
         Err(why) => Err(why),
     }
 }
@@ -46,12 +44,11 @@ pub(crate) fn obey_line<D: Driver + Drop, Q: Lanes, S: SpoolStore + Drop>(
 fn obey<D: Driver + Drop, Q: Lanes, S: SpoolStore + Drop>(
     alloc: Global,
     world: &mut World<D, Q, S>,
-    syncing: Syncing,
     moment: i64,
     command: ConsoleCmd,
 ) -> Result<Items<Payload>, Refusal>
     ensures { (events : List SpecEvent) × (replies : List SpecReply)
-        × CommandDoes (λ d. D.meaning d) syncing moment command result events replies world.old world.new }
+        × CommandDoes (λ d. D.meaning d) moment command result events replies world.old world.new }
 {
     match command {
         ConsoleCmd::Label {
@@ -84,7 +81,13 @@ fn obey<D: Driver + Drop, Q: Lanes, S: SpoolStore + Drop>(
             "ok unmounted",
         ),
         ConsoleCmd::Retire(drive) => operate(alloc, world, Event::Retire { drive }, "ok retired"),
-        ConsoleCmd::Purge { drive, volume } => purge(alloc, world, syncing, drive, volume),
+        ConsoleCmd::Purge { drive, volume } => {
+            let event = Event::Purge {
+                drive,
+                name: volume,
+            };
+            operate(alloc, world, event, "ok purged")
+        }
         ConsoleCmd::Cancel(ticket) => operate(
             alloc,
             world,
@@ -94,41 +97,6 @@ fn obey<D: Driver + Drop, Q: Lanes, S: SpoolStore + Drop>(
         ConsoleCmd::JobMedia(ticket) => tell_spans(alloc, world, ticket),
         ConsoleCmd::Status => tell_status(alloc, world),
         ConsoleCmd::Requests => tell_requests(alloc, world.requests()),
-    }
-}
-
-/// Purges a volume; a running server, whose drives sync at rest, purges none.
-fn purge<D: Driver + Drop, Q: Lanes, S: SpoolStore + Drop>(
-    alloc: Global,
-    world: &mut World<D, Q, S>,
-    syncing: Syncing,
-    drive: DriveNo,
-    volume: VolName,
-) -> Result<Items<Payload>, Refusal>
-    ensures { (events : List SpecEvent) × (replies : List SpecReply)
-        × CommandDoes (λ d. D.meaning d) syncing (pos 0) (Purge drive volume) result
-        events replies world.old world.new }
-{
-    match syncing {
-        Syncing::EachRound => {
-            let event = Event::Purge {
-                drive,
-                name: volume,
-            };
-            operate(alloc, world, event, "ok purged")
-        }
-        Syncing::AtRest => Err(purge_refusal(world.drives(), drive)),
-    }
-}
-
-// Why a server purges no volume of this drive, of so many.
-fn purge_refusal(drives: usize, drive: DriveNo) -> Refusal
-    ensures { result ≡ purge_refusal drives drive }
-{
-    if drive.get() as usize > drives {
-        Refusal::NoSuchDrive
-    } else {
-        Refusal::InUse
     }
 }
 

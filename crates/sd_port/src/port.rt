@@ -16,7 +16,7 @@ use crate::reading::{Reading, read_watched};
 use sd_append::{Exchanges, ReadBack};
 use sd_base::{Items, Refusal, SessionKey};
 use sd_bnet::Payload;
-use sd_core::{Round, Syncing, World, answer, round};
+use sd_core::{Round, World, answer, round};
 use sd_driver::Driver;
 use sd_lane::Lanes;
 use sd_machine::{Event, Reply};
@@ -34,7 +34,6 @@ pub struct WorldPort<D: Driver, Q: Lanes, S: SpoolStore> {
     alloc: Global,
     world: World<D, Q, S>,
     moment: i64,
-    syncing: Syncing,
     rounds: u32,
     opening: Snapshot<World<D, Q, S>>,
     exchanges: Exchanges,
@@ -48,7 +47,6 @@ impl<D: Driver, Q: Lanes, S: SpoolStore> Model for WorldPort<D, Q, S> {
     ghost view = { λ p. record {
       world = p.world;
       moment = p.moment;
-      syncing = p.syncing;
       rounds = p.rounds;
       opening = p.opening.value;
       asked = p.exchanges;
@@ -57,7 +55,6 @@ impl<D: Driver, Q: Lanes, S: SpoolStore> Model for WorldPort<D, Q, S> {
     ghost invariant = { λ p. IsOver (λ d. D.meaning d) (record {
       world = p.world;
       moment = p.moment;
-      syncing = p.syncing;
       rounds = p.rounds;
       opening = p.opening.value;
       asked = p.exchanges;
@@ -66,16 +63,14 @@ impl<D: Driver, Q: Lanes, S: SpoolStore> Model for WorldPort<D, Q, S> {
 
 impl<D: Driver + Drop, Q: Lanes, S: SpoolStore + Drop> WorldPort<D, Q, S> {
     /// A port of this world, at this moment in microseconds, in which an append that finds the session busy and a close
-    /// that comes too early wait for at most so many rounds, in which the drives sync or at the end of which they do. Takes
-    /// no memory.
+    /// that comes too early wait for at most so many rounds. Takes no memory.
     pub fn new(
         alloc: Global,
         world: World<D, Q, S>,
         moment: i64,
-        syncing: Syncing,
         rounds: u32,
     ) -> Self
-        ensures { result ≡ new_port world moment syncing rounds }
+        ensures { result ≡ new_port world moment rounds }
     {
         world.know();
         let opening = Snapshot::of(&world);
@@ -83,7 +78,6 @@ impl<D: Driver + Drop, Q: Lanes, S: SpoolStore + Drop> WorldPort<D, Q, S> {
             alloc,
             world,
             moment,
-            syncing,
             rounds,
             opening,
             exchanges: Exchanges::new(),
@@ -91,17 +85,16 @@ impl<D: Driver + Drop, Q: Lanes, S: SpoolStore + Drop> WorldPort<D, Q, S> {
     }
 
     /// The reply to an event. An append that is answered 'Busy' and a close that is answered 'Not yet' are given again
-    /// after each round in which something moved, as long as there are rounds; then that refusal is the answer. If the
-    /// drives sync at rest, they sync once nothing moved, and the event is given once more.
+    /// after each round in which something moved, as long as there are rounds; then that refusal is the answer.
     pub fn step(&mut self, event: Event) -> Reply
         ensures answers { (events : List SpecEvent) × (replies : List SpecReply)
-            × Answers (λ d. D.meaning d) self.old.syncing self.old.rounds self.old.world event
+            × Answers (λ d. D.meaning d) self.old.rounds self.old.world event
             result events replies
             self.new.world }
         ensures port { self.new ≡ behind (Stepped event result) self.new.world self.old }
     {
         let given = Snapshot::of(&event);
-        let reply = answer(&mut self.world, self.syncing, self.rounds, event);
+        let reply = answer(&mut self.world, self.rounds, event);
         self.exchanges = self.exchanges.stepped(given, &reply);
         reply
     }
@@ -127,33 +120,26 @@ impl<D: Driver + Drop, Q: Lanes, S: SpoolStore + Drop> WorldPort<D, Q, S> {
     }
 
     /// The lines that answer a console's line, each with its newline, or the refusal. What the line orders is done in the
-    /// world, at the moment that is set. An operator's event is given only once there is room for the line that answers
-    /// it; so `Memory` may be answered before its other refusals. If the drives sync at rest, no volume is purged.
+    /// world, at the port's moment. An operator's event is given only once there is room for the line that answers it; so
+    /// `Memory` may be answered before its other refusals.
     pub fn console(&mut self, line: &[u8]) -> Result<Items<Payload>, Refusal>
         ensures obeys { (events : List SpecEvent) × (replies : List SpecReply)
-            × LineDoes (λ d. D.meaning d) self.old.syncing self.old.moment line.now result
+            × LineDoes (λ d. D.meaning d) self.old.moment line.now result
             events replies self.old.world self.new.world }
         ensures lines { IfOk result (λ lines. All IsLine lines) }
         ensures port { self.new ≡ behind (Said self.old.moment line.now result) self.new.world
             self.old }
     {
-        let answer = obey_line(self.alloc, &mut self.world, self.syncing, self.moment, line);
+        let answer = obey_line(self.alloc, &mut self.world, self.moment, line);
         self.exchanges = self.exchanges.said(self.moment, line, &answer);
         answer
     }
 
-    /// The moment of what happens now, in microseconds.
+    /// The moment that the port was made at, in microseconds.
     pub fn moment(&self) -> i64
         ensures { result ≡ self.now.moment }
     {
         self.moment
-    }
-
-    /// Sets the moment of what happens from now on, in microseconds.
-    pub fn set_moment(&mut self, moment: i64)
-        ensures { self.new ≡ record self.old { moment = moment } }
-    {
-        self.moment = moment;
     }
 
     /// Plays one round, and says what came of it. `Memory` is answered before its first step.
@@ -182,7 +168,6 @@ impl<D: Driver + Drop, Q: Lanes, S: SpoolStore + Drop> WorldPort<D, Q, S> {
             alloc: _,
             world,
             moment: _,
-            syncing: _,
             rounds: _,
             opening: _,
             exchanges: _,

@@ -6,4 +6,4 @@ use Rattle.sd_core.proofs.tries.repeat.Given as goal
 -- the tries so far
 abbrev pub invariant-loop-played : goal.invariant-loop-played
 invariant-loop-played g l =
-    Tried g.D.Driver.meaning l.syncing (option_map event_again (option_copied l.asked)) l.fn.world l._played l.all.placed l.world
+    Tried g.D.Driver.meaning (option_map event_again (option_copied l.asked)) l.fn.world l._played l.all.placed l.world

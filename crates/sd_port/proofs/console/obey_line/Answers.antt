@@ -12,10 +12,10 @@ returns-in-Ok g c =
       inl (
         c.in-Ok.command,
         c.in-Ok.ensures.ok,
-        subst (λ (moment : ℤ). CommandDoes g.D.Driver.meaning c.args.syncing moment c.in-Ok.command c.obey.result c.obey.ensures.0 c.obey.ensures.1 c.args.world.now c.obey.new.world) wide c.obey.ensures.2,
+        subst (λ (moment : ℤ). CommandDoes g.D.Driver.meaning moment c.in-Ok.command c.obey.result c.obey.ensures.0 c.obey.ensures.1 c.args.world.now c.obey.new.world) wide c.obey.ensures.2,
       ),
     )
 
 pub returns-in-Err : goal.returns-in-Err
 returns-in-Err g c =
-    ([], [], refused_line g.D.Driver.meaning c.args.syncing c.args.moment c.args.line.now c.args.world.now c.in-Err.why c.in-Err.ensures.found c.in-Err.ensures.bad_name c.in-Err.ensures.bad_command)
+    ([], [], refused_line g.D.Driver.meaning c.args.moment c.args.line.now c.args.world.now c.in-Err.why c.in-Err.ensures.found c.in-Err.ensures.bad_name c.in-Err.ensures.bad_command)

@@ -8,5 +8,5 @@ returns g c = λ start made.
       over.deeds,
       over.asked_are,
       c.headline.ensures _ start p.opening p.world (world_deeds_in over.deeds) made
-          (c.port_leads.ensures _ p.syncing p.rounds p.opening p.world over.deeds over.leads),
+          (c.port_leads.ensures _ p.rounds p.opening p.world over.deeds over.leads),
     )

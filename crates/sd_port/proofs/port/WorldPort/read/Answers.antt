@@ -5,7 +5,7 @@ use Rattle.sd_port.proofs.port.WorldPort.read.Goals as goal
 
 pub invariant_of-self : goal.invariant_of-self
 invariant_of-self g c =
-    over_exchange g.D.Driver.meaning (record { world = c.self.inside.world; moment = c.self.inside.moment; syncing = c.self.inside.syncing; rounds = c.self.inside.rounds; opening = c.self.inside.opening.value; asked = c.self.inside.exchanges }) (WasRead c.args.key c.args.spans.now c.read_watched-read.result.handed c.read_watched-read.result.answer) [] [] c.read_watched-read.new.world c.was_read.result c.self.invariant
+    over_exchange g.D.Driver.meaning (record { world = c.self.inside.world; moment = c.self.inside.moment; rounds = c.self.inside.rounds; opening = c.self.inside.opening.value; asked = c.self.inside.exchanges }) (WasRead c.args.key c.args.spans.now c.read_watched-read.result.handed c.read_watched-read.result.answer) [] [] c.read_watched-read.new.world c.was_read.result c.self.invariant
     (refl, refl, c.read_watched-read.ensures.reads) c.was_read.ensures
 
 pub returns : goal.returns
