@@ -62,7 +62,7 @@ impl<D: Driver, N: Naming, R: Wait + Clock + Drop, S: SpoolStore + Drop> Hub<D, 
     }
 
     /// Gives the session that was chosen for this lane its number, if the desk still chooses its drive, and the number is still the
-    /// next one. Who holds no lane any more by that is told.
+    /// next one. Who waits for its lane is told.
     ///
     /// From then on its pool is the drive's for whoever mounts a volume there. So that is published before what is loaded is looked
     /// at; it isn't while a volume is being mounted that was looked at with the pool before.
