@@ -1,10 +1,11 @@
 -- A body with one fragment more.
-use Rattle.std.proofs.Common.{◌≡◌, ◌≢◌, ℕ, zero, suc, ◌<◌, refl, sym, ap, ◌∙◌, arith, List, [], ◌∷◌, ◌++◌, length, map}
+use Rattle.std.proofs.Common.{◌≡◌, ◌≢◌, ℕ, ◌<◌, refl, sym, ap, ◌∙◌, arith, List, [], ◌∷◌, ◌++◌, length, map}
 use Rattle.std.proofs.lemmas.List.{append-nil}
 use Rattle.std.proofs.lemmas.Grind.{flat_map-append}
 use Rattle.sd_record.specs.Fragment.{Fragment, fragment_bytes, fragments_bytes}
 use Rattle.sd_pack.specs.Body.{PackedBody, file_index, first_file_index, last_file_index, body_of, with_fragment, empty_body}
 use Rattle.sd_base.specs.FileIndex.{first_nonzero}
+use Rattle.sd_base.proofs.IndexLemmas.{first_nonzero-zero, first_nonzero_assoc}
 use Rattle.sd_pack.specs.Packing.{bytes_of, all_bytes, unless_empty}
 use Rattle.sd_pack.specs.RecordParts.{bodies_alone}
 
@@ -15,14 +16,6 @@ some_length (x ∷ xs) some = omega arith
 pub length_some : {X : Type 0} (xs : List X) → 0 < length xs → xs ≢ []
 length_some [] long = absurd (omega arith)
 length_some (x ∷ xs) long = λ none. cc none
-
-first_nonzero-zero : (x : ℕ) → first_nonzero x 0 ≡ x
-first_nonzero-zero zero = refl
-first_nonzero-zero (suc x) = refl
-
-first_nonzero_assoc : (x y z : ℕ) → first_nonzero (first_nonzero x y) z ≡ first_nonzero x (first_nonzero y z)
-first_nonzero_assoc zero y z = refl
-first_nonzero_assoc (suc x) y z = refl
 
 first_file_index-push : (fs : List Fragment) (f : Fragment) → first_file_index (fs ++ f ∷ []) ≡ first_nonzero (first_file_index fs) (file_index f.index)
 first_file_index-push [] f = first_nonzero-zero (file_index f.index)
