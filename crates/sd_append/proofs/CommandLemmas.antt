@@ -17,7 +17,8 @@ use Rattle.sd_append.specs.declared.command.CommandFault.TheVariants.{BadCommand
 use Rattle.sd_append.specs.declared.command.Kind.{Kind}
 use Rattle.sd_append.specs.declared.command.Kind.TheVariants as kinds
 use Rattle.sd_append.specs.Text.{trimmed}
-use Rattle.sd_append.specs.Command.{head_text, kind_of, IsNumber, HasBody, HasShape, SpellsCommand, AreNames}
+use Rattle.sd_append.specs.Command.{head_text, kind_of, HasBody, HasShape, SpellsCommand, AreNames}
+use Rattle.sd_base.specs.Limits.{IsNumber}
 use Rattle.sd_append.specs.Reading.{behind, keyed_at, keyed_number_at, open_shape, read_shape, Gives, Tells}
 
 -- What comes after a key.

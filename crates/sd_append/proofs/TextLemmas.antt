@@ -1,14 +1,11 @@
 -- The text of a packet, and the numbers in it.
-use Rattle.std.proofs.Common.{◌≡◌, ◌≢◌, ◌⊎◌, ℕ, ◌^◌, ◌<◌, refl, sym, ap, ◌∙◌, arith, inl, inr, true, false, List, [], ◌∷◌, ◌++◌, Option, Some, None}
+use Rattle.std.proofs.Common.{◌≡◌, ◌⊎◌, ℕ, ◌^◌, ◌<◌, refl, sym, ap, ◌∙◌, arith, inl, inr, true, false, List, [], ◌∷◌, ◌++◌, Option, Some, None}
 use Rattle.std.specs.Fmt.{decimal}
 use Rattle.std.proofs.lemmas.Bool.{cond-true, cond-false}
-use Rattle.std.proofs.lemmas.Fmt.{digits_decimal}
-use Rattle.std.proofs.lemmas.List.Elements.{All-from_get_or}
-use Rattle.std.proofs.lemmas.Str.Parse.{digit_at}
-use Rattle.sd_text.specs.Fields.{HasNoBlank, fields_of, joined}
+use Rattle.sd_text.specs.Fields.{fields_of, joined}
 use Rattle.sd_text.specs.Reading.{number_in, only_number}
 use Rattle.sd_text.proofs.FieldLemmas.{fields_of-joined, joined-fields_of}
-use Rattle.sd_text.proofs.NumberLemmas.{own, number_in_takes, number_in_again}
+use Rattle.sd_text.proofs.NumberLemmas.{number_in_takes, number_in_again, decimal-plain}
 use Rattle.sd_text.proofs.ReadingLemmas.{only_number_takes, only_number_again}
 use Rattle.sd_append.specs.Text.{is_end, trimmed}
 
@@ -26,11 +23,6 @@ pub trimmed-whole : (front : List ℕ) (last : ℕ) → is_end last ≡ false �
 trimmed-whole [] last e = cond-false (is_end last) _ _ e
 trimmed-whole (c ∷ []) last e = ap (λ t. c ∷ t) (trimmed-whole [] last e)
 trimmed-whole (c ∷ d ∷ cs) last e = ap (λ t. c ∷ t) (trimmed-whole (d ∷ cs) last e)
-
--- the text of a number holds no blank
-pub decimal-plain : (n : ℕ) → n < 2 ^ 64 → HasNoBlank (decimal n)
-decimal-plain n small =
-    All-from_get_or (λ c. c ≢ 32) (decimal n) 0 (λ i within blank. let digit = digit_at (decimal n) i (digits_decimal own n small) within in omega arith)
 
 -- so it is its one field
 pub fields_of-decimal : (n : ℕ) → n < 2 ^ 64 → fields_of (decimal n) ≡ decimal n ∷ []

@@ -1,8 +1,8 @@
 -- The commands of a client: how each is spelled.
-use Rattle.std.specs.Prelude.{◌≡◌, ℕ, ◌≤◌, ◌<◌, List, [], ◌∷◌, ◌++◌, Option, All, codes}
+use Rattle.std.specs.Prelude.{◌≡◌, ℕ, ◌<◌, List, [], ◌∷◌, ◌++◌, Option, All, codes}
 use Rattle.std.specs.Fmt.{decimal}
 use Rattle.sd_base.specs.Name.{IsName}
-use Rattle.sd_base.specs.Limits.{most_number}
+use Rattle.sd_base.specs.Limits.{most_number, IsNumber}
 use Rattle.sd_base.specs.declared.refusal.Refusal as base
 use Rattle.sd_base.specs.declared.refusal.Refusal.TheVariants as refusals
 use Rattle.sd_text.specs.Fields.{fields_of}
@@ -32,10 +32,6 @@ kind_of (End ticket) = kinds.End
 kind_of (Close ticket) = kinds.Close
 kind_of (Read key) = kinds.Read
 kind_of (Console line) = kinds.Console
-
--- from 1 to the greatest job, ticket and time
-abbrev pub IsNumber : ℕ → Type 0
-IsNumber n = (1 ≤ n) × (n ≤ most_number)
 
 -- The text is a number in decimal, however great, and this is the ticket that it is, if it is one.
 abbrev pub IsTicket : List ℕ → Option ℕ → Type 0

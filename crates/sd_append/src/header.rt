@@ -4,9 +4,9 @@ ghost use Rattle.sd_base.specs.Limits.{most_number};
 ghost use Rattle.sd_text.specs.Reading.{ReadsAll};
 ghost use Rattle.sd_append.specs.Header.{AreWithin, HasHeaderForm, HeaderParts, IsInfo, header_shape, without_minus};
 
-use crate::text::{ascii_text, trimmed};
+use crate::text::trimmed;
 use sd_base::{MOST_NUMBER, Rec};
-use sd_text::{BadField, Words};
+use sd_text::{BadField, Words, ascii_text};
 use std::marker::Model;
 
 /// The greatest FileIndex and Stream, in the width that fields are read in.

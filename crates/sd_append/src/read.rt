@@ -9,9 +9,9 @@ ghost use Rattle.sd_append.specs.declared.command.Kind.{Kind as SpecKind};
 
 use crate::command::{Command, CommandFault, Kind};
 use crate::number::{is_decimal, number_of};
-use crate::text::{ascii_text, trimmed};
+use crate::text::trimmed;
 use sd_base::{JobId, Name, Number, SessionKey, Ticket};
-use sd_text::{BadField, Text, Words};
+use sd_text::{BadField, Text, Words, ascii_text};
 
 /// The command of a packet.
 pub fn read_command(packet: &[u8]) -> Result<Command<'_>, CommandFault>

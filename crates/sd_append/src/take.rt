@@ -15,9 +15,10 @@ use crate::port::SessionPort;
 use crate::read::read_command;
 use crate::spans::{SpanText, read_span};
 use crate::stage::{Own, TalkStage, is_running, own_with};
-use crate::text::{ascii_text, trimmed};
+use crate::text::trimmed;
 use sd_base::Refusal;
 use sd_bnet::Payload;
+use sd_text::ascii_text;
 use std::alloc::Global;
 use std::io::Write;
 

@@ -1,2 +1,4 @@
 pub mod ChoiceLemmas
 pub mod FieldLemmas
+pub mod IndexLemmas
+pub mod ZipLemmas

@@ -18,3 +18,7 @@ pub record CountsOnce (failed : Type 0) (old new : ℕ) : Type 0 where
 -- no further failure can be counted
 abbrev pub IsSpent : ℕ → Type 0
 IsSpent count = count ≡ 2 ^ 64 - 1
+
+-- a count, as far as 64 bits can say it
+abbrev pub counted : ℕ → ℕ
+counted n = min n (2 ^ 64 - 1)

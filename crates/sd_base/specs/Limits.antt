@@ -1,6 +1,6 @@
 -- The limits of the formats, as numbers of their own: a constant of the code that differs from its
 -- limit here breaks the proofs of what it serves.
-use Rattle.std.specs.Prelude.{ℕ}
+use Rattle.std.specs.Prelude.{ℕ, ◌≤◌}
 
 -- the most characters of a name
 abbrev pub most_name : ℕ
@@ -9,6 +9,10 @@ most_name = 127
 -- the greatest FileIndex, Stream, JobId, VolSessionId and VolSessionTime
 abbrev pub most_number : ℕ
 most_number = 2147483647
+
+-- from 1 to the greatest FileIndex, Stream, job, ticket and time
+abbrev pub IsNumber : ℕ → Type 0
+IsNumber n = (1 ≤ n) × (n ≤ most_number)
 
 -- the most data bytes of a record, and of the payload of a packet
 abbrev pub most_data : ℕ

@@ -26,7 +26,7 @@ split_field : (at : ℕ) (bytes : List ℕ) → drop at bytes ≡ field_at at by
 split_field at bytes = sym (take-append-drop 4 (drop at bytes)) ∙ ap (λ rest. field_at at bytes ++ rest) (drop-drop 4 at bytes)
 
 -- the same front has the same fields
-take_within : (m n : ℕ) (bytes : List ℕ) → take m (drop n (take (n + m) bytes)) ≡ take m (drop n bytes)
+pub take_within : (m n : ℕ) (bytes : List ℕ) → take m (drop n (take (n + m) bytes)) ≡ take m (drop n bytes)
 take_within m n bytes = ap (take m) (drop-take n m bytes) ∙ take-take m m (drop n bytes) (omega arith)
 
 field_within : (at : ℕ) (bytes other : List ℕ) → at + 4 ≤ 24 → take 24 bytes ≡ take 24 other → field_at at bytes ≡ field_at at other

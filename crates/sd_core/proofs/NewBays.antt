@@ -6,18 +6,12 @@ use Rattle.sd_drive.specs.View.{DriveIs}
 use Rattle.sd_lane.specs.Queue.{LanesView}
 use Rattle.sd_spool.specs.Meaning.{Meaning as StoreMeaning}
 use Rattle.sd_world.specs.World.{BayView}
+use Rattle.sd_base.proofs.ZipLemmas.{zip_push}
 use Rattle.sd_core.specs.Fresh.{StaysDevice, HasRoom, new_bay, new_bays}
 
 -- the last element that is unwrapped
 pub last_is : {A : Type 0} (all front : List A) (o : Option A) (x : A) → all ≡ front ++ option_to_list o → o ≡ Some x → all ≡ front ++ x ∷ []
 last_is all front o x is there = subst (λ l. all ≡ front ++ option_to_list l) there is
-
--- what is so of two lists is so with one more of each
-pub zip_push : {A B : Type 0} (R : A → B → Type 0) (xs : List A) (ys : List B) (x : A) (y : B) → AllZip R xs ys → R x y → AllZip R (xs ++ x ∷ []) (ys ++ y ∷ [])
-zip_push R [] [] x y h r = (r, tt)
-zip_push R [] (b ∷ ys) x y h r = absurd h
-zip_push R (a ∷ xs) [] x y h r = absurd h
-zip_push R (a ∷ xs) (b ∷ ys) x y h r = (h.0, zip_push R xs ys x y h.1 r)
 
 -- and without the last of each
 pub zip_pop : {A B : Type 0} (R : A → B → Type 0) (xs : List A) (ys : List B) (x : A) (y : B) → AllZip R (xs ++ x ∷ []) (ys ++ y ∷ []) → AllZip R xs ys × R x y

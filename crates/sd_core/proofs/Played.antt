@@ -10,7 +10,8 @@ use Rattle.sd_machine.specs.declared.reply.Reply.TheVariants.{NeedVolume, Mounte
 use Rattle.sd_world.specs.Steps.{IsStep, StepsAlong}
 use Rattle.sd_world.specs.World.{WorldView}
 use Rattle.sd_core.specs.declared.headway.Round.{Round}
-use Rattle.sd_core.specs.Rounds.{PlaysOn, Tells, counted, has_moved, placed_in, placing}
+use Rattle.sd_core.specs.Rounds.{PlaysOn, Tells, has_moved, placed_in, placing}
+use Rattle.sd_base.specs.Count.{counted}
 
 pub along_append : {D : Type 0} (meaning : D → Meaning) (a b c : WorldView D) (es fs : List Event) (rs ss : List Reply)
     → StepsAlong meaning a es rs b → StepsAlong meaning b fs ss c → StepsAlong meaning a (es ++ fs) (rs ++ ss) c

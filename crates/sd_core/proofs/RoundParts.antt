@@ -17,7 +17,8 @@ use Rattle.sd_world.specs.Moves.{Moves}
 use Rattle.sd_world.specs.World.{WorldView, BayView, IsOnline}
 use Rattle.sd_world.proofs.Framed.{none_there}
 use Rattle.sd_core.specs.declared.headway.Round.{Round}
-use Rattle.sd_core.specs.Rounds.{AreSends, AreTurns, IsRound, IsTurn, PlaysOn, PlaysRounds, Tells, counted, drives_online, is_online, is_set, online_flags, placing, sends}
+use Rattle.sd_core.specs.Rounds.{AreSends, AreTurns, IsRound, IsTurn, PlaysOn, PlaysRounds, Tells, drives_online, is_online, is_set, online_flags, placing, sends}
+use Rattle.sd_base.specs.Count.{counted}
 use Rattle.sd_core.proofs.Online.{DrivesStay, IsNoRetiring, drives_same, drives_then, moves_stay}
 use Rattle.sd_core.proofs.Played.{on_and, on_none}
 use Rattle.sd_core.specs.View.{running_tickets}

@@ -14,7 +14,8 @@ use Rattle.sd_machine.specs.declared.reply.Reply.TheVariants.{Refused}
 use Rattle.sd_world.specs.World.{WorldView}
 use Rattle.sd_world.specs.Steps.{IsStep, StepsAlong}
 use Rattle.sd_core.specs.declared.headway.Round.{Round}
-use Rattle.sd_core.specs.Rounds.{AllMove, Drains, IsRound, Moved, PlaysMoving, PlaysOne, PlaysRound, PlaysRounds, counted, placed_in}
+use Rattle.sd_core.specs.Rounds.{AllMove, Drains, IsRound, Moved, PlaysMoving, PlaysOne, PlaysRound, PlaysRounds, placed_in}
+use Rattle.sd_base.specs.Count.{counted}
 use Rattle.sd_core.specs.Tries.{Answers, Asks, AsksAgain, Ends, GivesAgain, Lacks, PlaysAs, Stops, Tried, Try, events_tried, is_due, may_change, replies_tried, rounds_in}
 use Rattle.sd_core.proofs.Played.{along_append, counted_sum}
 

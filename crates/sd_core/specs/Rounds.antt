@@ -1,5 +1,5 @@
 -- What rounds play, and what comes of them.
-use Rattle.std.specs.Prelude.{◌≡◌, ◌⊎◌, ℕ, ◌-◌, ◌^◌, min, Bool, true, false, IsTrue, Option, Some, None, is_some, List, [], ◌∷◌, ◌++◌, length, map, filter, slice_get, All}
+use Rattle.std.specs.Prelude.{◌≡◌, ◌⊎◌, ℕ, ◌-◌, ◌^◌, Bool, true, false, IsTrue, Option, Some, None, is_some, List, [], ◌∷◌, ◌++◌, length, map, filter, slice_get, All}
 use Rattle.std.specs.List.{list_any, count_by, sum_by, range_with_len}
 use Rattle.sd_base.specs.Limits.{most_drives}
 use Rattle.sd_driver.specs.Meaning.{Meaning}
@@ -9,6 +9,7 @@ use Rattle.sd_machine.specs.declared.reply.Reply.{Reply}
 use Rattle.sd_machine.specs.declared.reply.Reply.TheVariants.{Spooled, Sent, InHand, Placed, NeedVolume, VolumeFull, VolumeError, Mounted}
 use Rattle.sd_world.specs.Steps.{StepsAlong}
 use Rattle.sd_world.specs.World.{WorldView, BayView}
+use Rattle.sd_base.specs.Count.{counted}
 use Rattle.sd_core.specs.View.{running_tickets}
 use Rattle.sd_core.specs.declared.headway.Round.{Round}
 
@@ -37,10 +38,6 @@ placed_in replies = count_by has_placed replies
 -- whether something moved in one of them
 abbrev pub moved_in : List Reply → Bool
 moved_in replies = list_any has_moved replies
-
--- a count, or the greatest number of 64 bits if it is greater
-abbrev pub counted : ℕ → ℕ
-counted n = min n (2 ^ 64 - 1)
 
 -- what came of the steps with these replies
 pub record Tells (round : Round) (replies : List Reply) : Type 0 where

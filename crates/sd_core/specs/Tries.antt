@@ -9,7 +9,8 @@ use Rattle.sd_machine.specs.declared.reply.Reply.{Reply}
 use Rattle.sd_machine.specs.declared.reply.Reply.TheVariants.{Refused}
 use Rattle.sd_world.specs.World.{WorldView}
 use Rattle.sd_world.specs.Steps.{IsStep, StepsAlong}
-use Rattle.sd_core.specs.Rounds.{IsRound, PlaysRound, counted, moved_in, placed_in}
+use Rattle.sd_core.specs.Rounds.{IsRound, PlaysRound, moved_in, placed_in}
+use Rattle.sd_base.specs.Count.{counted}
 use Rattle.sd_core.specs.declared.headway.Round.{Round}
 
 -- the answer may be another one after a round: a record that found a body waiting, a close that found something

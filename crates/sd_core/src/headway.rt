@@ -1,6 +1,7 @@
 // What comes of steps.
 ghost use Rattle.std.specs.Prelude.{◌≡◌, ◌+◌, ◌||◌, ◌∷◌, []};
-ghost use Rattle.sd_core.specs.Rounds.{Tells, counted};
+ghost use Rattle.sd_base.specs.Count.{counted};
+ghost use Rattle.sd_core.specs.Rounds.{Tells};
 
 use sd_machine::Reply;
 

@@ -1,12 +1,12 @@
 // Reading a session back through the drive that has its volumes.
-ghost use Rattle.std.specs.Prelude.{◌≡◌, ◌≢◌, ◌↔◌, ◌==◌, ◌&&◌, ◌||◌, not, ℕ, Some, None, IfOk, IfErr, OnOk, OnErr, IsTrue};
+ghost use Rattle.std.specs.Prelude.{◌≡◌, ◌≢◌, ◌==◌, ◌&&◌, ◌||◌, not, ℕ};
 ghost use Rattle.sd_base.specs.declared.refusal.Refusal.TheVariants.{NoSuchDrive, VolumeNotOnShelf};
 ghost use Rattle.sd_events.specs.View.{world_of};
 ghost use Rattle.sd_world.specs.Rules.{IsWorld, NumbersRise};
 ghost use Rattle.sd_world.specs.Drives.{was_purged};
 ghost use Rattle.sd_world.specs.World.{session_at};
 ghost use Rattle.sd_world.specs.Deeds.{CountsFit};
-ghost use Rattle.sd_world.specs.Reading.{ReadsDrive, ReadsWorld, are_at_drive, is_at_drive, is_purged_session, any_purged_at};
+ghost use Rattle.sd_world.specs.Reading.{ReadsWorld, are_at_drive, is_at_drive, is_purged_session, any_purged_at};
 ghost use Rattle.sd_world.specs.Steps.{DrivesKeep};
 ghost use Rattle.sd_desk.specs.Desk.{claimed_by};
 ghost use Rattle.sd_core.specs.Numbers.{NumbersAreTickets};
@@ -14,7 +14,6 @@ ghost use Rattle.sd_core.specs.Numbers.{NumbersAreTickets};
 use crate::kept::{know_counts, know_drives};
 use sd_base::{DriveNo, Refusal, SessionKey, Ticket, VolName};
 use sd_desk::Desk;
-use sd_drive::Drive;
 use sd_driver::Driver;
 use sd_events::{Parts, SessionEntry, find, online};
 use sd_lane::Lanes;
@@ -22,6 +21,7 @@ use sd_readback::{ReadEnd, Sink};
 use sd_session::Status;
 use sd_span::Span;
 use sd_spool::SpoolStore;
+use sd_world::read_drive;
 
 /// Reads a session back from its spans; and what is known then of the drives, and of the session's counts.
 pub(crate) fn read_knowing<D: Driver, Q: Lanes, S: SpoolStore + Drop, K: Sink>(
@@ -153,21 +153,5 @@ fn is_at_drive(desk: &Desk, drive: DriveNo, volume: &VolName) -> bool
     match desk.drive_of(volume) {
         Some(other) => other.get() == drive.get(),
         None => false,
-    }
-}
-
-// Reads by a drive; a fault of the reader becomes its refusal.
-fn read_drive<D: Driver, K: Sink>(
-    drive: &mut Drive<D>,
-    key: SessionKey,
-    spans: &[Span],
-    sink: &mut K,
-) -> Result<ReadEnd, Refusal>
-    ensures { ReadsDrive (λ d. D.meaning d) key spans.now (K.got sink.old) (K.got sink.new)
-        result drive.old drive.new }
-{
-    match drive.read(key, spans, sink) {
-        Ok(end) => Ok(end),
-        Err(fault) => Err(fault.refusal()),
     }
 }

@@ -1,5 +1,5 @@
 -- What a load finds, and which answer of a device a refusal tells.
-use Rattle.std.proofs.Common.{◌≡◌, ◌≢◌, ℕ, List, Option, Some, None, Result, Err, refl, ap, sym, ◌∙◌, subst, slice_get}
+use Rattle.std.proofs.Common.{◌≡◌, ◌≢◌, ℕ, List, Option, Some, None, refl, ap, sym, ◌∙◌, subst, slice_get}
 use Rattle.std.specs.List.{AllByRecursion}
 use Rattle.sd_base.specs.declared.refusal.Refusal.TheVariants.{VolumeNotOnShelf, DeviceFault}
 use Rattle.sd_driver.specs.declared.driver.DriverFault.{DriverFault}
@@ -44,9 +44,6 @@ on_shelf shelf vs at name stand there none =
     let is = s.stands.there in
     let same = ap shelf.volume there.2 in
     absurd (cc (sym is ∙ same ∙ none))
-
-pub err_is : {T E : Type 0} {a b : E} → ◌≡◌ {A = Result T E} (Err a) (Err b) → a ≡ b
-err_is e = cc
 
 -- of an adoption's faults the device's alone is that refusal
 pub is_device : (fault : AdoptFault) → adopt_refusal fault ≡ DeviceFault → fault ≡ adopt.Device

@@ -12,6 +12,7 @@ use Rattle.sd_volume.specs.Volume.{VolumeView, StandsOn}
 use Rattle.sd_volume.specs.Append.{AddsBlock, KeepsBlocks}
 use Rattle.sd_volume.proofs.ImageLemmas.{with_one_more}
 use Rattle.sd_driver.proofs.Lasting.{BeginsWith-length}
+use Rattle.sd_volume.proofs.PurgeLemmas.{take_front}
 use Rattle.sd_drive.specs.Shelf.{bytes_at, image_at, block_at, block_of_entry, blocks_on, IsSafe, IsSafeIfSynced, LiesOn, AreLaidOut, NamesDiffer}
 use Rattle.sd_drive.proofs.Places.{some_is, place_cases, other_name}
 
@@ -67,10 +68,6 @@ pub record IsFront (shelf : Shelf) (v : VolumeView) (label : VolumeLabel) (block
   pub end_is : v.end ≡ length (label_and_blocks label blocks)
   pub within : v.end ≤ length held.bytes
   pub front : take v.end held.bytes ≡ label_and_blocks label blocks
-
-take_front : {A : Type 0} (xs ys : List A) → take (length xs) (xs ++ ys) ≡ xs
-take_front [] ys = refl
-take_front (x ∷ xs) ys = ap (λ l. x ∷ l) (take_front xs ys)
 
 pub front_of : (shelf : Shelf) (v : VolumeView) (label : VolumeLabel) (blocks : List Block) (tail : List ℕ) → StandsOn v shelf label blocks tail → IsFront shelf v label blocks
 front_of shelf v label blocks tail s =

@@ -23,7 +23,7 @@ BeginsWith-own_take bytes to = ap (λ n. take n bytes) (length-take to bytes) �
 pub BeginsWith-length : (bytes front : List ℕ) → BeginsWith bytes front → length front ≤ length bytes
 BeginsWith-length bytes front b = omega (arith, ap length b, length-take (length front) bytes)
 
-take_front : (a b : ℕ) (xs : List ℕ) → a ≤ b → take a (take b xs) ≡ take a xs
+pub take_front : (a b : ℕ) (xs : List ℕ) → a ≤ b → take a (take b xs) ≡ take a xs
 take_front zero b xs le = refl
 take_front (suc a) zero xs le = absurd (omega arith)
 take_front (suc a) (suc b) [] le = refl

@@ -33,8 +33,8 @@ use Rattle.sd_world.specs.World.{WorldView, WorldSession, BayView, IsOnline, wit
 use Rattle.sd_world.proofs.LaneSteps.{running_keeps}
 use Rattle.sd_world.proofs.Lookups.{found_by_number}
 use Rattle.sd_world.proofs.PurgeSteps.{on_done}
+use Rattle.sd_volume.proofs.DeviceLemmas.{Counted-as}
 use Rattle.sd_events.specs.Purging.{Empties, NoneGoesOn, is_emptied}
-use Rattle.sd_events.proofs.CallLemmas.{recounted}
 
 -- The drive.
 
@@ -56,7 +56,7 @@ module _ {D T : Type 0} (meaning : D → Meaning) (name : List ℕ) (at : ℕ) (
     on_shelf = on_shelf;
     adds_none = adds;
     calls = record {
-      counted = recounted _ _ (λ x. absurd x) (λ x. other (cc x)) (λ x. x) (λ x. x) counted;
+      counted = Counted-as _ _ _ _ _ _ (λ x. other (cc x)) (λ x. absurd x) (λ x. x) (λ x. x) counted;
       keeps = subst (λ (x : DriveIs D). KeepsPieces (meaning d.device) (meaning after.device) d.journal x.journal d.hand x.hand) (sym adds) kept;
       later = last other;
     };
@@ -87,7 +87,7 @@ module _ {D T : Type 0} (meaning : D → Meaning) (name : List ℕ) (at : ℕ) (
         there = p.there;
         name_is = p.name_is;
         empties = q.1;
-        counted = recounted _ _ (λ x. ap Err q.0) (λ x. tt) (λ x. x) (λ x. x) counted;
+        counted = Counted-as _ _ _ _ _ _ (λ x. tt) (λ x. ap Err q.0) (λ x. x) (λ x. x) counted;
         keeps = subst keeps_by q.0 keeps;
         below = p.below;
         cuts = λ never. absurd (never tt);

@@ -6,18 +6,16 @@ use Rattle.sd_driver.proofs.Names.{name_cases}
 use Rattle.sd_driver.proofs.Lasting.{BeginsWith-same, BeginsWith-own_take}
 use Rattle.sd_folder.specs.Meaning.{FileState, FolderMeaning, IsHonest, Goes, SameFiles, shelf_of, held_of}
 use Rattle.sd_folder.specs.Steps.{Takes, MayMake, Makes, Adds, MayAdd}
+use Rattle.sd_base.proofs.ChoiceLemmas.{same_some}
 use Rattle.sd_filedrive.specs.Known.{SyncsAll, MaySyncAll, MayLast, Knows, IsOpen}
 use Rattle.sd_filedrive.specs.declared.files.Loaded.{Loaded}
-
-pub some_is : {A : Type 0} {x y : A} → Some x ≡ Some y → x ≡ y
-some_is e = cc
 
 -- a file takes a step, its volume one too
 pub Changes-of : (step : FileState → FileState → Type 0) (held_step : Held → Held → Type 0) (name : List ℕ) (loaded : Option (List ℕ)) (a b : FolderMeaning)
     → ((s t : FileState) → step s t → held_step (held_of s) (held_of t))
     → loaded ≡ Some name → Takes step name a b → Changes held_step loaded (shelf_of a) (shelf_of b)
 Changes-of step held_step name loaded a b as_held is takes = record {
-  here = λ other held at there. (let same : other ≡ name = some_is (sym at ∙ is) in
+  here = λ other held at there. (let same : other ≡ name = same_some (sym at ∙ is) in
       let P : List ℕ → Type 0 = λ n. (shelf_of a).volume n ≡ Some held → (after : Held) × held_step held after × ((shelf_of b).volume n ≡ Some after) in
       subst P (sym same) (of held (a.file name) refl) there);
   others = λ other differs. ap (option_map held_of) (takes.others other (λ e. differs (is ∙ ap Some (sym e))));
@@ -27,7 +25,7 @@ Changes-of step held_step name loaded a b as_held is takes = record {
     of held None e there = (let none = ap (option_map held_of) (sym e) ∙ there in cc)
     of held (Some s) e there =
         let t = takes.here s e in
-        let same : held_of s ≡ held = some_is (ap (option_map held_of) (sym e) ∙ there) in
+        let same : held_of s ≡ held = same_some (ap (option_map held_of) (sym e) ∙ there) in
         (held_of t.0, (let P : Held → Type 0 = λ h. held_step h (held_of t.0) in subst P same (as_held s t.0 t.1)), ap (option_map held_of) t.2)
 
 pub KeepsStable-step : (step : FileState → FileState → Type 0) (name : List ℕ) (a b : FolderMeaning)
@@ -105,7 +103,7 @@ MayMake-keeps name a b may other = elim (name_cases other name) [
 pub MayMake-of : (name : List ℕ) (a b : FolderMeaning) → Makes name a b → MayMake name a b
 MayMake-of name a b makes = record {
   there = λ state is. (let e = sym makes.absent ∙ is in cc);
-  untorn = λ state none is. sym (ap (λ (s : FileState). s.torn) (some_is (sym makes.made ∙ is)));
+  untorn = λ state none is. sym (ap (λ (s : FileState). s.torn) (same_some (sym makes.made ∙ is)));
   others = makes.others;
 }
 

@@ -1,5 +1,5 @@
 -- A read that comes in parts.
-use Rattle.std.proofs.Common.{◌≡◌, ◌≢◌, ℕ, zero, suc, ◌+◌, ◌-◌, ◌≤◌, ◌⊎◌, inl, inr, Bool, true, false, List, [], ◌∷◌, ◌++◌, length, take, drop, Some, None, Result, Ok, Err, IfOk, option_map, refl, ap, sym, ◌∙◌, arith}
+use Rattle.std.proofs.Common.{◌≡◌, ◌≢◌, ℕ, zero, suc, ◌+◌, ◌-◌, ◌≤◌, ◌⊎◌, inl, inr, Bool, true, false, List, [], ◌++◌, length, take, drop, Some, None, Result, Ok, Err, IfOk, option_map, refl, ap, sym, ◌∙◌, arith}
 use Rattle.std.proofs.Math.Seq.{take-add, take-append-add}
 use Rattle.std.proofs.lemmas.List.{length-take-le, length-drop, drop-drop}
 use Rattle.std.proofs.lemmas.Slice.{take-put_mid, take-put_mid_below}
@@ -7,16 +7,11 @@ use borrow.Rule.Slice.PartMut.{put_mid, mid_of, same_len_mid}
 use Rattle.sd_folder.specs.Meaning.{FileState, FolderMeaning, IsHonest, SameFiles, shelf_of, held_of}
 use Rattle.sd_folder.specs.Steps.{Reads, EndsAt}
 use Rattle.sd_driver.specs.Meaning.{TellsBytes, TellsLength}
+use Rattle.sd_driver.proofs.Lasting.{take_front}
 use Rattle.sd_filedrive.specs.Known.{Looks, FillsSoFar, Fills}
 use Rattle.sd_filedrive.specs.Torn.{IsSound}
 use Rattle.sd_filedrive.proofs.Shelves.{Looks-two, honest_after}
 use Rattle.sd_filedrive.proofs.Changing.{made_state}
-
-take_front : (a b : ℕ) (xs : List ℕ) → a ≤ b → take a (take b xs) ≡ take a xs
-take_front zero b xs le = refl
-take_front (suc a) zero xs le = absurd (omega arith)
-take_front (suc a) (suc b) [] le = refl
-take_front (suc a) (suc b) (x ∷ xs) le = let r = take_front a b xs (omega arith) in ap (λ l. x ∷ l) r
 
 -- the front of a buffer and what came after it
 put_more : (a k more : ℕ) (xs ys : List ℕ) → a ≤ length xs → more ≤ length ys → take (a + more) (put_mid a k xs ys) ≡ take a xs ++ take more ys

@@ -5,11 +5,9 @@ use Rattle.std.proofs.lemmas.Slice.Eq.{bytes_eq-Decides}
 use Rattle.sd_driver.proofs.Names.{name_cases}
 use Rattle.sd_folder.specs.Meaning.{FileState, FolderMeaning, SameFiles, NoneTorn}
 use Rattle.sd_folder.specs.Steps.{Takes, MayMake}
+use Rattle.sd_base.proofs.ChoiceLemmas.{same_some}
 use Rattle.sd_filedrive.specs.declared.files.Torn.{Torn}
 use Rattle.sd_filedrive.specs.Torn.{torn_at, noted_first, IsNoted, Covers, IsSound, IsWhole}
-
-some_is : {A : Type 0} {x y : A} → Some x ≡ Some y → x ≡ y
-some_is e = cc
 
 not_both : {b : Bool} → b ≡ true → b ≡ false → ⊥
 not_both t f = cc
@@ -63,7 +61,7 @@ Covers-kept torn step name a b keeps there whole takes covers other state is t =
     of here None e = absurd (there e)
     of here (Some s) e =
         let u = takes.here s e in
-        let same : u.0 ≡ state = some_is (sym u.2 ∙ here) in
+        let same : u.0 ≡ state = same_some (sym u.2 ∙ here) in
         ap (λ (x : FileState). x.torn) (sym same) ∙ keeps s u.0 u.1 (whole s e)
 
 -- a file that may be torn is noted
@@ -74,7 +72,7 @@ Covers-noted torn x step name a b named within takes covers other state is t = e
   | inl e ↦ (let told : torn_at (torn ++ x ∷ []) other ≡ Some x.synced = ap (torn_at (torn ++ x ∷ [])) (e ∙ sym named) ∙ noted_last torn x in
       record {
         there = λ none. (let n = sym told ∙ none in cc);
-        within = λ synced noted. (let same : x.synced ≡ synced = some_is (sym told ∙ noted) in
+        within = λ synced noted. (let same : x.synced ≡ synced = same_some (sym told ∙ noted) in
             omega (arith, same, within state (ap b.file (sym e) ∙ is)));
       })
   | inr differs ↦ (

@@ -168,7 +168,7 @@ front_within all rs r (f ∷ pre) more is_record some c = record {
   ended_is_all = (λ e. absurd (cc e));
 }
 
-back_nil : {X : Type 0} (xs ys : List X) → xs ++ ys ≡ [] → ys ≡ []
+pub back_nil : {X : Type 0} (xs ys : List X) → xs ++ ys ≡ [] → ys ≡ []
 back_nil [] ys e = e
 back_nil (x ∷ xs) ys e = cc
 

@@ -1,20 +1,18 @@
 -- What a drive answers if there is no desk.
-use Rattle.std.proofs.Common.{◌≡◌, ◌≢◌, ◌⊎◌, ℕ, Bool, true, false, Option, None, Some, Ok, Err, List, refl, sym, ap, ◌∙◌, inl, inr}
+use Rattle.std.proofs.Common.{◌≡◌, ◌≢◌, ◌⊎◌, ℕ, Bool, true, false, Option, None, Some, Ok, Err, List, refl, sym, ◌∙◌, inl, inr}
 use Rattle.std.specs.Prelude.{IsErrOf}
 use Rattle.std.specs.Str.{bytes_eq}
 use Rattle.std.proofs.lemmas.Slice.Eq.{bytes_eq-Decides}
 use Rattle.sd_base.specs.declared.refusal.Refusal.{Refusal}
 use Rattle.sd_base.specs.declared.refusal.Refusal.TheVariants.{DeviceFault, OtherPoolOrMedia, InUse, AlreadyLabelled}
-use Rattle.sd_desk.specs.Desk.{DeskView}
 use Rattle.sd_driver.specs.Meaning.{Meaning}
 use Rattle.sd_driver.specs.Shelf.{StillLasts}
-use Rattle.sd_drive.specs.Moves.{FailsToSync, label_due, adopt_due, index_of}
+use Rattle.sd_drive.specs.Moves.{label_due, adopt_due, index_of}
 use Rattle.sd_drive.specs.Shelf.{KeepsPieces}
 use Rattle.sd_drive.specs.View.{DriveIs}
-use Rattle.sd_lane.specs.Queue.{LanesView}
-use Rattle.sd_volume.proofs.DeviceLemmas.{Counted-as}
 use Rattle.sd_volume.specs.Device.{Counted}
-use Rattle.sd_world.specs.Stations.{Outcome, Calls, LosesBlocks}
+use Rattle.sd_world.specs.Stations.{Calls}
+use Rattle.sd_world.proofs.CallLemmas.{counted_well, counted_refused}
 
 -- a refusal is due, or none is
 pub due_or : (o : Option Refusal) → (o ≡ None) ⊎ ((f : Refusal) × (o ≡ Some f))
@@ -61,14 +59,6 @@ adopt_dues d name = by_name (index_of d.volumes name) refl
     by_name None found = by_loaded found d.loaded refl
     by_name (Some at) found = there at found (rw found refl)
 
--- a device that answers no fault
-pub counted_well : {T : Type 0} (m m' : Meaning) (done : T) → Counted (IsErrOf {T = T} {E = Refusal} (Ok done) DeviceFault) ⊥ m m' → Counted ⊥ ⊥ m m'
-counted_well m m' done c = Counted-as _ _ _ _ m m' (λ x. cc x) (λ x. absurd x) (λ x. x) (λ x. x) c
-
--- a device that is answered why
-pub counted_refused : {T : Type 0} (m m' : Meaning) (why : Refusal) → Counted (IsErrOf {T = T} {E = Refusal} (Err why) DeviceFault) ⊥ m m' → Counted (why ≡ DeviceFault) ⊥ m m'
-counted_refused m m' why c = Counted-as _ _ _ _ m m' (λ x. cc x) (λ x. ap Err x) (λ x. x) (λ x. x) c
-
 -- what a call leaves of a device that answers no fault
 pub called_well : {D T : Type 0} (meaning : D → Meaning) (d after : DriveIs D) (done : T)
     → Counted (IsErrOf {T = T} {E = Refusal} (Ok done) DeviceFault) ⊥ (meaning d.device) (meaning after.device)
@@ -82,22 +72,3 @@ pub called_refused : {D T : Type 0} (meaning : D → Meaning) (why : Refusal) (d
     → KeepsPieces (meaning d.device) (meaning after.device) d.journal after.journal d.hand after.hand
     → StillLasts (meaning d.device).shelf (meaning after.device).shelf → Calls meaning (why ≡ DeviceFault) ⊥ d after
 called_refused {D} {T} meaning why d after counted keeps later = record { counted = counted_refused {T = T} _ _ why counted; keeps = keeps; later = later }
-
--- a drive that is as it was, beside what is
-pub drive_rests : {D : Type 0} (d after : DriveIs D) (queue : LanesView) (desk : DeskView) → after ≡ d
-    → ◌≡◌ {A = Outcome D} (record { drive = after; queue = queue; desk = desk; lost = None }) (record { drive = d; queue = queue; desk = desk; lost = None })
-drive_rests {D} d after queue desk same = ap (λ (x : DriveIs D). record { drive = x; queue = queue; desk = desk; lost = None }) same
-
--- a sync of a drive failed
-pub device_fails : {D T : Type 0} (meaning : D → Meaning) (d after : DriveIs D) (queue : LanesView) (desk : DeskView) (why : Refusal)
-    → (failed : FailsToSync d after) → why ≡ DeviceFault
-    → Counted (IsErrOf {T = T} {E = Refusal} (Err why) DeviceFault) ⊥ (meaning d.device) (meaning after.device)
-    → KeepsPieces (meaning d.device) (meaning after.device) d.journal after.journal d.hand after.hand
-    → StillLasts (meaning d.device).shelf (meaning after.device).shelf
-    → LosesBlocks meaning (record { drive = d; queue = queue; desk = desk })
-    (record { drive = after; queue = queue; desk = desk; lost = Some failed.volume.name })
-device_fails {D} {T} meaning d after queue desk why failed is counted keeps later = record {
-  fails = failed;
-  calls = record { counted = Counted-as _ _ _ _ _ _ (λ x. tt) (λ x. ap Err is) (λ x. x) (λ x. x) counted; keeps = keeps; later = later };
-  is = refl;
-}

@@ -1,21 +1,22 @@
 -- What each step of a session leaves of what it was told.
-use Rattle.std.proofs.Common.{◌≡◌, ◌≢◌, ℕ, ◌≤◌, ℤ, refl, sym, ap, subst, ◌∙◌, inl, inr, true, Option, Some, None, List, [], ◌∷◌, ◌++◌, IsSome, IsTrue}
+use Rattle.std.proofs.Common.{◌≡◌, ◌≢◌, ℕ, ◌≤◌, ℤ, refl, sym, ap, subst, ◌∙◌, inl, inr, true, Some, None, List, [], ◌∷◌, ◌++◌, IsSome, IsTrue}
 use Rattle.sd_base.specs.Record.{Record}
 use Rattle.sd_base.specs.declared.refusal.Refusal.{Refusal}
 use Rattle.sd_machine.specs.Machine.{MachineSession}
 use Rattle.sd_pack.specs.Body.{PackedBody}
 use Rattle.sd_session.specs.Session.{SessionView, IsRunning, TakesRecord, EndsSession, DropsParts, CancelsSession, FailsSession, ClosesSession, parts_of, store_of, home_of}
-use Rattle.sd_session.specs.Sending.{QueueView, Stations, stations_of, TakesNext, FindsLaneFull, DespoolRefused}
+use Rattle.sd_session.specs.Sending.{QueueView, stations_of, FindsLaneFull, DespoolRefused}
 use Rattle.sd_session.specs.Spooling.{Spools, FailsBySpool, SpoolRefused}
 use Rattle.sd_session.specs.declared.answer.Spooling.{Spooling}
 use Rattle.sd_session.specs.declared.answer.Spooling.TheVariants.{Spooled, SpoolFull, Nothing, NoSpool}
 use Rattle.sd_session.specs.declared.status.Status.TheVariants.{Active, Ended, Closed, Cancelled, Failed, Purged}
 use Rattle.sd_span.specs.declared.progress.Progress.{Progress}
-use Rattle.sd_spool.specs.Job.{JobView, StoreState}
+use Rattle.sd_spool.specs.Job.{JobView}
 use Rattle.sd_world.specs.Honest.{StoreIsTrue}
 use Rattle.sd_world.specs.Matches.{HasBodies}
 use Rattle.sd_world.proofs.Changes.{OwnChange, MovesBodies, takes_record, ends_session, cancels_session, status_changes, parts_moved, spool_is_honest}
 use Rattle.sd_world.proofs.SessionSteps.{moves_bodies}
+use Rattle.sd_world.proofs.Despool.{next_store, next_room}
 use Rattle.sd_line.specs.Ends.{TellsAll}
 use Rattle.sd_line.proofs.ToldLemmas.{nowhere, no_meaning, entry_of, machine_of, told, matches, told_on, StepsOn, not_closed, not_purged}
 
@@ -128,19 +129,6 @@ pub not_spooled : (s v : SessionView) (records : List Record) (why : Refusal) �
 not_spooled s v records why (inl t) = stays s v records t.1
 not_spooled s v records why (inr (inl t)) = fails_by_spool s v records t.0.job t.0.spool_is t.2
 not_spooled s v records why (inr (inr t)) = stays s v records t.2
-
--- the store stays where it is
-pub next_store : (store : Option StoreState) (body : PackedBody) (old between : Stations) → TakesNext body old between → home_of store between.spool ≡ home_of store old.spool
-next_store store body old between (inl t) = ap (λ (s : Stations). home_of store s.spool) t.1
-next_store store body old between (inr (inl t)) =
-    ap (λ (s : Stations). home_of store s.spool) t.1.is ∙ ap Some t.1.store_is ∙ sym (ap (home_of store) t.1.spool_is)
-next_store store body old between (inr (inr t)) = ap (λ (s : Stations). home_of store s.spool) t.2.is
-
--- and so does the room of bodies
-pub next_room : (body : PackedBody) (old between : Stations) → TakesNext body old between → between.packer.room ≡ old.packer.room
-next_room body old between (inl t) = ap (λ (s : Stations). s.packer.room) t.1
-next_room body old between (inr (inl t)) = ap (λ (s : Stations). s.packer.room) t.1.is
-next_room body old between (inr (inr t)) = t.2.room_is
 
 pub found_full : (s v : SessionView) (records : List Record) (queue queue' : QueueView) → FindsLaneFull s queue v queue' → StepsOn s records v records
 found_full s v records queue queue' t =

@@ -20,6 +20,7 @@ use sd_machine::{Event, Reply};
 use sd_readback::{ReadEnd, Sink};
 use sd_ruled::{DriveSeat, LaneQueue};
 use sd_span::Span;
+use sd_world::read_drive;
 use std::alloc::AllocError;
 use std::marker::{Model, PhantomData};
 use std::sync::Wait;
@@ -177,22 +178,6 @@ impl<D: Driver, N: Naming> DriveSide<D, N> {
             result self.old.drive self.new.drive }
     {
         read_drive(&mut self.drive, key, spans, sink)
-    }
-}
-
-// Reads a session back through the drive.
-fn read_drive<D: Driver, S: Sink>(
-    drive: &mut Drive<D>,
-    key: SessionKey,
-    spans: &[Span],
-    sink: &mut S,
-) -> Result<ReadEnd, Refusal>
-    ensures { ReadsDrive (λ d. D.meaning d) key spans.now (S.got sink.old) (S.got sink.new)
-        result drive.old drive.new }
-{
-    match drive.read(key, spans, sink) {
-        Ok(end) => Ok(end),
-        Err(fault) => Err(fault.refusal()),
     }
 }
 

@@ -2,9 +2,9 @@
 use crate::hub::{Hub, Post};
 use sd_base::{DriveNo, Items, LaneNo};
 use sd_board::Board;
-use sd_machine::{DriveLine, Loaded, SessionLine, View, VolumeLine};
 use sd_driver::Driver;
 use sd_line::Naming;
+use sd_machine::{DriveLine, Loaded, SessionLine, View, VolumeLine};
 use sd_session::Status;
 use sd_spool::SpoolStore;
 use sd_stations::VolumeRow;

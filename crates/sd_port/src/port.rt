@@ -64,12 +64,7 @@ impl<D: Driver, Q: Lanes, S: SpoolStore> Model for WorldPort<D, Q, S> {
 impl<D: Driver + Drop, Q: Lanes, S: SpoolStore + Drop> WorldPort<D, Q, S> {
     /// A port of this world, at this moment in microseconds, in which an append that finds the session busy and a close
     /// that comes too early wait for at most so many rounds. Takes no memory.
-    pub fn new(
-        alloc: Global,
-        world: World<D, Q, S>,
-        moment: i64,
-        rounds: u32,
-    ) -> Self
+    pub fn new(alloc: Global, world: World<D, Q, S>, moment: i64, rounds: u32) -> Self
         ensures { result ≡ new_port world moment rounds }
     {
         world.know();

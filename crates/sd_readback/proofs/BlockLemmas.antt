@@ -1,16 +1,12 @@
 -- Images of blocks that lie at one place, numbered from two numbers on: they are of the same blocks.
-use Rattle.std.proofs.Common.{◌≡◌, ◌⊎◌, inl, inr, ℕ, suc, ◌+◌, List, [], ◌∷◌, ◌++◌, length, refl, ap, ap₂, sym, ◌∙◌, arith, add-zero}
+use Rattle.std.proofs.Common.{◌≡◌, ◌⊎◌, inl, inr, ℕ, ◌+◌, List, [], ◌∷◌, ◌++◌, length, refl, ap, ap₂, sym, ◌∙◌, arith, add-zero}
 use Rattle.std.proofs.lemmas.List.{append_assoc, append-nil}
 use Rattle.sd_base.specs.declared.number.SessionKey.{SessionKey}
 use Rattle.sd_block.specs.Image.{block_image}
 use Rattle.sd_block.proofs.ImageLemmas.{length-block_image}
 use Rattle.sd_label.proofs.CuttingLemmas.{front_nil}
 use Rattle.sd_volume.specs.Image.{Block, images, AreImages}
-use Rattle.sd_volume.proofs.ImageLemmas.{one_block_there}
-
--- the number after one block and n more
-suc_number : (number n : ℕ) → number + 1 + n ≡ number + suc n
-suc_number number n = omega arith
+use Rattle.sd_volume.proofs.ImageLemmas.{one_block_there, suc_number}
 
 never_nil : (key : SessionKey) (number : ℕ) (body rest : List ℕ) → block_image key number body ++ rest ≡ [] → ⊥
 never_nil key number body rest e =

@@ -1,5 +1,5 @@
 -- An honest device while it is read: its volumes stay, and so does what a volume reader holds.
-use Rattle.std.proofs.Common.{◌≡◌, ◌≢◌, ◌≤◌, ℕ, refl, sym, ap, subst, ◌∙◌, arith, List, take, drop, Option, Some, None, Result, Ok, Err}
+use Rattle.std.proofs.Common.{◌≡◌, ◌≢◌, ◌≤◌, ℕ, refl, sym, ap, subst, ◌∙◌, arith, List, take, drop, Option, Some, None, Ok, Err}
 use Rattle.std.specs.Prelude.{IsTrue, IsErrOf}
 use Rattle.sd_driver.specs.declared.driver.DriverFault.{DriverFault}
 use Rattle.sd_driver.specs.declared.driver.DriverFault.TheVariants as driver
@@ -7,7 +7,7 @@ use Rattle.sd_driver.specs.Shelf.{Shelf, Held}
 use Rattle.sd_driver.specs.Meaning.{Meaning, IsHonest, TellsLength}
 use Rattle.sd_driver.proofs.Lasting.{StillLasts-refl}
 use Rattle.sd_volume.specs.Device.{OnlyReads}
-use Rattle.sd_volume.proofs.DeviceLemmas.{OnlyReads-as, OnlyReads-trans}
+use Rattle.sd_volume.proofs.DeviceLemmas.{OnlyReads-as, OnlyReads-trans, err_is}
 use Rattle.sd_volume.specs.Reader.{ReaderView, Shows, ShowsPart}
 use Rattle.sd_readback.specs.declared.fault.ReadFault.{ReadFault}
 use Rattle.sd_readback.specs.declared.fault.ReadFault.TheVariants.{Device}
@@ -56,9 +56,6 @@ not_of_spans driver.Exists there of = of.0 refl
 not_of_spans driver.NoRoom there of = of.0 refl
 not_of_spans driver.Device there of = of.0 refl
 not_of_spans driver.Memory there of = of.1 refl
-
-pub err_is : {T E : Type 0} {a b : E} → ◌≡◌ {A = Result T E} (Err a) (Err b) → a ≡ b
-err_is e = cc
 
 -- what one who reads takes for a fault of the device is one
 reading_device : (fault : DriverFault) → fault ≢ driver.Exists → fault ≢ driver.NoRoom → device_fault_of fault ≡ Device → fault ≡ driver.Device

@@ -11,15 +11,12 @@ use Rattle.sd_block.specs.declared.head.Head.{Head}
 use Rattle.sd_block.specs.declared.fault.BlockFault.{BlockFault}
 use Rattle.sd_block.specs.declared.fault.BlockFault.TheVariants.{Short, BadId, BadSize, BadSum}
 use Rattle.sd_block.proofs.HeaderLemmas.{SaysSize-same, SaysFields-same}
-use Rattle.sd_block.proofs.ImageLemmas.{IsHeadOf-image}
+use Rattle.sd_block.proofs.ImageLemmas.{IsHeadOf-image, take_within}
 use Rattle.sd_readback.specs.declared.fault.ReadFault.TheVariants.{DamagedBlock}
 use Rattle.sd_readback.specs.Device.{stretch, ShowsBlock}
 use Rattle.sd_readback.specs.Faults.{ComesNext, BeginsWithBlock, BeginsWithNoBlock, HasBadHead, HasBadBlock}
 
 -- The front of bytes has their header.
-
-take_within : (m n : ℕ) (bytes : List ℕ) → take m (drop n (take (n + m) bytes)) ≡ take m (drop n bytes)
-take_within m n bytes = ap (take m) (drop-take n m bytes) ∙ take-take m m (drop n bytes) (omega arith)
 
 field_of_front : (at size : ℕ) (bytes : List ℕ) → at + 4 ≤ size → field_at at (take size bytes) ≡ field_at at bytes
 field_of_front at size bytes within =

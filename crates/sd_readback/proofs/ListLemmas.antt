@@ -1,14 +1,11 @@
 -- Lists: what std has no lemma for.
 use Rattle.std.proofs.Common.{◌≡◌, ◌≢◌, refl, ap, List, [], ◌∷◌, ◌++◌, map}
 use Rattle.std.specs.Prelude.{Bool, true, false, cond}
+use Rattle.sd_label.proofs.CuttingLemmas.{back_nil}
 
 pub nil_unless : {X : Type 0} (xs : List X) → (xs ≢ [] → ⊥) → xs ≡ []
 nil_unless [] none = refl
 nil_unless (x ∷ xs) none = absurd (none (λ e. cc e))
-
-pub back_nil : {X : Type 0} (xs ys : List X) → xs ++ ys ≡ [] → ys ≡ []
-back_nil [] ys e = e
-back_nil (x ∷ xs) ys e = cc
 
 pub push_not_nil : {X : Type 0} (xs : List X) (x : X) → xs ++ x ∷ [] ≡ [] → ⊥
 push_not_nil xs x e = cc (back_nil xs (x ∷ []) e)

@@ -10,9 +10,6 @@ use Rattle.sd_scan.specs.Fault.{scan_fault_of}
 use Rattle.sd_scan.specs.declared.fault.ScanFault.{ScanFault}
 use Rattle.sd_scan.specs.declared.fault.ScanFault.TheVariants as fault
 
-pub fault_is : {T : Type 0} {a b : DriverFault} → ◌≡◌ {A = Result T DriverFault} (Err a) (Err b) → a ≡ b
-fault_is e = cc
-
 -- a fault of the device is the device's
 pub OnlyReads-scan : {T U : Type 0} (e : DriverFault) (old new : Meaning) → (e ≢ driver.Exists) × (e ≢ driver.NoRoom) → OnlyReads (IsErrOf {T = T} (Err e) driver.Device) old new
     → OnlyReads (IsErrOf {T = U} (Err (scan_fault_of e)) fault.Device) old new

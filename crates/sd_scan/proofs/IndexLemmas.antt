@@ -1,5 +1,5 @@
 -- The FileIndexes of the fragments before a place of a body.
-use Rattle.std.proofs.Common.{◌≡◌, ◌<◌, ◌≤◌, ℕ, zero, suc, ◌+◌, List, [], ◌∷◌, ◌++◌, length, take, drop, refl, sym, ap, ap₂, subst, ◌∙◌, arith}
+use Rattle.std.proofs.Common.{◌≡◌, ◌<◌, ℕ, ◌+◌, List, [], ◌∷◌, ◌++◌, length, take, drop, refl, sym, ap, ap₂, ◌∙◌, arith}
 use Rattle.std.specs.Prelude.{Option, Some, None}
 use Rattle.std.proofs.lemmas.List.{append_assoc, append-nil, take_at, drop_at, drop-drop, length-drop}
 use Rattle.sd_base.specs.FileIndex.{first_nonzero}
@@ -9,14 +9,7 @@ use Rattle.sd_label.proofs.LabelLemmas.{IsFragment-session_label}
 use Rattle.sd_pack.specs.Body.{file_index, first_file_index, last_file_index}
 use Rattle.sd_record.specs.Fragment.{Fragment, fragment_bytes, fragments_bytes, FitTogether, GoesOn, IsFragment}
 use Rattle.sd_record.proofs.FragmentLemmas.{length-fragment_bytes}
-
-first_nonzero-zero : (x : ℕ) → first_nonzero x 0 ≡ x
-first_nonzero-zero zero = refl
-first_nonzero-zero (suc x) = refl
-
-first_nonzero_assoc : (x y z : ℕ) → first_nonzero (first_nonzero x y) z ≡ first_nonzero x (first_nonzero y z)
-first_nonzero_assoc zero y z = refl
-first_nonzero_assoc (suc x) y z = refl
+use Rattle.sd_base.proofs.IndexLemmas.{first_nonzero-zero, first_nonzero_assoc}
 
 first_push : (fs : List Fragment) (f : Fragment) → first_file_index (fs ++ f ∷ []) ≡ first_nonzero (first_file_index fs) (file_index f.index)
 first_push [] f = first_nonzero-zero (file_index f.index)

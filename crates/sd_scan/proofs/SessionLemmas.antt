@@ -16,7 +16,8 @@ use Rattle.sd_unpack.specs.Unpacking.{Unpacking, Unpacks}
 use Rattle.sd_readback.proofs.FaultLemmas.{total_bytes-append}
 use Rattle.sd_readback.proofs.ListLemmas.{push_not_nil}
 use Rattle.sd_readback.proofs.ReaderLemmas.{nothing_held, unpacked_holds}
-use Rattle.sd_scan.specs.Session.{Breaks, counted, HoldsSome, ReadsTo, Took, Stops}
+use Rattle.sd_scan.specs.Session.{Breaks, HoldsSome, ReadsTo, Took, Stops}
+use Rattle.sd_base.specs.Count.{counted}
 use Rattle.sd_scan.specs.declared.session.Session.{Session}
 
 -- Of the records that waited, some were counted and let go.

@@ -1,47 +1,27 @@
 -- What is kept of all sessions, with one block more.
-use Rattle.std.proofs.Common.{◌≡◌, ◌≢◌, ◌⊎◌, inl, inr, ℕ, zero, suc, ◌+◌, ◌<◌, ◌≤◌, Bool, true, false, cond, List, [], ◌∷◌, ◌++◌, length, map, refl, sym, ap, ap₂, subst, ◌∙◌, arith, slice_get, slice_set}
-use Rattle.std.specs.Prelude.{IfOk, Option, Some, None, Result, Ok, Err, ◌==◌, ◌&&◌, ◌||◌}
+use Rattle.std.proofs.Common.{◌≡◌, ◌≢◌, ◌⊎◌, inl, inr, ℕ, zero, suc, ◌+◌, Bool, true, false, List, [], ◌∷◌, ◌++◌, map, refl, sym, ap, ap₂, subst, ◌∙◌, arith, slice_get, slice_set}
+use Rattle.std.specs.Prelude.{IfOk, Option, Some, None, Result, Ok, Err, ◌||◌}
 use Rattle.std.specs.List.{list_any}
-use Rattle.std.proofs.lemmas.Bool.{cond-true, cond-false, eqb-true, eqb-false, eq-eqb, ne_eqb, and_parts, true≢false}
-use Rattle.std.proofs.lemmas.List.{append-nil, map-append}
+use Rattle.std.proofs.lemmas.Bool.{cond-true, cond-false, true≢false}
+use Rattle.std.proofs.lemmas.List.{map-append}
 use Rattle.std.proofs.lemmas.List.Folds.{list_any-append}
 use Rattle.std.proofs.lemmas.Map.Keys.{any_passes_from_place}
 use Rattle.sd_base.specs.Key.{is_key}
 use Rattle.sd_base.specs.declared.number.SessionKey.{SessionKey}
 use Rattle.sd_readback.proofs.ReaderLemmas.{body_more, body_other}
 use Rattle.sd_readback.specs.Reading.{blocks_of}
-use Rattle.sd_span.proofs.SpanLemmas.{placements_of-append}
 use Rattle.sd_span.specs.Spans.{numbered_from, placements_of, spans_of, stretches}
 use Rattle.sd_span.specs.declared.placement.Placement.{Placement}
-use Rattle.sd_volume.specs.Image.{Block}
+use Rattle.sd_journal.proofs.KeyLemmas.{key_same, key_turned, key_same_self}
+use Rattle.sd_journal.proofs.EntryLemmas.{own_more, other_more}
 use Rattle.sd_scan.specs.Found.{Found, ArePlacements, IsPlacementOf, blocks_in, bodies_of}
 use Rattle.sd_scan.specs.Session.{Breaks, IsStartOf, ReadsTo, StandsFor}
 use Rattle.sd_scan.specs.declared.report.Report.{Report}
-use Rattle.sd_scan.specs.Sessions.{KeepsBy, Reports, Stands, keys_behind, keys_of, with_key}
+use Rattle.sd_scan.specs.Sessions.{KeepsBy, Reports, Stands, keys_behind, keys_of}
+use Rattle.sd_journal.specs.Journal.{with_key}
 use Rattle.sd_scan.specs.declared.session.Session.{Session}
 
 -- Keys.
-
-key_with : ℕ → ℕ → SessionKey
-key_with time id = record { time = time; id = id }
-
-pub key_same : (a b : SessionKey) → is_key a b ≡ true → a ≡ b
-unfolding key_with
-key_same a b same =
-    let parts = and_parts (a.time == b.time) (a.id == b.id) same in
-    ap₂ key_with (eqb-true a.time b.time parts.0) (eqb-true a.id b.id parts.1)
-
-eqb_turned : (a b : ℕ) (t : Bool) → (a == b) ≡ t → (b == a) ≡ t
-eqb_turned a b true same = eq-eqb b a (sym (eqb-true a b same))
-eqb_turned a b false apart = ne_eqb b a (λ e. eqb-false a b apart (sym e))
-
--- either way round
-key_turned : (a b : SessionKey) → is_key b a ≡ is_key a b
-key_turned a b = ap₂ (λ x y. x && y) (eqb_turned a.time b.time (a.time == b.time) refl) (eqb_turned a.id b.id (a.id == b.id) refl)
-
--- a key is itself
-pub key_same_self : (a : SessionKey) → is_key a a ≡ true
-key_same_self a = ap₂ (λ x y. x && y) (eq-eqb a.time a.time refl) (eq-eqb a.id a.id refl)
 
 key_same_to : (a b : SessionKey) → a ≡ b → is_key a b ≡ true
 key_same_to a b same = ap (is_key a) (sym same) ∙ key_same_self a
@@ -131,15 +111,6 @@ placements_more [] [] f p are is = (is, tt)
 placements_more [] (q ∷ ps) f p are is = absurd are
 placements_more (g ∷ found) [] f p are is = absurd are
 placements_more (g ∷ found) (q ∷ ps) f p are is = (are.0, placements_more found ps f p are.1 is)
-
-own_more : (key : SessionKey) (ps : List Placement) (p : Placement) → is_key key p.key ≡ true → placements_of key (ps ++ p ∷ []) ≡ placements_of key ps ++ p ∷ []
-own_more key ps p own =
-    placements_of-append key ps (p ∷ []) ∙ ap (λ l. placements_of key ps ++ l) (cond-true (is_key key p.key) (p ∷ []) [] own)
-
-other_more : (key : SessionKey) (ps : List Placement) (p : Placement) → is_key key p.key ≡ false → placements_of key (ps ++ p ∷ []) ≡ placements_of key ps
-other_more key ps p other =
-    placements_of-append key ps (p ∷ []) ∙ ap (λ l. placements_of key ps ++ l) (cond-false (is_key key p.key) (p ∷ []) [] other)
-    ∙ append-nil (placements_of key ps)
 
 -- a session without a block has no placement
 pub none_placed : (found : List Found) (ps : List Placement) (key : SessionKey) → ArePlacements found ps → bodies_of key found ≡ [] → placements_of key ps ≡ []

@@ -1,18 +1,15 @@
 -- What the bodies of one session tell: how far its records are there.
-use Rattle.std.specs.Prelude.{◌≡◌, ◌≢◌, ◌⊎◌, ℕ, ◌-◌, ◌^◌, min, Bool, true, false, List, [], ◌∷◌, ◌++◌, length, Option, Some, None}
+use Rattle.std.specs.Prelude.{◌≡◌, ◌⊎◌, ℕ, ◌-◌, Bool, true, false, List, [], ◌∷◌, ◌++◌, length, Option, Some, None}
 use Rattle.sd_base.specs.Record.{Record}
 use Rattle.sd_label.specs.Cutting.{Standing, Cuts, Holds, total_bytes}
 use Rattle.sd_label.specs.declared.label.SessionLabel.{SessionLabel}
 use Rattle.sd_span.specs.Spans.{stretches}
 use Rattle.sd_span.specs.declared.placement.Placement.{Placement}
 use Rattle.sd_unpack.specs.Unpacking.{Unpacking, Unpacks}
+use Rattle.sd_base.specs.Count.{counted}
 use Rattle.sd_scan.specs.Found.{BeginsWithStart, IsShownAt}
 use Rattle.sd_scan.specs.declared.report.Start.{Start}
 use Rattle.sd_scan.specs.declared.session.Session.{Session}
-
--- a count, as far as 64 bits can say it
-abbrev pub counted : ℕ → ℕ
-counted n = min n (2 ^ 64 - 1)
 
 -- The job, the pool and the moment are those of the start label that the body begins with; none if it begins with none.
 abbrev pub IsStartOf : List ℕ → Option Start → Type 0

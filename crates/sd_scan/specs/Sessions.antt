@@ -1,19 +1,14 @@
 -- The sessions of blocks that were found, all of them.
-use Rattle.std.specs.Prelude.{◌≡◌, ◌≢◌, ℕ, List, [], ◌∷◌, ◌++◌, map, if◌then◌else◌, Some, slice_get}
-use Rattle.std.specs.List.{list_any}
-use Rattle.sd_base.specs.Key.{is_key}
+use Rattle.std.specs.Prelude.{◌≡◌, ℕ, List, [], ◌∷◌, map, Some, slice_get}
 use Rattle.sd_base.specs.declared.number.SessionKey.{SessionKey}
 use Rattle.sd_span.specs.Spans.{placements_of, spans_of}
 use Rattle.sd_span.specs.declared.placement.Placement.{Placement}
+use Rattle.sd_journal.specs.Journal.{with_key}
 use Rattle.sd_scan.specs.Found.{Found, ArePlacements, bodies_of}
 use Rattle.sd_scan.specs.Session.{Breaks, IsStartOf, ReadsTo, StandsFor}
 use Rattle.sd_scan.specs.declared.report.Report.{Report}
 use Rattle.sd_scan.specs.declared.session.Session.{Session}
 use Rattle.sd_scan.specs.declared.sessions.Sessions.{Sessions}
-
--- these sessions and this one, if it is not among them
-abbrev pub with_key : SessionKey → List SessionKey → List SessionKey
-with_key key keys = if list_any (is_key key) keys then keys else keys ++ key ∷ []
 
 -- these sessions, and those of the blocks that are not among them
 abbrev pub keys_behind : List SessionKey → List Found → List SessionKey

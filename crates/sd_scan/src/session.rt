@@ -1,7 +1,8 @@
 // One session, as far as its blocks have come.
 ghost use Rattle.std.specs.Prelude.{◌≡◌, ◌↔◌, ◌+◌, ◌∷◌, ◌++◌, [], ℕ, List, length, OnOk, IfOk, IsTrue, Some, false};
 ghost use Rattle.sd_label.specs.Cutting.{AtEnd, total_bytes};
-ghost use Rattle.sd_scan.specs.Session.{counted, Breaks, IsStartOf, StandsFor, Took, ReadsTo};
+ghost use Rattle.sd_base.specs.Count.{counted};
+ghost use Rattle.sd_scan.specs.Session.{Breaks, IsStartOf, StandsFor, Took, ReadsTo};
 ghost use Rattle.sd_span.specs.Spans.{EndFits, stretches, numbered_from};
 ghost use Rattle.sd_span.specs.declared.placement.Placement.{Placement as SpecPlacement};
 ghost use Rattle.sd_unpack.specs.Stage.{standing_at};

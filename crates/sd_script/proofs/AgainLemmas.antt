@@ -5,10 +5,7 @@ use Rattle.std.specs.List.{AllByRecursion}
 use Rattle.std.specs.Int.{w64}
 use Rattle.std.specs.Fmt.{decimal}
 use Rattle.std.proofs.lemmas.Bool.{cond-true, le-leb}
-use Rattle.std.proofs.lemmas.List.Elements.{All-from_get_or}
 use Rattle.std.proofs.lemmas.Int.{ints}
-use Rattle.std.proofs.lemmas.Fmt.{digits_decimal}
-use Rattle.std.proofs.lemmas.Str.Parse.{digit_at}
 use Rattle.sd_base.specs.Limits.{least_block_limit, most_block, most_data, most_drives, most_lanes, most_number, most_queue, most_volume}
 use Rattle.sd_script.specs.declared.command.Command.{Command}
 use Rattle.sd_script.specs.declared.command.Command.TheVariants.{Block, Volume, SpoolLimit, Queue, Time, Host, Drive, Capacity, Fail, At, Label, Adopt, Mount, Unmount, Seek, Retire, Purge, Open, Rec, Fill, End, Cancel, Spool, Despool, Take, Place, Sync, Close, JobMedia, Read, Again, Drain, Status, Requests, Restart}
@@ -23,19 +20,15 @@ use Rattle.sd_script.specs.declared.line.Part.{Part}
 use Rattle.sd_script.specs.declared.line.Tail.{Tail}
 use Rattle.sd_script.specs.Command.{command_text, stands}
 use Rattle.sd_text.specs.Fields.{HasNoBlank, joined, Fields, fields_of}
-use Rattle.sd_script.specs.Grammar.{IsWord, IsSpelled, IsWithin, AreWords, IsNumber, IsDrive, call_text, most_capacity, when_text}
+use Rattle.sd_script.specs.Grammar.{IsWord, IsSpelled, IsWithin, AreWords, IsDrive, call_text, most_capacity, when_text}
+use Rattle.sd_base.specs.Limits.{IsNumber}
 use Rattle.sd_text.specs.Reading.{word_at}
 use Rattle.sd_script.specs.Reading.{most_moment, most_wide, shape, one_number, label_shape, adopt_shape, mount_shape, purge_shape, open_shape, rec_shape, fill_shape, host_shape, drive_shape, capacity_shape, fail_shape, again_shape, behind_shape, restart_shape}
-use Rattle.sd_text.proofs.NumberLemmas.{own}
+use Rattle.sd_text.proofs.NumberLemmas.{decimal-plain}
 use Rattle.sd_text.proofs.FieldLemmas.{fields_of-joined, fields_of-behind, joined-fields_of}
 use Rattle.sd_text.proofs.ReadingLemmas.{number_at_again, word_at_again, word_at_takes, only_number_again}
 use Rattle.sd_script.proofs.ReadingLemmas.{one_number_again, call-plain, when-plain, call_at_again, when_at_again}
 use Rattle.sd_script.proofs.CommandLemmas.{kinds, line_kinds, command-plain}
-
--- no number holds a blank
-decimal-plain : (n : ℕ) → n < 2 ^ 64 → HasNoBlank (decimal n)
-decimal-plain n small =
-    All-from_get_or (λ c. c ≢ 32) (decimal n) 0 (λ i within blank. let digit = digit_at (decimal n) i (digits_decimal own n small) within in omega arith)
 
 -- the command that bytes begin with, what its lines have in common, the fields after it, and that these are read as
 -- that line

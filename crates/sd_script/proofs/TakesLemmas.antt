@@ -18,7 +18,8 @@ use Rattle.sd_script.specs.Command.{command_text}
 use Rattle.sd_text.specs.Fields.{HasNoBlank, joined, Fields, fields_of}
 use Rattle.sd_plan.specs.declared.call.Call.{Call}
 use Rattle.sd_plan.specs.declared.fail.When.{When}
-use Rattle.sd_script.specs.Grammar.{IsSpelled, IsWithin, IsNumber, AreWords, call_text, most_capacity, when_text}
+use Rattle.sd_script.specs.Grammar.{IsSpelled, IsWithin, AreWords, call_text, most_capacity, when_text}
+use Rattle.sd_base.specs.Limits.{IsNumber}
 use Rattle.sd_text.specs.Reading.{◌>>=◌, number_at, word_at, all_read, only_number}
 use Rattle.sd_script.specs.Reading.{most_moment, most_wide, shape, one_number, label_shape, adopt_shape, mount_shape, purge_shape, open_shape, rec_shape, fill_shape, host_shape, drive_shape, capacity_shape, call_at, when_at, fail_shape, again_shape, behind_shape, restart_behind, restart_shape}
 use Rattle.sd_text.proofs.FieldLemmas.{joined-fields_of, fields_of-plain}

@@ -4,7 +4,7 @@ use Rattle.std.specs.Int.{w64}
 use Rattle.std.specs.List.{AllByRecursion}
 use Rattle.std.specs.Fmt.{decimal, signed_decimal}
 use Rattle.sd_base.specs.Name.{IsName}
-use Rattle.sd_base.specs.Limits.{least_block_limit, most_block, most_data, most_drives, most_lanes, most_number, most_queue, most_volume}
+use Rattle.sd_base.specs.Limits.{least_block_limit, most_block, most_data, most_drives, most_lanes, most_queue, most_volume, IsNumber}
 use Rattle.sd_base.specs.declared.refusal.Refusal as base
 use Rattle.sd_base.specs.declared.refusal.Refusal.TheVariants as refusals
 use Rattle.sd_text.specs.Fields.{HasNoBlank, joined}
@@ -110,10 +110,6 @@ IsSpelled bytes line = (bytes ≡ spelling line) ⊎ IsShorter bytes line
 -- the most bytes that a volume of a drive in memory may have room for
 abbrev pub most_capacity : ℕ
 most_capacity = 67108864
-
--- from 1 to the greatest FileIndex, Stream, job, ticket and time
-abbrev pub IsNumber : ℕ → Type 0
-IsNumber n = (1 ≤ n) × (n ≤ most_number)
 
 -- the number of a drive: from 1 on
 abbrev pub IsDrive : ℕ → Type 0

@@ -1,5 +1,5 @@
 // The lines of a script, read: what is read has the form of the line, and what has a form is read.
-ghost use Rattle.std.specs.Prelude.{◌≡◌, ◌<◌, ◌↔◌, ℕ, List, ◌∷◌, true, Ok, Err, IfOk, IfSome, IfNone, IsTrue, All};
+ghost use Rattle.std.specs.Prelude.{◌≡◌, ◌↔◌, ℕ, List, ◌∷◌, true, Ok, Err, IfOk, IfSome, IfNone, IsTrue};
 ghost use Rattle.sd_script.specs.Grammar.{HasForm, HasShape, AreNames, IsConsole, StandsIn};
 ghost use Rattle.sd_script.specs.Command.{command_text, stands};
 ghost use Rattle.sd_script.specs.Reading.{Gives, shape};
@@ -16,8 +16,7 @@ use crate::forms::{
 };
 use crate::line::{LineFault, Part, ScriptLine};
 use crate::settings::{block, capacity, drive, fail, host, queue, spool_limit, time, volume};
-use sd_text::Words;
-use std::str;
+use sd_text::{Words, ascii_text};
 
 /// The line that `bytes` spell in that part of a script, without the newline after it.
 pub fn read_line(part: Part, bytes: &[u8]) -> Result<ScriptLine<'_>, LineFault>
@@ -94,21 +93,6 @@ fn begins_as_console(bytes: &[u8]) -> bool
         Some(command) => command.is_console(),
         None => false,
     }
-}
-
-/// The bytes as a text, if they are ASCII.
-fn ascii_text(bytes: &[u8]) -> Option<&str>
-    ensures found { IfSome result (λ text.
-        (text.now ≡ bytes.now) × All (λ byte. byte < 128) bytes.now) }
-    ensures none { IfNone result (All (λ byte. byte < 128) bytes.now → ⊥) }
-{
-    if !bytes.is_ascii() {
-        return None;
-    }
-    let Ok(text) = str::from_utf8(bytes) else {
-        return None;
-    };
-    Some(text)
 }
 
 /// The command that the next field spells in that part of a script.

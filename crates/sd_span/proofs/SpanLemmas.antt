@@ -7,13 +7,10 @@ use Rattle.std.proofs.lemmas.Slice.Eq.{bytes_eq-Decides}
 use Rattle.sd_base.specs.FileIndex.{first_nonzero}
 use Rattle.sd_base.specs.Key.{is_key}
 use Rattle.sd_base.specs.declared.number.SessionKey.{SessionKey}
+use Rattle.sd_base.proofs.IndexLemmas.{first_nonzero_assoc}
 use Rattle.sd_span.specs.declared.span.Span.{Span}
 use Rattle.sd_span.specs.declared.placement.Placement.{Placement}
 use Rattle.sd_span.specs.Spans.{placements_of, stretch_of, in_front, stretches, numbered_from, stretch_with, grown, StretchesGrow}
-
-pub first_nonzero_assoc : (x y z : ℕ) → first_nonzero (first_nonzero x y) z ≡ first_nonzero x (first_nonzero y z)
-first_nonzero_assoc zero y z = refl
-first_nonzero_assoc (suc x) y z = refl
 
 -- a stretch from the beginning of one placement more in front of it
 abbrev begun_by : Placement → Span → Span

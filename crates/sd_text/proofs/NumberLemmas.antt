@@ -1,5 +1,5 @@
 -- The decimal text of a number, and the number that a text writes.
-use Rattle.std.proofs.Common.{lit<, ◌≡◌, ◌⊎◌, ℕ, ◌^◌, ◌<◌, ◌≤◌, refl, sym, ap, subst, ◌∙◌, arith, true, leb, List, [], ◌∷◌, length, Some, None, inl, inr, Ok, Err}
+use Rattle.std.proofs.Common.{lit<, ◌≡◌, ◌≢◌, ◌⊎◌, ℕ, ◌^◌, ◌<◌, ◌≤◌, refl, sym, ap, subst, ◌∙◌, arith, true, leb, List, [], ◌∷◌, length, Some, None, inl, inr, Ok, Err}
 use Rattle.std.specs.Prelude.{◌&&◌}
 use Rattle.std.specs.Fmt.{decimal}
 use Rattle.std.specs.Str.{bytes_eq}
@@ -7,8 +7,10 @@ use Rattle.std.specs.Str.Parse.{AllDigits, ParsesUnsigned, digits_value}
 use Rattle.std.proofs.lemmas.Bool.{and_parts, and_from, cond-true, cond-false, false_from_ne_true, leb-true, le-leb, cases_lt}
 use Rattle.std.proofs.lemmas.Option.{cond_some}
 use Rattle.std.proofs.lemmas.Slice.Eq.{bytes_eq-Decides}
-use Rattle.std.proofs.lemmas.Str.Parse.{IsNumeralModel, numerals_by_value, tells_digits, parse_plain}
+use Rattle.std.proofs.lemmas.Str.Parse.{IsNumeralModel, numerals_by_value, tells_digits, parse_plain, digit_at}
 use Rattle.std.proofs.lemmas.Fmt.{decimal_digit, digits_decimal, digits_value-decimal, decimal-digits_value, decimal_nonempty, first_decimal}
+use Rattle.std.proofs.lemmas.List.Elements.{All-from_get_or}
+use Rattle.sd_text.specs.Fields.{HasNoBlank}
 use Rattle.sd_text.specs.Reading.{IsPlain, is_number, number_in}
 
 pub own : IsNumeralModel (AllDigits 10) (digits_value 10)
@@ -103,3 +105,8 @@ accepted E least most word value plain parsed low high =
     let parts = parse_plain own {E = E} 64 word (Ok value) parsed plain.0 in
     let text = decimal-digits_value own word parts.0.0 parts.0.1 plain.1 parts.0.2 in
     number_in_value least most word value parts.1 (record { text = ap decimal parts.1 ∙ text; least_is = low; most_is = high })
+
+-- the text of a number holds no blank
+pub decimal-plain : (n : ℕ) → n < 2 ^ 64 → HasNoBlank (decimal n)
+decimal-plain n small =
+    All-from_get_or (λ c. c ≢ 32) (decimal n) 0 (λ i within blank. let digit = digit_at (decimal n) i (digits_decimal own n small) within in omega arith)

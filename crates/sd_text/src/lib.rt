@@ -3,6 +3,7 @@
 //! writes takes the printer's loop (`write_all`) and its lines (`line_of`).
 #![tactic(auto)]
 
+mod ascii;
 mod line;
 mod lines;
 mod printer;
@@ -10,6 +11,7 @@ mod text;
 mod words;
 mod write;
 
+pub use ascii::ascii_text;
 pub use line::line_of;
 pub use lines::Lines;
 pub use printer::Printer;

@@ -9,10 +9,12 @@ use Rattle.sd_base.specs.Record.{Record}
 use Rattle.sd_base.specs.declared.number.SessionKey.{SessionKey}
 use Rattle.sd_scan.specs.Found.{Found, bodies_of}
 use Rattle.sd_scan.specs.Session.{ReadsTo}
-use Rattle.sd_scan.specs.Sessions.{ReportsEach, keys_behind, keys_of, with_key}
+use Rattle.sd_scan.specs.Sessions.{ReportsEach, keys_behind, keys_of}
+use Rattle.sd_journal.specs.Journal.{with_key}
 use Rattle.sd_scan.specs.declared.report.Report.{Report}
 use Rattle.sd_scan.specs.declared.report.Start.{Start}
-use Rattle.sd_scan.proofs.TableLemmas.{key_same, key_same_self, none_placed}
+use Rattle.sd_scan.proofs.TableLemmas.{none_placed}
+use Rattle.sd_journal.proofs.KeyLemmas.{key_same, key_same_self}
 use Rattle.sd_label.specs.Cutting.{AtEnd, Holds, total_bytes}
 use Rattle.sd_label.proofs.CuttingLemmas.{holds_one}
 use Rattle.sd_scan.specs.Lines.{found_of, found_text, line_text, report_lines, reports_lines}

@@ -47,7 +47,7 @@ pub some_one : {A : Type 0} {a b : A} → Some a ≡ Some b → a ≡ b
 some_one is = cc is
 
 -- and nothing isn't
-none_some : {A : Type 0} {a : A} → None ≡ Some a → ⊥
+pub none_some : {A : Type 0} {a : A} → None ≡ Some a → ⊥
 none_some is = cc is
 
 -- Adopted volumes.

@@ -1,5 +1,5 @@
 -- The stop theorem for running threads.
-use Rattle.std.proofs.Common.{◌≡◌, ℕ, sym, ap, subst, ◌∙◌, inl, inr, arith, Some, None, List, [], ◌∷◌, ◌++◌, slice_get}
+use Rattle.std.proofs.Common.{◌≡◌, ℕ, sym, ap, subst, ◌∙◌, inl, inr, arith, Some, List, [], ◌∷◌, ◌++◌, slice_get}
 use Rattle.std.specs.Prelude.{◌⊎◌}
 use Rattle.atomic_table.specs.Seated.{TableId}
 use Rattle.sd_base.specs.declared.number.SessionKey.{SessionKey}
@@ -20,7 +20,7 @@ use Rattle.sd_theorem.specs.Headline.{HasStatus}
 use Rattle.sd_theorem.specs.Start.{Meanings}
 use Rattle.sd_theorem.specs.Told.{WereAsked}
 use Rattle.sd_theorem.proofs.Deeds.{split_at}
-use Rattle.sd_theorem.proofs.Returns.{WentOn, returns, some_one, stands_closed}
+use Rattle.sd_theorem.proofs.Returns.{WentOn, returns, some_one, stands_closed, none_some}
 use Rattle.sd_theorem.proofs.Stood.{asked_stood}
 use Rattle.sd_theorem.specs.Since.{HasReceipt}
 use Rattle.sd_theorem.specs.ThreadStops.{ComesBackSince, IsClosedBetween, ThreadStopTheorem, WasClosedSince}
@@ -35,10 +35,6 @@ use Rattle.sd_world.specs.World.{BayView, IsOnline, WorldSession, WorldView, ses
 use Rattle.sd_world.proofs.ClaimLemmas.{one_drive}
 use Rattle.sd_world.proofs.DeedLemmas.{leads_join, leads_keep, leads_run}
 use Rattle.sd_world.proofs.Moves.{moves_keep_closed}
-
--- nothing isn't something
-none_some : {A : Type 0} {a : A} → None ≡ Some a → ⊥
-none_some is = cc is
 
 -- If the drive of a session that stands closed is online, its spans are those that the drive's journal gives.
 stood_spans : {D : Type 0} (w : WorldView D) (key : SessionKey) (spans : List Span) (e : WorldSession) (at : ℕ) (bay : BayView D) (d : DriveIs D) → StandsClosed w key spans

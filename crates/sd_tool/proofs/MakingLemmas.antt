@@ -6,7 +6,7 @@ use Rattle.std.proofs.lemmas.Bool.{cases_Bool, cases_lt, lt-ltb, ltb-false, ltb-
 use Rattle.std.proofs.lemmas.List.{take_more}
 use Rattle.std.proofs.lemmas.List.Elements.{All-nil, All-cons}
 use Rattle.sd_base.specs.Limits.{most_drives, most_lanes}
-use Rattle.sd_core.proofs.NewBays.{zip_push}
+use Rattle.sd_base.proofs.ZipLemmas.{zip_push}
 use Rattle.sd_core.specs.Conf.{IsConf, empty_queue}
 use Rattle.sd_lane.specs.Queue.{LanesView}
 use Rattle.sd_lane.specs.declared.piece.Queued.{Queued}

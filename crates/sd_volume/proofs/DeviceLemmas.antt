@@ -170,7 +170,7 @@ adopt_device NoRoom a b e = absurd (b refl)
 adopt_device Device a b e = refl
 adopt_device Memory a b e = cc
 
-err_is : {T E : Type 0} {a b : E} → ◌≡◌ {A = Result T E} (Err a) (Err b) → a ≡ b
+pub err_is : {T E : Type 0} {a b : E} → ◌≡◌ {A = Result T E} (Err a) (Err b) → a ≡ b
 err_is e = cc
 
 pub OnlyReads-adopting : {T U : Type 0} (fault : DriverFault) (old new : Meaning) → (fault ≢ Exists) × (fault ≢ NoRoom) → OnlyReads (IsErrOf {T = T} (Err fault) Device) old new

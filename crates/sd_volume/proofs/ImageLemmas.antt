@@ -65,7 +65,7 @@ IsImage-of image key number body is = record { key = key; number = number; body 
 -- Blocks after blocks.
 
 -- the number after one block and n more
-suc_number : (number n : ℕ) → number + 1 + n ≡ number + suc n
+pub suc_number : (number n : ℕ) → number + 1 + n ≡ number + suc n
 suc_number number n = omega arith
 
 pub images-append : (number : ℕ) (bs cs : List Block) → images number (bs ++ cs) ≡ images number bs ++ images (number + length bs) cs

@@ -11,7 +11,7 @@ use Rattle.sd_volume.specs.Purge.{emptied, LeavesLabel, KeepsLabel}
 use Rattle.sd_volume.specs.Volume.{VolumeView, StandsOn}
 use Rattle.sd_volume.proofs.ImageLemmas.{kept_blocks_stand}
 
-take_front : {A : Type 0} (xs ys : List A) → take (length xs) (xs ++ ys) ≡ xs
+pub take_front : {A : Type 0} (xs ys : List A) → take (length xs) (xs ++ ys) ≡ xs
 take_front [] ys = refl
 take_front (x ∷ xs) ys = ap (λ l. x ∷ l) (take_front xs ys)
 

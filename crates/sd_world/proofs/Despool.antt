@@ -36,14 +36,14 @@ use Rattle.sd_world.proofs.Sessions.{one_changed, put_same}
 -- The body that is sent next.
 
 -- the store stays where it is
-next_store : (store : Option StoreState) (body : PackedBody) (old between : Stations) → TakesNext body old between → home_of store between.spool ≡ home_of store old.spool
+pub next_store : (store : Option StoreState) (body : PackedBody) (old between : Stations) → TakesNext body old between → home_of store between.spool ≡ home_of store old.spool
 next_store store body old between (inl t) = ap (λ (s : Stations). home_of store s.spool) t.1
 next_store store body old between (inr (inl t)) =
     ap (λ (s : Stations). home_of store s.spool) t.1.is ∙ ap Some t.1.store_is ∙ sym (ap (home_of store) t.1.spool_is)
 next_store store body old between (inr (inr t)) = ap (λ (s : Stations). home_of store s.spool) t.2.is
 
 -- and so does the room of bodies
-next_room : (body : PackedBody) (old between : Stations) → TakesNext body old between → between.packer.room ≡ old.packer.room
+pub next_room : (body : PackedBody) (old between : Stations) → TakesNext body old between → between.packer.room ≡ old.packer.room
 next_room body old between (inl t) = ap (λ (s : Stations). s.packer.room) t.1
 next_room body old between (inr (inl t)) = ap (λ (s : Stations). s.packer.room) t.1.is
 next_room body old between (inr (inr t)) = t.2.room_is

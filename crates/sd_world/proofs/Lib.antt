@@ -1,6 +1,7 @@
 pub mod Bays
 pub mod Bodies
 pub mod BodyLemmas
+pub mod CallLemmas
 pub mod Changes
 pub mod ClaimLemmas
 pub mod Close
@@ -42,6 +43,7 @@ pub mod ReadLemmas
 pub mod RestoreLemmas
 pub mod SeatLemmas
 pub mod Seats
+pub mod SeekLemmas
 pub mod Sent
 pub mod SessionSteps
 pub mod Sessions

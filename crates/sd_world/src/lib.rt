@@ -1,8 +1,10 @@
 //! A world of sessions and drives, without code: what each event does to it, and what stays of closed sessions. It
-//! says too which list machine a world matches, and what is read back of the blocks that a drive placed.
+//! says too which list machine a world matches, and what is read back of the blocks that a drive placed. The one call
+//! here with a body is the reading back itself, which worlds and lines have in common.
 #![tactic(auto)]
 
 mod laws;
+mod reading;
 mod spans;
 
 pub use laws::{
@@ -13,6 +15,7 @@ pub use laws::{
     moves_want_memory, placed_is_found, reading_keeps_matches, steps_keep_spans, steps_lead,
     told_spans_read,
 };
+pub use reading::read_drive;
 pub use spans::{
     adoption_keeps_lasting, adoption_keeps_spans, kept_spans_end_with_blocks, lasting_spans_kept,
     lasting_spans_mark, lasting_spans_stay, lasting_spans_survive, placed_among_blocks,

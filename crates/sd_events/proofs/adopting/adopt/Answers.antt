@@ -1,5 +1,5 @@
 use Rattle.std.proofs.Common.{None, refl, sym, ◌∙◌, inl, inr}
-use Rattle.sd_events.proofs.CallLemmas.{counted_well, counted_refused}
+use Rattle.sd_world.proofs.CallLemmas.{counted_well, counted_refused}
 use Rattle.sd_events.proofs.DeskLemmas.{no_volume, adopt_free, released}
 use Rattle.sd_events.proofs.adopting.adopt.Goals as goal
 

@@ -2,7 +2,8 @@ use Rattle.std.proofs.Common.{ℤ, w64, None, Err, refl, sym, ap, ◌∙◌, sub
 use Rattle.std.proofs.lemmas.Int.{to_z-of_z}
 use Rattle.sd_drive.specs.Moves.{AddsVolume, label_of}
 use Rattle.sd_volume.specs.Label.{Labels, new_volume}
-use Rattle.sd_events.proofs.CallLemmas.{recounted, calls_are}
+use Rattle.sd_world.proofs.CallLemmas.{calls_are}
+use Rattle.sd_volume.proofs.DeviceLemmas.{Counted-as}
 use Rattle.sd_events.proofs.DeskLemmas.{no_volume, label_free, released}
 use Rattle.sd_events.proofs.labelling.label.Goals as goal
 
@@ -43,7 +44,7 @@ returns-in-Ok-label g c = λ queue.
           requests = c.claim.ensures.requests;
         };
         adds = subst (λ (z : ℤ). AddsVolume (new_volume (label_of c.args.at.now.limits.host c.args.name.now c.args.pool.now c.args.media.now z)) c.args.at.now c.label.new.self) (to_z-of_z w64 c.args.moment c.ranges.moment) e.ok;
-        calls = calls_are (λ d. g.D.Driver.meaning d) ⊥ ⊥ _ _ (recounted _ _ (λ x. absurd x) (λ x. cc x) (λ x. absurd x) (λ x. cc x) e.counted) e.keeps e.later;
+        calls = calls_are (λ d. g.D.Driver.meaning d) ⊥ ⊥ _ _ (Counted-as _ _ _ _ _ _ (λ x. cc x) (λ x. absurd x) (λ x. cc x) (λ x. absurd x) e.counted) e.keeps e.later;
         labels = λ honest. subst (λ (z : ℤ). Labels (label_of c.args.at.now.limits.host c.args.name.now c.args.pool.now c.args.media.now z) (g.D.Driver.meaning c.args.at.now.device).shelf (g.D.Driver.meaning c.label.new.self.device).shelf) (to_z-of_z w64 c.args.moment c.ranges.moment) (e.labels honest);
         is = refl;
       },
@@ -68,7 +69,7 @@ returns-in-Err g c = λ queue.
         cause = fault.0;
         why_is = fault.1;
         adds_none = e.err;
-        calls = calls_are (λ d. g.D.Driver.meaning d) _ _ _ _ (recounted _ _ (λ x. ap Err x) (λ x. cc x) (λ x. ap Err x) (λ x. cc x) e.counted) e.keeps e.later;
+        calls = calls_are (λ d. g.D.Driver.meaning d) _ _ _ _ (Counted-as _ _ _ _ _ _ (λ x. cc x) (λ x. ap Err x) (λ x. cc x) (λ x. ap Err x) e.counted) e.keeps e.later;
         on_shelf = λ honest is. e.already honest due (ap Err is);
         off_shelf = λ honest stands. e.taken honest stands;
         may_create = e.fails;

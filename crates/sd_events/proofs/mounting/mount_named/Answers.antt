@@ -1,6 +1,6 @@
 use Rattle.std.proofs.Common.{◌≡◌, Some, None, refl, sym, ap, ◌∙◌, inl, inr}
 use Rattle.sd_drive.specs.Moves.{mount_due}
-use Rattle.sd_events.proofs.CallLemmas.{counted_well, counted_refused, calls_are, drive_rests, device_fails}
+use Rattle.sd_world.proofs.CallLemmas.{counted_well, counted_refused, calls_are, drive_rests, device_fails}
 use Rattle.sd_events.proofs.MountLemmas.{due_or}
 use Rattle.sd_events.proofs.mounting.mount_named.Goals as goal
 

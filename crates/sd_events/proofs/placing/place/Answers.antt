@@ -1,6 +1,7 @@
 use Rattle.std.proofs.Common.{None, refl, ap, arith}
 use Rattle.sd_span.specs.declared.placement.Placement.{Placement}
-use Rattle.sd_events.proofs.CallLemmas.{recounted, calls_are, drive_rests}
+use Rattle.sd_world.proofs.CallLemmas.{calls_are, drive_rests}
+use Rattle.sd_volume.proofs.DeviceLemmas.{Counted-as}
 use Rattle.sd_events.proofs.placing.place.Goals as goal
 
 pub overflow_add-result : goal.overflow_add-result
@@ -24,7 +25,7 @@ returns-in-Ok-At g c = λ own queue desk.
         refl,
         (
           places,
-          calls_are (λ d. g.D.Driver.meaning d) ⊥ ⊥ _ _ (recounted _ _ (λ x. absurd x) (λ x. cc x) (λ x. absurd x) (λ x. (let y = x.0 in cc y)) counted) c.in-Ok-At.ensures.keeps c.in-Ok-At.ensures.later,
+          calls_are (λ d. g.D.Driver.meaning d) ⊥ ⊥ _ _ (Counted-as _ _ _ _ _ _ (λ x. cc x) (λ x. absurd x) (λ x. (let y = x.0 in cc y)) (λ x. absurd x) counted) c.in-Ok-At.ensures.keeps c.in-Ok-At.ensures.later,
           refl,
         ),
       ),
@@ -42,7 +43,7 @@ returns-in-Ok-VolumeFull g c = λ own queue desk.
       None,
       (
         places,
-        calls_are (λ d. g.D.Driver.meaning d) ⊥ _ _ _ (recounted _ _ (λ x. absurd x) (λ x. cc x) (λ x. (refl, x)) (λ x. x.1) counted) c.in-Ok-VolumeFull.ensures.keeps c.in-Ok-VolumeFull.ensures.later,
+        calls_are (λ d. g.D.Driver.meaning d) ⊥ _ _ _ (Counted-as _ _ _ _ _ _ (λ x. cc x) (λ x. absurd x) (λ x. x.1) (λ x. (refl, x)) counted) c.in-Ok-VolumeFull.ensures.keeps c.in-Ok-VolumeFull.ensures.later,
         refl,
       ),
     )
@@ -54,7 +55,7 @@ returns-in-Ok-VolumeError g c = λ own queue desk.
       None,
       (
         places,
-        calls_are (λ d. g.D.Driver.meaning d) _ ⊥ _ _ (recounted _ _ (λ x. refl) (λ x. tt) (λ x. absurd x) (λ x. (let y = x.0 in cc y)) counted) c.in-Ok-VolumeError.ensures.keeps c.in-Ok-VolumeError.ensures.later,
+        calls_are (λ d. g.D.Driver.meaning d) _ ⊥ _ _ (Counted-as _ _ _ _ _ _ (λ x. tt) (λ x. refl) (λ x. (let y = x.0 in cc y)) (λ x. absurd x) counted) c.in-Ok-VolumeError.ensures.keeps c.in-Ok-VolumeError.ensures.later,
         refl,
       ),
     )
@@ -72,7 +73,7 @@ returns-in-Err g c = λ own queue desk.
         refl,
         (
           (record { piece = p.piece; at = p.at; volume = p.volume; after = p.after; ready = p.ready; on = p.on; room = p.room; becomes = p.becomes }, c.in-Err.ensures.unchanged.shelf),
-          calls_are (λ d. g.D.Driver.meaning d) ⊥ ⊥ _ _ (recounted _ _ (λ x. absurd x) (λ x. cc x) (λ x. absurd x) (λ x. (let y = x.0 in cc y)) c.in-Err.ensures.counted) c.in-Err.ensures.keeps c.in-Err.ensures.later,
+          calls_are (λ d. g.D.Driver.meaning d) ⊥ ⊥ _ _ (Counted-as _ _ _ _ _ _ (λ x. cc x) (λ x. absurd x) (λ x. (let y = x.0 in cc y)) (λ x. absurd x) c.in-Err.ensures.counted) c.in-Err.ensures.keeps c.in-Err.ensures.later,
           refl,
         ),
       ),

@@ -1,5 +1,6 @@
 use Rattle.std.proofs.Common.{List, [], ◌∷◌, ◌++◌, None, refl, ap, ◌∙◌, inl, inr}
-use Rattle.sd_events.proofs.SeekLemmas.{next_free, fails_later}
+use Rattle.sd_events.proofs.SeekLemmas.{fails_later}
+use Rattle.sd_world.proofs.SeekLemmas.{next_free}
 use Rattle.sd_events.proofs.seeking.seek.Goals as goal
 
 pub returns-in_default : goal.returns-in_default

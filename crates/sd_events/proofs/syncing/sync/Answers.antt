@@ -1,5 +1,5 @@
 use Rattle.std.proofs.Common.{Some, None, refl}
-use Rattle.sd_events.proofs.CallLemmas.{counted_well, calls_are, device_fails}
+use Rattle.sd_world.proofs.CallLemmas.{counted_well, calls_are, device_fails}
 use Rattle.sd_events.proofs.syncing.sync.Goals as goal
 
 pub returns-in-Ok : goal.returns-in-Ok

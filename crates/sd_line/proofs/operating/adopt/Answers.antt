@@ -1,7 +1,8 @@
 use Rattle.std.proofs.Common.{◌≡◌, None, refl, inl, inr}
 use Rattle.sd_base.specs.declared.refusal.Refusal.TheVariants.{AlreadyLabelled, InUse}
 use Rattle.sd_line.specs.Operates.{desk_of}
-use Rattle.sd_line.proofs.AnswerLemmas.{there, loaded, none, adopt_dues, counted_well, counted_refused, drive_rests}
+use Rattle.sd_line.proofs.AnswerLemmas.{there, loaded, none, adopt_dues}
+use Rattle.sd_world.proofs.CallLemmas.{counted_well, counted_refused, drive_rests}
 use Rattle.sd_line.proofs.ClaimLemmas.{claims_more, is_claimed, same_desk, unclaimed, with_claim}
 use Rattle.sd_line.proofs.operating.adopt.Goals as goal
 

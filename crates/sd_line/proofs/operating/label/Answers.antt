@@ -5,7 +5,8 @@ use Rattle.sd_drive.specs.Moves.{AddsVolume, label_of}
 use Rattle.sd_volume.proofs.DeviceLemmas.{Counted-as}
 use Rattle.sd_volume.specs.Label.{Labels, new_volume}
 use Rattle.sd_line.specs.Operates.{desk_of}
-use Rattle.sd_line.proofs.AnswerLemmas.{other, loaded, there, none, label_dues, drive_rests}
+use Rattle.sd_line.proofs.AnswerLemmas.{other, loaded, there, none, label_dues}
+use Rattle.sd_world.proofs.CallLemmas.{drive_rests}
 use Rattle.sd_line.proofs.ClaimLemmas.{claims_more, is_claimed, same_desk, unclaimed, with_claim}
 use Rattle.sd_line.proofs.operating.label.Goals as goal
 

@@ -1,7 +1,8 @@
 use Rattle.std.proofs.Common.{◌≡◌, Some, None, refl, sym, ap, ◌∙◌, inl, inr}
 use Rattle.sd_drive.specs.Moves.{mount_due}
 use Rattle.sd_line.specs.Operates.{desk_of}
-use Rattle.sd_line.proofs.AnswerLemmas.{called_well, called_refused, due_or, drive_rests, device_fails}
+use Rattle.sd_line.proofs.AnswerLemmas.{called_well, called_refused, due_or}
+use Rattle.sd_world.proofs.CallLemmas.{drive_rests, device_fails}
 use Rattle.sd_line.proofs.ClaimLemmas.{answered, answers}
 use Rattle.sd_line.proofs.operating.mount.Goals as goal
 

@@ -1,7 +1,8 @@
 use Rattle.std.proofs.Common.{None, refl}
 use Rattle.sd_line.specs.Operates.{desk_of}
 use Rattle.sd_line.proofs.ClaimLemmas.{asked_once}
-use Rattle.sd_line.proofs.SeekLemmas.{next_free, seeks_by}
+use Rattle.sd_line.proofs.SeekLemmas.{seeks_by}
+use Rattle.sd_world.proofs.SeekLemmas.{next_free}
 use Rattle.sd_line.proofs.operating.seek.Goals as goal
 
 pub returns-in_default : goal.returns-in_default

@@ -1,6 +1,7 @@
 use Rattle.std.proofs.Common.{Some, None, refl}
 use Rattle.sd_line.specs.Operates.{desk_of}
-use Rattle.sd_line.proofs.AnswerLemmas.{called_well, device_fails}
+use Rattle.sd_line.proofs.AnswerLemmas.{called_well}
+use Rattle.sd_world.proofs.CallLemmas.{device_fails}
 use Rattle.sd_line.proofs.operating.sync.Goals as goal
 
 pub returns-in-Ok : goal.returns-in-Ok

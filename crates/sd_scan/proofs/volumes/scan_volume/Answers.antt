@@ -7,7 +7,8 @@ use Rattle.sd_volume.proofs.DeviceLemmas.{OnlyReads-trans, OnlyReads-as, only_re
 use Rattle.sd_text.specs.Lines.{line}
 use Rattle.sd_scan.specs.Lines.{told_text}
 use Rattle.sd_scan.specs.declared.line.ScanLine.TheVariants.{Volume}
-use Rattle.sd_scan.proofs.FaultLemmas.{OnlyReads-again, OnlyReads-scan, fault_is}
+use Rattle.sd_scan.proofs.FaultLemmas.{OnlyReads-again, OnlyReads-scan}
+use Rattle.sd_files.proofs.ListingLemmas.{fault_is}
 use Rattle.sd_scan.proofs.VolumeLemmas.{says_named}
 use Rattle.sd_scan.proofs.volumes.scan_volume.Goals as goal
 

@@ -2,7 +2,8 @@ use Rattle.std.proofs.Common.{refl, ap, sym, ◌∙◌, rules, [], subst, Err}
 use Rattle.sd_volume.specs.Fault.{adopt_refusal}
 use Rattle.sd_volume.proofs.DeviceLemmas.{OnlyReads-as}
 use Rattle.sd_volume.proofs.DueLemmas.{KeepsWholeBlocks-same}
-use Rattle.sd_drive.proofs.LoadLemmas.{is_device, err_is}
+use Rattle.sd_drive.proofs.LoadLemmas.{is_device}
+use Rattle.sd_volume.proofs.DeviceLemmas.{err_is}
 use Rattle.sd_drive.proofs.VolumeLists.{kept_more, kept_called, pieces_called, same_but, on_others, IsFresh}
 use Rattle.sd_drive.proofs.drive.Drive.add_adopted.Goals as goal
 

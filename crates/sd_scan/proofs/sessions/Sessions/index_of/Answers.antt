@@ -2,7 +2,8 @@ use Rattle.std.proofs.Common.{◌≡◌, ◌-◌, ◌<◌, inl, inr, false, leng
 use Rattle.std.proofs.lemmas.Bool.{cases_lt}
 use Rattle.std.proofs.lemmas.Option.{slice_get_read}
 use Rattle.sd_base.specs.Key.{is_key}
-use Rattle.sd_scan.proofs.TableLemmas.{key_same, same_item}
+use Rattle.sd_scan.proofs.TableLemmas.{same_item}
+use Rattle.sd_journal.proofs.KeyLemmas.{key_same}
 use Rattle.sd_scan.specs.declared.session.Session.{Session}
 use Rattle.sd_scan.proofs.sessions.Sessions.index_of.Goals as goal
 

@@ -1,29 +1,18 @@
 -- What a call of a drive leaves of its device, and of what is around it.
-use Rattle.std.proofs.Common.{◌≡◌, Some, None, Ok, Err, refl, ap}
+use Rattle.std.proofs.Common.{◌≡◌, None, Some, Ok, Err, refl, ap}
 use Rattle.std.specs.Prelude.{IsErrOf}
 use Rattle.sd_base.specs.declared.refusal.Refusal.{Refusal}
 use Rattle.sd_base.specs.declared.refusal.Refusal.TheVariants.{DeviceFault}
 use Rattle.sd_desk.specs.Desk.{DeskView}
-use Rattle.sd_drive.specs.View.{DriveIs}
-use Rattle.sd_drive.specs.Moves.{FailsToSync}
-use Rattle.sd_drive.specs.Shelf.{KeepsPieces}
 use Rattle.sd_driver.specs.Meaning.{Meaning}
 use Rattle.sd_driver.specs.Shelf.{StillLasts}
-use Rattle.sd_volume.specs.Device.{Counted}
+use Rattle.sd_drive.specs.Moves.{FailsToSync}
+use Rattle.sd_drive.specs.Shelf.{KeepsPieces}
+use Rattle.sd_drive.specs.View.{DriveIs}
 use Rattle.sd_lane.specs.Queue.{LanesView}
+use Rattle.sd_volume.proofs.DeviceLemmas.{Counted-as}
+use Rattle.sd_volume.specs.Device.{Counted}
 use Rattle.sd_world.specs.Stations.{Outcome, Calls, LosesBlocks}
-
--- what a call leaves of a device, by other words for what it answered
-pub recounted : {A B A' B' : Type 0} (m m' : Meaning) → (A' → A) → (A → A') → (B' → B) → (B → B') → Counted A B m m' → Counted A' B' m m'
-recounted m m' from to from' to' c = record {
-  honest = c.honest;
-  moment = c.moment;
-  failures = c.failures;
-  failed = λ a. c.failed (from a);
-  no_failure = λ n. c.no_failure (λ a. n (to a));
-  told = λ b. c.told (from' b);
-  not_told = λ n. c.not_told (λ b. n (to' b));
-}
 
 -- what a call leaves, of its parts
 pub calls_are : {D : Type 0} (meaning : D → Meaning) (fault no_room : Type 0) (d after : DriveIs D)
@@ -35,11 +24,11 @@ calls_are meaning fault no_room d after counted keeps later = record { counted =
 
 -- a device that answers no fault
 pub counted_well : {T : Type 0} (m m' : Meaning) (done : T) → Counted (IsErrOf {T = T} {E = Refusal} (Ok done) DeviceFault) ⊥ m m' → Counted ⊥ ⊥ m m'
-counted_well m m' done c = recounted m m' (λ x. absurd x) (λ x. cc x) (λ x. x) (λ x. x) c
+counted_well m m' done c = Counted-as _ _ _ _ m m' (λ x. cc x) (λ x. absurd x) (λ x. x) (λ x. x) c
 
 -- a device that is answered why
 pub counted_refused : {T : Type 0} (m m' : Meaning) (why : Refusal) → Counted (IsErrOf {T = T} {E = Refusal} (Err why) DeviceFault) ⊥ m m' → Counted (why ≡ DeviceFault) ⊥ m m'
-counted_refused m m' why c = recounted m m' (λ x. ap Err x) (λ x. cc x) (λ x. x) (λ x. x) c
+counted_refused m m' why c = Counted-as _ _ _ _ m m' (λ x. cc x) (λ x. ap Err x) (λ x. x) (λ x. x) c
 
 -- a drive that is as it was, beside what is
 pub drive_rests : {D : Type 0} (d after : DriveIs D) (queue : LanesView) (desk : DeskView) → after ≡ d
@@ -56,6 +45,6 @@ pub device_fails : {D T : Type 0} (meaning : D → Meaning) (d after : DriveIs D
     (record { drive = after; queue = queue; desk = desk; lost = Some failed.volume.name })
 device_fails {D} {T} meaning d after queue desk why failed is counted keeps later = record {
   fails = failed;
-  calls = record { counted = recounted _ _ (λ x. ap Err is) (λ x. tt) (λ x. x) (λ x. x) counted; keeps = keeps; later = later };
+  calls = record { counted = Counted-as _ _ _ _ _ _ (λ x. tt) (λ x. ap Err is) (λ x. x) (λ x. x) counted; keeps = keeps; later = later };
   is = refl;
 }

@@ -2,7 +2,7 @@ use Rattle.std.proofs.Common.{◌≡◌, ◌++◌, List, sym, subst, ◌∙◌, 
 use Rattle.std.proofs.lemmas.List.{append_cancel_left}
 use Rattle.sd_base.specs.Record.{Record}
 use Rattle.sd_readback.specs.Reading.{Reads, volumes_on}
-use Rattle.sd_core.proofs.reading.read_drive.Goals as goal
+use Rattle.sd_world.proofs.reading.read_drive.Goals as goal
 
 -- one list of records was added
 same_more : (got got' more others : List Record) → got' ≡ got ++ more → got' ≡ got ++ others → others ≡ more
