@@ -2,7 +2,7 @@
 use Rattle.std.proofs.Common.{◌≡◌, ◌≢◌, ℕ, suc, ◌++◌, ◌∷◌, [], List, map, codes, refl, sym, ap, subst, ◌∙◌}
 use Rattle.std.specs.List.{AllZip}
 use Rattle.std.proofs.lemmas.List.{map-append}
-use Rattle.sd_core.proofs.NewBays.{zip_push}
+use Rattle.sd_base.proofs.ZipLemmas.{zip_push}
 use Rattle.sd_folder.specs.Place.{folder_named}
 use Rattle.sd_spool.specs.FileSpool.{path_of}
 use Rattle.sd_spool.specs.declared.file.FileSpool.{FileSpool}
