@@ -5,19 +5,24 @@ ghost use Rattle.sd_block.specs.Image.{IsBlockImage};
 
 use crate::sealed::seal_in_place;
 use sd_base::{BLOCK_HEADER, SessionKey};
+use sd_crc::crc32;
 use std::alloc::{AllocError, Global};
 use std::marker::Model;
 
 /// The bytes of a block's body, on the heap, with room in front of them for the block's header: sealing the block
-/// moves none of them and takes no memory. In a contract it is a `Framed`.
+/// moves none of them and takes no memory. Their checksum is taken once, as the body is made, so that sealing it reads
+/// none of them. In a contract it is a `Framed`.
 #[derive(Debug, Drop)]
 pub struct FramedBody {
     frame: Vec<u8>,
+    /// The checksum of the bytes of the body.
+    sum: u32,
 }
 
 impl Model for FramedBody {
-    ghost use Rattle.std.specs.Prelude.{take, drop};
+    ghost use Rattle.std.specs.Prelude.{◌≡◌, take, drop};
     ghost use Rattle.sd_base.specs.Limits.{block_header};
+    ghost use Rattle.sd_crc.specs.Crc32.{crc32_of};
     ghost use Rattle.sd_block.specs.Framed.{Framed};
 
     ghost Value = { Framed };
@@ -26,6 +31,8 @@ impl Model for FramedBody {
       room = take block_header b.frame.items;
       bytes = drop block_header b.frame.items;
     } };
+
+    ghost invariant = { λ b. b.sum ≡ crc32_of (drop block_header b.frame.items) };
 }
 
 impl FramedBody {
@@ -33,7 +40,8 @@ impl FramedBody {
     pub fn from_frame(frame: Vec<u8>) -> Self
         ensures { result.bytes ≡ drop block_header frame.items }
     {
-        FramedBody { frame }
+        let sum = crc32(body_of(&frame));
+        FramedBody { frame, sum }
     }
 
     /// A body of these bytes, on memory of its own.
@@ -43,17 +51,14 @@ impl FramedBody {
         let mut frame = Vec::with_capacity(alloc, BLOCK_HEADER.saturating_add(bytes.len()))?;
         frame.extend_from_slice(&[0; BLOCK_HEADER])?;
         frame.extend_from_slice(bytes)?;
-        Ok(FramedBody { frame })
+        Ok(FramedBody::from_frame(frame))
     }
 
     /// The bytes of the body.
     pub fn as_slice(&self) -> &[u8]
         ensures { result.now ≡ self.now.bytes }
     {
-        match self.frame.split_at_checked(BLOCK_HEADER) {
-            Some((_, body)) => body,
-            None => &[],
-        }
+        body_of(&self.frame)
     }
 
     /// How many bytes the body has.
@@ -72,7 +77,7 @@ impl FramedBody {
             (self.new.room ++ self.new.bytes) key number self.old.bytes }
         ensures body { self.new.bytes ≡ self.old.bytes }
     {
-        seal_in_place(&mut self.frame, key, number);
+        seal_in_place(&mut self.frame, key, number, self.sum);
     }
 
     /// The room and the body: once it was sealed, the block.
@@ -86,7 +91,17 @@ impl FramedBody {
     pub fn into_block(self) -> Vec<u8>
         ensures { result.items ≡ self.room ++ self.bytes }
     {
-        let FramedBody { frame } = self;
+        let FramedBody { frame, sum: _ } = self;
         frame
+    }
+}
+
+// The bytes after the room for the header.
+fn body_of(frame: &[u8]) -> &[u8]
+    ensures { result.now ≡ drop block_header frame.now }
+{
+    match frame.split_at_checked(BLOCK_HEADER) {
+        Some((_, body)) => body,
+        None => &[],
     }
 }

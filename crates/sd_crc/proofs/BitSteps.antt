@@ -36,7 +36,7 @@ pub joined : (m n r : ℕ) → bit_steps n (bit_steps m r) ≡ bit_steps (m + n)
 joined zero n r = let e : n ≡ zero + n = omega arith in rw no_bits (ap (λ k. bit_steps k r) e)
 joined (suc m) n r = let e : suc (m + n) ≡ suc m + n = omega arith in rw one_more (joined m n (bit_step r) ∙ sym (one_more (m + n) r) ∙ ap (λ k. bit_steps k r) e)
 
-bit_step-even : (x : ℕ) → bit_step (x * 2) ≡ x
+pub bit_step-even : (x : ℕ) → bit_step (x * 2) ≡ x
 bit_step-even x =
     let low : x * 2 % 2 ≡ 0 = omega arith in
     let rest : x * 2 / 2 ≡ x = omega arith in

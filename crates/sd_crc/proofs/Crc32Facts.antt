@@ -17,7 +17,7 @@ pub crc32_of-nil : crc32_of [] ≡ 0
 unfolding crc32_of
 crc32_of-nil = refl
 
-bit_steps-lt : (n r : ℕ) → r < 2 ^ 32 → bit_steps n r < 2 ^ 32
+pub bit_steps-lt : (n r : ℕ) → r < 2 ^ 32 → bit_steps n r < 2 ^ 32
 bit_steps-lt zero r fits = rw (no_bits r) fits
 bit_steps-lt (suc n) r fits = elim (parity r) [
   | inl even ↦ rw (one_more n r, even) (bit_steps-lt n (r / 2) (omega arith))

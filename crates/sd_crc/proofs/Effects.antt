@@ -21,7 +21,7 @@ effect-added zero (x ∷ xs) (y ∷ ys) = refl
 effect-added (suc n) (x ∷ xs) (y ∷ ys) =
     ap₂ bit_xor (bit_steps-xor (8 * suc n) x y) (effect-added n xs ys) ∙ same_from_bits _ _ (λ i. simp bit_at_xor (omega arith))
 
-fold-effect : (r : ℕ) (ys : List ℕ) → fold byte_step r ys ≡ bit_xor (bit_steps (8 * length ys) r) (effect (length ys) ys)
+pub fold-effect : (r : ℕ) (ys : List ℕ) → fold byte_step r ys ≡ bit_xor (bit_steps (8 * length ys) r) (effect (length ys) ys)
 unfolding effect
 fold-effect r [] = sym (ap (λ x. bit_xor x 0) (no_bits r) ∙ xor_zero_r r)
 fold-effect r (y ∷ ys) =

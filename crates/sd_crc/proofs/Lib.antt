@@ -5,3 +5,4 @@ pub mod Effects
 pub mod SumSteps
 pub mod Blocks
 pub mod Crc32Facts
+pub mod Powers

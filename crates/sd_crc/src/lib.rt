@@ -7,9 +7,11 @@
 ghost use Rattle.std.specs.Prelude.{◌≡◌};
 ghost use Rattle.sd_crc.specs.Crc32.{crc32_of};
 
+mod parts;
 mod sums;
 mod table;
 
+pub use parts::combine;
 use sums::Sums;
 pub use table::crc32_by_table;
 
