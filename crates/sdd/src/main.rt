@@ -8,6 +8,7 @@ use sd_conf::check_conf;
 use sd_daemon::{Bounds, serve_file};
 use sd_serve::Log;
 use sd_text::Printer;
+use std::alloc::Global;
 use std::io::BufWriter;
 use std::process::ExitCode;
 use std::sync::Wait;
@@ -15,8 +16,12 @@ use std::thread::Threads;
 use std::time::Clock;
 use std::{env, io};
 
+/// How much memory is taken and given back at the start.
+const KEPT: usize = 2_000_000;
+
 fn main(rt: HostRuntime) -> ExitCode {
     let alloc = rt.alloc();
+    keep_memory(alloc);
     let words = match env::args(&rt) {
         Ok(words) => words.collect::<Vec<String>>(alloc),
         Err(_) => return without_memory(&rt),
@@ -66,6 +71,13 @@ fn serve_clients<W: Threads + Wait + Clock + Sync + Copy + Drop>(
     let mut errors = Printer::new(rt.stderr());
     let status = serve_file(rt, wait, asked.path, bounds, &log, &mut out, &mut errors);
     ExitCode::from(status)
+}
+
+// Takes one piece of memory and gives it back, untouched. From then on the C library's heap keeps up to twice that much
+// of what is given back to it, in place of handing pages to the system and taking them again (as: glibc, mallopt(3),
+// M_MMAP_THRESHOLD, which adjusts itself). So the bodies that a drive's thread lets go cost no fresh pages.
+fn keep_memory(alloc: Global) {
+    let _piece = Vec::<u8>::with_capacity(alloc, KEPT);
 }
 
 fn without_memory(rt: &impl Print) -> ExitCode {

@@ -12,12 +12,17 @@ use sd_salvage::{Salvage, salvage_back};
 use sd_scan::{Told, scan_folder, scan_named, verify_folder};
 use sd_text::Printer;
 use sd_tool::{memory_drives, read_settings, run_lines};
+use std::alloc::Global;
 use std::io::{BufReader, BufWriter};
 use std::process::ExitCode;
 use std::{env, io};
 
+/// How much memory is taken and given back at the start.
+const KEPT: usize = 2_000_000;
+
 fn main(rt: HostRuntime) -> ExitCode {
     let alloc = rt.alloc();
+    keep_memory(alloc);
     let words = match env::args(&rt) {
         Ok(words) => words.collect::<Vec<String>>(alloc),
         Err(_) => return without_memory(&rt),
@@ -146,6 +151,12 @@ fn verify(rt: &HostRuntime, folder: &str, expected: Option<&str>, json: bool) ->
     let status = verify_folder(rt, folder, expected, told, &mut out);
     let _ = out.into_writer().into_parts();
     ExitCode::from(status)
+}
+
+// Takes one piece of memory and gives it back, untouched, so that from then on the C library's heap keeps pages for the
+// next body, as in the daemon (`keep_memory` of `sdd` says how).
+fn keep_memory(alloc: Global) {
+    let _piece = Vec::<u8>::with_capacity(alloc, KEPT);
 }
 
 fn without_memory(rt: &impl Print) -> ExitCode {
