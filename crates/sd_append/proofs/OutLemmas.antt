@@ -58,6 +58,13 @@ puts_dropped None failed waiting waits bytes = tt
 puts_dropped (Some xs) false waiting waits bytes = ([], waiting ++ bytes, sym (append-nil xs), refl)
 puts_dropped (Some xs) true waiting waits bytes = refl
 
+-- all that waited went out, and then these were sent
+pub puts_straight : (a b c : Option (List ℕ)) (f g h : Bool) (waiting waits bytes : List ℕ) → waits ≡ [] → PutsBy a b f g waiting waits [] → PutsBy b c g h [] [] bytes
+    → PutsBy a c f h waiting waits bytes
+puts_straight a b c f g h waiting waits bytes none p q =
+    let out : PutsBy a b f g waiting [] [] = subst (λ (l : List ℕ). PutsBy a b f g waiting l []) none p in
+    subst (λ (l : List ℕ). PutsBy a c f h waiting l bytes) (sym none) (puts_then_by a b c f g h waiting [] [] [] bytes out q)
+
 -- If nothing waited at first and nothing waits at last.
 
 -- all of it was written

@@ -1,11 +1,12 @@
-// What goes out to a client: packets one after another, in as few writes as fit the buffer.
-ghost use Rattle.std.specs.Prelude.{◌≡◌, ◌<◌, ◌≤◌, ◌++◌, ℕ, pos, negsuc, List, [], length, None, IfSome};
+// What goes out to a client: packets one after another. Small ones are gathered and written together; bytes that would
+// fill the buffer go to the writer from where they lie.
+ghost use Rattle.std.specs.Prelude.{◌≡◌, ◌<◌, ◌≤◌, ◌++◌, ℕ, pos, negsuc, List, [], length, None, IfSome, is_some};
 ghost use Rattle.sd_base.specs.Field.{i32_bytes};
 ghost use Rattle.sd_base.specs.Limits.{most_data};
 ghost use Rattle.sd_text.specs.Lines.{line};
 ghost use Rattle.sd_bnet.specs.Packet.{packet_bytes};
 ghost use Rattle.sd_bnet.specs.declared.packet.Packet.TheVariants.{Bytes, Signal};
-ghost use Rattle.sd_append.specs.Out.{PutsOut, out_view};
+ghost use Rattle.sd_append.specs.Out.{PutsOut, PutsBy, out_view};
 
 use arrayvec::ArrayString;
 use sd_base::put_i32;
@@ -13,7 +14,7 @@ use sd_text::{WriteFault, line_of, write_all};
 use std::fmt::{Display, Write as _};
 use std::io::Write;
 
-/// For how many bytes there is room before they are written out.
+/// For how many bytes there is room before they are written out. So many at once are not copied into it.
 pub(crate) const OUT_BYTES: usize = 64 * 1024;
 
 /// For how many bytes of a line there is room: the longest says a span.
@@ -131,21 +132,24 @@ impl<W: Write> Outbox<W> {
         ensures puts { PutsOut (out_view W.contents self.old) (out_view W.contents self.new) [] }
         ensures empty { self.new.waiting.items ≡ [] }
     {
-        if self.fault.is_some() {
-            self.waiting.clear();
-            return;
-        }
-        match write_all(&mut self.writer, &self.waiting) {
-            Ok(()) => self.waiting.clear(),
-            Err(WriteFault) => {
-                self.waiting.clear();
-                self.fault = Some(OutFault::Write);
-            }
-        }
+        send(&mut self.writer, &mut self.fault, &self.waiting);
+        self.waiting.clear();
     }
 
     /// Puts bytes.
     fn put(&mut self, bytes: &[u8])
+        ensures { PutsOut (out_view W.contents self.old) (out_view W.contents self.new) bytes.now }
+    {
+        if bytes.len() < OUT_BYTES {
+            self.gather(bytes);
+        } else {
+            self.write_out();
+            send(&mut self.writer, &mut self.fault, bytes);
+        }
+    }
+
+    /// Puts bytes into the buffer, which is written out as often as it is full.
+    fn gather(&mut self, bytes: &[u8])
         ensures { PutsOut (out_view W.contents self.old) (out_view W.contents self.new) bytes.now }
     {
         let mut rest = bytes;
@@ -198,6 +202,19 @@ impl<W: Write> Outbox<W> {
             → PutsOut (out_view W.contents self.old) (out_view W.contents self.new) bytes }
     {
         self.fault = Some(fault);
+    }
+}
+
+/// Writes bytes before which none waits, unless writing has failed.
+fn send<W: Write>(writer: &mut W, fault: &mut Option<OutFault>, bytes: &[u8])
+    ensures { PutsBy (W.contents writer.old) (W.contents writer.new)
+        (is_some fault.old) (is_some fault.new) [] [] bytes.now }
+{
+    if fault.is_some() {
+        return;
+    }
+    if let Err(WriteFault) = write_all(writer, bytes) {
+        *fault = Some(OutFault::Write);
     }
 }
 

@@ -1,13 +1,10 @@
-use Rattle.std.proofs.Common.{◌++◌, List, ℕ, sym, ap, ◌∙◌}
-use Rattle.std.proofs.lemmas.List.{append_assoc}
-use Rattle.sd_append.proofs.OutLemmas.{puts_then}
+use Rattle.std.specs.Prelude.{is_some}
+use Rattle.sd_append.proofs.OutLemmas.{puts_straight}
 use Rattle.sd_append.proofs.outbox.Outbox.put.Goals as goal
 
-pub loop-rest-preserved : goal.loop-rest-preserved
-loop-rest-preserved g c =
-    let before = c.loop-rest.invariant in
-    let more = c.put_front-rest.ensures.puts in (
-      before.0 ++ more.0,
-      before.1 ∙ ap (λ (l : List ℕ). before.0 ++ l) more.1 ∙ sym (append_assoc before.0 more.0 _),
-      puts_then _ _ _ before.0 more.0 before.2 more.2,
-    )
+pub returns-else-bytes-lt-OUT_BYTES : goal.returns-else-bytes-lt-OUT_BYTES
+returns-else-bytes-lt-OUT_BYTES g c =
+    let old = c.args.self.now in
+    let out = c.write_out.new.self in
+    let contents = g.W.Write.contents in
+    puts_straight (contents old.writer) (contents out.writer) (contents c.send.new.writer) (is_some old.fault) (is_some out.fault) (is_some c.send.new.fault) old.waiting.items out.waiting.items c.args.bytes.now c.write_out.ensures.empty c.write_out.ensures.puts c.send.ensures

@@ -1,6 +1,6 @@
 use Rattle.std.proofs.Common.{◌≡◌, List, ◌++◌, ℕ, length}
 use Rattle.sd_append.specs.Out.{PutsOut, out_view}
-use Rattle.sd_append.proofs.outbox.Outbox.put.Given as goal
+use Rattle.sd_append.proofs.outbox.Outbox.gather.Given as goal
 
 abbrev pub invariant-loop-rest : goal.invariant-loop-rest
 invariant-loop-rest g l =
