@@ -13,9 +13,9 @@ use Rattle.sd_conf.specs.declared.fault.FaultKind.{FaultKind}
 use Rattle.sd_text.specs.Says.{SaidView, Says}
 use Rattle.sd_text.proofs.SaysLemmas.{says_then}
 use Rattle.sd_text.specs.Lines.{line}
-use Rattle.sd_conf.specs.Check.{Input, conf_lines, drive_lines, drive_text, fault_text, kind_word}
+use Rattle.sd_conf.specs.Check.{Input, IsFaultIn, IsOfText, IsPlaced, conf_lines, drive_lines, drive_text, fault_text, kind_word}
 use Rattle.sd_conf.specs.declared.check.CheckFault.{CheckFault}
-use Rattle.sd_conf.specs.declared.check.CheckFault.TheVariants.{Conf as Bad}
+use Rattle.sd_conf.specs.declared.check.CheckFault.TheVariants.{Input as NoInput, Conf as Bad}
 
 -- an input whose bytes were all read
 pub all_read : (input : Option (List ℕ)) (bytes : List ℕ) (result : Result Conf CheckFault) → IfSome input (λ xs. bytes ≡ [] ++ xs) → Input bytes result → IfSome input (λ text. Input text result)
@@ -29,10 +29,20 @@ any_input (Some xs) P all = all xs
 
 -- a fault of a text
 pub fault_read : (text : List ℕ) (fault : ConfFault) → (fault ≡ Text → parse_document text ≡ None) → ((key : List ℕ) (kind : FaultKind) → fault ≡ Key key kind → HasFirstFault text key kind)
-    → Input text (Err (Bad fault))
+    → IsFaultIn text fault
 fault_read text Text none first = inr (none refl)
 fault_read text (Key key kind) none first = first key kind refl
 fault_read text Memory none first = tt
+
+-- a fault of a text, and its place
+pub placed_input : (text : List ℕ) (fault : ConfFault) (told : CheckFault) → IsPlaced text fault told → IsFaultIn text fault → Input text (Err told)
+placed_input text fault NoInput placed is = absurd placed
+placed_input text fault (Bad f place) (same, here) is = (subst (IsFaultIn text) (sym same) is, here)
+
+-- a fault with its place is one of a text
+pub placed_of_text : (text : List ℕ) (fault : ConfFault) (told : CheckFault) → IsPlaced text fault told → IsOfText told
+placed_of_text text fault NoInput placed = absurd placed
+placed_of_text text fault (Bad f place) placed = tt
 
 -- the lines of one drive more
 drives_more : (number : ℕ) (ds : List DriveConf) (d : DriveConf) → drive_lines number (ds ++ d ∷ []) ≡ drive_lines number ds ++ line (drive_text (number + length ds) d)

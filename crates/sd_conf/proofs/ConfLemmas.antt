@@ -2,12 +2,13 @@
 use Rattle.std.proofs.Common.{◌≡◌, ℕ, ◌*◌, ◌==◌, if◌then◌else◌, List, Option, Some, Result, Err, codes, refl, subst}
 use Rattle.toml.specs.Data.{Members, get_member}
 use Rattle.sd_base.specs.Limits.{most_volume}
-use Rattle.sd_conf.specs.Conf.{conf_of}
+use Rattle.sd_conf.specs.Conf.{conf_of, own_of}
 use Rattle.sd_conf.specs.FirstFault.{Fault, At, block_of, spool_of, VolumeTest, SpoolTest, SpoolFolderTest}
 use Rattle.sd_conf.specs.Told.{Tells}
 use Rattle.sd_conf.specs.Values.{required, optional, is_within, is_spool_limit, number_fault, number_or, text_at, text_fault}
 use Rattle.sd_conf.specs.declared.conf.Conf.{Conf}
 use Rattle.sd_conf.specs.declared.conf.DriveConf.{DriveConf}
+use Rattle.sd_conf.specs.declared.conf.OwnConf.{OwnConf}
 use Rattle.sd_conf.specs.declared.fault.ConfFault.{ConfFault}
 use Rattle.sd_conf.specs.declared.fault.ConfFault.TheVariants.{Text, Key, Memory}
 
@@ -47,8 +48,14 @@ folder_beside table spool result same told =
     subst P same told
 
 -- what was read at each key is what the table says
-pub conf_read : (table : Members) (block volume spool queue port : ℕ) (host : List ℕ) (spool_folder : Option (List ℕ)) (drives : List DriveConf)
-    → block ≡ (conf_of table).block → volume ≡ (conf_of table).volume → spool ≡ (conf_of table).spool → queue ≡ (conf_of table).queue
-    → port ≡ (conf_of table).port → host ≡ (conf_of table).host → spool_folder ≡ (conf_of table).spool_folder → drives ≡ (conf_of table).drives
-    → let conf : Conf = record { block = block; volume = volume; spool = spool; queue = queue; port = port; host = host; spool_folder = spool_folder; drives = drives } in conf ≡ conf_of table
-conf_read table block volume spool queue port host spool_folder drives b v s q p h f d = rw (b, v, s, q, p, h, f, d) refl
+pub own_read : (table : Members) (block volume spool queue port : ℕ) (host : List ℕ) (spool_folder : Option (List ℕ))
+    → block ≡ (own_of table).block → volume ≡ (own_of table).volume → spool ≡ (own_of table).spool → queue ≡ (own_of table).queue
+    → port ≡ (own_of table).port → host ≡ (own_of table).host → spool_folder ≡ (own_of table).spool_folder
+    → let own : OwnConf = record { block = block; volume = volume; spool = spool; queue = queue; port = port; host = host; spool_folder = spool_folder } in own ≡ own_of table
+own_read table block volume spool queue port host spool_folder b v s q p h f = rw (b, v, s, q, p, h, f) refl
+
+-- with its drives it is a configuration
+pub conf_read : (table : Members) (own : OwnConf) (drives : List DriveConf) → own ≡ own_of table → drives ≡ (conf_of table).drives
+    → let conf : Conf = record { block = own.block; volume = own.volume; spool = own.spool; queue = own.queue; port = own.port; host = own.host; spool_folder = own.spool_folder; drives = drives } in
+    conf ≡ conf_of table
+conf_read table own drives same d = rw (same, d) refl

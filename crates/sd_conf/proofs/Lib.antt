@@ -4,6 +4,7 @@ pub mod DriveLemmas
 pub mod KeyLemmas
 pub mod LimitLemmas
 pub mod OneLemmas
+pub mod PlaceLemmas
 pub mod TextLemmas
 pub mod ToldLemmas
 pub mod ValueLemmas

@@ -8,7 +8,7 @@ use Rattle.toml.specs.Data.{Data, Members, get_member, as_integer, as_str}
 use Rattle.sd_base.specs.Limits.{least_block_limit, most_block, most_volume, most_drives, most_lanes, most_queue}
 use Rattle.sd_base.specs.Name.{IsName}
 use Rattle.sd_conf.specs.Conf.{IsWithinLimits, IsDriveWithinLimits, conf_of, drive_of}
-use Rattle.sd_conf.specs.FirstFault.{Fault, ◌then◌, UnknownKey, FirstFault, At, NameTest, HostTest, MediaTest, FolderTest, LanesTest, BlockTest, VolumeTest, SpoolTest, QueueTest, PortTest, SpoolFolderTest, DriveTest, DriveFault, TablesFault, block_of, spool_of}
+use Rattle.sd_conf.specs.FirstFault.{Fault, ◌then◌, UnknownKey, FirstFault, OwnFault, At, NameTest, HostTest, MediaTest, FolderTest, LanesTest, BlockTest, VolumeTest, SpoolTest, QueueTest, PortTest, SpoolFolderTest, DriveTest, DriveFault, TablesFault, block_of, spool_of}
 use Rattle.sd_conf.specs.Limits.{default_block, default_queue, default_port, default_host, default_lanes, most_port}
 use Rattle.sd_conf.specs.Values.{required, optional, is_within, is_spool_limit, integer_fault, number_fault, natural_or, number_or, text_fault, kind_unless, text_at, drives_fault, count_fault, tables_in, tables_at}
 use Rattle.sd_conf.specs.declared.fault.FaultKind.{FaultKind}
@@ -20,7 +20,7 @@ good key None is = refl
 good key (Some wrong) is = absurd cc
 
 -- if two tests one after another find nothing, neither of them does
-passes : (First Others : Option Fault → Type 0) → (First then Others) None → First None × Others None
+pub passes : (First Others : Option Fault → Type 0) → (First then Others) None → First None × Others None
 passes First Others (inl (fault, bad, is)) = absurd cc
 passes First Others (inr (none, others)) = (none, others)
 
@@ -122,15 +122,15 @@ tables_within (table ∷ more) none =
 pub conf_within : (table : Members) → FirstFault table None → IsWithinLimits (conf_of table)
 conf_within table none =
     let drives = TablesFault (tables_at (get_member (codes "drive") table)) in
-    let p0 = passes (UnknownKey Daemon table) (BlockTest table then VolumeTest table then SpoolTest table then QueueTest table then PortTest table then HostTest (get_member (codes "host") table) then SpoolFolderTest table then DriveTest table then drives) none in
-    let p1 = passes (BlockTest table) (VolumeTest table then SpoolTest table then QueueTest table then PortTest table then HostTest (get_member (codes "host") table) then SpoolFolderTest table then DriveTest table then drives) p0.1 in
-    let p2 = passes (VolumeTest table) (SpoolTest table then QueueTest table then PortTest table then HostTest (get_member (codes "host") table) then SpoolFolderTest table then DriveTest table then drives) p1.1 in
-    let p3 = passes (SpoolTest table) (QueueTest table then PortTest table then HostTest (get_member (codes "host") table) then SpoolFolderTest table then DriveTest table then drives) p2.1 in
-    let p4 = passes (QueueTest table) (PortTest table then HostTest (get_member (codes "host") table) then SpoolFolderTest table then DriveTest table then drives) p3.1 in
-    let p5 = passes (PortTest table) (HostTest (get_member (codes "host") table) then SpoolFolderTest table then DriveTest table then drives) p4.1 in
-    let p6 = passes (HostTest (get_member (codes "host") table)) (SpoolFolderTest table then DriveTest table then drives) p5.1 in
-    let p7 = passes (SpoolFolderTest table) (DriveTest table then drives) p6.1 in
-    let p8 = passes (DriveTest table) drives p7.1 in
+    let parts = passes (OwnFault table) (DriveTest table then drives) none in
+    let p0 = passes (UnknownKey Daemon table) (BlockTest table then VolumeTest table then SpoolTest table then QueueTest table then PortTest table then HostTest (get_member (codes "host") table) then SpoolFolderTest table) parts.0 in
+    let p1 = passes (BlockTest table) (VolumeTest table then SpoolTest table then QueueTest table then PortTest table then HostTest (get_member (codes "host") table) then SpoolFolderTest table) p0.1 in
+    let p2 = passes (VolumeTest table) (SpoolTest table then QueueTest table then PortTest table then HostTest (get_member (codes "host") table) then SpoolFolderTest table) p1.1 in
+    let p3 = passes (SpoolTest table) (QueueTest table then PortTest table then HostTest (get_member (codes "host") table) then SpoolFolderTest table) p2.1 in
+    let p4 = passes (QueueTest table) (PortTest table then HostTest (get_member (codes "host") table) then SpoolFolderTest table) p3.1 in
+    let p5 = passes (PortTest table) (HostTest (get_member (codes "host") table) then SpoolFolderTest table) p4.1 in
+    let p6 = passes (HostTest (get_member (codes "host") table)) (SpoolFolderTest table) p5.1 in
+    let p8 = passes (DriveTest table) drives parts.1 in
     let block = number_in least_block_limit most_block default_block (get_member (codes "block") table) (lit≤ tt, lit≤ tt) (good _ _ p1.0) in
     let room : 2 * block_of table ≤ most_volume = omega (arith, block.1) in
     let volume = number_in (2 * block_of table) most_volume most_volume (get_member (codes "volume") table) (room, omega arith) (good _ _ p2.0) in
@@ -149,7 +149,7 @@ conf_within table none =
       port_least = port.0;
       port_most = port.1;
       host_is = host_there (get_member (codes "host") table) p6.0;
-      folder_with_spooling = folder_there (spool_of table) (get_member (codes "spool_folder") table) (good _ _ p7.0);
+      folder_with_spooling = folder_there (spool_of table) (get_member (codes "spool_folder") table) (good _ _ p6.1);
       drives_least = rw same count.0;
       drives_most = rw same count.1;
       drives_within = tables_within (tables_at (get_member (codes "drive") table)) p8.1;

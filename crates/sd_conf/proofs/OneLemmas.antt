@@ -5,7 +5,7 @@ use Rattle.std.specs.Cmp.Lexicographic.{slice_cmp}
 use Rattle.std.specs.Ordering.{is_lt, ordering_reverse}
 use Rattle.toml.specs.Data.{Data, Members, get_member, as_str}
 use Rattle.sd_conf.specs.Conf.{FirstFaultIsOne}
-use Rattle.sd_conf.specs.FirstFault.{Fault, ◌then◌, At, UnknownKey, NameTest, HostTest, MediaTest, FolderTest, LanesTest, DriveFault, TablesFault, BlockTest, VolumeTest, SpoolTest, QueueTest, PortTest, SpoolFolderTest, DriveTest}
+use Rattle.sd_conf.specs.FirstFault.{Fault, ◌then◌, At, UnknownKey, NameTest, HostTest, MediaTest, FolderTest, LanesTest, DriveFault, TablesFault, BlockTest, VolumeTest, SpoolTest, QueueTest, PortTest, SpoolFolderTest, DriveTest, OwnFault}
 use Rattle.sd_conf.specs.Values.{tables_at}
 use Rattle.sd_conf.specs.declared.fault.FaultKind.{FaultKind}
 use Rattle.sd_conf.specs.declared.keys.Level.{Level}
@@ -68,15 +68,17 @@ tables_one : (tables : List Members) → IsOne (TablesFault tables)
 tables_one [] = λ found other is is'. is ∙ sym is'
 tables_one (table ∷ more) = then_one (DriveFault table) (TablesFault more) (drive_one table) (tables_one more)
 
+own_one : (table : Members) → IsOne (OwnFault table)
+own_one table =
+    then_one (UnknownKey Daemon table) (BlockTest table then VolumeTest table then SpoolTest table then QueueTest table then PortTest table then HostTest (get_member (codes "host") table) then SpoolFolderTest table) (unknown_one Daemon table)
+    (then_one (BlockTest table) (VolumeTest table then SpoolTest table then QueueTest table then PortTest table then HostTest (get_member (codes "host") table) then SpoolFolderTest table) (at_one _ _)
+    (then_one (VolumeTest table) (SpoolTest table then QueueTest table then PortTest table then HostTest (get_member (codes "host") table) then SpoolFolderTest table) (at_one _ _)
+    (then_one (SpoolTest table) (QueueTest table then PortTest table then HostTest (get_member (codes "host") table) then SpoolFolderTest table) (at_one _ _)
+    (then_one (QueueTest table) (PortTest table then HostTest (get_member (codes "host") table) then SpoolFolderTest table) (at_one _ _)
+    (then_one (PortTest table) (HostTest (get_member (codes "host") table) then SpoolFolderTest table) (at_one _ _)
+    (then_one (HostTest (get_member (codes "host") table)) (SpoolFolderTest table) (host_one _) (at_one _ _)))))))
+
 pub first_fault_one : FirstFaultIsOne
 first_fault_one table =
     let drives = TablesFault (tables_at (get_member (codes "drive") table)) in
-    then_one (UnknownKey Daemon table) (BlockTest table then VolumeTest table then SpoolTest table then QueueTest table then PortTest table then HostTest (get_member (codes "host") table) then SpoolFolderTest table then DriveTest table then drives) (unknown_one Daemon table)
-    (then_one (BlockTest table) (VolumeTest table then SpoolTest table then QueueTest table then PortTest table then HostTest (get_member (codes "host") table) then SpoolFolderTest table then DriveTest table then drives) (at_one _ _)
-    (then_one (VolumeTest table) (SpoolTest table then QueueTest table then PortTest table then HostTest (get_member (codes "host") table) then SpoolFolderTest table then DriveTest table then drives) (at_one _ _)
-    (then_one (SpoolTest table) (QueueTest table then PortTest table then HostTest (get_member (codes "host") table) then SpoolFolderTest table then DriveTest table then drives) (at_one _ _)
-    (then_one (QueueTest table) (PortTest table then HostTest (get_member (codes "host") table) then SpoolFolderTest table then DriveTest table then drives) (at_one _ _)
-    (then_one (PortTest table) (HostTest (get_member (codes "host") table) then SpoolFolderTest table then DriveTest table then drives) (at_one _ _)
-    (then_one (HostTest (get_member (codes "host") table)) (SpoolFolderTest table then DriveTest table then drives) (host_one _)
-    (then_one (SpoolFolderTest table) (DriveTest table then drives) (at_one _ _)
-    (then_one (DriveTest table) drives (at_one _ _) (tables_one _)))))))))
+    then_one (OwnFault table) (DriveTest table then drives) (own_one table) (then_one (DriveTest table) drives (at_one _ _) (tables_one _))

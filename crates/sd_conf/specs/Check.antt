@@ -14,8 +14,10 @@ use Rattle.sd_conf.specs.declared.fault.ConfFault.{ConfFault}
 use Rattle.sd_conf.specs.declared.fault.ConfFault.TheVariants.{Text, Key, Memory as NoMemory}
 use Rattle.sd_text.specs.Says.{SaidView, Says}
 use Rattle.sd_text.specs.Lines.{line}
+use Rattle.sd_conf.specs.Place.{IsPlaceIn, place_lines}
 use Rattle.sd_conf.specs.declared.check.CheckFault.{CheckFault}
 use Rattle.sd_conf.specs.declared.check.CheckFault.TheVariants.{Input as NoInput, Conf as Bad}
+use Rattle.sd_conf.specs.declared.check.Checked.{Checked}
 use Rattle.sd_conf.specs.declared.conf_line.ConfLine.{ConfLine}
 use Rattle.sd_conf.specs.declared.conf_line.ConfLine.TheVariants as says
 
@@ -69,16 +71,30 @@ fault_line NoMemory = line (refusal_text Memory)
 abbrev pub checked_lines : Result Conf CheckFault → List ℕ
 checked_lines (Ok conf) = conf_lines conf
 checked_lines (Err NoInput) = line (codes "fault input")
-checked_lines (Err (Bad fault)) = fault_line fault
+checked_lines (Err (Bad fault place)) = fault_line fault
 
--- The text holds this configuration; or this fault comes first in it; or it is no TOML document, also if it is no
--- UTF-8. Memory may run out, and the input fail, at any text.
+-- what is printed of where none was read
+abbrev pub checked_place : Result Conf CheckFault → List ℕ
+checked_place (Err (Bad fault place)) = place_lines place
+checked_place other = []
+
+-- This fault comes first in the text; or it is no TOML document, also if it is no UTF-8. Memory may run out at any text.
+abbrev pub IsFaultIn : List ℕ → ConfFault → Type 0
+IsFaultIn text Text = ¬ IsUtf8 text ⊎ (parse_document text ≡ None)
+IsFaultIn text (Key key kind) = HasFirstFault text key kind
+IsFaultIn text NoMemory = Unit {0}
+
+-- The text holds this configuration; or this is its fault, and, if one is told, the place of it. The input may fail at
+-- any text.
 abbrev pub Input : List ℕ → Result Conf CheckFault → Type 0
 Input text (Ok conf) = IsConfText text conf
 Input text (Err NoInput) = Unit {0}
-Input text (Err (Bad Text)) = ¬ IsUtf8 text ⊎ (parse_document text ≡ None)
-Input text (Err (Bad (Key key kind))) = HasFirstFault text key kind
-Input text (Err (Bad NoMemory)) = Unit {0}
+Input text (Err (Bad fault place)) = IsFaultIn text fault × IfSome place (IsPlaceIn text)
+
+-- this fault with, if one is told, a place in the text
+abbrev pub IsPlaced : List ℕ → ConfFault → CheckFault → Type 0
+IsPlaced text fault NoInput = ⊥
+IsPlaced text fault (Bad told place) = (told ≡ fault) × IfSome place (IsPlaceIn text)
 
 -- an input comes to what its text does, if its bytes are known
 abbrev pub ReadsConf : Option (List ℕ) → Result Conf CheckFault → Type 0
@@ -87,7 +103,7 @@ ReadsConf input result = IfSome input (λ text. Input text result)
 -- the fault is one of a text, and not that none could be read
 abbrev pub IsOfText : CheckFault → Type 0
 IsOfText NoInput = ⊥
-IsOfText (Bad fault) = Unit {0}
+IsOfText (Bad fault place) = Unit {0}
 
 -- the status: 0 if a configuration was read and all of it could be written
 abbrev pub status_of : Result Conf CheckFault → Bool → ℕ
@@ -96,8 +112,7 @@ status_of (Ok conf) true = 1
 status_of (Err fault) failed = 1
 
 -- An input was checked: what was read of it was printed, or, if the writer failed, a front of that.
-pub record PrintsCheck (input : Option (List ℕ)) (said says : SaidView) (status : ℕ) : Type 0 where
-  pub checked : Result Conf CheckFault
-  pub reads : ReadsConf input checked
-  pub prints : Says said says (checked_lines checked)
-  pub status_is : status ≡ status_of checked says.failed
+pub record PrintsCheck (input : Option (List ℕ)) (said says : SaidView) (checked : Checked) : Type 0 where
+  pub reads : ReadsConf input checked.conf
+  pub prints : Says said says (checked_lines checked.conf)
+  pub status_is : checked.status ≡ status_of checked.conf says.failed

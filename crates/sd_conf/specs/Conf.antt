@@ -9,6 +9,7 @@ use Rattle.sd_conf.specs.Limits.{default_queue, default_port, most_port, default
 use Rattle.sd_conf.specs.Values.{number_or, text_at, tables_at}
 use Rattle.sd_conf.specs.declared.conf.Conf.{Conf}
 use Rattle.sd_conf.specs.declared.conf.DriveConf.{DriveConf}
+use Rattle.sd_conf.specs.declared.conf.OwnConf.{OwnConf}
 use Rattle.sd_conf.specs.declared.fault.FaultKind.{FaultKind}
 
 -- what the table of a drive says
@@ -19,9 +20,9 @@ drive_of table = record {
   lanes = number_or default_lanes (get_member (codes "lanes") table);
 }
 
--- what a table says as a configuration, if it has no fault
-abbrev pub conf_of : Members → Conf
-conf_of table = record {
+-- what a table says in its own keys but for the drives, if it has no fault there
+abbrev pub own_of : Members → OwnConf
+own_of table = record {
   block = block_of table;
   volume = number_or most_volume (get_member (codes "volume") table);
   spool = spool_of table;
@@ -29,6 +30,18 @@ conf_of table = record {
   port = number_or default_port (get_member (codes "port") table);
   host = unwrap_or (text_at (get_member (codes "host") table)) default_host;
   spool_folder = text_at (get_member (codes "spool_folder") table);
+}
+
+-- what a table says as a configuration, if it has no fault
+abbrev pub conf_of : Members → Conf
+conf_of table = record {
+  block = (own_of table).block;
+  volume = (own_of table).volume;
+  spool = (own_of table).spool;
+  queue = (own_of table).queue;
+  port = (own_of table).port;
+  host = (own_of table).host;
+  spool_folder = (own_of table).spool_folder;
   drives = map drive_of (tables_at (get_member (codes "drive") table));
 }
 

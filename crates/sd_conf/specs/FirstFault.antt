@@ -128,10 +128,10 @@ SpoolFolderTest table =
 abbrev pub DriveTest : Members → Option Fault → Type 0
 DriveTest table = At (codes "drive") (required drives_fault (get_member (codes "drive") table))
 
--- The first fault of a configuration, or none. The keys that aren't known come first, then the others
--- in this order, then what is in the tables of the drives.
-abbrev pub FirstFault : Members → Option Fault → Type 0
-FirstFault table =
+-- The first fault in the configuration's own keys, but for its drives. The keys that aren't known come
+-- first, then the others in this order.
+abbrev pub OwnFault : Members → Option Fault → Type 0
+OwnFault table =
     UnknownKey Daemon table
     then BlockTest table
     then VolumeTest table
@@ -140,5 +140,11 @@ FirstFault table =
     then PortTest table
     then HostTest (get_member (codes "host") table)
     then SpoolFolderTest table
+
+-- The first fault of a configuration, or none. Its own keys come first, then the drives, then what is
+-- in their tables.
+abbrev pub FirstFault : Members → Option Fault → Type 0
+FirstFault table =
+    OwnFault table
     then DriveTest table
     then TablesFault (tables_at (get_member (codes "drive") table))

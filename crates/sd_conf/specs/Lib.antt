@@ -3,5 +3,6 @@ pub mod Conf
 pub mod FirstFault
 pub mod Keys
 pub mod Limits
+pub mod Place
 pub mod Told
 pub mod Values

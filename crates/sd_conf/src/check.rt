@@ -4,11 +4,13 @@ ghost use Rattle.sd_conf.specs.Conf.{IsWithinLimits};
 ghost use Rattle.sd_text.specs.Says.{Says, said_view};
 ghost use Rattle.std.specs.Fmt.{decimal};
 ghost use Rattle.sd_text.specs.Lines.{line};
-ghost use Rattle.sd_conf.specs.Check.{Input, IsOfText, PrintsCheck, ReadsConf, checked_lines, conf_lines, drive_lines, drive_text, fault_line, fault_text, kind_word, status_of};
+ghost use Rattle.sd_conf.specs.Check.{Input, IsOfText, IsPlaced, PrintsCheck, ReadsConf, checked_lines, checked_place, conf_lines, drive_lines, drive_text, fault_line, fault_text, kind_word, status_of};
+ghost use Rattle.sd_conf.specs.Place.{place_lines};
 
 use crate::conf::{Conf, DriveConf};
 use crate::conf_line::ConfLine;
 use crate::fault::{ConfFault, FaultKind};
+use crate::place::{Place, place_of};
 use crate::read::read_conf;
 use crate::text::Text;
 use itoa::Buffer;
@@ -29,20 +31,42 @@ const FAILED: u8 = 1;
 pub enum CheckFault {
     /// The input can't be read.
     Input,
-    /// What it holds is none.
-    Conf(ConfFault),
+    /// What it holds is none, for this and, where that is known, at this place.
+    Conf {
+        fault: ConfFault,
+        place: Option<Place>,
+    },
 }
 
-/// Reads a configuration, up to the end of the input, and prints its values, a line each, or what is wrong with it.
-/// Answers the status: 0 if a configuration was printed, and else 1.
-pub fn check_conf<R: Read, W: Write>(alloc: Global, reader: &mut R, out: &mut Printer<W>) -> u8
-    ensures { PrintsCheck (R.remaining reader.old)
+/// What came of a check.
+#[derive(Drop)]
+pub struct Checked {
+    /// 0 if a configuration was printed, and else 1.
+    pub status: u8,
+    /// The configuration that was read.
+    pub conf: Result<Conf, CheckFault>,
+}
+
+/// Reads a configuration, up to the end of the input, and prints its values, a line each, or what is wrong with it; and on
+/// `errors` where that is.
+pub fn check_conf<R: Read, W: Write, E: Write>(
+    alloc: Global,
+    reader: &mut R,
+    out: &mut Printer<W>,
+    errors: &mut Printer<E>,
+) -> Checked
+    ensures checked { PrintsCheck (R.remaining reader.old)
         (said_view W.contents out.old) (said_view W.contents out.new) result }
+    ensures place { Says (said_view E.contents errors.old) (said_view E.contents errors.new)
+        (checked_place result.conf) }
 {
-    let checked = read_input(alloc, reader);
-    print_checked(&checked, out);
+    let conf = read_input(alloc, reader);
+    print_checked(&conf, out);
     out.flush();
-    status_of(&checked, out.failed())
+    print_checked_place(&conf, errors);
+    errors.flush();
+    let status = status_of(&conf, out.failed());
+    Checked { status, conf }
 }
 
 // The status of a check that came to this.
@@ -63,7 +87,10 @@ fn read_input<R: Read>(alloc: Global, reader: &mut R) -> Result<Conf, CheckFault
     match reader.read_to_end(&mut bytes) {
         Ok(_) => conf_in(alloc, &bytes),
         Err(fault) if fault.kind() == ErrorKind::OutOfMemory => {
-            Err(CheckFault::Conf(ConfFault::Memory))
+            Err(CheckFault::Conf {
+                fault: ConfFault::Memory,
+                place: None,
+            })
         }
         Err(_) => Err(CheckFault::Input),
     }
@@ -76,12 +103,23 @@ pub fn conf_in(alloc: Global, bytes: &[u8]) -> Result<Conf, CheckFault>
     ensures of_text { IfErr result IsOfText }
 {
     let Ok(text) = str::from_utf8(bytes) else {
-        return Err(CheckFault::Conf(ConfFault::Text));
+        return Err(placed(alloc, bytes, ConfFault::Text));
     };
     match read_conf(alloc, text) {
         Ok(conf) => Ok(conf),
-        Err(fault) => Err(CheckFault::Conf(fault)),
+        Err(fault) => Err(placed(alloc, bytes, fault)),
     }
+}
+
+// The fault of a text, with its place. Where memory ran out, no place is looked for.
+fn placed(alloc: Global, bytes: &[u8], fault: ConfFault) -> CheckFault
+    ensures { IsPlaced bytes.now fault result }
+{
+    let place = match &fault {
+        ConfFault::Memory => None,
+        _ => place_of(alloc, bytes),
+    };
+    CheckFault::Conf { fault, place }
 }
 
 // Prints the values of a configuration, or the line of what is wrong.
@@ -92,7 +130,27 @@ fn print_checked<W: Write>(checked: &Result<Conf, CheckFault>, out: &mut Printer
     match checked {
         Ok(conf) => print_conf(conf, out),
         Err(CheckFault::Input) => out.line(ConfLine::NoInput),
-        Err(CheckFault::Conf(fault)) => print_conf_fault(fault, out),
+        Err(CheckFault::Conf { fault, place: _ }) => print_conf_fault(fault, out),
+    }
+}
+
+// Prints where a configuration is at fault, if that is known.
+fn print_checked_place<E: Write>(checked: &Result<Conf, CheckFault>, errors: &mut Printer<E>)
+    ensures { Says (said_view E.contents errors.old) (said_view E.contents errors.new)
+        (checked_place checked.now) }
+{
+    if let Err(CheckFault::Conf { fault: _, place }) = checked {
+        print_place(*place, errors);
+    }
+}
+
+/// Prints the line of where a configuration is at fault, if that is known.
+pub fn print_place<E: Write>(place: Option<Place>, errors: &mut Printer<E>)
+    ensures { Says (said_view E.contents errors.old) (said_view E.contents errors.new)
+        (place_lines place) }
+{
+    if let Some(place) = place {
+        errors.line(place);
     }
 }
 

@@ -23,6 +23,18 @@ pub struct Conf {
     pub drives: Items<DriveConf>,
 }
 
+/// What a configuration says in its own keys, but for its drives.
+#[derive(Drop)]
+pub struct OwnConf {
+    pub block: usize,
+    pub volume: u64,
+    pub spool: u64,
+    pub queue: usize,
+    pub port: u16,
+    pub host: HostName,
+    pub spool_folder: Option<Text>,
+}
+
 /// A drive of the configuration.
 #[derive(Drop)]
 pub struct DriveConf {

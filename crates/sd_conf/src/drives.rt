@@ -30,8 +30,8 @@ pub fn drives(alloc: Global, table: &Table) -> Result<Items<DriveConf>, ConfFaul
     drives_of(alloc, &tables)
 }
 
-// The tables of the drives, of which there are one at least and not too many.
-fn tables(alloc: Global, table: &Table) -> Result<Vec<&Table>, ConfFault>
+/// The tables of the drives, of which there are one at least and not too many.
+pub fn tables(alloc: Global, table: &Table) -> Result<Vec<&Table>, ConfFault>
     ensures { TellsAs (λ tables. map (λ t. table_view t.now) tables.items)
         (DriveTest (table_view table.now))
         (tables_at (get_member (codes "drive") (table_view table.now))) result }
@@ -87,8 +87,8 @@ fn drives_of(alloc: Global, tables: &[&Table]) -> Result<Items<DriveConf>, ConfF
     Ok(Items::from_vec(drives))
 }
 
-// The drive that a table says.
-fn drive(alloc: Global, table: &Table) -> Result<DriveConf, ConfFault>
+/// The drive that a table says.
+pub fn drive(alloc: Global, table: &Table) -> Result<DriveConf, ConfFault>
     ensures { Tells (DriveFault (table_view table.now)) (drive_of (table_view table.now)) result }
 {
     only_known(alloc, table, Level::Drive)?;

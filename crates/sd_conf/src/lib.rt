@@ -9,14 +9,16 @@ mod drives;
 mod fault;
 mod keys;
 mod laws;
+mod place;
 mod read;
 mod text;
 mod values;
 
-pub use check::{CheckFault, check_conf, conf_in, print_conf_fault};
+pub use check::{CheckFault, Checked, check_conf, conf_in, print_conf_fault, print_place};
 pub use conf::{Conf, DriveConf};
 pub use conf_line::ConfLine;
 pub use fault::{ConfFault, FaultKind};
 pub use laws::first_fault_is_one;
+pub use place::{Place, place_of};
 pub use read::read_conf;
 pub use text::Text;

@@ -2,14 +2,14 @@
 ghost use Rattle.std.specs.Prelude.{◌≡◌, ◌⊎◌, None, Ok, Err, IfOk, ℕ, List};
 ghost use Rattle.toml.specs.Parse.{parse_document};
 ghost use Rattle.toml.specs.View.{table_view};
-ghost use Rattle.sd_conf.specs.Conf.{HasFirstFault, IsConfText, IsWithinLimits, conf_of};
-ghost use Rattle.sd_conf.specs.FirstFault.{FirstFault};
+ghost use Rattle.sd_conf.specs.Conf.{HasFirstFault, IsConfText, IsWithinLimits, conf_of, own_of};
+ghost use Rattle.sd_conf.specs.FirstFault.{FirstFault, OwnFault};
 ghost use Rattle.sd_conf.specs.Told.{Tells};
 ghost use Rattle.sd_conf.specs.declared.conf.Conf.{Conf as SpecConf};
 ghost use Rattle.sd_conf.specs.declared.fault.ConfFault.TheVariants.{Text, Key, Memory};
 ghost use Rattle.sd_conf.specs.declared.fault.FaultKind.{FaultKind as SpecKind};
 
-use crate::conf::Conf;
+use crate::conf::{Conf, OwnConf};
 use crate::drives::drives;
 use crate::fault::ConfFault;
 use crate::keys::{Level, only_known};
@@ -57,6 +57,24 @@ pub fn read_conf(alloc: Global, text: &str) -> Result<Conf, ConfFault>
 fn conf(alloc: Global, table: &Table) -> Result<Conf, ConfFault>
     ensures { Tells (FirstFault (table_view table.now)) (conf_of (table_view table.now)) result }
 {
+    let own = own(alloc, table)?;
+    let drives = drives(alloc, table)?;
+    Ok(Conf {
+        block: own.block,
+        volume: own.volume,
+        spool: own.spool,
+        queue: own.queue,
+        port: own.port,
+        host: own.host,
+        spool_folder: own.spool_folder,
+        drives,
+    })
+}
+
+/// What a table says in its own keys, but for the drives.
+pub fn own(alloc: Global, table: &Table) -> Result<OwnConf, ConfFault>
+    ensures { Tells (OwnFault (table_view table.now)) (own_of (table_view table.now)) result }
+{
     only_known(alloc, table, Level::Daemon)?;
     let block_limits = (LEAST_BLOCK_LIMIT as u64, MOST_BLOCK as u64);
     let block = number_at(alloc, table, "block", block_limits, DEFAULT_BLOCK)?;
@@ -72,8 +90,7 @@ fn conf(alloc: Global, table: &Table) -> Result<Conf, ConfFault>
     let port = number_at(alloc, table, "port", (1, u16::MAX as u64), DEFAULT_PORT)?;
     let host = host(alloc, table)?;
     let spool_folder = spool_folder(alloc, table, spool)?;
-    let drives = drives(alloc, table)?;
-    Ok(Conf {
+    Ok(OwnConf {
         block: block as usize,
         volume,
         spool,
@@ -81,6 +98,5 @@ fn conf(alloc: Global, table: &Table) -> Result<Conf, ConfFault>
         port: port as u16,
         host,
         spool_folder,
-        drives,
     })
 }

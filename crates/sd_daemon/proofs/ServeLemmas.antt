@@ -1,5 +1,5 @@
 -- What some text holds, and what is said of a folder.
-use Rattle.std.proofs.Common.{◌≡◌, ◌∙◌, ap, ℕ, List, [], ◌∷◌, ◌++◌, Result, Ok, Err, codes}
+use Rattle.std.proofs.Common.{◌≡◌, ◌∙◌, ap, ℕ, List, [], ◌∷◌, ◌++◌, None, Result, Ok, Err, codes}
 use Rattle.std.proofs.lemmas.Grind.{flat_map-append}
 use Rattle.std.proofs.lemmas.List.{append-nil, append_assoc}
 use Rattle.std.specs.Prelude.{IfErr, IfOk}
@@ -25,8 +25,8 @@ conf_of text (Ok conf) input = (text, input)
 conf_of text (Err fault) input = tt
 
 -- memory may run out at any
-pub no_memory : IsFaultOf (Bad NoMemory)
-no_memory = ([], tt)
+pub no_memory : IsFaultOf (Bad NoMemory None)
+no_memory = ([], (tt, tt))
 
 -- and any may be out of reach
 pub no_input : IsFaultOf NoInput

@@ -45,7 +45,7 @@ settle_lines drives = flat_map (λ (drive : ℕ). line (serve_text (says.Unsettl
 abbrev pub outcome_lines : Outcome → List ℕ
 outcome_lines (Served unsettled) = settle_lines unsettled.items
 outcome_lines NoFile = line (serve_text says.NoFile)
-outcome_lines (NoConf fault) = fault_line fault
+outcome_lines (NoConf fault place) = fault_line fault
 outcome_lines (NotServed fault) = unserved_line fault
 
 -- the status after talks: 0 if each drive is settled
@@ -69,7 +69,7 @@ IsFaultOf fault = (text : List ℕ) × Input text (Err fault)
 -- A configuration that is refused is refused for what some text holds; if none is served, there is one that some text
 -- is, and a folder that another process has locked is one that it names.
 abbrev pub IsOutcomeOf : Outcome → Type 0
-IsOutcomeOf (NoConf fault) = IsFaultOf (Bad fault)
+IsOutcomeOf (NoConf fault place) = IsFaultOf (Bad fault place)
 IsOutcomeOf (NotServed fault) = (conf : Conf) × IsConfOf conf × IsFaultIn conf fault
 IsOutcomeOf outcome = Unit {0}
 

@@ -8,7 +8,7 @@ ghost use Rattle.sd_daemon.specs.Serve.{IsConfOf, IsFaultOf, IsOutcomeOf, Prints
 use crate::daemon::{Bounds, ServeFault, serve};
 use crate::serve_line::ServeLine;
 use sd_base::DriveNo;
-use sd_conf::{CheckFault, Conf, ConfFault, Text, conf_in, print_conf_fault};
+use sd_conf::{CheckFault, Conf, ConfFault, Place, Text, conf_in, print_conf_fault, print_place};
 use sd_serve::Log;
 use sd_text::Printer;
 use std::fs;
@@ -30,8 +30,11 @@ pub enum Outcome {
     Served(Vec<DriveNo>),
     /// It can't be read.
     NoFile,
-    /// What it holds is no configuration.
-    NoConf(ConfFault),
+    /// What it holds is no configuration, for this and, where that is known, at this place.
+    NoConf {
+        fault: ConfFault,
+        place: Option<Place>,
+    },
     /// Its configuration can't be served.
     NotServed(ServeFault),
 }
@@ -85,7 +88,7 @@ fn outcome_of<R: Threads + Wait + Clock + Sync + Copy + Drop, L: Write + Send + 
     let conf = match read_file(rt, path) {
         Ok(conf) => conf,
         Err(CheckFault::Input) => return Outcome::NoFile,
-        Err(CheckFault::Conf(fault)) => return Outcome::NoConf(fault),
+        Err(CheckFault::Conf { fault, place }) => return Outcome::NoConf { fault, place },
     };
     match serve(rt, wait, &conf, bounds, log) {
         Ok(unsettled) => Outcome::Served(unsettled),
@@ -103,7 +106,10 @@ fn read_file(rt: &HostRuntime, path: &str) -> Result<Conf, CheckFault>
     match fs::read(rt, path) {
         Ok(bytes) => conf_in(rt.alloc(), &bytes),
         Err(fault) if fault.kind() == ErrorKind::OutOfMemory => {
-            Err(CheckFault::Conf(ConfFault::Memory))
+            Err(CheckFault::Conf {
+                fault: ConfFault::Memory,
+                place: None,
+            })
         }
         Err(_) => Err(CheckFault::Input),
     }
@@ -117,17 +123,19 @@ fn print_outcome<W: Write>(outcome: &Outcome, out: &mut Printer<W>)
     match outcome {
         Outcome::Served(unsettled) => print_unsettled(unsettled, out),
         Outcome::NoFile => out.line(ServeLine::NoFile),
-        Outcome::NoConf(fault) => print_conf_fault(fault, out),
+        Outcome::NoConf { fault, place: _ } => print_conf_fault(fault, out),
         Outcome::NotServed(fault) => print_unserved(fault, out),
     }
 }
 
 // Prints what more is known of what is wrong.
 fn print_cause<E: Write>(outcome: &Outcome, errors: &mut Printer<E>) {
-    if let Outcome::NotServed(ServeFault::Port(fault)) = outcome {
-        errors.line(*fault);
-        errors.flush();
+    match outcome {
+        Outcome::NoConf { fault: _, place } => print_place(*place, errors),
+        Outcome::NotServed(ServeFault::Port(fault)) => errors.line(*fault),
+        _ => {}
     }
+    errors.flush();
 }
 
 // Prints a line for each drive that can't be settled. Calls itself for those before the last one.

@@ -22,5 +22,6 @@ mod workers;
 
 pub use conf_file::{Outcome, serve_file};
 pub use daemon::{Bounds, ServeFault, serve};
+pub use folders::warn_of_folders;
 pub use port_fault::PortFault;
 pub use serve_line::ServeLine;

@@ -1,11 +1,11 @@
 //! The storage daemon: `sdd serve` serves clients, and `sdd check` reads a configuration on standard input and prints
-//! its values, or what is wrong with it.
+//! its values, or what is wrong with it; on standard error, where that is, and which folders aren't there.
 #![tactic(auto)]
 
 use sd_arguments::{DaemonTask, Serving, daemon_task, status_of};
 use sd_base::Refusal;
 use sd_conf::check_conf;
-use sd_daemon::{Bounds, serve_file};
+use sd_daemon::{Bounds, serve_file, warn_of_folders};
 use sd_serve::Log;
 use sd_text::Printer;
 use std::alloc::Global;
@@ -41,17 +41,21 @@ fn main(rt: HostRuntime) -> ExitCode {
 }
 
 /// Checks the configuration on standard input.
-fn check_input<R: Input + Print + AllocGlobal>(rt: &R) -> ExitCode {
+fn check_input(rt: &HostRuntime) -> ExitCode {
     let alloc = rt.alloc();
     let Ok(mut writer) = BufWriter::new(alloc, io::writer(rt)) else {
         return without_memory(rt);
     };
     let mut out = Printer::new(&mut writer);
-    let status = check_conf(alloc, &mut rt.reader(), &mut out);
+    let mut errors = Printer::new(rt.stderr());
+    let checked = check_conf(alloc, &mut rt.reader(), &mut out, &mut errors);
+    if let Ok(conf) = &checked.conf {
+        warn_of_folders(rt, conf, &mut errors);
+    }
     // What could not be written is given up, and not tried again as the writer goes.
     let _ = out.into_writer();
     let _ = writer.into_parts();
-    ExitCode::from(status)
+    ExitCode::from(checked.status)
 }
 
 /// Serves clients.

@@ -1,59 +1,21 @@
-use Rattle.std.proofs.Common.{inr, inl, refl, Ok, map, Err, codes, unwrap_or}
+use Rattle.std.proofs.Common.{inr, map, codes}
 use Rattle.toml.specs.Data.{get_member}
 use Rattle.toml.specs.View.{table_view}
-use Rattle.sd_conf.specs.Conf.{conf_of, drive_of}
-use Rattle.sd_conf.specs.FirstFault.{FirstFault, SpoolTest, QueueTest, PortTest, HostTest, SpoolFolderTest, DriveTest, TablesFault, ◌then◌, spool_of}
-use Rattle.sd_conf.specs.Limits.{default_host}
-use Rattle.sd_conf.specs.Values.{number_or, text_at, tables_at}
+use Rattle.sd_conf.specs.Conf.{conf_of, drive_of, own_of}
+use Rattle.sd_conf.specs.FirstFault.{FirstFault, OwnFault, DriveTest, TablesFault, ◌then◌}
+use Rattle.sd_conf.specs.Values.{tables_at}
 use Rattle.sd_conf.specs.declared.conf.Conf.{Conf}
-use Rattle.sd_conf.proofs.ConfLemmas.{first_fails, volume_beside, spool_beside, folder_beside, conf_read}
-use Rattle.sd_conf.proofs.ToldLemmas.{passed}
+use Rattle.sd_conf.specs.declared.conf.OwnConf.{OwnConf}
+use Rattle.sd_conf.proofs.ConfLemmas.{first_fails, conf_read}
+use Rattle.sd_conf.proofs.ToldLemmas.{first_tells, passed}
 use Rattle.sd_conf.proofs.read.conf.Goals as goal
 
-pub returns-in_err-spool : goal.returns-in_err-spool
-returns-in_err-spool c =
+pub returns-in_err-own : goal.returns-in_err-own
+returns-in_err-own c =
     let table = table_view c.args.table.now in
-    let fault = c.in_err-spool.field-0.0 in
-    passed (λ (k : Conf). k) (FirstFault table) (conf_of table) fault c.from_residual-in_err-spool.result c.from_residual-in_err-spool.ensures
-    (first_fails (SpoolTest table) (FirstFault table) (spool_of table) (conf_of table) fault
-    (λ found here. inr (c.in_ok-only_known.ensures.0, inr (c.in_ok-block.ensures.told.0, inr ((volume_beside table c.in_ok-block.block (Ok c.in_ok-volume.volume) c.in_ok-block.ensures.told.1 c.in_ok-volume.ensures.told).0, inl (found, here, refl)))))
-    (spool_beside table c.in_ok-block.block (Err fault) c.in_ok-block.ensures.told.1 c.in_err-spool.ensures.told))
-
-pub returns-in_err-queue : goal.returns-in_err-queue
-returns-in_err-queue c =
-    let table = table_view c.args.table.now in
-    let fault = c.in_err-queue.field-0.0 in
-    passed (λ (k : Conf). k) (FirstFault table) (conf_of table) fault c.from_residual-in_err-queue.result c.from_residual-in_err-queue.ensures
-    (first_fails (QueueTest table) (FirstFault table) (number_or 8 (get_member (codes "queue") table)) (conf_of table) fault
-    (λ found here. inr (c.in_ok-only_known.ensures.0, inr (c.in_ok-block.ensures.told.0, inr ((volume_beside table c.in_ok-block.block (Ok c.in_ok-volume.volume) c.in_ok-block.ensures.told.1 c.in_ok-volume.ensures.told).0, inr ((spool_beside table c.in_ok-block.block (Ok c.in_ok-spool.spool) c.in_ok-block.ensures.told.1 c.in_ok-spool.ensures.told).0, inl (found, here, refl))))))
-    c.in_err-queue.ensures.told)
-
-pub returns-in_err-port : goal.returns-in_err-port
-returns-in_err-port c =
-    let table = table_view c.args.table.now in
-    let fault = c.in_err-port.field-0.0 in
-    passed (λ (k : Conf). k) (FirstFault table) (conf_of table) fault c.from_residual-in_err-port.result c.from_residual-in_err-port.ensures
-    (first_fails (PortTest table) (FirstFault table) (number_or 9103 (get_member (codes "port") table)) (conf_of table) fault
-    (λ found here. inr (c.in_ok-only_known.ensures.0, inr (c.in_ok-block.ensures.told.0, inr ((volume_beside table c.in_ok-block.block (Ok c.in_ok-volume.volume) c.in_ok-block.ensures.told.1 c.in_ok-volume.ensures.told).0, inr ((spool_beside table c.in_ok-block.block (Ok c.in_ok-spool.spool) c.in_ok-block.ensures.told.1 c.in_ok-spool.ensures.told).0, inr (c.in_ok-queue.ensures.told.0, inl (found, here, refl)))))))
-    c.in_err-port.ensures.told)
-
-pub returns-in_err-host : goal.returns-in_err-host
-returns-in_err-host c =
-    let table = table_view c.args.table.now in
-    let fault = c.in_err-host.field-0.0 in
-    passed (λ (k : Conf). k) (FirstFault table) (conf_of table) fault c.from_residual-in_err-host.result c.from_residual-in_err-host.ensures
-    (first_fails (HostTest (get_member (codes "host") table)) (FirstFault table) (unwrap_or (text_at (get_member (codes "host") table)) default_host) (conf_of table) fault
-    (λ found here. inr (c.in_ok-only_known.ensures.0, inr (c.in_ok-block.ensures.told.0, inr ((volume_beside table c.in_ok-block.block (Ok c.in_ok-volume.volume) c.in_ok-block.ensures.told.1 c.in_ok-volume.ensures.told).0, inr ((spool_beside table c.in_ok-block.block (Ok c.in_ok-spool.spool) c.in_ok-block.ensures.told.1 c.in_ok-spool.ensures.told).0, inr (c.in_ok-queue.ensures.told.0, inr (c.in_ok-port.ensures.told.0, inl (found, here, refl))))))))
-    c.in_err-host.ensures)
-
-pub returns-in_err-spool_folder : goal.returns-in_err-spool_folder
-returns-in_err-spool_folder c =
-    let table = table_view c.args.table.now in
-    let fault = c.in_err-spool_folder.field-0.0 in
-    passed (λ (k : Conf). k) (FirstFault table) (conf_of table) fault c.from_residual-in_err-spool_folder.result c.from_residual-in_err-spool_folder.ensures
-    (first_fails (SpoolFolderTest table) (FirstFault table) (text_at (get_member (codes "spool_folder") table)) (conf_of table) fault
-    (λ found here. inr (c.in_ok-only_known.ensures.0, inr (c.in_ok-block.ensures.told.0, inr ((volume_beside table c.in_ok-block.block (Ok c.in_ok-volume.volume) c.in_ok-block.ensures.told.1 c.in_ok-volume.ensures.told).0, inr ((spool_beside table c.in_ok-block.block (Ok c.in_ok-spool.spool) c.in_ok-block.ensures.told.1 c.in_ok-spool.ensures.told).0, inr (c.in_ok-queue.ensures.told.0, inr (c.in_ok-port.ensures.told.0, inr (c.in_ok-host.ensures.0, inl (found, here, refl)))))))))
-    (folder_beside table c.in_ok-spool.spool (Err fault) c.in_ok-spool.ensures.told.1 c.in_err-spool_folder.ensures))
+    let drives = DriveTest table then TablesFault (tables_at (get_member (codes "drive") table)) in
+    passed (λ (k : Conf). k) (FirstFault table) (conf_of table) c.in_err-own.field-0.0 c.from_residual.result c.from_residual.ensures
+    (first_tells (λ (k : OwnConf). k) (λ (k : Conf). k) (OwnFault table) drives (own_of table) (conf_of table) c.in_err-own.field-0.0 c.in_err-own.ensures)
 
 pub returns-in_err-drives : goal.returns-in_err-drives
 returns-in_err-drives c =
@@ -61,13 +23,11 @@ returns-in_err-drives c =
     let fault = c.in_err-drives.field-0.0 in
     passed (λ (k : Conf). k) (FirstFault table) (conf_of table) fault c.from_residual-in_err-drives.result c.from_residual-in_err-drives.ensures
     (first_fails (DriveTest table then TablesFault (tables_at (get_member (codes "drive") table))) (FirstFault table) (map drive_of (tables_at (get_member (codes "drive") table))) (conf_of table) fault
-    (λ found here. inr (c.in_ok-only_known.ensures.0, inr (c.in_ok-block.ensures.told.0, inr ((volume_beside table c.in_ok-block.block (Ok c.in_ok-volume.volume) c.in_ok-block.ensures.told.1 c.in_ok-volume.ensures.told).0, inr ((spool_beside table c.in_ok-block.block (Ok c.in_ok-spool.spool) c.in_ok-block.ensures.told.1 c.in_ok-spool.ensures.told).0, inr (c.in_ok-queue.ensures.told.0, inr (c.in_ok-port.ensures.told.0, inr (c.in_ok-host.ensures.0, inr ((folder_beside table c.in_ok-spool.spool (Ok c.in_ok-spool_folder.spool_folder) c.in_ok-spool.ensures.told.1 c.in_ok-spool_folder.ensures).0, here)))))))))
-    c.in_err-drives.ensures)
+    (λ found here. inr (c.in_ok-own.ensures.0, here)) c.in_err-drives.ensures)
 
 pub returns : goal.returns
 returns c =
     let table = table_view c.args.table.now in (
-      inr (c.in_ok-only_known.ensures.0, inr (c.in_ok-block.ensures.told.0, inr ((volume_beside table c.in_ok-block.block (Ok c.in_ok-volume.volume) c.in_ok-block.ensures.told.1 c.in_ok-volume.ensures.told).0, inr ((spool_beside table c.in_ok-block.block (Ok c.in_ok-spool.spool) c.in_ok-block.ensures.told.1 c.in_ok-spool.ensures.told).0, inr (c.in_ok-queue.ensures.told.0, inr (c.in_ok-port.ensures.told.0, inr (c.in_ok-host.ensures.0, inr ((folder_beside table c.in_ok-spool.spool (Ok c.in_ok-spool_folder.spool_folder) c.in_ok-spool.ensures.told.1 c.in_ok-spool_folder.ensures).0, c.in_ok-drives.ensures.0)))))))),
-      conf_read table c.in_ok-block.block c.in_ok-volume.volume c.in_ok-spool.spool c.in_ok-queue.queue c.in_ok-port.port c.in_ok-host.host c.in_ok-spool_folder.spool_folder c.in_ok-drives.drives
-          c.in_ok-block.ensures.told.1 c.in_ok-volume.ensures.told.1 c.in_ok-spool.ensures.told.1 c.in_ok-queue.ensures.told.1 c.in_ok-port.ensures.told.1 c.in_ok-host.ensures.1 c.in_ok-spool_folder.ensures.1 c.in_ok-drives.ensures.1,
+      inr (c.in_ok-own.ensures.0, c.in_ok-drives.ensures.0),
+      conf_read table c.in_ok-own.own c.in_ok-drives.drives c.in_ok-own.ensures.1 c.in_ok-drives.ensures.1,
     )
