@@ -1,4 +1,4 @@
-// Packing records into bodies and unpacking them again, beside a copy of as many bytes.
+// Packing records into bodies, each with its checksum, and unpacking them again, beside a copy of as many bytes.
 use crate::rate::{Length, print_copies, print_rate, tell};
 use sd_base::{Bytes, JobId, MediaName, PoolName, Rec};
 use sd_label::SessionLabel;

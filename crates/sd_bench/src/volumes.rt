@@ -1,4 +1,5 @@
-// Volumes on devices: blocks added one after another, and the adoption of what they made.
+// Volumes on devices: blocks added one after another, and the adoption of what they made. All blocks have one body, whose
+// checksum is taken once, before.
 ghost use Rattle.std.specs.Prelude.{◌≡◌, None, Some};
 
 use crate::rate::{Length, print_rate, tell, tell_sum};
