@@ -1,8 +1,6 @@
 -- The lines of the board: the nth is that of number n.
-use Rattle.std.proofs.Common.{◌≡◌, ℕ, ◌+◌, ◌<◌, sym, ap, subst, ◌∙◌, inl, inr, arith, Some, List, [], ◌∷◌, ◌++◌, length, slice_get, slice_set}
-use Rattle.std.proofs.lemmas.List.{length-append}
-use Rattle.sd_base.specs.Limits.{most_number}
-use Rattle.sd_drive.proofs.Places.{get_more, length_set}
+use Rattle.std.proofs.Common.{◌≡◌, ℕ, ◌+◌, sym, ap, ◌∙◌, inl, inr, arith, Some, List, [], slice_get, slice_set}
+use Rattle.sd_drive.proofs.Places.{length_set}
 use Rattle.sd_world.proofs.Lookups.{get_set-tells}
 use Rattle.sd_board.specs.Lines.{KeepsLines}
 use Rattle.sd_board.specs.declared.posted.Posted.{Posted}
@@ -10,18 +8,6 @@ use Rattle.sd_board.specs.declared.posted.Posted.{Posted}
 -- each line has the number of its place
 abbrev pub HaveTickets : List Posted → Type 0
 HaveTickets ps = (at : ℕ) (p : Posted) → slice_get ps at ≡ Some p → p.ticket ≡ at + 1
-
--- one more, of the next number
-pub keeps_more : (ps new : List Posted) (p : Posted) (promised promised' : ℕ) → KeepsLines (record { sessions = ps; promised = promised }) → p.ticket ≡ length ps + 1
-    → length ps < most_number → new ≡ ps ++ p ∷ [] → KeepsLines (record { sessions = new; promised = promised' })
-keeps_more ps new p promised promised' h is few more =
-    let long : length (ps ++ p ∷ []) ≡ length ps + 1 = length-append ps (p ∷ []) in
-    let all : HaveTickets (ps ++ p ∷ []) = λ at q there. elim (get_more ps p at q there) [
-      | inl front ↦ h.tickets at q front
-      | inr last ↦ ap (λ (x : Posted). x.ticket) last.value ∙ is ∙ ap (λ n. n + 1) (sym last.place)
-    ] in
-    let same : length new ≡ length ps + 1 = ap length more ∙ long in
-    record { most = omega (arith, same, few); tickets = subst HaveTickets (sym more) all }
 
 -- another of its number in a line's place
 pub keeps_said : (ps : List Posted) (promised at : ℕ) (p new : Posted) → KeepsLines (record { sessions = ps; promised = promised }) → slice_get ps at ≡ Some p → new.ticket ≡ p.ticket

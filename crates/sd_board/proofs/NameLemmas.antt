@@ -73,17 +73,6 @@ module _ (old new : NamesIs) (name : List ℕ) (free : place_of name old ≡ Now
       (λ d is. absurd (cc (ap drive_in gone, is)))
       (λ other apart d is. ap drive_in (same other) ∙ keeps other d (sym (ap drive_in (others other apart)) ∙ is))
 
--- none was begun
-pub stays_same : (old new : NamesIs) → SameClaims old.coming new.coming → new.desk ≡ old.desk → NamesStay old new
-stays_same old new same is = record {
-  places = λ name. same_place old new name (same name) (ap (λ (d : DeskView). claim_of d name) is);
-  requests = ap (λ (d : DeskView). d.requests) is;
-}
-
-pub keeps_same : (old new : NamesIs) → SameClaims old.coming new.coming → new.desk ≡ old.desk → KeepsNames old → KeepsNames new
-keeps_same old new same is keeps name drive comes =
-    ap (λ (d : DeskView). claimed_by d name) is ∙ keeps name drive (sym (ap drive_in (same name)) ∙ comes)
-
 -- The claiming of a name ends.
 
 -- the places of a name that another desk has
@@ -123,11 +112,3 @@ module _ (old new : NamesIs) (name : List ℕ) (keeps : KeepsNames old) (at : �
       all_names (λ x. (d : ℕ) → claimed_by new.coming x ≡ Some d → claimed_by new.desk x ≡ Some d) name
       (λ d is. absurd (cc (ap drive_in gone, is)))
       (λ other apart d is. ap drive_in (stay other apart) ∙ keeps other d (sym (ap drive_in (others other apart)) ∙ is))
-
--- it wasn't begun
-pub ends_none : (kept : Bool) (name : List ℕ) (n : NamesIs) → claimed_by n.coming name ≡ None → EndsClaim kept name n n
-ends_none kept name n none = record {
-  kept_there = λ drive was is. absurd (cc (none, coming (claimed_by n.coming name) (claimed_by n.desk name) drive was));
-  let_go = λ drive was is. absurd (cc (none, coming (claimed_by n.coming name) (claimed_by n.desk name) drive was));
-  not_coming = λ no. refl;
-}

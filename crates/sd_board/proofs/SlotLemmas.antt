@@ -1,7 +1,6 @@
 -- The slots of a drive: which lane is free, and what changes with one of them.
-use Rattle.std.proofs.Common.{◌≡◌, ℕ, zero, suc, ◌+◌, ◌-◌, ◌≤◌, ◌<◌, refl, sym, ap, subst, ◌∙◌, inl, inr, arith, Bool, true, false, cond, not, Option, Some, None, List, [], ◌∷◌, ◌++◌, length, map, get_or, slice_get, slice_set, take}
+use Rattle.std.proofs.Common.{◌≡◌, ℕ, zero, suc, ◌+◌, ◌-◌, ◌≤◌, ◌<◌, refl, sym, ap, subst, ◌∙◌, inl, inr, arith, Bool, true, false, cond, Option, Some, None, List, [], ◌∷◌, ◌++◌, length, map, get_or, slice_get, slice_set, take}
 use Rattle.std.specs.Prelude.{◌↔◌, IsSome, IsTrue, IfNone, IfSome, MatchBool, is_none, is_some}
-use Rattle.std.proofs.lemmas.Bool.{and_parts}
 use Rattle.std.specs.Option.{option_to_list}
 use Rattle.std.proofs.lemmas.List.{append_assoc, append-nil, length-append, length-map, map-append, take_more}
 use Rattle.std.proofs.lemmas.Option.{get_or_from_slice_get}
@@ -16,10 +15,6 @@ use Rattle.sd_board.specs.Slots.{AreNew, DriveLanesIs, IsAtHome, IsFree, KeepsLa
 use Rattle.sd_board.specs.declared.sent.Sent.{Sent}
 
 -- Free lanes.
-
--- in a free lane's slot its end lies
-pub free_end : (s : SlotIs) → IsFree s → IsSome s.end
-free_end s free = (and_parts (is_some s.end) (not (is_some s.on_its_way)) free).0
 
 -- if one is free, one is the lowest
 pub some_lowest : (ss : List SlotIs) (lowest : Option ℕ) → (NoneOf IsFree ss → ⊥) → IfNone lowest (NoneOf IsFree ss) → IsSome lowest

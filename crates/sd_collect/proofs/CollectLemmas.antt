@@ -5,17 +5,15 @@ use Rattle.std.proofs.lemmas.Int.{ints}
 use Rattle.std.proofs.lemmas.List.{append_assoc, append-nil, drop_all}
 use Rattle.sd_base.specs.Record.{Record, IsRecord}
 use Rattle.sd_record.specs.Fragment.{FitTogether, Fragment, Fragments, StandsAt, fragment_bytes, fragments_bytes}
-use Rattle.sd_record.proofs.RecordLemmas.{rest_same}
 use Rattle.sd_label.specs.declared.label.SessionLabel.{SessionLabel}
 use Rattle.sd_label.specs.Label.{session_label_fragment}
 use Rattle.sd_label.specs.Cutting.{Between, IsSession, IsStart}
 use Rattle.sd_unpack.specs.Damage.{AreWhole, BeginsWithNone, Continues}
-use Rattle.sd_unpack.specs.Stage.{IsPartway, Opens, due_record}
+use Rattle.sd_unpack.specs.Stage.{IsPartway, Opens}
 use Rattle.sd_unpack.specs.declared.stage.Due.{Due}
 use Rattle.sd_unpack.proofs.BatchLemmas.{goes_on_last, some_left, stands_within}
 use Rattle.sd_unpack.proofs.BodyLemmas.{fragments_bytes-append, whole_fit, whole_more}
 use Rattle.sd_unpack.proofs.NextLemmas.{next_partway, opens_unfinished}
-use Rattle.sd_unpack.proofs.StageLemmas.{due_after, due_record_is, last_continues, partway_more}
 use Rattle.sd_collect.specs.Collect.{AreTokensOf, Begins, Collecting, GoesOn, Pends, PendsBy, Takes, due_in, records_in}
 use Rattle.sd_collect.specs.declared.due.Due.{Due as OwnDue}
 use Rattle.sd_collect.specs.Whole.{Gap, Given, Part, Passed, Stands, Step, Token, given, parts_of}
@@ -68,21 +66,6 @@ opens_next : (behind : List Fragment) (due : Due) (so_far : List ℕ) (r : Recor
     → Fragments r (behind ++ f ∷ more) → Continues due f
 opens_next behind due so_far r f more opens is c =
     next_partway (session_label_fragment some_label ∷ behind) [] (r ∷ []) due so_far Between f more (partway_of behind due so_far opens) (session_of (behind ++ f ∷ more) r is c)
-
--- one fragment more, and not the last
-pub opens_more : (behind : List Fragment) (due : Due) (so_far : List ℕ) (f : Fragment) → Opens behind due so_far → Continues due f → length f.part < due.left
-    → Opens (behind ++ f ∷ []) (due_after due f.part) (so_far ++ f.part)
-opens_more behind due so_far f opens goes short =
-    let s = partway_more (session_label_fragment some_label ∷ behind) [] due so_far f (partway_of behind due so_far opens) goes short in
-    let order = rest_same (session_label_fragment some_label) (session_label_fragment s.start) (behind ++ f ∷ []) (s.parts ++ s.behind) s.order in
-    let all : s.behind ≡ behind ++ f ∷ [] = sym (order ∙ ap (λ (l : List Fragment). l ++ s.behind) s.parts_are) in
-    subst (λ (l : List Fragment). Opens l (due_after due f.part) (so_far ++ f.part)) all s.behind_is
-
--- the last one
-pub opens_last : (behind : List Fragment) (due : Due) (so_far : List ℕ) (f : Fragment) → Opens behind due so_far → Continues due f → length f.part ≡ due.left
-    → IsRecord (due_record due (so_far ++ f.part)) × Fragments (due_record due (so_far ++ f.part)) (behind ++ f ∷ [])
-opens_last behind due so_far f opens goes long =
-    (due_record_is due so_far f.part opens.due_is long, opens.whatever_comes f.part (f ∷ []) long (last_continues due f goes long))
 
 -- a fragment that begins a record goes on with none
 begins_anew : (due : Due) (f : Fragment) → Begins f → Continues due f → ⊥

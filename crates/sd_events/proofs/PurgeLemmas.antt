@@ -1,10 +1,10 @@
 -- A volume of a drive is emptied, and the sessions that had a block on it are purged.
-use Rattle.std.proofs.Common.{◌≡◌, ◌≢◌, ◌⊎◌, ℕ, ◌<◌, ◌≤◌, ◌==◌, ◌&&◌, Bool, true, false, true≢false, refl, sym, ap, subst, ◌∙◌, ap₂, arith, inl, inr, Option, Some, None, All, List, [], ◌∷◌, ◌++◌, length, take, drop, map, get_or, slice_get, slice_set, Err, cond}
+use Rattle.std.proofs.Common.{◌≡◌, ◌≢◌, ◌⊎◌, ℕ, ◌<◌, ◌==◌, ◌&&◌, Bool, true, false, true≢false, refl, sym, ap, subst, ◌∙◌, ap₂, arith, inl, inr, Option, Some, None, All, List, [], ◌∷◌, ◌++◌, length, take, drop, map, get_or, slice_get, slice_set, Err, cond}
 use Rattle.std.specs.Prelude.{IsErrOf, if◌then◌else◌}
 use Rattle.std.specs.List.{list_any}
 use Rattle.std.specs.Str.{bytes_eq}
 use Rattle.std.proofs.lemmas.Bool.{eqb-true}
-use Rattle.std.proofs.lemmas.List.{length-take, length-map, get_or_at, drop_more, take_all, drop_all, append-nil}
+use Rattle.std.proofs.lemmas.List.{length-take, length-map, get_or_at, drop_more}
 use Rattle.std.proofs.lemmas.Option.{slice_get-get_or}
 use Rattle.std.specs.Option.{option_or}
 use Rattle.sd_base.specs.declared.refusal.Refusal.{Refusal}
@@ -105,11 +105,6 @@ read_still f xs ys i x below becomes is =
     let front = map f (take i xs) in
     let long : length front ≡ i = length-map (take i xs) f ∙ omega (arith, length-take i xs) in
     is ∙ ap (λ l. get_or l i x) (becomes ∙ ap (λ l. front ++ l) (drop_more xs i x below)) ∙ get_or_at front _ _ x i long
-
--- all were looked at
-pub all_over : {X : Type 0} (f : X → X) (xs ys : List X) (i : ℕ) → length xs ≤ i → ys ≡ map f (take i xs) ++ drop i xs → ys ≡ map f xs
-all_over f xs ys i past becomes =
-    becomes ∙ ap (λ l. map f l ++ drop i xs) (take_all i xs past) ∙ ap (λ l. map f xs ++ l) (drop_all i xs past) ∙ append-nil (map f xs)
 
 -- none of those that are purged goes on
 pub none_goes_on : {D : Type 0} (w : WorldView D) (drive : ℕ) (d : DriveIs D) (name : List ℕ) → IsWorld w

@@ -1,6 +1,6 @@
 -- The store of a lane that is free can be taken.
 use Rattle.std.proofs.Common.{◌≡◌, ℕ, refl, sym, ap, subst, ◌∙◌, inl, inr, Bool, true, true≢false, List, Option, Some, None, slice_get}
-use Rattle.std.specs.Prelude.{IsTrue, IsSome, IfNone, is_some}
+use Rattle.std.specs.Prelude.{IsTrue, IsSome, IfNone}
 use Rattle.std.proofs.lemmas.Option.{slice_get-map}
 use Rattle.sd_base.specs.Choice.{FirstOf}
 use Rattle.sd_journal.specs.Journal.{Entry}
@@ -73,19 +73,9 @@ held_by lane sessions (store, after, inl p) none = absurd (cc (p.0, none))
 held_by lane sessions (store, after, inr p) none =
     record { ticket = p.1; e = p.2; store = store; holder = p.4; found = p.5; over = p.6.over; has = p.6.store_is }
 
-pub has_holder : (lane : LaneView) (sessions : List WorldSession) → IsHeld lane sessions → IsSome lane.holder
-has_holder lane sessions h = ap is_some h.holder
-
 -- the ticket that was read is his
 pub same_ticket : (lane : LaneView) (sessions : List WorldSession) (ticket : ℕ) (h : IsHeld lane sessions) → lane.holder ≡ Some ticket → h.ticket ≡ ticket
 same_ticket lane sessions ticket h is = cc (sym h.holder ∙ is)
-
-pub is_found : {A : Type 0} (lane : LaneView) (sessions : List WorldSession) (ticket : ℕ) (o : Option A) → IsHeld lane sessions → lane.holder ≡ Some ticket
-    → IfNone o (session_at ticket sessions ≡ None) → IsSome o
-is_found lane sessions ticket (Some at) h is told = refl
-is_found lane sessions ticket None h is told =
-    let found : session_at ticket sessions ≡ Some h.e = subst (λ n. session_at n sessions ≡ Some h.e) (same_ticket lane sessions ticket h is) h.found in
-    absurd (cc (found, told))
 
 pub gives : {A : Type 0} (lane : LaneView) (sessions : List WorldSession) (ticket : ℕ) (e : WorldSession) (s : SessionView) (o : Option A) → IsHeld lane sessions
     → lane.holder ≡ Some ticket → session_at ticket sessions ≡ Some e → IfNone o (KeepsStore e.session s) → IsSome o

@@ -1,7 +1,7 @@
 -- What a step of a file is to a device: how the shelf changes, and that stable bytes stay.
 use Rattle.std.proofs.Common.{◌≡◌, ◌≢◌, ℕ, zero, suc, ◌≤◌, inl, inr, Bool, true, false, List, [], ◌∷◌, ◌++◌, length, take, Option, Some, None, refl, ap, sym, ◌∙◌, subst, arith, IsTrue, option_map, if◌then◌else◌, Result, Ok, Err, OnOk, OnErr}
 use Rattle.std.proofs.Math.Seq.{take-length}
-use Rattle.sd_driver.specs.Shelf.{Held, BeginsWith, KeepsStable, Changes, Creates, MayCreate, MayAppend, MaySync, stable_bytes}
+use Rattle.sd_driver.specs.Shelf.{Held, BeginsWith, KeepsStable, Changes, MayAppend, MaySync, stable_bytes}
 use Rattle.sd_driver.proofs.Names.{name_cases}
 use Rattle.sd_driver.proofs.Lasting.{BeginsWith-same, BeginsWith-own_take}
 use Rattle.sd_folder.specs.Meaning.{FileState, FolderMeaning, IsHonest, Goes, SameFiles, shelf_of, held_of}
@@ -107,16 +107,6 @@ MayMake-of name a b makes = record {
   others = makes.others;
 }
 
-pub MayCreate-of : (name : List ℕ) (a b : FolderMeaning) → MayMake name a b → MayCreate name (shelf_of a) (shelf_of b)
-MayCreate-of name a b may = record {
-  there = λ held is. of (a.file name) refl held is;
-  others = λ other differs. ap (option_map held_of) (may.others other differs);
-}
-  where
-    of : (o : Option FileState) → a.file name ≡ o → (held : Held) → (shelf_of a).volume name ≡ Some held → (shelf_of b).volume name ≡ Some held
-    of None e held is = (let none = ap (option_map held_of) (sym e) ∙ is in cc)
-    of (Some s) e held is = ap (option_map held_of) (may.there s e ∙ sym e) ∙ is
-
 pub MayAppend-of : (name : List ℕ) (loaded : Option (List ℕ)) (a b : FolderMeaning) → loaded ≡ Some name → MayAdd name a b → MayAppend loaded (shelf_of a) (shelf_of b)
 MayAppend-of name loaded a b is takes = Changes-of _ _ name loaded a b (λ s t step. (step.0, ap held_of step.1)) is takes
 
@@ -131,10 +121,6 @@ by_result (Err error) P Q R p q f g = g q
 pub on_err : {T E : Type 0} (r : Result T E) (P Q : Type 0) → (P → Q) → OnErr r P → OnErr r Q
 on_err (Ok value) P Q f p = tt
 on_err (Err error) P Q f p = f p
-
-pub on_ok : {T E : Type 0} (r : Result T E) (P Q : Type 0) → (P → Q) → OnOk r P → OnOk r Q
-on_ok (Ok value) P Q f p = f p
-on_ok (Err error) P Q f p = tt
 
 pub KeepsStable-looked : (a b c : FolderMeaning) → SameFiles a b → KeepsStable (shelf_of b) (shelf_of c) → KeepsStable (shelf_of a) (shelf_of c)
 KeepsStable-looked a b c same keeps name = let P : Option FileState → Type 0 = λ o. BeginsWith (stable_bytes ((shelf_of c).volume name)) (stable_bytes (option_map held_of o)) in subst P (same name) (keeps name)
@@ -178,15 +164,3 @@ IsOpen-made under own name a b may open_ =
 pub any_err : {T E : Type 0} (r : Result T E) (Q : Type 0) → Q → OnErr r Q
 any_err (Ok value) Q q = tt
 any_err (Err error) Q q = q
-
--- a new file is a new volume
-pub Creates-of : (name : List ℕ) (a b : FolderMeaning) → Makes name a b → Creates name (shelf_of a) (shelf_of b)
-Creates-of name a b makes = record {
-  absent = ap (option_map held_of) makes.absent;
-  made = ap (option_map held_of) makes.made ∙ ap Some (new_held makes.lasts);
-  others = λ other differs. ap (option_map held_of) (makes.others other differs);
-}
-  where
-    new_held : (named : Bool) → held_of (record { bytes = []; written = 0; named = named; torn = false }) ≡ record { bytes = []; stable = 0 }
-    new_held true = refl
-    new_held false = refl

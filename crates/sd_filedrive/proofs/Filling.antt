@@ -100,15 +100,6 @@ pub if_ok : {T E : Type 0} (r : Result T E) (P Q : T → Type 0) → ((x : T) �
 if_ok (Ok value) P Q f p = f value p
 if_ok (Err error) P Q f p = tt
 
--- what a device tells after a look it could have told before
-pub tells_bytes_looked : (name : List ℕ) (at room count : ℕ) (buffer : List ℕ) (a b : FolderMeaning) → SameFiles a b → TellsBytes name at room count buffer (shelf_of b) → TellsBytes name at room count buffer (shelf_of a)
-tells_bytes_looked name at room count buffer a b same tells = record {
-  held = tells.held;
-  there = ap (option_map held_of) (sym (same name)) ∙ tells.there;
-  count_is = tells.count_is;
-  bytes = tells.bytes;
-}
-
 pub tells_length_looked : (name : List ℕ) (count : ℕ) (a b : FolderMeaning) → SameFiles a b → TellsLength name count (shelf_of b) → TellsLength name count (shelf_of a)
 tells_length_looked name count a b same tells = record {
   held = tells.held;

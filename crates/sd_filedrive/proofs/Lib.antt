@@ -3,4 +3,3 @@ pub mod Torn
 pub mod Filling
 pub mod Changing
 pub mod Cutting
-pub mod Lifting

@@ -1,9 +1,9 @@
 -- How calls of a folder, one after another, make one call of a device.
-use Rattle.std.proofs.Common.{◌≡◌, ◌≢◌, ℕ, suc, ◌≤◌, ◌⊎◌, inl, inr, Bool, true, false, List, Option, Some, None, refl, ap, sym, ◌∙◌, subst, arith, IsTrue, option_map, length, if◌then◌else◌}
-use Rattle.sd_driver.specs.Shelf.{Shelf, Held, SameShelf, OtherShelf, Passes}
+use Rattle.std.proofs.Common.{◌≡◌, ◌≢◌, ℕ, suc, ◌≤◌, ◌⊎◌, inl, inr, Bool, true, List, Option, Some, None, refl, ap, sym, ◌∙◌, subst, arith, IsTrue, option_map, length}
+use Rattle.sd_driver.specs.Shelf.{Shelf, SameShelf, OtherShelf, Passes}
 use Rattle.sd_driver.proofs.Names.{name_cases}
-use Rattle.sd_folder.specs.Meaning.{FileState, FolderMeaning, IsHonest, Goes, SameFiles, Stands, shelf_of, held_of}
-use Rattle.sd_folder.specs.Steps.{Takes, SyncsData, SyncsName, MaySyncName, DataSynced, named_too}
+use Rattle.sd_folder.specs.Meaning.{FileState, FolderMeaning, IsHonest, Goes, SameFiles, shelf_of, held_of}
+use Rattle.sd_folder.specs.Steps.{Takes, SyncsName, DataSynced, named_too}
 use Rattle.sd_filedrive.specs.declared.files.Loaded.{Loaded}
 use Rattle.sd_filedrive.specs.Known.{Looks, Knows}
 
@@ -14,13 +14,6 @@ honest_after old new goes h = let P : Bool → Type 0 = λ b. IsTrue b in subst 
 -- the same files are the same shelf
 pub SameShelf-files : (old new : FolderMeaning) → SameFiles old new → SameShelf (shelf_of old) (shelf_of new)
 SameShelf-files old new same name = ap (option_map held_of) (same name)
-
--- no call
-pub Passes-none : (m : FolderMeaning) → Stands m → Passes (shelf_of m) (shelf_of m)
-Passes-none m stands = record { moments = inl (λ name. refl, refl); past = λ moment name le. refl; now = stands.now }
-
-pub Looks-none : (m : FolderMeaning) → (IsHonest m → Stands m) → Looks m m
-Looks-none m stands = record { goes = record { honest = refl; passes = λ h. Passes-none m (stands h) }; same = λ h name. refl }
 
 -- two calls, of which at most one changes a volume
 pub Passes-two : (a b c : Shelf) → Passes a b → Passes b c → SameShelf a b ⊎ SameShelf b c → Passes a c
@@ -86,49 +79,8 @@ same_but a b name here others other = elim (name_cases other name) [
   | inr differs ↦ ap (option_map held_of) (others other differs)
 ]
 
--- a file as a volume, by its parts
-abbrev pub held_by : List ℕ → Bool → ℕ → Held
-held_by bytes named written = record { bytes = bytes; stable = if named then written else 0 }
-
--- of a file whose name may be lost nothing lasts
-held_unnamed : (s t : FileState) → DataSynced s t → s.named ≡ false → held_of t ≡ held_of s
-held_unnamed s t st unnamed =
-    ap (λ b. held_by b t.named t.written) st.bytes ∙ ap (λ n. held_by s.bytes n t.written) (st.named ∙ unnamed) ∙ sym (ap (λ n. held_by s.bytes n s.written) unnamed)
-
--- a name that lasts is not made to last again
-held_named : (t u : FileState) → (u ≡ t) ⊎ (u ≡ named_too t) → t.named ≡ true → held_of u ≡ held_of t
-held_named t u (inl e) named = ap held_of e
-held_named t u (inr e) named = ap held_of e ∙ sym (ap (λ n. held_by t.bytes n t.written) named)
-
--- a sync of the data and one of the name: only one of them makes bytes last
-pub once_synced : (name : List ℕ) (a b c : FolderMeaning) → a.file name ≢ None → SyncsData name a b → MaySyncName name b c
-    → SameShelf (shelf_of a) (shelf_of b) ⊎ SameShelf (shelf_of b) (shelf_of c)
-once_synced name a b c there data_step name_step =
-    let s = state_at a name there in
-    let t = data_step.here s.0 s.1 in
-    let u = name_step.here t.0 t.2 in
-    by_name s.0 t.0 u.0 s.1 t.1 t.2 u.1 u.2 s.0.named refl
-  where
-    by_name : (s t u : FileState) → a.file name ≡ Some s → DataSynced s t → b.file name ≡ Some t
-        → (u ≡ t) ⊎ (u ≡ named_too t) → c.file name ≡ Some u
-        → (n : Bool) → s.named ≡ n → SameShelf (shelf_of a) (shelf_of b) ⊎ SameShelf (shelf_of b) (shelf_of c)
-    by_name s t u sa st tb step uc false unnamed = inl (same_but a b name (ap (option_map held_of) tb ∙ ap Some (held_unnamed s t st unnamed) ∙ sym (ap (option_map held_of) sa)) data_step.others)
-    by_name s t u sa st tb step uc true named = inr (same_but b c name (ap (option_map held_of) uc ∙ ap Some (held_named t u step (st.named ∙ named)) ∙ sym (ap (option_map held_of) tb)) name_step.others)
-
-pub SyncsName-may : (name : List ℕ) (a b : FolderMeaning) → SyncsName name a b → MaySyncName name a b
-SyncsName-may name a b takes = record { here = λ state is. (let t = takes.here state is in (t.0, inr t.1, t.2)); others = takes.others }
-
 pub Takes-under : (step : FileState → FileState → Type 0) (under name : List ℕ) (a b : FolderMeaning) → under ≡ name → Takes step under a b → Takes step name a b
 Takes-under step under name a b same takes = let P : List ℕ → Type 0 = λ n. Takes step n a b in subst P same takes
-
--- both calls as one of the folder
-pub Goes-synced : (name : List ℕ) (a b c : FolderMeaning) → Goes a b → Goes b c
-    → (IsHonest a → (a.file name ≢ None) × SyncsData name a b × MaySyncName name b c) → Goes a c
-Goes-synced name a b c first second steps = record {
-  honest = second.honest ∙ first.honest;
-  passes = λ h. (let s = steps h in
-      Passes-two _ _ _ (first.passes h) (second.passes (honest_after a b first h)) (once_synced name a b c s.0 s.1 s.2));
-}
 
 -- what a step leaves of a file that was there
 after_step : (step : FileState → FileState → Type 0) (name : List ℕ) (a b : FolderMeaning) → a.file name ≢ None → Takes step name a b

@@ -3,11 +3,11 @@ use Rattle.std.proofs.Common.{◌≡◌, ◌≢◌, ℕ, ◌+◌, ◌≤◌, inl
 use Rattle.std.specs.Str.{bytes_eq}
 use Rattle.std.proofs.lemmas.Slice.Eq.{bytes_eq-Decides}
 use Rattle.sd_driver.proofs.Names.{name_cases}
-use Rattle.sd_folder.specs.Meaning.{FileState, FolderMeaning, SameFiles, NoneTorn}
+use Rattle.sd_folder.specs.Meaning.{FileState, FolderMeaning}
 use Rattle.sd_folder.specs.Steps.{Takes, MayMake}
 use Rattle.sd_base.proofs.ChoiceLemmas.{same_some}
 use Rattle.sd_filedrive.specs.declared.files.Torn.{Torn}
-use Rattle.sd_filedrive.specs.Torn.{torn_at, noted_first, IsNoted, Covers, IsSound, IsWhole}
+use Rattle.sd_filedrive.specs.Torn.{torn_at, noted_first, IsNoted, Covers}
 
 not_both : {b : Bool} → b ≡ true → b ≡ false → ⊥
 not_both t f = cc
@@ -29,13 +29,6 @@ noted_other [] x name differs = ap (λ b. if b then Some x.synced else None) (is
     is_false true e = absurd (differs (sym ((bytes_eq-Decides x.name name).0 e)))
 noted_other (t ∷ rest) x name differs = ap (noted_first t name) (noted_other rest x name differs)
 
--- the same files are covered
-pub Covers-looked : (torn : List Torn) (a b : FolderMeaning) → SameFiles a b → Covers torn a → Covers torn b
-Covers-looked torn a b same covers name state is = covers name state (sym (same name) ∙ is)
-
-pub Covers-none : (folder : FolderMeaning) → NoneTorn folder → Covers [] folder
-Covers-none folder none name state is t = absurd (not_both t (none name state is))
-
 -- a file more, of which no sync failed
 pub Covers-made : (torn : List Torn) (name : List ℕ) (a b : FolderMeaning) → MayMake name a b → Covers torn a → Covers torn b
 Covers-made torn name a b may covers other state is t = elim (name_cases other name) [
@@ -47,22 +40,6 @@ Covers-made torn name a b may covers other state is t = elim (name_cases other n
     of : b.file name ≡ Some state → (o : Option FileState) → a.file name ≡ o → IsNoted torn name state
     of here None e = absurd (not_both t (may.untorn state e here))
     of here (Some s) e = covers name state (e ∙ sym (may.there s e) ∙ here) t
-
--- a step of a whole file that leaves it whole
-pub Covers-kept : (torn : List Torn) (step : FileState → FileState → Type 0) (name : List ℕ) (a b : FolderMeaning)
-    → ((s t : FileState) → step s t → s.torn ≡ false → t.torn ≡ false)
-    → a.file name ≢ None → IsWhole name a → Takes step name a b → Covers torn a → Covers torn b
-Covers-kept torn step name a b keeps there whole takes covers other state is t = elim (name_cases other name) [
-  | inl e ↦ absurd (not_both t (of (ap b.file (sym e) ∙ is) (a.file name) refl))
-  | inr differs ↦ covers other state (sym (takes.others other differs) ∙ is) t
-]
-  where
-    of : b.file name ≡ Some state → (o : Option FileState) → a.file name ≡ o → state.torn ≡ false
-    of here None e = absurd (there e)
-    of here (Some s) e =
-        let u = takes.here s e in
-        let same : u.0 ≡ state = same_some (sym u.2 ∙ here) in
-        ap (λ (x : FileState). x.torn) (sym same) ∙ keeps s u.0 u.1 (whole s e)
 
 -- a file that may be torn is noted
 pub Covers-noted : (torn : List Torn) (x : Torn) (step : FileState → FileState → Type 0) (name : List ℕ) (a b : FolderMeaning)
@@ -83,26 +60,3 @@ Covers-noted torn x step name a b named within takes covers other state is t = e
         within = λ synced noted. old.within synced (sym told ∙ noted);
       })
 ]
-
--- what no note tells of is whole
-pub whole_unless_noted : (torn : List Torn) (name : List ℕ) (a : FolderMeaning) → Covers torn a → torn_at torn name ≡ None → IsWhole name a
-whole_unless_noted torn name a covers none state is = of state.torn refl
-  where
-    of : (b : Bool) → state.torn ≡ b → state.torn ≡ false
-    of false e = e
-    of true e = absurd ((covers name state is e).there none)
-
--- a read of it is sound, as is one below what was noted
-pub sound_unless_noted : (torn : List Torn) (name : List ℕ) (at room : ℕ) (a : FolderMeaning) → Covers torn a → torn_at torn name ≡ None → IsSound name at room a
-sound_unless_noted torn name at room a covers none state is t = absurd (not_both t (whole_unless_noted torn name a covers none state is))
-
-pub sound_below : (torn : List Torn) (name : List ℕ) (at room synced : ℕ) (a : FolderMeaning) → Covers torn a
-    → torn_at torn name ≡ Some synced → at + room ≤ synced → IsSound name at room a
-sound_below torn name at room synced a covers noted below state is t =
-    let w = (covers name state is t).within synced noted in omega (arith, w, below)
-
-pub IsSound-looked : (name : List ℕ) (at room : ℕ) (a b : FolderMeaning) → SameFiles a b → IsSound name at room a → IsSound name at room b
-IsSound-looked name at room a b same sound state is = sound state (sym (same name) ∙ is)
-
-pub IsSound-under : (under name : List ℕ) (at room : ℕ) (a : FolderMeaning) → under ≡ name → IsSound name at room a → IsSound under at room a
-IsSound-under under name at room a same sound state is = sound state (ap a.file (sym same) ∙ is)

@@ -19,15 +19,6 @@ pub record ClaimedTo (volumes : List VolumeView) (count : ℕ) (desk : DeskView)
   pub unpurged : (name : List ℕ) → is_purged_at desk name ≡ false
   pub none_asked : desk.requests ≡ []
 
--- at a new desk none is claimed
-pub none_claimed : (volumes : List VolumeView) (desk : DeskView) → ((name : List ℕ) → claim_of desk name ≡ None) → desk.requests ≡ [] → ClaimedTo volumes 0 desk
-none_claimed volumes desk none no_request = record {
-  claimed = λ place v below there. absurd (omega (arith, below));
-  free = λ name apart. none name;
-  unpurged = λ name. ap tells_purged (none name);
-  none_asked = no_request;
-}
-
 -- the name of a volume is at its place among the names
 name_at : (volumes : List VolumeView) (place : ℕ) (v : VolumeView) → slice_get volumes place ≡ Some v → slice_get (names volumes) place ≡ Some v.name
 name_at volumes place v there = slice_get-map (λ (x : VolumeView). x.name) volumes place ∙ ap (option_map (λ (x : VolumeView). x.name)) there

@@ -1,20 +1,12 @@
 -- What contracts see of a job, what it does to its part, and what it comes to.
-use Rattle.std.specs.Prelude.{◌≡◌, ◌⊎◌, ℕ, ◌≤◌, ℤ, List, [], ◌∷◌, ◌++◌, take, length, Option, None, Some, slice_get}
+use Rattle.std.specs.Prelude.{◌≡◌, ℕ, ◌≤◌, ℤ, List, [], ◌∷◌, take, length, Option, None, Some, slice_get}
 use Rattle.sd_base.specs.Record.{Record}
-use Rattle.sd_base.specs.declared.number.SessionKey.{SessionKey}
-use Rattle.sd_base.specs.declared.refusal.Refusal.TheVariants.{SpoolFault, SessionFailed}
 use Rattle.sd_drive.specs.Receipt.{ReceiptIs}
 use Rattle.sd_line.specs.declared.stop.Stop.{Stop}
 use Rattle.sd_line.specs.declared.stop.Stop.TheVariants.{Done, OutOfTurns, Refused, NoThread}
-use Rattle.sd_journal.specs.Journal.{Entry, placed_of, placements, synced_of}
-use Rattle.sd_lane.specs.declared.piece.Piece.{Piece}
-use Rattle.sd_line.specs.Side.{LineIs, SeatIs}
+use Rattle.sd_line.specs.Side.{LineIs}
 use Rattle.sd_line.specs.Ends.{EndIs}
 use Rattle.sd_line.specs.Parts.{PartIs, end_of}
-use Rattle.sd_session.specs.Session.{SessionView, IsRunning, CancelsSession, parts_of}
-use Rattle.sd_session.specs.declared.status.Status.TheVariants.{Closed, Failed}
-use Rattle.sd_span.specs.Spans.{spans_of}
-use Rattle.sd_span.specs.declared.span.Span.{Span}
 
 -- a job: the place of its line among the lines, its part, its records, and the moment of its end label
 pub record JobIs : Type 0 where

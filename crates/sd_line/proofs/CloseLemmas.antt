@@ -1,5 +1,5 @@
 -- What a close comes to, by what the session and its drive say.
-use Rattle.std.proofs.Common.{◌≡◌, ◌≢◌, ℕ, refl, sym, ap, subst, ◌∙◌, inl, inr, List, Ok, Err, Result, Option, Some, None, false}
+use Rattle.std.proofs.Common.{◌≡◌, ◌≢◌, ℕ, refl, sym, ap, subst, ◌∙◌, inl, inr, List, Ok, Err, Result, Option, Some, None}
 use Rattle.std.specs.Prelude.{IsTrue, IfSome, IsSome, ◌↔◌}
 use Rattle.sd_base.specs.declared.refusal.Refusal.{Refusal}
 use Rattle.sd_base.specs.declared.refusal.Refusal.TheVariants.{SessionNotOpen, SessionFailed, NotYet as IsNotYet, Memory}
@@ -96,12 +96,3 @@ due journal s progress key blocks (Some r) far may same many exactly tells =
 pub closed_by : (journal : List Entry) (s v : SessionView) (progress : Progress) (receipt : ReceiptIs) → ClosesSession s progress v → MayCloseBy journal s receipt
     → Closes journal s (Ok (Closed receipt)) v
 closed_by journal s v progress receipt c m = (record { may = m.may; is = c.is }, m.placed_are, m.receipt_is)
-
-pub not_refused : (journal : List Entry) (s : SessionView) (progress : Progress) (receipt : ReceiptIs) (why : Refusal) → MayCloseBy journal s receipt
-    → progress.synced ≡ receipt.blocks → progress.failed ≡ false → CloseRefused s progress why → ⊥
-not_refused journal s progress receipt why m synced sound (inl t) = t.0 m.may.ended
-not_refused journal s progress receipt why m synced sound (inr (inl t)) = (let x = t.1 in cc (x, sound))
-not_refused journal s progress receipt why m synced sound (inr (inr t)) = elim t.2 [
-  | inl left ↦ left m.may.none_left
-  | inr apart ↦ apart (synced ∙ ap (λ (r : ReceiptIs). r.blocks) m.receipt_is)
-]

@@ -1,5 +1,5 @@
 -- How a part goes on by each of its steps.
-use Rattle.std.proofs.Common.{◌≡◌, ℕ, ℤ, refl, sym, ap, subst, ◌∙◌, inl, inr, List, [], ◌∷◌, ◌++◌}
+use Rattle.std.proofs.Common.{◌≡◌, ℕ, refl, sym, ap, subst, ◌∙◌, inl, inr, List, [], ◌∷◌, ◌++◌}
 use Rattle.std.proofs.lemmas.List.{append_assoc, append-nil}
 use Rattle.std.specs.Prelude.{Result, Ok, Err, OnOk, OnErr, IfOk, IfErr}
 use Rattle.sd_base.specs.Record.{Record}
@@ -12,7 +12,7 @@ use Rattle.sd_line.specs.Closes.{Closes}
 use Rattle.sd_line.specs.Parts.{PartIs, SendsBy, with_session}
 use Rattle.sd_line.specs.declared.closing.Closing.{Closing}
 use Rattle.sd_line.specs.declared.closing.Closing.TheVariants.{Closed, NotYet}
-use Rattle.sd_session.specs.Session.{SessionView, FailsSession, EndsSession, CancelsSession, NotRunning}
+use Rattle.sd_session.specs.Session.{SessionView, FailsSession, CancelsSession, NotRunning}
 use Rattle.sd_session.specs.Sending.{DespoolRefused}
 use Rattle.sd_session.specs.Spooling.{Spools, SpoolRefused}
 use Rattle.sd_session.specs.declared.answer.Despooled.{Despooled}
@@ -64,17 +64,6 @@ steps p q is key = record {
   seat_is = ap (λ (x : PartIs). x.seat) is ∙ sends_none p.seat;
   before_is = ap (λ (x : PartIs). x.before) is;
   told_is = ap (λ (x : PartIs). x.told) is ∙ sym (append-nil p.told);
-  key_is = key;
-}
-
--- by a record
-pub takes_one : (p q : PartIs) (r : Record) → q ≡ record p { session = q.session; told = p.told ++ r ∷ [] } → q.session.key ≡ p.session.key
-    → GoesOn p (r ∷ []) q
-takes_one p q r is key = record {
-  more = [];
-  seat_is = ap (λ (x : PartIs). x.seat) is ∙ sends_none p.seat;
-  before_is = ap (λ (x : PartIs). x.before) is;
-  told_is = ap (λ (x : PartIs). x.told) is;
   key_is = key;
 }
 
@@ -140,11 +129,6 @@ pub sends_on : (p q : PartIs) (capacity : ℕ) (result : Result Despooled Refusa
     → IfErr result (λ why. DespoolRefused p.session why q.session) → OnErr result (q.seat ≡ p.seat) → GoesOn p [] q
 sends_on p q capacity (Ok answer) is ok err seat = sends_by p q answer capacity is ok
 sends_on p q capacity (Err why) is ok err seat = sends p q [] is (seat ∙ sends_none p.seat) (not_sent_key why p.session q.session err)
-
-pub ends_on : {T : Type 0} (p q : PartIs) (moment : ℤ) (result : Result T Refusal) → q ≡ with_session p q.session → OnOk result (EndsSession p.session moment q.session)
-    → OnErr result (q ≡ p) → GoesOn p [] q
-ends_on p q moment (Ok done) is ok err = steps p q is (ap (λ (x : SessionView). x.key) ok.is)
-ends_on p q moment (Err why) is ok err = stays p q err
 
 pub closes_on : (p q : PartIs) (result : Result Closing Refusal) → q ≡ with_session p q.session
     → ((journal : List Entry) × Closes journal p.session result q.session) → GoesOn p [] q

@@ -1,5 +1,5 @@
 -- What ends and parts keep, through each step.
-use Rattle.std.proofs.Common.{◌≡◌, ℕ, zero, suc, ◌+◌, ◌≤◌, refl, sym, ap, subst, ◌∙◌, inl, inr, arith, Option, Some, None, List, [], ◌∷◌, ◌++◌, length, append_assoc, append-nil, IsSome, IsTrue}
+use Rattle.std.proofs.Common.{◌≡◌, ℕ, zero, suc, ◌+◌, ◌≤◌, refl, sym, ap, subst, ◌∙◌, inl, inr, arith, Option, Some, None, List, [], ◌∷◌, ◌++◌, length, append_assoc, append-nil, IsSome}
 use Rattle.std.specs.List.{AllByRecursion}
 use Rattle.std.specs.Option.{option_or, option_to_list}
 use Rattle.std.proofs.lemmas.List.{length_push}
@@ -182,19 +182,6 @@ brings time e e' h over b =
       | inl t ↦ subst (λ (x : EndIs). KeepsEnd time x × LastIsOver x.sessions) (sym (b.is ∙ ap (made (Some b.store)) t.1 ∙ ap (λ s. made s e.sessions) (sym t.0))) (h, over)
       | inr t ↦ subst (λ (x : EndIs). KeepsEnd time x × LastIsOver x.sessions) (sym b.is) (given time e b.store b.sessions h over t.0 t.1)
     ]
-
--- an end with its store in another state, as honest as it was
-pub state_keeps : (time : ℕ → ℕ) (e : EndIs) (store store' : StoreState) → e.store ≡ Some store → store'.honest ≡ store.honest
-    → KeepsEnd time e → KeepsEnd time (record e { store = Some store' })
-state_keeps time e store store' is same h =
-    let home : lane_store e ≡ Some store = ap (λ s. option_or s (last_store e.sessions)) is in
-    record {
-      of_lane = h.of_lane;
-      sent_are = sent_weaker (StoreIsTrue (lane_store e)) (StoreIsTrue (Some store')) e.sessions e.seat.seat.sent
-          (λ honest. subst StoreIsTrue (sym home) (subst IsTrue same honest)) h.sent_are;
-      earlier = h.earlier;
-      stored = refl;
-    }
 
 -- Beginning.
 

@@ -14,6 +14,5 @@ pub mod SeekLemmas
 pub mod Sequences
 pub mod SideLemmas
 pub mod Steps
-pub mod StopLemmas
 pub mod ToldLemmas
 pub mod TurnLemmas

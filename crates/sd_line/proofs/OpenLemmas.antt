@@ -1,20 +1,19 @@
 -- What becomes of an end at which a session is opened, or isn't.
-use Rattle.std.proofs.Common.{◌≡◌, ℕ, ℤ, ◌-◌, ◌≤◌, refl, sym, ap, subst, subst₂, ◌∙◌, inl, inr, false, Option, Some, None, List, [], ◌∷◌, ◌++◌}
+use Rattle.std.proofs.Common.{◌≡◌, ℕ, ℤ, ◌-◌, refl, sym, ap, subst, subst₂, ◌∙◌, inl, inr, false, Option, Some, None, List, [], ◌∷◌, ◌++◌}
 use Rattle.std.specs.Prelude.{is_some, IsSome, IfSome, IfNone}
 use Rattle.std.specs.Option.{option_map, option_or}
-use Rattle.sd_base.specs.Limits.{block_header, most_number}
+use Rattle.sd_base.specs.Limits.{block_header}
 use Rattle.sd_base.specs.declared.refusal.Refusal.{Refusal}
-use Rattle.sd_base.specs.declared.refusal.Refusal.TheVariants.{Memory}
 use Rattle.sd_drive.specs.declared.limits.Limits.{Limits}
 use Rattle.sd_session.specs.Session.{SessionView, StartRefused, StartsSession, KeepsStore, store_of}
 use Rattle.sd_session.specs.declared.opening.Opening.{Opening}
 use Rattle.sd_spool.specs.Job.{StoreState, state_of}
 use Rattle.sd_spool.specs.Meaning.{Meaning}
-use Rattle.sd_line.specs.Ends.{ToldSession, EndIs, KeepsEnd, LastIsOver, LastGivesBack, BringsStore, last_store}
+use Rattle.sd_line.specs.Ends.{ToldSession, EndIs, LastIsOver, LastGivesBack, BringsStore, last_store}
 use Rattle.sd_line.specs.Parts.{PartIs, PreparedIs, Prepares, OpensAt, OpensNotAt, OpensPart, opening_at}
 use Rattle.sd_line.specs.Side.{LineIs}
 use Rattle.sd_session.proofs.PartLemmas.{cleared_fails}
-use Rattle.sd_line.proofs.Keeps.{begins, state_keeps, starts_stored}
+use Rattle.sd_line.proofs.Keeps.{starts_stored}
 use Rattle.sd_line.proofs.Sequences.{last_is_over, last_store_push}
 
 -- what is there under a map is there
@@ -44,11 +43,6 @@ opened limits e f before m opening s is same stored starts =
 -- the end, put together again with its store in this state
 abbrev pub end_with : EndIs → List ToldSession → StoreState → EndIs
 end_with f before store = record { seat = f.seat; store = Some store; sessions = before }
-
-pub kept_end : (time : ℕ → ℕ) (f : EndIs) (before : List ToldSession) (store store' : StoreState) → KeepsEnd time f → before ≡ f.sessions → f.store ≡ Some store
-    → store'.honest ≡ store.honest → KeepsEnd time (end_with f before store')
-kept_end time f before store store' h same stored honest =
-    subst (λ ss. KeepsEnd time (end_with f ss store')) (sym same) (state_keeps time f store store' stored honest h)
 
 -- no session was started
 pub not_opened : (limits : Limits) (e f : EndIs) (before : List ToldSession) (store store' : Meaning) (why : Refusal)

@@ -1,5 +1,5 @@
 -- A session that is cancelled goes on no longer.
-use Rattle.std.proofs.Common.{◌≡◌, ℕ, inl, inr, List, [], ◌∷◌, Some, sym, ap, subst, ◌∙◌}
+use Rattle.std.proofs.Common.{◌≡◌, ℕ, inl, inr, List, [], Some, sym, ap, subst, ◌∙◌}
 use Rattle.sd_driver.specs.Meaning.{Meaning}
 use Rattle.sd_base.specs.declared.number.SessionKey.{SessionKey}
 use Rattle.sd_machine.specs.declared.event.Event.{Event}
@@ -13,7 +13,7 @@ use Rattle.sd_world.specs.World.{HasTicket, WorldSession, WorldView, session_at}
 use Rattle.sd_session.specs.Session.{IsRunning, SessionView}
 use Rattle.sd_session.specs.declared.status.Status.{Status}
 use Rattle.sd_session.specs.declared.status.Status.TheVariants as status
-use Rattle.sd_core.specs.Tries.{Answers, GivesAgain, Try}
+use Rattle.sd_core.specs.Tries.{Answers}
 
 pub cancelled_ends : {D : Type 0} (meaning : D → Meaning) (a b : WorldView D) (ticket : ℕ) (reply : Reply) → Moves meaning a (Cancel ticket) reply b
     → (e : WorldSession) → HasTicket b ticket e → IsRunning e.session.status → ⊥
@@ -30,11 +30,6 @@ cancelled_ends meaning a b ticket (Refused why) m e there is = elim m.0 [
   | inr p ↦ let same : p.0 ≡ e = cc (p.1, m.1, there) in p.2.0 (subst (λ (x : WorldSession). IsRunning x.session.status) (sym same) is)
 ]
 cancelled_ends meaning a b ticket reply m e there is = absurd m
-
--- a cancel is never given again
-tries_none : {D : Type 0} (meaning : D → Meaning) (ticket : ℕ) (a b : WorldView D) (tries : List Try) → GivesAgain meaning (Cancel ticket) a tries b → b ≡ a
-tries_none meaning ticket a b [] gives = gives
-tries_none meaning ticket a b (t ∷ tries) gives = absurd (cc gives.3)
 
 pub given_up : {D : Type 0} (meaning : D → Meaning) (rounds : ℕ) (a b : WorldView D) (ticket : ℕ) (reply : Reply) (events : List Event) (replies : List Reply)
     → Answers meaning rounds a (Cancel ticket) reply events replies b → (e : WorldSession) → HasTicket b ticket e → IsRunning e.session.status → ⊥

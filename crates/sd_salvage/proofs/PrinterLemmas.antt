@@ -5,7 +5,7 @@ use Rattle.std.proofs.lemmas.List.{append_assoc, append-nil}
 use Rattle.sd_base.specs.Record.{Record}
 use Rattle.sd_collect.specs.Whole.{Place}
 use Rattle.sd_files.specs.Lines.{record_lines}
-use Rattle.sd_text.proofs.SaysLemmas.{says_none, says_then}
+use Rattle.sd_text.proofs.SaysLemmas.{says_then}
 use Rattle.sd_text.specs.Lines.{line}
 use Rattle.sd_text.specs.Says.{SaidView, Says}
 use Rattle.sd_salvage.specs.Lines.{event_lines, last_after, line_text, lost_after, missing_lines, places_in, records_in}
@@ -51,9 +51,6 @@ pub places_more : (es : List Event) (e : Event) → places_in (es ++ e ∷ []) �
 places_more [] e = refl
 places_more (events.Record r ∷ es) e = places_more es e
 places_more (events.Lost volume at ∷ es) e = ap (λ (l : List Place). record { volume = volume; at = at } ∷ l) (places_more es e)
-
-pub keeps_none : (a : SaidView) → Keeps a a [] false 0
-keeps_none a = record { says_so = says_none a; lost_is = refl; last_is = refl }
 
 -- a record more
 pub keeps_record : (a b c d : SaidView) (es all : List Event) (lost : Bool) (last : ℕ) (r : Record) → Keeps a b es lost last → all ≡ es ++ events.Record r ∷ []

@@ -97,14 +97,6 @@ takes_own key old new at b sound tokens records got got' more told told' own are
   goes_on = goes;
 }
 
--- what is told of a body
-pub told_of : (sound follows both : Bool) (at : Place) → both ≡ true → sound ≡ true → IsTold sound at []
-told_of sound follows both at is s = subst (λ b. IsTold b at []) (sym s) (inl refl)
-
-pub told_one : (sound : Bool) (at : Place) → IsTold sound at (at ∷ [])
-told_one true at = inr refl
-told_one false at = refl
-
 -- Spans.
 
 pub finds_more : (volumes : Volumes) (ss : List Span) (s : Span) (pieces here : List Piece) → FindsInSpans volumes ss pieces → FindsInSpan volumes s here

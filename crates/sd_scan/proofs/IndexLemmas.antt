@@ -33,9 +33,6 @@ pub record ReadTo (body : List ℕ) (at first last : ℕ) (fs : List Fragment) :
   pub first_is : first ≡ first_file_index front
   pub last_is : last ≡ last_file_index front
 
-pub read_none : (body : List ℕ) (fs : List Fragment) → FitTogether fs → body ≡ fragments_bytes fs → ReadTo body 0 0 0 fs
-read_none body fs fit is = record { front = []; back = fs; all = refl; rest = is; fit = fit; first_is = refl; last_is = refl }
-
 -- whoever is asked for the fragment at a place answers one that is there
 abbrev pub Finds : List ℕ → ℕ → Option (Fragment × ℕ) → Type 0
 Finds body at answer =

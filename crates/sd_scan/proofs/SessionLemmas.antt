@@ -1,5 +1,5 @@
 -- What is kept of a session, with one body more.
-use Rattle.std.proofs.Common.{◌≡◌, ◌≢◌, ◌⊎◌, inl, inr, ℕ, ◌+◌, ◌-◌, ◌^◌, ◌<◌, ◌≤◌, Bool, true, false, List, [], ◌∷◌, ◌++◌, length, refl, sym, ap, ap₂, subst, ◌∙◌, arith, add-zero}
+use Rattle.std.proofs.Common.{◌≡◌, ◌≢◌, ◌⊎◌, inl, inr, ℕ, ◌+◌, ◌-◌, ◌^◌, ◌<◌, Bool, true, false, List, [], ◌∷◌, ◌++◌, length, refl, sym, ap, ap₂, subst, ◌∙◌, arith, add-zero}
 use Rattle.std.specs.Prelude.{min, Option, Some, None, IfSome, is_some, IsTrue, ◌↔◌, OnOk, Result, Ok, Err}
 use Rattle.std.proofs.lemmas.Bool.{true≢false}
 use Rattle.std.proofs.lemmas.List.{append_assoc, append-nil, length-append}
@@ -95,26 +95,6 @@ took_none view u sound = record {
   bytes_are = refl;
   whole = λ e. (refl, sound);
   stopped = λ e. cc;
-}
-
-stops_more : (front rest : List (List ℕ)) (body : List ℕ) → Stops front rest → Stops front (rest ++ body ∷ [])
-stops_more front [] body stops = absurd stops
-stops_more front (first ∷ rest) body stops = stops
-
--- a body after one that could not follow is not looked at
-pub took_damaged : (bodies : List (List ℕ)) (body : List ℕ) (view : Unpacking) (records bytes : ℕ) (damaged : Bool) → damaged ≡ true → Took bodies view records bytes damaged
-    → Took (bodies ++ body ∷ []) view records bytes damaged
-took_damaged bodies body view records bytes damaged is took = record {
-  front = took.front;
-  rest = took.rest ++ body ∷ [];
-  taken = took.taken;
-  bodies_are = ap (λ (l : List (List ℕ)). l ++ body ∷ []) took.bodies_are ∙ append_assoc took.front took.rest (body ∷ []);
-  unpacks = took.unpacks;
-  none_waits = took.none_waits;
-  records_are = took.records_are;
-  bytes_are = took.bytes_are;
-  whole = λ e. absurd (true≢false (sym is ∙ e));
-  stopped = λ e. stops_more took.front took.rest body (took.stopped e);
 }
 
 unpacks_emptied : (bodies : List (List ℕ)) (taken : List Record) (view : Unpacking) → Unpacks bodies taken view → Unpacks bodies (taken ++ view.ready) (record view { ready = [] })

@@ -73,7 +73,3 @@ sessions_of_entries key (Some c ∷ rest) =
       sum_by-cons (λ o. cond (has_session o) 1 0) (Some c) rest,
       sum_by-cons (λ e. cond (in_a_session e) 1 0) (key, c) (entries_from (key + 1) rest),
     )
-
--- the first entry and those behind it
-pub first_session : (e : ℕ × OpenConnection) (rest : List (ℕ × OpenConnection)) → count_by in_a_session (e ∷ rest) ≡ cond (is_some e.1.session) 1 0 + count_by in_a_session rest
-first_session e rest = sum_by-cons (λ x. cond (in_a_session x) 1 0) e rest
