@@ -1,4 +1,5 @@
-"""`report --html FILE`: one page about the jobs and the volumes, with its pictures in it, that needs no network and no script."""
+"""`report --html FILE`: one page about the jobs and the volumes, with its pictures in it, that needs no network and no
+script. A part of the page is a function from `Facts` to its text, and `PARTS` has them in their order."""
 from __future__ import annotations
 
 import collections
@@ -14,29 +15,49 @@ from .retention import Usage, usage
 from .settings import LATE, JobSettings
 
 WEEKS, DAYS = 26, 30
-# The side of a day in the calendar, and the page's width.
-SIDE, WIDTH, HEIGHT = 14, 720, 120
+# The side of a day in the calendar and its step, where the days begin, and the page's width.
+SIDE, STEP, LEFT, TOP, WIDTH, HEIGHT = 14, 17, 30, 18, 720, 120
+# How full a volume is: a bar so wide and so high.
+BAR, THICK = 200, 14
 # What stands for a day with several runs: the one that matters most.
 RANK = [KEPT, PARTLY, RUNNING, UNKNOWN, FAILED, FORGOTTEN]
-WORDS = {KEPT: "kept", PARTLY: "kept but for what was named", FAILED: "not kept", UNKNOWN: "nobody knows", RUNNING: "begun and not ended",
-         FORGOTTEN: "forgotten"}
+WORDS = {KEPT: "kept", PARTLY: "kept but for what was named", FAILED: "not kept", UNKNOWN: "nobody knows",
+         RUNNING: "begun and not ended", FORGOTTEN: "forgotten"}
 STYLE = """
 :root { color-scheme: light dark; --page: #fff; --text: #1b1f24; --quiet: #59636e; --line: #d1d9e0; --none: #eaeef2;
-  --kept: #1a7f37; --partly: #bf8700; --failed: #cf222e; --unknown: #8250df; --running: #0969da; --forgotten: #afb8c1; --bar: #0969da; }
-@media (prefers-color-scheme: dark) { :root { --page: #0d1117; --text: #e6edf3; --quiet: #9198a1; --line: #3d444d; --none: #212830;
-  --kept: #2ea043; --partly: #d29922; --failed: #f85149; --unknown: #a371f7; --running: #4493f8; --forgotten: #656c76; --bar: #4493f8; } }
-body { background: var(--page); color: var(--text); font: 15px/1.5 system-ui, sans-serif; max-width: 760px; margin: 2em auto; padding: 0 1em; }
-h1 { font-size: 1.5em; } h2 { font-size: 1.15em; margin-top: 2em; }
-table { border-collapse: collapse; width: 100%; } th, td { text-align: left; padding: .25em .6em .25em 0; border-bottom: 1px solid var(--line); }
-td.number, th.number { text-align: right; } .quiet, text { color: var(--quiet); fill: var(--quiet); font-size: 12px; }
-svg { max-width: 100%; height: auto; } ul.alarm { border-left: 4px solid var(--failed); padding: .5em 1.5em; } .well { border-left: 4px solid var(--kept); padding: .5em 1em; }
-.kept { fill: var(--kept); } .partly { fill: var(--partly); } .failed { fill: var(--failed); } .unknown { fill: var(--unknown); }
-.running { fill: var(--running); } .forgotten { fill: var(--forgotten); } .none { fill: var(--none); } .bar { fill: var(--bar); }
+  --kept: #1a7f37; --partly: #bf8700; --failed: #cf222e; --unknown: #8250df; --running: #0969da; --forgotten: #afb8c1;
+  --bar: #0969da; }
+@media (prefers-color-scheme: dark) { :root {
+  --page: #0d1117; --text: #e6edf3; --quiet: #9198a1; --line: #3d444d; --none: #212830;
+  --kept: #2ea043; --partly: #d29922; --failed: #f85149; --unknown: #a371f7; --running: #4493f8; --forgotten: #656c76;
+  --bar: #4493f8; } }
+body { background: var(--page); color: var(--text); font: 15px/1.5 system-ui, sans-serif;
+  max-width: 760px; margin: 2em auto; padding: 0 1em; }
+h1 { font-size: 1.5em; }
+h2 { font-size: 1.15em; margin-top: 2em; }
+table { border-collapse: collapse; width: 100%; }
+th, td { text-align: left; padding: .25em .6em .25em 0; border-bottom: 1px solid var(--line); }
+td.number, th.number { text-align: right; }
+.quiet, text { color: var(--quiet); fill: var(--quiet); font-size: 12px; }
+svg { max-width: 100%; height: auto; }
+ul.alarm { border-left: 4px solid var(--failed); padding: .5em 1.5em; }
+.well { border-left: 4px solid var(--kept); padding: .5em 1em; }
+.kept { fill: var(--kept); } .partly { fill: var(--partly); } .failed { fill: var(--failed); }
+.unknown { fill: var(--unknown); } .running { fill: var(--running); } .forgotten { fill: var(--forgotten); }
+.none { fill: var(--none); } .bar { fill: var(--bar); }
+"""
+PAGE = """<!DOCTYPE html>
+<html lang="en"><head><meta charset="utf-8"><meta name="viewport" content="width=device-width">\
+<title>Backups of {client}</title><style>{style}</style></head>
+<body>
+{parts}
+</body></html>
 """
 
 
 class Volume(typing.NamedTuple):
-    """A volume as the daemon tells it: its pool, its state, its length in bytes, and how long it may get, if that is known."""
+    """A volume as the daemon tells it: its pool, its state, its length in bytes, and how long it may get, if that is
+    known."""
 
     name: str
     pool: str
@@ -86,19 +107,24 @@ def runs_of(facts: Facts) -> dict[tuple[str, str], list[Job]]:
     return dict(sorted(found.items()))
 
 
+def kept_of(runs: list[Job]) -> list[Job]:
+    return [job for job in runs if job.status in (KEPT, PARTLY)]
+
+
 def alarms(facts: Facts) -> list[str]:
     """What whoever looks at the page should know first: what is late, and what is incomplete."""
     found = []
     for (client, name), runs in runs_of(facts).items():
-        kept = [job for job in runs if job.status in (KEPT, PARTLY)]
+        kept, whose = kept_of(runs), f"job {name} of {client}"
         every = facts.settings[name].seconds() if client == facts.client and name in facts.settings else None
         if every and not kept:
             found.append(f"Job {name} of {client} has no run that is kept.")
         elif every and (age := (facts.now - moment_of(kept[-1])).total_seconds()) > every * (1 + LATE):
-            found.append(f"Job {name} of {client} is late: its last kept run was {in_words(age)} ago, and it is to run every {in_words(every)}.")
-        if runs and runs[-1].status not in (KEPT, FORGOTTEN):
-            faults = f": {runs[-1].faults} names aren't as they were" if runs[-1].status == PARTLY else ""
-            found.append(f"The last run of job {name} of {client}, on {dated(runs[-1].began)}, is {WORDS[runs[-1].status]}{faults}.")
+            found.append(f"Job {name} of {client} is late: its last kept run was {in_words(age)} ago, "
+                         f"and it is to run every {in_words(every)}.")
+        if runs and (last := runs[-1]).status not in (KEPT, FORGOTTEN):
+            faults = f": {last.faults} names aren't as they were" if last.status == PARTLY else ""
+            found.append(f"The last run of {whose}, on {dated(last.began)}, is {WORDS[last.status]}{faults}.")
     found += [f"Volume {one.name} is in state {one.state}." for one in facts.volumes if one.state == "error"]
     if facts.lacking:
         found.append(f"The volumes aren't known: {facts.lacking}.")
@@ -114,14 +140,37 @@ def in_words(seconds: float) -> str:
     return f"{seconds:.0f} seconds"
 
 
+# What the parts are made of.
+
+
 def escaped(text: object) -> str:
     """A text for the page, also of bytes that are none."""
     return html.escape(str(text).encode(errors="replace").decode())
 
 
+def element(name: str, inside: str = "", **attributes: object) -> str:
+    """An element with what is in it, which is text of the page already, and its attributes, which are escaped. `class_`
+    is the attribute `class`, `aria_label` is `aria-label`."""
+    said = "".join(f' {key.rstrip("_").replace("_", "-")}="{escaped(value)}"' for key, value in attributes.items())
+    return f"<{name}{said}>{inside}</{name}>" if inside else f"<{name}{said}/>"
+
+
+def picture(size: tuple[int, int], label: str, inside: str, **attributes: object) -> str:
+    return element("svg", inside, viewBox=f"0 0 {size[0]} {size[1]}", **attributes, role="img", aria_label=label)
+
+
+def title(text: str) -> str:
+    """What is shown where the pointer rests."""
+    return element("title", escaped(text))
+
+
+def cell(tag: str, inside: str, is_number: bool = False) -> str:
+    return f"<{tag}{' class=number' if is_number else ''}>{inside}</{tag}>"
+
+
 def row(cells: typing.Iterable[object], head: bool = False, numbers: typing.Container[int] = ()) -> str:
     tag = "th" if head else "td"
-    return "<tr>" + "".join(f'<{tag}{" class=number" if at in numbers else ""}>{escaped(cell)}</{tag}>' for at, cell in enumerate(cells)) + "</tr>"
+    return element("tr", "".join(cell(tag, escaped(one), at in numbers) for at, one in enumerate(cells)))
 
 
 def calendar(runs: list[Job], now: datetime.datetime, label: str) -> str:
@@ -130,40 +179,50 @@ def calendar(runs: list[Job], now: datetime.datetime, label: str) -> str:
     for job in runs:
         by_day[moment_of(job).date()].append(job)
     first = now.date() - datetime.timedelta(days=now.weekday() + 7 * (WEEKS - 1))
-    parts, month = [], None
+    parts = [element("text", name, x=0, y=TOP + at * STEP + 11) for at, name in ((0, "Mon"), (3, "Thu"), (6, "Sun"))]
+    month = None
     for count in range((now.date() - first).days + 1):
         day = first + datetime.timedelta(days=count)
-        x, y = count // 7 * (SIDE + 3) + 30, count % 7 * (SIDE + 3) + 18
+        x, y = count // 7 * STEP + LEFT, count % 7 * STEP + TOP
         if count % 7 == 0 and day.month != month:
             month = day.month
-            parts.append(f'<text x="{x}" y="12">{day:%b}</text>')
-        there = by_day.get(day, [])
-        status = min((job.status for job in there), key=RANK.index, default="none")
-        told = ", ".join(f"{moment_of(job):%H:%M} {job.level or ''} {WORDS[job.status]}" for job in there) or "no run"
-        parts.append(f'<rect x="{x}" y="{y}" width="{SIDE}" height="{SIDE}" rx="2" class="{status}"><title>{day}: {escaped(told)}</title></rect>')
-    names = "".join(f'<text x="0" y="{18 + at * (SIDE + 3) + 11}">{name}</text>' for at, name in ((0, "Mon"), (3, "Thu"), (6, "Sun")))
-    width, height = WEEKS * (SIDE + 3) + 30, 7 * (SIDE + 3) + 18
-    return f'<svg viewBox="0 0 {width} {height}" width="{width}" role="img" aria-label="{escaped(label)}">{names}{"".join(parts)}</svg>'
+            parts.append(element("text", f"{day:%b}", x=x, y=12))
+        parts.append(day_of(day, by_day.get(day, []), x, y))
+    width, height = WEEKS * STEP + LEFT, 7 * STEP + TOP
+    return picture((width, height), label, "".join(parts), width=width)
 
 
-def sizes(facts: Facts) -> str:
+def day_of(day: datetime.date, runs: list[Job], x: int, y: int) -> str:
+    """A day in the calendar."""
+    status = min((job.status for job in runs), key=RANK.index, default="none")
+    told = ", ".join(f"{moment_of(job):%H:%M} {job.level or ''} {WORDS[job.status]}" for job in runs) or "no run"
+    return element("rect", title(f"{day}: {told}"), x=x, y=y, width=SIDE, height=SIDE, rx=2, class_=status)
+
+
+def counts_by_day(facts: Facts, first: datetime.date) -> list[int]:
     """The bytes of files that kept runs sent, by days."""
-    first = facts.now.date() - datetime.timedelta(days=DAYS - 1)
     counts = [0] * DAYS
     for job in facts.jobs:
         day = (moment_of(job).date() - first).days
         if 0 <= day < DAYS and job.bytes and job.status in (KEPT, PARTLY, FORGOTTEN):
             counts[day] += job.bytes
-    most = max(counts) or 1
-    step, parts = WIDTH / DAYS, []
+    return counts
+
+
+def sizes(facts: Facts) -> str:
+    """A bar for each day's bytes."""
+    first = facts.now.date() - datetime.timedelta(days=DAYS - 1)
+    counts = counts_by_day(facts, first)
+    most, step = max(counts), WIDTH / DAYS
+    parts = [element("text", f"at most {size_of(most)} a day", x=0, y=12)]
     for at, count in enumerate(counts):
-        day, height = first + datetime.timedelta(days=at), HEIGHT * count / most
-        parts.append(f'<rect x="{at * step:.1f}" y="{HEIGHT + 16 - height:.1f}" width="{step - 3:.1f}" height="{max(height, 1):.1f}" '
-                     f'class="{"bar" if count else "none"}"><title>{day}: {size_of(count)}</title></rect>')
+        day, x, height = first + datetime.timedelta(days=at), f"{at * step:.1f}", HEIGHT * count / (most or 1)
+        bar = {"x": x, "y": f"{HEIGHT + 16 - height:.1f}", "width": f"{step - 3:.1f}",
+               "height": f"{max(height, 1):.1f}"}
+        parts.append(element("rect", title(f"{day}: {size_of(count)}"), **bar, class_="bar" if count else "none"))
         if at % 7 == 0:
-            parts.append(f'<text x="{at * step:.1f}" y="{HEIGHT + 30}">{day:%d %b}</text>')
-    return (f'<svg viewBox="0 0 {WIDTH} {HEIGHT + 36}" role="img" aria-label="bytes by day"><text x="0" y="12">at most {size_of(max(counts))} a day'
-            f'</text>{"".join(parts)}</svg>')
+            parts.append(element("text", f"{day:%d %b}", x=x, y=HEIGHT + 30))
+    return picture((WIDTH, HEIGHT + 36), "bytes by day", "".join(parts))
 
 
 def fill(volume: Volume, needed: Usage) -> str:
@@ -171,39 +230,70 @@ def fill(volume: Volume, needed: Usage) -> str:
     whole = volume.most or max(volume.length, 1)
     full, kept = min(1.0, volume.length / whole), min(1.0, needed.kept / whole)
     told = f"{size_of(volume.length)} of {size_of(whole)}" if volume.most else size_of(volume.length)
-    return (f'<svg viewBox="0 0 200 14" width="200" role="img" aria-label="{told}"><rect width="200" height="14" rx="3" class="none"/>'
-            f'<rect width="{200 * full:.1f}" height="14" rx="3" class="forgotten"/><rect width="{200 * min(kept, full):.1f}" height="14" rx="3" class="kept"/>'
-            f'<title>{told}, {size_of(needed.kept)} of kept jobs</title></svg>')
+    bars = ((BAR, "none"), (f"{BAR * full:.1f}", "forgotten"), (f"{BAR * min(kept, full):.1f}", "kept"))
+    inside = "".join(element("rect", width=width, height=THICK, rx=3, class_=kind) for width, kind in bars)
+    return picture((BAR, THICK), told, inside + title(f"{told}, {size_of(needed.kept)} of kept jobs"), width=BAR)
+
+
+# The parts of the page.
+
+
+def told_part(facts: Facts) -> str:
+    if told := alarms(facts):
+        return "<ul class=alarm>" + "".join(f"<li>{escaped(one)}</li>" for one in told) + "</ul>"
+    return "<p class=well>Nothing is late, and nothing is incomplete.</p>"
+
+
+def jobs_part(facts: Facts) -> str:
+    names, numbers = ["job", "client", "last kept run", "level", "files", "size", "runs kept"], {4, 5, 6}
+    lines = ["<h2>Jobs</h2><table>", row(names, True, numbers)]
+    for (client, name), runs in runs_of(facts).items():
+        kept = kept_of(runs)
+        last = kept[-1] if kept else None
+        run = [dated(last.began), last.level, last.files, size_of(last.bytes)] if last else ["none", "-", 0, "-"]
+        lines.append(row([name, client, *run, len(kept)], False, numbers))
+    return "\n".join([*lines, "</table>"])
+
+
+def calendars_part(facts: Facts) -> str:
+    lines = []
+    for (client, name), runs in runs_of(facts).items():
+        shown = calendar(runs, facts.now, f"runs of job {name} of {client}")
+        lines.append(f"<h2>{escaped(name)} <span class=quiet>{escaped(client)}</span></h2>{shown}")
+    return "\n".join([*lines, f"<p class=quiet>{legend()}</p>"])
+
+
+def legend() -> str:
+    """What each status looks like."""
+    side = {"width": SIDE, "height": SIDE}
+    shown = {words: element("rect", **side, rx=2, class_=status) for status, words in WORDS.items()}
+    return "".join(f"{element('svg', rect, **side)} {words}&emsp;" for words, rect in shown.items())
+
+
+def days_part(facts: Facts) -> str:
+    return f"<h2>Sent by day</h2>{sizes(facts)}"
+
+
+def volumes_part(facts: Facts) -> str:
+    names, numbers = ["volume", "pool", "state", "full", "length", "of kept jobs"], {4, 5}
+    lines = ["<h2>Volumes</h2>", "<table>" + row(names, True, numbers)]
+    for one in facts.volumes:
+        needed = facts.usage.get(one.name, Usage(0, 0))
+        cells = [escaped(one.name), escaped(one.pool), escaped(one.state), fill(one, needed), size_of(one.length),
+                 size_of(needed.kept)]
+        lines.append(element("tr", "".join(cell("td", inside, at in numbers) for at, inside in enumerate(cells))))
+    if not facts.volumes:
+        known = ((name, size_of(needed.kept)) for name, needed in facts.usage.items())
+        lines += [row([name, "", "", "", "", kept], False, numbers) for name, kept in known]
+    return "\n".join(lines) + "</table>"
+
+
+PARTS: list[typing.Callable[[Facts], str]] = [told_part, jobs_part, calendars_part, days_part, volumes_part]
 
 
 def page(facts: Facts) -> str:
     """The whole page."""
-    parts = [f"<h1>Backups of {escaped(facts.client)}</h1>", f'<p class="quiet">As they are on {facts.now:%Y-%m-%d at %H:%M}.</p>']
-    told = alarms(facts)
-    parts.append("<ul class=alarm>" + "".join(f"<li>{escaped(one)}</li>" for one in told) + "</ul>" if told
-                 else "<p class=well>Nothing is late, and nothing is incomplete.</p>")
-    parts += ["<h2>Jobs</h2><table>", row(["job", "client", "last kept run", "level", "files", "size", "runs kept"], True, {4, 5, 6})]
-    for (client, name), runs in runs_of(facts).items():
-        kept = [job for job in runs if job.status in (KEPT, PARTLY)]
-        last = kept[-1] if kept else None
-        parts.append(row([name, client, dated(last.began) if last else "none", last.level if last else "-", last.files if last else 0,
-                          size_of(last.bytes) if last else "-", len(kept)], False, {4, 5, 6}))
-    parts.append("</table>")
-    for (client, name), runs in runs_of(facts).items():
-        label = f"runs of job {name} of {client}"
-        parts.append(f"<h2>{escaped(name)} <span class=quiet>{escaped(client)}</span></h2>{calendar(runs, facts.now, label)}")
-    legend = "".join(f'<svg width="14" height="14"><rect width="14" height="14" rx="2" class="{status}"/></svg> {words}&emsp;' for status, words in WORDS.items())
-    parts += [f"<p class=quiet>{legend}</p>", f"<h2>Sent by day</h2>{sizes(facts)}", "<h2>Volumes</h2>", volumes(facts)]
-    return (f'<!DOCTYPE html>\n<html lang="en"><head><meta charset="utf-8"><meta name="viewport" content="width=device-width">'
-            f"<title>Backups of {escaped(facts.client)}</title><style>{STYLE}</style></head>\n<body>\n" + "\n".join(parts) + "\n</body></html>\n")
-
-
-def volumes(facts: Facts) -> str:
-    lines = ["<table><tr><th>volume</th><th>pool</th><th>state</th><th>full</th><th class=number>length</th><th class=number>of kept jobs</th></tr>"]
-    for one in facts.volumes:
-        needed = facts.usage.get(one.name, Usage(0, 0))
-        lines.append(f"<tr><td>{escaped(one.name)}</td><td>{escaped(one.pool)}</td><td>{escaped(one.state)}</td><td>{fill(one, needed)}</td>"
-                     f"<td class=number>{size_of(one.length)}</td><td class=number>{size_of(needed.kept)}</td></tr>")
-    if not facts.volumes:
-        lines += [row([name, "", "", "", "", size_of(needed.kept)], False, {4, 5}) for name, needed in facts.usage.items()]
-    return "\n".join(lines) + "</table>"
+    client = escaped(facts.client)
+    parts = [f"<h1>Backups of {client}</h1>", f'<p class="quiet">As they are on {facts.now:%Y-%m-%d at %H:%M}.</p>']
+    parts += [part(facts) for part in PARTS]
+    return PAGE.format(client=client, style=STYLE, parts="\n".join(parts))
