@@ -87,7 +87,8 @@ def snapshot_for(catalogue: Catalogue, job: Job, wanted: Wanted) -> bytes:
         raise Failed("the clock was set back since the last run")
     state = State(catalogue, job)
     # What changed while it was read has a time that tar finds to be new.
-    faults = {row.path for row in catalogue.rows(job.id) if row.kind == FAULT and row.text != CHANGED}
+    rows = catalogue.rows(job.id) if job.faults else ()
+    faults = {row.path for row in rows if row.kind == FAULT and row.text != CHANGED}
     if b"" in faults:
         raise Failed("the last run lacks something without a name")
     return usable(snapshot.text, faults, lambda: links_of(state))

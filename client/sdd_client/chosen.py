@@ -113,6 +113,10 @@ def folders_of(path: bytes) -> list[bytes]:
     return [b"/" + b"/".join(parts[:count]) for count in range(len(parts))]
 
 
+# A run has so many bytes, or is one member.
+MOST = 1 << 20
+
+
 class Run(typing.NamedTuple):
     """Bytes of a session's stream, and how many members they are."""
 
@@ -123,14 +127,16 @@ class Run(typing.NamedTuple):
 
 
 def runs_of(rows: typing.Iterable[Row]) -> typing.Iterator[Run]:
-    """Members that follow one another in a session, taken together."""
-    run: Run | None = None
+    """Members that follow one another in a session, taken together; not too many at once, so that tar has work while further
+    rows are read."""
+    session = start = end = members = 0
     for row in rows:
-        if run and row.session == run.session and row.offset == run.start + run.length:
-            run = run._replace(length=run.length + row.length, members=run.members + 1)
-            continue
-        if run:
-            yield run
-        run = Run(row.session, row.offset, row.length, 1)
-    if run:
-        yield run
+        if members and (row.session != session or row.offset != end or end - start >= MOST):
+            yield Run(session, start, end - start, members)
+            members = 0
+        if not members:
+            session, start, end = row.session, row.offset, row.offset
+        end += row.length
+        members += 1
+    if members:
+        yield Run(session, start, end - start, members)

@@ -7,7 +7,7 @@ import typing
 from .errors import complain
 from .filelist import Writer, plain
 from .lanes import Lane, Session, Way
-from .tarcut import BLOCK, COMMON, END, TYPE, Damaged, Member, Parser, padded
+from .tarcut import BLOCK, COMMON, END, TYPE, Damaged, Member, Parser, padded, usual
 
 # A session has some so many bytes, and a lane gets so many before the next one's turn.
 SESSION, TURN = 4_000_000_000, 16_000_000
@@ -70,15 +70,17 @@ class Cutter:
         """Notes the members whose headers are in what has come, from `at` to `end`, as far as they are whole there and go on
         in the lane's session. Gives how many bytes of the last one are still to come, and what is left of what has come."""
         session, limit, begin = lane.session, self._limit(lane), at
-        parsed, add = self.parser.parsed, self.files.add
         while at < end:
-            member = parsed(room, at, end)
+            if count := self.files.add_usual(usual(room, at, end), session.number, session.raw + at, limit - at):
+                at += count
+                continue
+            member = self.parser.parsed(room, at, end)
             if not isinstance(member, Member):
                 break
-            length = member.headers + padded(member.payload)
+            length = member.length()
             if at + length > limit or room[at + TYPE] == COMMON:
                 break
-            add(member, session.number, session.raw + at, length)
+            self.files.add(member, session.number, session.raw + at, length)
             at += length
         self.turn += at - begin
         return max(0, at - end), bytes(room[at:end])

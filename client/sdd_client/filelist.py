@@ -18,7 +18,8 @@ from .tarrun import Said
 # A path that was asked for, a name with a fault, and one that was left out knowingly; any other kind is a member's.
 ASKED, FAULT, LEFT_OUT = "@", "!", "-"
 LEVEL, GZIP = 3, 31
-PIECE = 1 << 20
+# A piece has so many bytes of rows, and so many are compressed at once: what fills the pipe of tar meanwhile is little.
+PIECE, PORTION = 1 << 20, 1 << 15
 
 
 class Row(typing.NamedTuple):
@@ -53,17 +54,20 @@ class Piece(typing.NamedTuple):
     last: int
 
 
-def packed(rows: list[bytes]) -> bytes:
-    gzip = zlib.compressobj(LEVEL, zlib.DEFLATED, GZIP)
-    return gzip.compress(b"".join(rows)) + gzip.flush()
-
-
 class Writer:
     """Writes a list, and gives its pieces away as they are filled."""
 
     def __init__(self, give: typing.Callable[[Piece], object]):
-        self.give, self.rows, self.sessions = give, [], set()
-        self.size = self.files = self.bytes = self.faults = 0
+        self.give = give
+        self.files = self.bytes = self.faults = 0
+        self._begin()
+
+    def _begin(self) -> None:
+        """Begins a piece: what of it is compressed, and the rows that aren't yet."""
+        self.gzip, self.data = zlib.compressobj(LEVEL, zlib.DEFLATED, GZIP), bytearray()
+        self.rows: list[bytes] = []
+        self.sessions: set[int] = set()
+        self.size = self.waiting = 0
 
     def add(self, member: Member, session: int, offset: int, length: int) -> None:
         path, kind, size, mtime, link, _, _ = member
@@ -71,6 +75,23 @@ class Writer:
         self.bytes += size
         self.sessions.add(session)
         self._add(b"%c %d %d %d %d %d %b\0%b\0" % (ord(kind), size, mtime, session, offset, length, plain(path), link))
+
+    def add_usual(self, members: typing.Iterator[tuple[bytes, int, bytes, int]], session: int, offset: int, most: int) -> int:
+        """Adds the first members of some as `usual` gives them, which follow one another there, as long as they have so many
+        bytes at most. Gives how many bytes these are."""
+        at, end, size, rows = offset, offset + most, 0, []
+        for path, count, moment, length in members:
+            if at + length > end:
+                break
+            rows.append(b"f %d %b %d %d %d %b\0\0" % (count, moment, session, at, length, plain(path)))
+            size += count
+            at += length
+        if rows:
+            self.files += len(rows)
+            self.bytes += size
+            self.sessions.add(session)
+            self._add(b"".join(rows))
+        return at - offset
 
     def ask(self, path: str) -> None:
         self._add(b"%c 0 0 0 0 0 %b\0\0" % (ord(ASKED), os.fsencode(path)))
@@ -87,17 +108,26 @@ class Writer:
             self.sessions.add(row.session)
         self._add(b"%c %d %d %d %d %d %b\0%b\0" % (ord(row.kind), *row[1:]))
 
-    def _add(self, row: bytes) -> None:
-        self.rows.append(row)
-        self.size += len(row)
+    def _add(self, rows: bytes) -> None:
+        self.rows.append(rows)
+        self.size += len(rows)
+        self.waiting += len(rows)
         if self.size >= PIECE:
             self.finish()
+        elif self.waiting >= PORTION:
+            self._compress()
+
+    def _compress(self) -> None:
+        self.data += self.gzip.compress(b"".join(self.rows))
+        self.rows, self.waiting = [], 0
 
     def finish(self) -> None:
         """Gives away what is left."""
-        if self.rows:
-            self.give(Piece(packed(self.rows), min(self.sessions, default=0), max(self.sessions, default=0)))
-        self.rows, self.size, self.sessions = [], 0, set()
+        if self.size:
+            self._compress()
+            self.data += self.gzip.flush()
+            self.give(Piece(bytes(self.data), min(self.sessions, default=0), max(self.sessions, default=0)))
+        self._begin()
 
 
 def rows_of_texts(texts: list[bytes]) -> typing.Iterator[Row]:

@@ -104,8 +104,8 @@ class Lane(threading.Thread):
     def __init__(self, way: Way):
         super().__init__(daemon=True)
         self.way, self.why, self.talk, self.is_stopping = way, None, None, False
-        self.free: queue.Queue[bytearray] = queue.Queue()
-        self.full: queue.Queue[typing.Any] = queue.Queue()
+        self.free: queue.SimpleQueue[bytearray] = queue.SimpleQueue()
+        self.full: queue.SimpleQueue[typing.Any] = queue.SimpleQueue()
         for _ in range(BUFFERS):
             self.free.put(bytearray(way.record))
         self.session: Session | None = None

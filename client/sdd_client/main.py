@@ -11,7 +11,7 @@ import time
 import types
 import typing
 
-from . import backup, console, copies, dialogue, listing, plainfiles, rebuild, report, restore, retention, settings, streams, unattended, verify
+from . import backup, console, copies, dialogue, listing, plainfiles, rebuild, restore, retention, settings, streams, unattended, verify
 from .catalogue import Catalogue, Job, usual_place
 from .chosen import Choice, Undo, job_at, moment_of
 from .connection import Address, Connection, connect
@@ -198,6 +198,9 @@ def do_run(asked: Asked) -> None:
 
 
 def do_report(asked: Asked) -> None:
+    # No other command needs it and what it loads.
+    from . import report
+
     jobs = settings_of(asked, is_needed=False).jobs
     with catalogue_of(asked) as catalogue:
         facts = report.facts_of(catalogue, asked.client, jobs)

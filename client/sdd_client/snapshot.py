@@ -48,17 +48,17 @@ def decoded(data: bytes) -> Snapshot:
 
 class Folder(typing.NamedTuple):
     """A folder's record: its path, its number in its file system, its fields as they are, and the names in it, each behind a
-    letter."""
+    letter and before a zero byte."""
 
     path: bytes
     number: int
     fields: bytes
-    names: list[bytes]
+    names: bytes
 
     def without(self, paths: set[bytes]) -> bytes:
         """The record without some names."""
         above = self.path.rstrip(b"/") + b"/"
-        kept = [one for one in self.names if above + one[1:] not in paths]
+        kept = [one for one in self.names.split(b"\0")[:-1] if above + one[1:] not in paths]
         return self.fields + b"".join(one + b"\0" for one in kept) + b"\0\0"
 
 
@@ -75,8 +75,7 @@ def folders_of(text: bytes) -> tuple[bytes, list[Folder]]:
                 at = end + 1
             # An empty name ends the names in it, and a zero byte the record.
             end = at if text.startswith(b"\0\0", at) else text.index(b"\0\0\0", at) + 1
-            names = text[at:end].split(b"\0")[:-1]
-            found.append(Folder(b"/" + fields[NAME].removeprefix(b"./"), int(fields[NUMBER]), text[begin:at], names))
+            found.append(Folder(b"/" + fields[NAME].removeprefix(b"./"), int(fields[NUMBER]), text[begin:at], text[at:end]))
             at = end + 2
         return start, found
     except ValueError as why:
@@ -98,13 +97,14 @@ def usable(text: bytes, faults: set[bytes], links: typing.Callable[[], typing.It
     start, folders = folders_of(text)
     anew = {folder.path for folder in folders if folder.path in faults or not is_same(folder)}
     names = set(faults)
-    if anew or names:
-        pairs, before = list(links()), -1
-        while before != len(names):
-            before = len(names)
-            for pair in pairs:
-                if any(path in names or is_below(path, anew) for path in pair):
-                    names.update(pair)
+    if not anew and not names:
+        return text
+    pairs, before = list(links()), -1
+    while before != len(names):
+        before = len(names)
+        for pair in pairs:
+            if any(path in names or is_below(path, anew) for path in pair):
+                names.update(pair)
     return start + b"".join(folder.without(names) for folder in folders if folder.path not in anew)
 
 

@@ -27,7 +27,7 @@ FIELDS = struct.Struct("100s24x11sB12s8xs100s6s82x155s12x")
 # size and the type; of the second name, size and what ends it, type, the first byte of the prefix.
 USUAL = struct.Struct("124x11s21xB355x512x100s24x11sB20xB188xB154x12x")
 SMALL = {b"%011o" % size: size for size in range(1, BLOCK + 1)}
-MTIME = re.compile(rb"(\d\d) mtime=(\d{1,18})\.(\d{1,9})\n")
+MTIME = re.compile(rb"(\d\d) mtime=([1-9]\d{0,17})\.(\d{1,9})\n")
 
 
 class Damaged(Failed):
@@ -111,8 +111,6 @@ class Parser:
     def parsed(self, buffer: Buffer, start: int, end: int) -> Member | int | None:
         """The member whose headers begin at `start` in the buffer, which is filled up to `end`; or how many bytes from there
         on are needed at least, if they aren't all there; or nothing at the archive's end."""
-        if end - start >= USUAL.size and not self.are_summed and (member := usual(buffer, start)):
-            return member
         said: dict[bytes, bytes] = {}
         at = start
         while end - at >= BLOCK:
@@ -171,17 +169,23 @@ def names(said: dict[bytes, bytes]) -> bytes:
     return told
 
 
-def usual(buffer: Buffer, start: int) -> Member | None:
-    """The member whose headers begin there, if it is one as nearly all are."""
-    extended, before, name, digits, last, kind, prefix = USUAL.unpack_from(buffer, start)
-    if before != ord("x") or kind != ord("0") or prefix or extended not in SMALL:
-        return None
-    length = SMALL[extended]
-    found = MTIME.fullmatch(buffer, start + BLOCK, start + BLOCK + length)
-    if not found or int(found[1]) != length:
-        return None
-    size = sized(digits, last)
-    return Member(name.partition(b"\0")[0], "f", size, int(found[2] + found[3].ljust(9, b"0")), b"", USUAL.size, size)
+def usual(buffer: Buffer, start: int, end: int) -> typing.Iterator[tuple[bytes, int, bytes, int]]:
+    """The members that begin at `start` and follow one another, as long as they are as nearly all are and their headers are
+    in the buffer, which is filled up to `end`. Of each its path, its size, the digits of its time in nanoseconds, and its bytes
+    in the archive. It is what `Parser` says of these, in a third of the time."""
+    at = start
+    while end - at >= USUAL.size:
+        extended, before, name, digits, last, kind, prefix = USUAL.unpack_from(buffer, at)
+        if before != 0x78 or kind != 0x30 or prefix or last or extended not in SMALL or not digits.isdigit():
+            return
+        length = SMALL[extended]
+        found = MTIME.fullmatch(buffer, at + BLOCK, at + BLOCK + length)
+        if not found or int(found[1]) != length:
+            return
+        size = int(digits, 8)
+        length = USUAL.size + padded(size)
+        yield name.partition(b"\0")[0], size, found[2] + found[3].ljust(9, b"0"), length
+        at += length
 
 
 class Members:

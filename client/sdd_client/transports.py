@@ -5,7 +5,6 @@ import typing
 
 from .transport_local import local
 from .transport_process import ProcessTransport, by_shell
-from .transport_tls import command
 
 
 class Transport(typing.Protocol):
@@ -35,5 +34,7 @@ def transport(port: int | None = None, rsh: str | None = None, tls: str | None =
     if rsh is not None:
         return by_shell(rsh)
     if tls is not None and cert is not None:
+        # Python's ssl takes longer to load than all that a job of this machine needs of the client.
+        from .transport_tls import command
         return ProcessTransport(command(tls, cert))
     return local(port, timeout)

@@ -14,7 +14,7 @@ from sdd_client.cutter import Cutter
 from sdd_client.errors import Failed
 from sdd_client.filelist import Row, Writer, plain, rows_of
 from sdd_client.head import Head, Place
-from sdd_client.tarcut import END, Damaged, Member, Members, Parser, nanoseconds, padded
+from sdd_client.tarcut import END, Damaged, Member, Members, Parser, nanoseconds, padded, usual
 from sdd_client.tarrun import ARCHIVE
 from trees import Tree
 
@@ -48,7 +48,7 @@ def by_parser(data):
 
 def parsed(checks, site):
     """Each member of drawn trees, in several formats, is as tarfile has it; of one that isn't all there nothing is made up."""
-    is_root, many = os.geteuid() == 0, 0
+    is_root, many, as_most = os.geteuid() == 0, 0, 0
     for number, options in enumerate([(), (), ("--format=posix",), ("--format=gnu", "--sparse"), ("--format=ustar",),
                                       ("--format=posix", "--pax-option=comment:=x"), ("--format=posix", "--pax-option=globexthdr.name=g,a=b")]):
         folder = site.folder / f"tree{number}"
@@ -64,9 +64,26 @@ def parsed(checks, site):
         checks.same(f"members {number}", got, [tuple(one) for one in wanted])
         many += len(got)
         checks.same(f"as a stream {number}", [at for *_, at in by_parser(data)], list(by_stream(data)))
+        as_most += quickly(checks, number, data)
         cut_anywhere(checks, number, data)
-    print(f"members: {many}")
-    checks.check("many members", many > 300, many)
+    print(f"members: {many}, as most are: {as_most}")
+    checks.check("many members", many > 300 and as_most > 100, (many, as_most))
+
+
+def quickly(checks, number, data):
+    """What is read quickly of members that are as most are is what the parser says of them, and no byte before their ends is
+    enough. Gives how many these are."""
+    wrong, count = [], 0
+    for *_, at in by_parser(data):
+        member = Parser().parsed(data, at, len(data))
+        if (one := next(usual(data, at, len(data)), None)) is None:
+            continue
+        count += 1
+        path, size, moment, length = one
+        if Member(path, "f", size, int(moment), b"", length - padded(size), size) != member or list(usual(data, at, at + member.headers - 1)):
+            wrong.append((one, member))
+    checks.same(f"quickly {number}", wrong, [])
+    return count
 
 
 def by_stream(data):
