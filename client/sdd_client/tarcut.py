@@ -57,9 +57,10 @@ def padded(size: int) -> int:
 
 
 def number(field: bytes) -> int:
-    """A number of a header: octal, or binary if its first bit is set."""
+    """A number of a header: octal, or binary if its first bit is set, which is less than zero if the second is set too."""
     if field[0] & 0x80:
-        return int.from_bytes(field, "big", signed=True) & ((1 << (8 * len(field) - 2)) - 1)
+        binary = int.from_bytes(field, "big", signed=True)
+        return binary if field[0] & 0x40 else binary + (1 << (8 * len(field) - 1))
     try:
         return int(field.strip(b" \0") or b"0", 8)
     except ValueError as why:

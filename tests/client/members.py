@@ -53,6 +53,7 @@ def parsed(checks, site):
                                       ("--format=posix", "--pax-option=comment:=x"), ("--format=posix", "--pax-option=globexthdr.name=g,a=b")]):
         folder = site.folder / f"tree{number}"
         Tree(random.Random(SEED + number), folder, is_root).grow(60)
+        plain_files(random.Random(SEED + number), folder / "plain", 20 if options else 150)
         data = archive_of(folder, *options)
         wanted = [(plain(path), *others) for path, *others in by_tarfile(data)]
         # What counts for all members is before the first one, and here a part of it.
@@ -68,6 +69,17 @@ def parsed(checks, site):
         cut_anywhere(checks, number, data)
     print(f"members: {many}, as most are: {as_most}")
     checks.check("many members", many > 300 and as_most > 100, (many, as_most))
+
+
+def plain_files(numbers, folder, count):
+    """Plain files as most are, with names of drawn lengths, and moments of few digits, of the far past and future too."""
+    folder.mkdir()
+    for number in range(count):
+        path = folder / f"{number}{'x' * numbers.choice([1, 10, 30, 60, 80, 84, 85, 86, 90, 100])}"
+        path.write_bytes(numbers.randbytes(numbers.choice([0, 1, 511, 512, 513, 3000])))
+        seconds = numbers.choice([0, 1, 10**9, 1 << 33, -5, *4 * [2 * 10**9]])
+        part = numbers.choice([0, 5, 120, 10**8, 999_999_999, *(numbers.randrange(10**9) for _ in range(4))])
+        os.utime(path, ns=(10**18, seconds * 10**9 + part))
 
 
 def quickly(checks, number, data):
@@ -97,7 +109,7 @@ def by_stream(data):
 
 def cut_anywhere(checks, number, data):
     """What is broken off within the headers of a member needs more bytes, or is damaged."""
-    wrong, numbers = [], random.Random(SEED)
+    wrong, numbers, data = [], random.Random(SEED), memoryview(data)
     for *_, at in by_parser(data):
         whole = Parser().parsed(data, at, len(data))
         for end in (at, at + 511, at + whole.headers - 1, at + numbers.randrange(whole.headers)):
