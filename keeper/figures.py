@@ -5,9 +5,9 @@ import os
 import pathlib
 import typing
 
-from keeper import scrubs
 from keeper.configuration import Configuration
 from keeper.daemon import Now
+from keeper.damage import damaged, is_hit
 from keeper.jobs import Job
 from keeper.labels import Free, ready_on
 from keeper.state import Key, State
@@ -25,7 +25,7 @@ HELP = {
     "sdd_keeper_days_left": "days until the room is used up at the rate of the last week",
     "sdd_keeper_last_success_seconds": "when the last whole backup of a job began",
     "sdd_keeper_damaged_volumes": "volumes with damage",
-    "sdd_keeper_damaged_jobs": "kept jobs that lie on damaged volumes or aren't whole",
+    "sdd_keeper_damaged_jobs": "kept jobs that damage hits or that aren't whole",
     "sdd_keeper_differences": "where folders, daemon and catalogue don't say the same",
     "sdd_keeper_given_back_volumes_total": "volumes that were given back",
     "sdd_keeper_given_back_bytes_total": "their bytes",
@@ -69,11 +69,11 @@ def figures_of(configuration: Configuration, state: State, seen: Seen, differenc
     made.add("sdd_keeper_round_seconds", now)
     made.add("sdd_keeper_differences", differences)
     volumes, gone = state.volumes(), state.given_back()
-    damaged = scrubs.damaged(state, seen.verdicts)
+    damage = damaged(state, seen.verdicts, seen.there)
     for pool in configuration.pools:
         own = {one.name for one in seen.verdicts if one.pool == pool and one.name in volumes}
         made.add("sdd_keeper_volumes", len(own), pool=pool.name)
-        made.add("sdd_keeper_damaged_volumes", len(own & damaged), pool=pool.name)
+        made.add("sdd_keeper_damaged_volumes", len(own & set(damage)), pool=pool.name)
         back = [size for of, size in gone.values() if of == pool.name]
         made.add("sdd_keeper_given_back_volumes_total", len(back), pool=pool.name)
         made.add("sdd_keeper_given_back_bytes_total", sum(back), pool=pool.name)
@@ -88,7 +88,8 @@ def figures_of(configuration: Configuration, state: State, seen: Seen, differenc
                 made.add("sdd_keeper_days_left", max(0, room) / rate, **words)
     for (client, name), began in last_whole(seen.jobs).items():
         made.add("sdd_keeper_last_success_seconds", began, client=client, job=name)
-    hit = [job for job in seen.jobs if job.key in seen.kept and (job.lacks or job.volumes & damaged)]
+    hit = [job for job in seen.jobs if job.key in seen.kept
+           and (job.lacks or any(is_hit(job, name, lines) for name, lines in damage.items()))]
     made.add("sdd_keeper_damaged_jobs", len(hit))
     return made
 

@@ -3,6 +3,7 @@ from __future__ import annotations
 
 import os
 import pathlib
+import re
 import struct
 import typing
 
@@ -10,8 +11,13 @@ from sdd_client.dialogue import VOLUME_NAME
 from sdd_client.errors import Failed
 
 GONE = "~gone"
-# Where the moment is in a volume's label (docs/FORMATS.md, 'Labels').
-MOMENT_AT, MOMENT = 52, struct.Struct(">q")
+# The daemon's, in each folder that it serves; and the folder in which a volume is alone while it is read.
+LOCK, ALONE = ".lock~", ".verify~"
+NO_NOTE = re.compile(rf"{re.escape(LOCK)}|{re.escape(ALONE)}|spool~\d+~\d+|.*{GONE}")
+# The first bytes of a volume (docs/FORMATS.md, 'Labels'): its header up to the mark of blocks, then the profile of the label,
+# the moment, and the name with a zero byte after it.
+LABEL = struct.Struct(">12x 4s 20x 12s 4x q 128s")
+MARK, PROFILE = b"BB02", b"sd-profile\n\0"
 
 
 class Identity(typing.NamedTuple):
@@ -48,17 +54,39 @@ def beside(folder: pathlib.Path, name: str) -> list[pathlib.Path]:
         return sorted(folder / one.name for one in entries if one.name.startswith(f"{name}~"))
 
 
+def lonely_in(folder: pathlib.Path) -> list[str]:
+    """The files that go with volumes that aren't there."""
+    with os.scandir(folder) as entries:
+        names = {one.name for one in entries}
+    return sorted(name for name in names if "~" in name and not NO_NOTE.fullmatch(name) and name.partition("~")[0] not in names)
+
+
 def gone_in(folder: pathlib.Path) -> list[str]:
     """The volumes whose file has been renamed to be removed."""
     with os.scandir(folder) as entries:
         return sorted(one.name.removesuffix(GONE) for one in entries if one.name.endswith(GONE))
 
 
-def moment_of(path: pathlib.Path) -> int:
-    """When a volume was labelled; 0 where there is no label."""
+class Label(typing.NamedTuple):
+    """When a volume was labelled, and with which name."""
+
+    moment: int
+    name: str
+
+
+def label_of(path: pathlib.Path) -> Label | None:
+    """A volume's label, if one begins the file. Whether it is whole is found by a scan."""
     with open(path, "rb") as file:
-        head = file.read(MOMENT_AT + MOMENT.size)
-    return int(MOMENT.unpack_from(head, MOMENT_AT)[0]) if len(head) == MOMENT_AT + MOMENT.size else 0
+        mark, profile, moment, text = LABEL.unpack(file.read(LABEL.size).ljust(LABEL.size, b"\0"))
+    if (mark, profile) != (MARK, PROFILE):
+        return None
+    return Label(moment, text.partition(b"\0")[0].decode(errors="replace"))
+
+
+def is_named_otherwise(path: pathlib.Path) -> bool:
+    """Whether a file is a volume of another name, as a copy of one."""
+    label = label_of(path)
+    return label is not None and label.name != path.name
 
 
 def free_in(folder: pathlib.Path) -> int:

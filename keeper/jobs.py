@@ -4,6 +4,7 @@ from __future__ import annotations
 import datetime
 import typing
 
+from sdd_client.dialogue import SPAN
 from sdd_client.errors import Failed
 from sdd_client.head import Head, head_in
 from sdd_client.retention import reasons
@@ -16,14 +17,30 @@ from keeper.state import Key, Session, State
 Look = typing.Callable[[Session, str], "Head | None"]
 
 
+class Span(typing.NamedTuple):
+    """Where blocks of a session are."""
+
+    volume: str
+    begin: int
+    end: int
+
+
 class Job(typing.NamedTuple):
-    """A job: its head, the key of its last session, when it was first seen, and the sessions that aren't whole."""
+    """A job: its head, the key of its last session, when it was first seen, the sessions that aren't whole, and where all of
+    its sessions are."""
 
     head: Head
     key: Key
     seen: float
     lacks: list[str]
-    volumes: frozenset[str]
+    spans: list[Span]
+
+    def volumes(self) -> set[str]:
+        return {one.volume for one in self.spans}
+
+    def keys(self) -> set[Key]:
+        """Those of all its sessions."""
+        return {self.key, *(place.key() for place in self.head.sessions)}
 
     def began(self) -> float:
         return self.head.began / 1_000_000
@@ -73,8 +90,13 @@ def jobs_of(state: State) -> list[Job]:
             continue
         places = [last, *(Session(place.key(), True, place.lines) for place in head.sessions)]
         lacks = [one.lines[0] for one in places if sessions.get(one.key) != one]
-        found.append(Job(head, key, seen, lacks, frozenset(name for one in places for name in one.volumes())))
+        found.append(Job(head, key, seen, lacks, [span for one in places for span in spans_of(one)]))
     return found
+
+
+def spans_of(session: Session) -> list[Span]:
+    matches = filter(None, map(SPAN.fullmatch, session.lines))
+    return [Span(one[1], int(one[5]), int(one[6])) for one in matches]
 
 
 def kept_of(jobs: list[Job], pools: dict[str, Pool], now: float) -> dict[Key, str]:

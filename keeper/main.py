@@ -10,10 +10,9 @@ import typing
 from sdd_client.errors import Failed
 
 from keeper.configuration import Configuration, configured
-from keeper.jobs import Job
 from keeper.journal import tell
 from keeper.rounds import Keeper
-from keeper.scrubs import Verified, due, hit_by, verify
+from keeper.scrubs import scrub
 from keeper.state import State
 
 
@@ -64,36 +63,6 @@ def go_on(configuration: Configuration) -> typing.NoReturn:
         except (Failed, OSError) as why:
             tell(why)
         time.sleep(configuration.every)
-
-
-def scrub(configuration: Configuration, clock: typing.Callable[[], float] = time.time) -> int:
-    """Reads anew what is due, a volume after the other. Rounds go on beside it. The status is 1 if there is damage."""
-    damaged = False
-    while True:
-        with contextlib.closing(State(configuration.state)) as state:
-            found = Keeper(configuration, state, clock).see()
-            one = due(state, found.verdicts, clock())
-            if not one:
-                return int(damaged)
-            volume, known = state.volumes()[one.name], state.keys_on().get(one.name, set())
-        verified = verify(volume, known, one.pool.rate)
-        with contextlib.closing(State(configuration.state)) as state:
-            # What isn't as it was is found by the next round.
-            if verified and state.volumes().get(one.name) == volume:
-                damaged |= tell_damage(volume.name, verified, found.jobs)
-                state.put_verified(volume.name, clock(), verified.damage)
-
-
-def tell_damage(name: str, verified: Verified, jobs: list[Job]) -> bool:
-    """Tells what was found, and which jobs it hits."""
-    for line in verified.damage:
-        tell(line)
-    for time_of, number in sorted(verified.lost):
-        tell(f"{name}: session {time_of} {number} isn't found any more")
-    if verified.damage or verified.lost:
-        hit = [job.name() for job in hit_by({name}, jobs)[name]]
-        tell(f"{name} is damaged; on it are {'; '.join(hit) or 'no jobs'}")
-    return bool(verified.damage or verified.lost)
 
 
 def left(*_: object) -> None:

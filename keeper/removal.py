@@ -8,7 +8,7 @@ import typing
 from sdd_client.errors import Failed
 
 from keeper.daemon import Daemon, Now
-from keeper.folders import GONE, beside, identity_of, sync_folder
+from keeper.folders import ALONE, GONE, beside, identity_of, sync_folder
 from keeper.journal import tell
 from keeper.scans import Tool, run_tool, scan
 from keeper.state import State, Volume
@@ -59,6 +59,8 @@ def finish(state: State, daemon: Daemon, name: str, folder: pathlib.Path, pool: 
         if path != gone:
             path.unlink()
     step("remove")
+    # It may have another name for a scrub that goes on, or was stopped.
+    (folder / ALONE / name).unlink(missing_ok=True)
     gone.unlink()
     sync_folder(folder)
     step("note")

@@ -8,19 +8,17 @@ from sdd_client.errors import Failed
 
 from keeper.configuration import Configuration, Pool
 from keeper.daemon import Daemon
+from keeper.damage import damaged, told
+from keeper.differences import differences
 from keeper.figures import Seen, figures_of, write
-from keeper.folders import free_in, gone_in
+from keeper.folders import LOCK, free_in, gone_in
 from keeper.jobs import find_heads, jobs_of, kept_of
 from keeper.journal import tell
 from keeper.labels import Free, label, wanted, why_no_room
 from keeper.removal import Step, give_back, recover, restore_unknown
 from keeper.scans import look
-from keeper.scrubs import damaged, differences, hit_by
 from keeper.state import State
 from keeper.verdicts import Verdict, verdicts
-
-# The daemon's, in each folder that it serves.
-LOCK = ".lock~"
 
 
 def no_step(_: str) -> None:
@@ -52,10 +50,9 @@ class Keeper:
 
     def show(self, seen: Seen) -> None:
         """Tells of damage and of what doesn't fit, and writes the figures."""
-        for name, jobs in hit_by(damaged(self.state, seen.verdicts), seen.jobs).items():
-            hit = [f"{job.name()}{'' if job.key in seen.kept else ', which is not kept'}" for job in jobs]
-            self.tell_new(f"{name} is damaged; on it are {'; '.join(hit) or 'no jobs'}")
-        found = list(differences(self.state, seen.verdicts, seen.jobs, seen.kept))
+        for name, lines in sorted(damaged(self.state, seen.verdicts, seen.there).items()):
+            self.tell_new(told(name, lines, seen.jobs, seen.kept))
+        found = list(differences(self.state, seen.verdicts, seen.there, seen.jobs, seen.kept, self.configuration.folders()))
         for one in found:
             self.tell_new(one)
         if path := self.configuration.figures:

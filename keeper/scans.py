@@ -9,12 +9,12 @@ import typing
 from sdd_client.dialogue import SPAN, VOLUME_NAME
 from sdd_client.errors import Failed
 
-from keeper.folders import moment_of, volumes_in
+from keeper.folders import is_named_otherwise, label_of, volumes_in
 from keeper.state import Key, Session, State, Volume
 
 SESSION = re.compile(r"session (\d+) (\d+) job \d+ pool \S+ (ended|cut) .*")
 KEY = re.compile(r"session (\d+) (\d+)")
-DAMAGE = re.compile(rf"damage ({VOLUME_NAME.pattern}) \d+ \w+")
+DAMAGE = re.compile(rf"(?:damage ({VOLUME_NAME.pattern}) \d+ \w+|behind ({VOLUME_NAME.pattern}) \d+)")
 
 Tool = typing.Callable[[list[str]], "subprocess.CompletedProcess[str]"]
 
@@ -49,7 +49,7 @@ def scan(folder: pathlib.Path, names: list[str], tool: Tool = run_tool) -> Scan:
         elif SPAN.fullmatch(line):
             found.sessions[-1].lines.append(line)
         elif damage := DAMAGE.fullmatch(line):
-            found.damage.setdefault(damage[1], []).append(line)
+            found.damage.setdefault(damage[1] or damage[2], []).append(line)
     return found
 
 
@@ -64,21 +64,26 @@ def look(state: State, folder: pathlib.Path, now: float, growing: set[str], ever
                and (name not in growing or now - known[name].scanned >= every)]
     if not changed:
         return
-    found = scan(folder, in_order(folder, changed), tool)
+    # The sessions of a copy under another name are those of the volume itself.
+    foreign = [name for name in changed if is_named_otherwise(folder / name)]
+    own = [name for name in changed if name not in foreign]
+    found = scan(folder, in_order(folder, own), tool) if own else Scan([], {})
     if also := parts_elsewhere(state, found, set(changed)) & set(there):
         changed += also
-        found = scan(folder, in_order(folder, changed), tool)
+        found = scan(folder, in_order(folder, [*own, *also]), tool)
     volumes = []
     for name in changed:
         old = known.get(name)
         since = old.since if old and old.identity == there[name] else now
-        volumes.append(Volume(name, folder, there[name], now, since, found.damage.get(name, [])))
+        damage = [f"foreign {name} 0"] if name in foreign else found.damage.get(name, [])
+        volumes.append(Volume(name, folder, there[name], now, since, damage))
     state.put_scan(volumes, found.sessions)
 
 
 def in_order(folder: pathlib.Path, names: list[str]) -> list[str]:
     """By when they were labelled, as a session goes from one to the next."""
-    return sorted(names, key=lambda name: (moment_of(folder / name), name))
+    labels = {name: label_of(folder / name) for name in names}
+    return sorted(names, key=lambda name: (label.moment if (label := labels[name]) else 0, name))
 
 
 def parts_elsewhere(state: State, found: Scan, read: set[str]) -> set[str]:

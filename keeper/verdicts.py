@@ -29,7 +29,7 @@ def verdicts(state: State, pools: dict[str, Pool], now_there: Now, jobs: list[Jo
     """What is to be done with each volume that the daemon has of these pools."""
     volumes, keys_on, gone = state.volumes(), state.keys_on(), state.given_back()
     needed = needed_by(jobs, kept)
-    of_jobs = {key for job in jobs for key in (job.key, *(place.key() for place in job.head.sessions))}
+    of_jobs = {key for job in jobs for key in job.keys()}
     found = []
     for one in now_there.volumes.values():
         if not (pool := pools.get(one.pool)) or one.name in gone:
@@ -76,5 +76,5 @@ def needed_by(jobs: list[Job], kept: dict[Key, str]) -> dict[str, str]:
     needed: dict[str, str] = {}
     for job in sorted(jobs, key=Job.began):
         if why := kept.get(job.key):
-            needed.update({name: f"{job.name()} needs it ({why})" for name in job.volumes})
+            needed.update({name: f"{job.name()} needs it ({why})" for name in job.volumes()})
     return needed

@@ -1,12 +1,17 @@
 """Damage on volumes that aren't written any more: found when it is due, at a rate, and told with the jobs that it hits."""
 import contextlib
 import os
+import shutil
+import signal
 import time
 
-import keeper.main
 import keeper.rounds
+import keeper.scrubs
 from keeper.configuration import configured
-from keeper.main import scrub
+from keeper.folders import ALONE
+from keeper.scrubs import one_at_a_time, scrub
+from keeper.state import State
+from sdd_client.errors import Failed
 from world import DAY, World
 
 POOL = ('scan = "1s"\n[pool.Daily]\ndrives = [1]\nnames = "Daily-%05d"\nready = 2\nkeep = {{ last = 9 }}\nverify = "30d"\n{}')
@@ -20,13 +25,28 @@ def figure(world, name):
 
 def run(checks, folder):
     with World(folder / "found", POOL.format("")) as world:
-        world.round()
-        for _ in range(3):
-            world.backup("www", "home", "Daily", [18_500])
-            world.now += DAY
-            world.round()
+        days(world, 3, 18_500)
         found(checks, world)
-    rate(checks, folder / "rate")
+    for part in (hits, kinds, catalogue, hardships, told_apart, rate):
+        part(checks, folder / part.__name__)
+
+
+def days(world, count, size):
+    """So many days with a job of so many bytes each, and the keeper after it."""
+    world.round()
+    for _ in range(count):
+        world.backup("www", "home", "Daily", [size])
+        world.now += DAY
+        world.round()
+
+
+def turn(path, place):
+    """Turns a bit. A disk that forgets changes no file's time."""
+    data, when = bytearray(path.read_bytes()), path.stat()
+    data[place] ^= 1
+    with open(path, "r+b") as file:
+        file.write(data)
+    os.utime(path, ns=(when.st_atime_ns, when.st_mtime_ns))
 
 
 def scrubbed(world):
@@ -40,12 +60,12 @@ def scrubbed(world):
 @contextlib.contextmanager
 def replaced(told):
     """What is told goes into a list."""
-    before = keeper.main.tell
-    keeper.main.tell = keeper.rounds.tell = lambda text: told.append(str(text))
+    before = keeper.scrubs.tell
+    keeper.scrubs.tell = keeper.rounds.tell = lambda text: told.append(str(text))
     try:
         yield
     finally:
-        keeper.main.tell = keeper.rounds.tell = before
+        keeper.scrubs.tell = keeper.rounds.tell = before
 
 
 def found(checks, world):
@@ -53,17 +73,11 @@ def found(checks, world):
     world.now += 31 * DAY
     checks.same("all is well", scrubbed(world), ([], 0))
     checks.same("no damage", figure(world, "sdd_keeper_damaged_volumes"), ['{pool="Daily"} 0'])
-    path = world.folders[0] / "Daily-00001"
-    data, when = bytearray(path.read_bytes()), path.stat()
-    data[5_000] ^= 1
-    with open(path, "r+b") as file:
-        file.write(data)
-    # A disk that forgets changes no file's time.
-    os.utime(path, ns=(when.st_atime_ns, when.st_mtime_ns))
+    turn(world.folders[0] / "Daily-00001", 5_000)
     checks.same("not yet due", scrubbed(world), ([], 0))
     world.now += 31 * DAY
     told, status = scrubbed(world)
-    checks.check("it is found", status == 1 and any(line.startswith("damage Daily-00001 ") for line in told), told)
+    checks.check("it is found", status == 1 and any("damage Daily-00001 " in line for line in told), told)
     checks.check("with the job", any("www/home of 2026-01-05 00:00:00" in line for line in told), told)
     told = []
     with replaced(told):
@@ -73,6 +87,177 @@ def found(checks, world):
     checks.check("a round tells it", any("Daily-00001 is damaged" in line for line in told), told)
     with replaced(told):
         checks.same("it isn't read again before it is due", scrubbed(world)[1], 0)
+
+
+def hits(checks, folder):
+    """Damage hits the jobs that have blocks there, and no others of the volume: these restore, and it doesn't."""
+    with World(folder, POOL.format("")) as world:
+        days(world, 6, 5_500)
+        first = [one for one in world.kept if one.volumes() == {"Daily-00001"}]
+        span = first[1].head.sessions[0].lines[1].split()
+        world.now += 31 * DAY
+        turn(world.folders[0] / "Daily-00001", (int(span[5]) + int(span[6])) // 2)
+        told, status = scrubbed(world)
+        checks.check("the second is hit, and the first isn't", status == 1 and len(told) == 1
+                     and "www/home of 2026-01-06 00:00:00 is hit; " in told[0] and "2026-01-05" not in told[0], told)
+        lie = sum("Daily-00001" in one.volumes() for one in world.kept)
+        checks.check("how many others are on it", lie >= 3 and f"hit; {lie - 1} other jobs are on it" in told[0], told, lie)
+        checks.same("which of them restore", [world.restores(one) is True for one in world.kept], [True, False] + 4 * [True])
+        world.round()
+        checks.same("one job is hit", figure(world, "sdd_keeper_damaged_jobs"), [" 1"])
+
+
+def kinds(checks, folder):
+    """A label, and the end of what the daemon answered for."""
+    with World(folder, POOL.format("")) as world:
+        days(world, 4, 18_500)
+        path = world.folders[0] / "Daily-00001"
+        world.now += 31 * DAY
+        turn(path, 40)
+        told, status = scrubbed(world)
+        checks.check("a label", status == 1 and "(damage Daily-00001 0 label)" in told[0], told, status)
+        turn(path, 40)
+        world.now += 31 * DAY
+        checks.same("it is well again", scrubbed(world), ([], 0))
+        with open(path, "ab") as file:
+            file.write(b"a block that was torn")
+        world.round()
+        checks.same("what follows the last block is none", (figure(world, "sdd_keeper_damaged_volumes"), lines_of(world)),
+                    (['{pool="Daily"} 0'], ["damage Daily-00001 19399 short"]))
+        os.truncate(path, 19_398)
+        world.round()
+        checks.check("a block that is torn is one", figure(world, "sdd_keeper_damaged_volumes") == ['{pool="Daily"} 1']
+                     and figure(world, "sdd_keeper_damaged_jobs") == [" 1"], lines_of(world))
+
+
+def lines_of(world):
+    """The damage of the first volume, as the keeper keeps it."""
+    with contextlib.closing(State(world.folder / "state")) as state:
+        return state.volumes()["Daily-00001"].damage
+
+
+def catalogue(checks, folder):
+    """Sessions that the catalogue doesn't know are found, and known from then on."""
+    with World(folder, POOL.format("")) as world:
+        days(world, 3, 18_500)
+        world.now += 31 * DAY
+        with contextlib.closing(State(folder / "state")) as state, state.change() as base:
+            base.execute("DELETE FROM sessions WHERE volume = 'Daily-00002' AND id = 2")
+        told, status = scrubbed(world)
+        checks.check("told", status == 1 and told == ["Daily-00002: 2 sessions are on it, and 1 were known: it is read again "
+                                                      "to know them"], told, status)
+        checks.same("then they are known", scrubbed(world), ([], 0))
+        with contextlib.closing(State(folder / "state")) as state:
+            checks.same("both", len(state.keys_on()["Daily-00002"]), 2)
+
+
+# What stands for sdtool: its verify fails for one volume.
+FAILING = """#!/bin/sh
+if [ "$1" = verify ] && [ -e "$5/Daily-00001" ]; then
+  {}
+fi
+exec {} "$@"
+"""
+
+
+def hardships(checks, folder):
+    """What can't be read is told, and the others are read all the same."""
+    unreadable = """printf '{"line":"volume","volume":"Daily-00001","bytes":7}\\n{"line":"refused","refusal":"3940 Device fault"}\\n'; exit 1"""
+    memory = """echo '{"line":"refused","refusal":"3949 No memory"}'; exit 1"""
+    cases = [("a disk that gives nothing", unreadable, "(unreadable Daily-00001 3940 Device fault)", True),
+             ("want of memory", memory, "Daily-00001: sdtool verify: 3949 No memory", False),
+             ("it is killed", "kill -9 $$", "Daily-00001: sdtool verify broke off with status -9", False),
+             ("no words", "echo nothing; exit 0", "Daily-00001: sdtool verify says what isn't JSON", False)]
+    with World(folder, POOL.format("")) as world:
+        days(world, 3, 18_500)
+        for name, does, told_of, is_damage in cases:
+            world.now += 31 * DAY
+            with tool_that(folder, does):
+                told, status = scrubbed(world)
+            checks.check(name, status == 1 and len(told) == 1 and told_of in told[0], told, status)
+            checks.same(f"{name}: damage", bool(lines_of(world)), is_damage)
+            with contextlib.closing(State(folder / "state")) as state:
+                checks.same(f"{name}: the others", state.volumes()["Daily-00002"].scanned, world.now)
+            checks.same(f"{name}: again", scrubbed(world), ([], 0))
+            world.now += 31 * DAY
+            checks.same(f"{name}: it is well", (scrubbed(world), lines_of(world)), (([], 0), []))
+        one_at_once(checks, world)
+        stopped(checks, world)
+
+
+@contextlib.contextmanager
+def tool_that(folder, does):
+    """A folder with a program sdtool comes first in the path."""
+    place, before = folder / "tool", os.environ["PATH"]
+    place.mkdir(exist_ok=True)
+    (place / "sdtool").write_text(FAILING.format(does, shutil.which("sdtool")))
+    (place / "sdtool").chmod(0o755)
+    os.environ["PATH"] = f"{place}:{before}"
+    try:
+        yield
+    finally:
+        os.environ["PATH"] = before
+
+
+def one_at_once(checks, world):
+    configuration = configured(world.keeper_conf)
+    with one_at_a_time(configuration.state):
+        try:
+            scrub(configuration, lambda: world.now)
+            checks.check("a second one", False)
+        except Failed as why:
+            checks.same("a second one", str(why), "another scrub goes on")
+
+
+def stopped(checks, world):
+    """A scrub that is killed while it reads leaves a second name of a volume, which goes with the volume, or at the next one."""
+    place = world.folders[0] / ALONE
+    world.now += 31 * DAY
+    with tool_that(world.folder, "kill -9 $PPID; kill -9 $$"):
+        child = os.fork()
+        if not child:
+            scrub(configured(world.keeper_conf), lambda: world.now)
+            os._exit(0)
+        checks.same("it is killed", os.waitpid(child, 0)[1], signal.SIGKILL)
+    checks.same("what is left", sorted(one.name for one in place.iterdir()), ["Daily-00001", "expected~"])
+    world.write(POOL.format('min_age = "1s"').replace("last = 9", "last = 1"))
+    world.round()
+    checks.same("it has gone with its volume", ("Daily-00001" in world.volumes(), [one.name for one in place.iterdir()]),
+                (False, ["expected~"]))
+    checks.same("the next one", (scrubbed(world), place.exists()), (([], 0), False))
+
+
+def told_apart(checks, folder):
+    """Folder, daemon and catalogue: what doesn't fit is told, and nothing else."""
+    with World(folder, POOL.format("")) as world:
+        days(world, 2, 18_500)
+        world.say("unmount 1")
+        world.say("label 1 Other-1 Other File")
+        (world.folders[0] / "Daily-00001~note").write_text("a note")
+        checks.same("all fits", differing(world), [])
+        (world.folders[0] / "Gone-1~note").write_text("a note")
+        (world.folders[0] / "Lost-1").write_bytes((world.folders[0] / "Daily-00001").read_bytes())
+        checks.same("a note, and a file", differing(world), [
+            "Lost-1: its file is there, and the daemon hasn't adopted it",
+            f"{world.folders[0]}: Gone-1~note goes with a volume that isn't there"])
+        for name in ("Gone-1~note", "Lost-1"):
+            (world.folders[0] / name).unlink()
+        os.truncate(world.folders[0] / "Daily-00001", 9_000)
+        told = differing(world)
+        checks.check("a file that is too short", "Daily-00001: its file has 9000 bytes, and the daemon knows blocks up to 19399"
+                     in told and any("2026-01-05 00:00:00: not whole" in line for line in told), told)
+        (world.folders[0] / "Daily-00001").unlink()
+        told = differing(world)
+        checks.check("a file that has gone", "Daily-00001: the daemon has it, and its file isn't there" in told, told)
+        checks.same("how many", figure(world, "sdd_keeper_differences"), [f" {len(told)}"])
+
+
+def differing(world):
+    """What a round tells of what doesn't fit."""
+    told = []
+    with replaced(told):
+        world.round()
+    return [line for line in told if " is hit; " not in line]
 
 
 def rate(checks, folder):
