@@ -5,17 +5,14 @@ import os
 import pathlib
 import typing
 
-from keeper.daemon import Now
+from keeper.figures import Seen
 from keeper.folders import lonely_in
-from keeper.jobs import Job
-from keeper.state import Key, State
-from keeper.verdicts import Verdict
+from keeper.state import State
 
 
-def differences(state: State, found: list[Verdict], there: Now, jobs: list[Job], kept: dict[Key, str],
-                folders: list[pathlib.Path]) -> typing.Iterator[str]:
-    volumes = state.volumes()
-    for one in found:
+def differences(state: State, seen: Seen, folders: list[pathlib.Path]) -> typing.Iterator[str]:
+    volumes, there = state.volumes(), seen.there
+    for one in seen.verdicts:
         if one.name not in volumes and one.name not in state.given_back():
             yield f"{one.name}: the daemon has it, and its file isn't there"
     for name, volume in sorted(volumes.items()):
@@ -26,9 +23,9 @@ def differences(state: State, found: list[Verdict], there: Now, jobs: list[Job],
     for folder in folders:
         for note in lonely_in(folder):
             yield f"{folder}: {note} goes with a volume that isn't there"
-    for job in jobs:
-        if job.lacks and job.key in kept:
-            yield f"{job.name()}: not whole: {len(job.lacks)} sessions lack, as {job.lacks[0]}"
+    for job in seen.jobs:
+        if job.key in seen.kept and (lost := job.lost(seen.changing)):
+            yield f"{job.name()}: not whole: {len(lost)} sessions lack, as {lost[0].lines[0]}"
 
 
 def too_short(path: pathlib.Path, end: int) -> str | None:

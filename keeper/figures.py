@@ -33,12 +33,13 @@ HELP = {
 
 
 class Seen(typing.NamedTuple):
-    """What a round saw: the daemon, the jobs, those that are kept, the volumes' verdicts, and for each pool and drive why no
-    volume could be made for it."""
+    """What a round saw: the daemon, the jobs, those that are kept, the volumes that have changed since they were read, the
+    volumes' verdicts, and for each pool and drive why no volume could be made for it."""
 
     there: Now
     jobs: list[Job]
     kept: dict[Key, str]
+    changing: set[str]
     verdicts: list[Verdict]
     no_room: dict[tuple[str, int], str]
 
@@ -89,7 +90,7 @@ def figures_of(configuration: Configuration, state: State, seen: Seen, differenc
     for (client, name), began in last_whole(seen.jobs).items():
         made.add("sdd_keeper_last_success_seconds", began, client=client, job=name)
     hit = [job for job in seen.jobs if job.key in seen.kept
-           and (job.lacks or any(is_hit(job, name, lines) for name, lines in damage.items()))]
+           and (job.lost(seen.changing) or any(is_hit(job, name, lines) for name, lines in damage.items()))]
     made.add("sdd_keeper_damaged_jobs", len(hit))
     return made
 

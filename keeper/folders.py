@@ -33,6 +33,14 @@ def identity_of(path: pathlib.Path) -> Identity:
     return Identity(found.st_ino, found.st_size, found.st_mtime_ns)
 
 
+def is_as(path: pathlib.Path, known: Identity) -> bool:
+    """Whether a file is there, and is the one that is known."""
+    try:
+        return identity_of(path) == known
+    except OSError:
+        return False
+
+
 def volumes_in(folder: pathlib.Path) -> dict[str, Identity]:
     """The plain files that may be volumes."""
     found = {}

@@ -32,11 +32,15 @@ class Job(typing.NamedTuple):
     head: Head
     key: Key
     seen: float
-    lacks: list[str]
+    lacks: list[Session]
     spans: list[Span]
 
     def volumes(self) -> set[str]:
         return {one.volume for one in self.spans}
+
+    def lost(self, changing: set[str]) -> list[Session]:
+        """The sessions that aren't whole, whatever is found on the volumes that have changed since they were read."""
+        return [one for one in self.lacks if changing.isdisjoint(one.volumes())]
 
     def keys(self) -> set[Key]:
         """Those of all its sessions."""
@@ -89,7 +93,7 @@ def jobs_of(state: State) -> list[Job]:
         if not head or not last:
             continue
         places = [last, *(Session(place.key(), True, place.lines) for place in head.sessions)]
-        lacks = [one.lines[0] for one in places if sessions.get(one.key) != one]
+        lacks = [one for one in places if sessions.get(one.key) != one]
         found.append(Job(head, key, seen, lacks, [span for one in places for span in spans_of(one)]))
     return found
 

@@ -11,7 +11,7 @@ from keeper.daemon import Daemon
 from keeper.damage import damaged, told
 from keeper.differences import differences
 from keeper.figures import Seen, figures_of, write
-from keeper.folders import LOCK, free_in, gone_in
+from keeper.folders import LOCK, free_in, gone_in, is_as
 from keeper.jobs import find_heads, jobs_of, kept_of
 from keeper.journal import tell
 from keeper.labels import Free, label, wanted, why_no_room
@@ -52,7 +52,7 @@ class Keeper:
         """Tells of damage and of what doesn't fit, and writes the figures."""
         for name, lines in sorted(damaged(self.state, seen.verdicts, seen.there).items()):
             self.tell_new(told(name, lines, seen.jobs, seen.kept))
-        found = list(differences(self.state, seen.verdicts, seen.there, seen.jobs, seen.kept, self.configuration.folders()))
+        found = list(differences(self.state, seen, self.configuration.folders()))
         for one in found:
             self.tell_new(one)
         if path := self.configuration.figures:
@@ -88,7 +88,8 @@ class Keeper:
             tell(fault)
         jobs = jobs_of(self.state)
         kept = kept_of(jobs, self.pools, self.clock())
-        return Seen(there, jobs, kept, verdicts(self.state, self.pools, there, jobs, kept, self.clock()), {})
+        changing = {name for name, one in self.state.volumes().items() if not is_as(one.folder / name, one.identity)}
+        return Seen(there, jobs, kept, changing, verdicts(self.state, self.pools, there, jobs, kept, self.clock()), {})
 
     def give_back(self, verdict: Verdict) -> None:
         volume = self.state.volumes()[verdict.name]

@@ -10,7 +10,7 @@ import typing
 
 from sdd_client.errors import Failed
 
-from keeper.folders import ALONE, identity_of
+from keeper.folders import ALONE, is_as
 from keeper.scans import Tool
 from keeper.state import Key, Session, Volume
 
@@ -23,16 +23,15 @@ Line = dict[str, typing.Any]
 
 
 class Known(typing.NamedTuple):
-    """What the catalogue knows of a volume's sessions: all that have a block there, and how each was found."""
+    """What the catalogue knows of a volume's sessions: all that have a block there, and how each was found. One that wasn't
+    found whole may begin on a volume that has been given back."""
 
     keys: set[Key]
     sessions: dict[Key, Session]
 
-    def begins_on(self, key: Key, name: str) -> bool:
-        return key in self.sessions and self.sessions[key].volumes()[:1] == [name]
-
-    def is_whole_on(self, key: Key, name: str) -> bool:
-        return key in self.sessions and self.sessions[key].ended and self.sessions[key].volumes() == [name]
+    def volumes_of(self, key: Key) -> list[str]:
+        """The volumes of a session that was found whole, in order."""
+        return self.sessions[key].volumes() if key in self.sessions and self.sessions[key].ended else []
 
 
 def verify(volume: Volume, known: Known, rate: int | None, tool: Tool) -> list[str] | None:
@@ -41,7 +40,7 @@ def verify(volume: Volume, known: Known, rate: int | None, tool: Tool) -> list[s
     began = time.monotonic()
     with alone(volume) as folder:
         run = tool(["verify", "--json", "--expect", str(folder / EXPECTED), str(folder)]) if folder else None
-        if run is None or not is_as_it_was(volume) or run.returncode == NOT_THERE:
+        if run is None or not is_as(volume.folder / volume.name, volume.identity) or run.returncode == NOT_THERE:
             return None
     if rate:
         time.sleep(max(0.0, volume.identity.size / rate - (time.monotonic() - began)))
@@ -50,12 +49,6 @@ def verify(volume: Volume, known: Known, rate: int | None, tool: Tool) -> list[s
     except ValueError as why:
         raise Failed(f"{volume.name}: sdtool verify says what isn't JSON: {why}") from why
     return wrong(volume.name, known, run.returncode, lines)
-
-
-def is_as_it_was(volume: Volume) -> bool:
-    with contextlib.suppress(OSError):
-        return identity_of(volume.folder / volume.name) == volume.identity
-    return False
 
 
 @contextlib.contextmanager
@@ -68,7 +61,7 @@ def alone(volume: Volume) -> typing.Iterator[pathlib.Path | None]:
         (folder / EXPECTED).write_text(f"{volume.name}\n")
         with contextlib.suppress(FileNotFoundError):
             (folder / volume.name).hardlink_to(volume.folder / volume.name)
-        yield folder if is_as_it_was(volume) else None
+        yield folder if is_as(folder / volume.name, volume.identity) else None
     finally:
         clear(volume.folder)
 
@@ -106,7 +99,7 @@ def unsound(name: str, known: Known, lines: list[Line]) -> typing.Iterator[str]:
     """The sessions that aren't whole, though no block is damaged. One that comes from another volume or goes on there is told
     as broken or cut where it is alone, and is none of these."""
     for line in lines:
-        if line["line"] == "session" and known.is_whole_on((line["time"], line["id"]), name):
+        if line["line"] == "session" and known.volumes_of((line["time"], line["id"])) == [name]:
             yield f"cut {line['time']} {line['id']}"
-        elif line["line"] == "broken" and known.begins_on((line["time"], line["id"]), name):
+        elif line["line"] == "broken" and known.volumes_of((line["time"], line["id"]))[:1] == [name]:
             yield f"broken {line['time']} {line['id']}"

@@ -10,7 +10,8 @@ import keeper.scrubs
 from keeper.configuration import configured
 from keeper.folders import ALONE
 from keeper.scrubs import one_at_a_time, scrub
-from keeper.state import State
+from keeper.state import Session, State
+from keeper.verification import Known, wrong
 from sdd_client.errors import Failed
 from world import DAY, World
 
@@ -27,7 +28,7 @@ def run(checks, folder):
     with World(folder / "found", POOL.format("")) as world:
         days(world, 3, 18_500)
         found(checks, world)
-    for part in (hits, kinds, catalogue, hardships, told_apart, rate):
+    for part in (hits, kinds, broken, catalogue, hardships, told_apart, rate):
         part(checks, folder / part.__name__)
 
 
@@ -134,6 +135,28 @@ def lines_of(world):
     """The damage of the first volume, as the keeper keeps it."""
     with contextlib.closing(State(world.folder / "state")) as state:
         return state.volumes()["Daily-00001"].damage
+
+
+def broken(checks, folder):
+    """A session that isn't whole though no block is damaged is told, but not one whose beginning was given back."""
+    with World(folder, POOL.format('min_age = "1s"').replace("last = 9", "last = 2")) as world:
+        days(world, 5, 18_500)
+        first = min(world.volumes())
+        checks.same("some are given back", first > "Daily-00002", True)
+        # What a scan finds of it from now on is of this volume alone.
+        os.utime(world.folders[0] / first)
+        world.round()
+        world.now += 31 * DAY
+        checks.same("it goes on from one that has gone", scrubbed(world), ([], 0))
+    whole, part = Session((9, 1), True, ["session 9 1", "span A 1 1 2 92 500"]), Session((9, 2), False, ["session 9 2", "span A 1 1 2 500 900"])
+    across = Session((9, 3), True, ["session 9 3", "span B 1 1 1 92 300", "span A 2 2 2 900 1200"])
+    known = Known({(9, 1), (9, 2), (9, 3)}, {one.key: one for one in (whole, part, across)})
+    sessions = [{"line": "session", "time": 9, "id": number, "end": "cut"} for number in (1, 2, 3)]
+    broken_ones = [{"line": "broken", "time": 9, "id": number} for number in (1, 2, 3)]
+    done = {"line": "done", "volumes": 1, "sessions": 3}
+    checks.same("an end that is lost", wrong("A", known, 3, [*sessions, done]), ["cut 9 1"])
+    checks.same("a block that is lost", wrong("A", known, 1, [*broken_ones, done]), ["broken 9 1"])
+    checks.same("of those that begin elsewhere", wrong("A", known, 1, [*sessions[1:], *broken_ones[1:], done]), [])
 
 
 def catalogue(checks, folder):
