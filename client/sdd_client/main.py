@@ -17,6 +17,7 @@ from .chosen import Choice, Undo, job_at, moment_of
 from .connection import Address, Connection, connect
 from .dialogue import BUSY, Target, terminate
 from .errors import Ended, Failed, Lost, Misused, Partly, Refused, Unfit, complain
+from .keeperfigures import figures_in
 from .lanes import RECORD, Way
 from .newfile import lines_in, output
 from .options import job_name, parsed
@@ -209,11 +210,17 @@ def do_report(asked: Asked) -> None:
             facts.volumes = report.volumes_of(dialogue.console(talk, "status"), console.configured(asked.conf).volume if asked.conf else None)
     except Failed as why:
         facts.lacking = str(why)
+    try:
+        facts.keeper = figures_in(asked.keeper) if asked.keeper else None
+    except Failed as why:
+        facts.unkept = str(why)
     with output(asked.html) as file:
         file.write(report.page(facts).encode())
         file.finish()
     if facts.lacking:
         raise Partly(f"the page lacks the volumes: {facts.lacking}")
+    if facts.unkept:
+        raise Partly(f"the page lacks what the keeper tells: {facts.unkept}")
 
 
 def do_forget(asked: Asked) -> None:

@@ -156,6 +156,7 @@ def of_the_unattended(tasks: typing.Any) -> None:
     of_jobs_file(add)
     add = task(tasks, "report", "writes a page about the jobs and the volumes")
     add("--html", required=True, metavar="FILE", help="the page, which needs no network")
+    add("--keeper", metavar="FIGURES", help="shows what sdd-keeper tells of room, damage and all clients' jobs in that file")
     of_jobs_file(add)
 
 

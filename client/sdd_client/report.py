@@ -10,6 +10,7 @@ import typing
 
 from .catalogue import FAILED, FORGOTTEN, KEPT, PARTLY, RUNNING, UNKNOWN, Catalogue, Job
 from .chosen import dated
+from .keeperfigures import KeeperFigures, alarms_of
 from .progress import size_of
 from .retention import Usage, usage
 from .settings import LATE, JobSettings
@@ -78,6 +79,9 @@ class Facts:
     volumes: list[Volume]
     # Why the volumes aren't known, if they aren't.
     lacking: str = ""
+    # What the keeper of the volumes tells, if it is asked for, or why that isn't known.
+    keeper: KeeperFigures | None = None
+    unkept: str = ""
 
 
 def volumes_of(lines: list[str], most: int | None) -> list[Volume]:
@@ -130,7 +134,9 @@ def alarms(facts: Facts) -> list[str]:
         found.append(f"The volumes aren't known: {facts.lacking}.")
     elif facts.volumes and not any(one.state == "append" for one in facts.volumes):
         found.append("No volume takes more.")
-    return found
+    if facts.unkept:
+        found.append(f"What the keeper tells isn't known: {facts.unkept}.")
+    return found + (alarms_of(facts.keeper, facts.now.timestamp()) if facts.keeper else [])
 
 
 def in_words(seconds: float) -> str:
@@ -288,7 +294,27 @@ def volumes_part(facts: Facts) -> str:
     return "\n".join(lines) + "</table>"
 
 
-PARTS: list[typing.Callable[[Facts], str]] = [told_part, jobs_part, calendars_part, days_part, volumes_part]
+def keeper_part(facts: Facts) -> str:
+    """What the keeper tells: the room of each pool, its volumes, and all clients' jobs."""
+    if not (keeper := facts.keeper):
+        return ""
+    now = facts.now.timestamp()
+    names = ["pool", "drive", "ready volumes", "free", "reserve", "days left"]
+    lines = ["<h2>Room</h2><table>", row(names, True, {2, 3, 4, 5})]
+    for one in keeper.rooms:
+        left = "-" if one.days_left is None else f"{one.days_left:.0f}"
+        cells = [one.pool, one.drive, one.ready, size_of(one.free), size_of(one.reserve), left]
+        lines.append(row(cells, False, {2, 3, 4, 5}))
+    lines += ["</table><br><table>", row(["pool", "volumes", "damaged"], True, {1, 2})]
+    lines += [row([pool, *counts], False, {1, 2}) for pool, counts in keeper.volumes.items()]
+    lines += ["</table>", "<h2>Last whole backups</h2><table>", row(["job", "client", "began", "ago"], True, {3})]
+    for (client, name), moment in keeper.last.items():
+        lines.append(row([name, client, dated(int(moment * 1e6)), in_words(max(0.0, now - moment))], False, {3}))
+    told = f"The keeper's last round was {in_words(max(0.0, now - keeper.round))} before."
+    return "\n".join([*lines, f"</table><p class=quiet>{told}</p>"])
+
+
+PARTS: list[typing.Callable[[Facts], str]] = [told_part, jobs_part, calendars_part, days_part, volumes_part, keeper_part]
 
 
 def page(facts: Facts) -> str:
