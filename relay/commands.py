@@ -1,7 +1,7 @@
 """What a client says where a command is due. A command is read into a value, and goes on as the text made of that value,
 never as the client's bytes: so the daemon can't read another command in it than the relay did."""
-import dataclasses
 import re
+import typing
 
 from relay.packets import trimmed
 
@@ -31,8 +31,7 @@ class BadName(Exception):
     """It has a form, but what is in the place of a name is none."""
 
 
-@dataclasses.dataclass(frozen=True)
-class Open:
+class Open(typing.NamedTuple):
     job: int
     pool: str
     media: str
@@ -41,8 +40,7 @@ class Open:
         return f"append open session JobId={self.job} Pool={self.pool} Media={self.media}"
 
 
-@dataclasses.dataclass(frozen=True)
-class OfSession:
+class OfSession(typing.NamedTuple):
     """`data`, `end session` or `close session`. The ticket may be any number: that it isn't the talk's is the daemon's to
     say."""
 
@@ -53,8 +51,7 @@ class OfSession:
         return f"append {self.what} {self.ticket}"
 
 
-@dataclasses.dataclass(frozen=True)
-class Read:
+class Read(typing.NamedTuple):
     time: int
     id: int
 
@@ -62,8 +59,7 @@ class Read:
         return f"read session Time={self.time} Id={self.id}"
 
 
-@dataclasses.dataclass(frozen=True)
-class Console:
+class Console(typing.NamedTuple):
     """An operator's line. Its word is none if the line has no form, and `fault` then says why."""
 
     line: str

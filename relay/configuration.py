@@ -1,5 +1,4 @@
 """The file of names: TOML, as sdd-relay(8) has it."""
-import dataclasses
 import pathlib
 import re
 import tomllib
@@ -18,8 +17,7 @@ SESSIONS_A_DAY, TALKS = 10_000, 8
 MOST_AMOUNT = 2**62
 
 
-@dataclasses.dataclass(frozen=True)
-class Configuration:
+class Configuration(typing.NamedTuple):
     """Where the daemon listens, by a port if one is named, and otherwise by a socket; the folder of what is kept; the
     file of the log, if it isn't the system's; and the names."""
 
@@ -40,8 +38,7 @@ def configured(path: str | pathlib.Path) -> Configuration:
     return Table(str(path), table).configuration()
 
 
-@dataclasses.dataclass(frozen=True)
-class Table:
+class Table(typing.NamedTuple):
     """A table of the file, and where it is, for what is told of it."""
 
     where: str

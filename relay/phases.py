@@ -21,7 +21,8 @@ class DataPhase:
     phase by the same rule, a packet for a header and packets for records up to -1."""
 
     def __init__(self) -> None:
-        self.in_records, self.left = False, 0
+        # The size of the last packet, and what is left of it.
+        self.in_records, self.size, self.left = False, 0, 0
         self.records = self.bytes = 0
 
     def walk(self, store: bytearray, at: int, end: int, may_go: collections.abc.Callable[[int], bool]) -> tuple[int, Stop]:
@@ -34,7 +35,7 @@ class DataPhase:
                 return at, Stop.MORE
             (length,) = LENGTH.unpack_from(store, at)
             if length >= 0:
-                if stop := self._packet(length, may_go):
+                if stop := self.packet(length, may_go):
                     return at, stop
             elif length == TERMINATE:
                 return at, Stop.TERMINATE
@@ -44,7 +45,8 @@ class DataPhase:
                 self.in_records = False
             at += 4
 
-    def _packet(self, length: int, may_go: collections.abc.Callable[[int], bool]) -> Stop | None:
+    def packet(self, length: int, may_go: collections.abc.Callable[[int], bool]) -> Stop | None:
+        """A packet of this length begins, unless something stops the walk before it."""
         if length > MOST_BYTES:
             return Stop.TOO_LONG
         if self.in_records:
@@ -52,7 +54,7 @@ class DataPhase:
                 return Stop.LIMIT
             self.records += 1
             self.bytes += length
-        self.in_records, self.left = True, length
+        self.in_records, self.size, self.left = True, length, length
         return None
 
 
@@ -90,8 +92,8 @@ class ReadPhase:
     ends the walk, and then a line."""
 
     def __init__(self) -> None:
-        # What is due: the header of a record or -1; its data; its -1.
-        self.due, self.left = "header", 0
+        # What is due: the header of a record or -1; its data; its -1. The last packet's size, and what is left of it.
+        self.due, self.size, self.left = "header", 0, 0
         self.records = self.bytes = 0
 
     def walk(self, store: bytearray, at: int, end: int) -> tuple[int, Stop]:
@@ -107,9 +109,9 @@ class ReadPhase:
             if length == END_OF_DATA and self.due == "end":
                 self.due = "header"
             elif 0 <= length <= MOST_BYTES and self.due == "header":
-                self.due, self.left = "data", length
+                self.due, self.size, self.left = "data", length, length
             elif 0 <= length <= MOST_BYTES and self.due == "data":
-                self.due, self.left = "end", length
+                self.due, self.size, self.left = "end", length, length
                 self.records += 1
                 self.bytes += length
             else:

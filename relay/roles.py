@@ -1,6 +1,6 @@
 """Who may say what. A name has one of three roles, and limits."""
-import dataclasses
 import enum
+import typing
 
 from relay.commands import Command, Console, Open, Read
 
@@ -19,8 +19,7 @@ class Role(enum.Enum):
 OWN_LINES = {Role.CLIENT: ("status", "jobmedia", "cancel"), Role.APPEND_ONLY: ("status",)}
 
 
-@dataclasses.dataclass(frozen=True)
-class Rights:
+class Rights(typing.NamedTuple):
     """What a name may. None is no limit; it is only an operator's that pools, media and jobs may have none."""
 
     name: str

@@ -21,6 +21,7 @@ SIZE = 1 << 17
 # Payloads from this size on pass unread. After one only a few bytes are read, which hold what is before the next one.
 LARGE, FEW = 1 << 15, 64
 PIPE_SIZE = 1 << 20
+NONBLOCK = os.SPLICE_F_NONBLOCK
 GONE = select.POLLERR | select.POLLHUP | select.POLLNVAL
 
 
@@ -55,15 +56,29 @@ class Input:
         return count
 
     def move(self, pipe: int, most: int) -> int | None:
-        """Moves into a pipe what has come, while nothing that was read is left. Gives what `read` gives."""
+        """Moves into a pipe what has come, while nothing that was read is left. Gives what `read` gives, and None too if
+        the pipe is full."""
         try:
-            count = os.splice(self.file, pipe, most, flags=os.SPLICE_F_NONBLOCK)
+            count = os.splice(self.file, pipe, most, flags=NONBLOCK)
         except BlockingIOError:
             return None
         except OSError:
             count = 0
         self.is_over = not count
         return count
+
+    def read_few(self) -> bytes:
+        """The four bytes of a length, while nothing that was read is left: fewer if no more have come, or at the end."""
+        try:
+            return os.read(self.file, 4)
+        except OSError:
+            # A read for more says why.
+            return b""
+
+    def put_back(self, data: bytes) -> None:
+        """What `read_few` gave is the next again."""
+        self.start, self.end = 0, len(data)
+        self.store[:self.end] = data
 
     def length(self) -> int | None:
         """The length that begins here, if its four bytes have come."""
@@ -83,8 +98,9 @@ class Ends:
         self.client, self.client_out, self.idle = Input(client_in), client_out, idle
         self.socket, self.daemon = daemon, Input(daemon.fileno())
         self.sent_at, self.left_at, self.has_ended = time.monotonic(), 0.0, False
-        # What passes unread is in this pipe in between: the system moves it there and on, and it isn't copied.
-        self.pipe = os.pipe()
+        # What passes unread is in this pipe in between: the system moves it there and on, and it isn't copied. So many
+        # bytes of the client are held in it: they go on together once it is full, and before anything is waited for.
+        self.pipe, self.held = os.pipe(), 0
         for file in (client_in, client_out, self.pipe[1]):
             enlarge(file)
             os.set_blocking(file, False)
@@ -109,18 +125,29 @@ class Ends:
             return False
         # Mostly it is there already.
         while (count := self.client.read(most)) is None:
-            self._wait_for_client()
+            self._pause()
+        if not count:
+            self.send_held()
         return count > 0
 
     def pass_client(self, size: int) -> int:
-        """Passes on to the daemon what comes next of the client, up to so many bytes, unread. Gives how many, 0 if its
-        input is over."""
+        """Holds for the daemon what comes next of the client, up to so many bytes, unread. Gives how many, 0 if its input
+        is over."""
         if self.client.is_over or self.has_ended:
             return 0
         while (count := self.client.move(self.pipe[1], size)) is None:
-            self._wait_for_client()
-        self._to_daemon(count, None)
+            self._pause()
+        self.held += count
+        if not count:
+            self.send_held()
         return count
+
+    def _pause(self) -> None:
+        """Nothing more has come of the client, or the pipe is full."""
+        if self.held:
+            self.send_held()
+        else:
+            self._wait_for_client()
 
     def _wait_for_client(self) -> None:
         ready = self.client_sends.poll(self.idle * 1000)
@@ -153,13 +180,30 @@ class Ends:
     def _write(self, file: int, left: int, data: memoryview | None) -> int:
         """Writes to a file of the last so many bytes of the data, or of the pipe's. Gives how many it took."""
         if data is None:
-            return os.splice(self.pipe[0], file, left, flags=os.SPLICE_F_NONBLOCK)
+            return os.splice(self.pipe[0], file, left, flags=NONBLOCK)
         return os.write(file, data[len(data) - left:])
 
     # The daemon.
 
     def write_daemon(self, data: bytes | memoryview) -> None:
+        self.send_held()
         self._to_daemon(len(data), memoryview(data))
+
+    def add(self, data: bytes | memoryview) -> None:
+        """Gives the daemon the data; a few bytes may wait for those that come after them."""
+        if len(data) > FEW:
+            return self.write_daemon(data)
+        try:
+            # The system takes so few bytes whole, or none if the pipe is full.
+            self.held += os.write(self.pipe[1], data)
+        except BlockingIOError:
+            self.write_daemon(data)
+
+    def send_held(self) -> None:
+        """Sends the daemon what the pipe holds."""
+        if self.held:
+            size, self.held = self.held, 0
+            self._to_daemon(size, None)
 
     def _to_daemon(self, size: int, data: memoryview | None) -> None:
         """Writes the data, or so many bytes of the pipe."""
@@ -185,6 +229,7 @@ class Ends:
     def read_daemon(self, most: int = SIZE) -> None:
         """Reads more of the daemon, once there is more. However long that takes, it is waited for while the client is
         there."""
+        self.send_held()
         while (count := self.daemon.read(most)) is None:
             self._wait_for_daemon(select.POLLIN)
         if not count:
@@ -251,6 +296,8 @@ def connected(path: str, port: int | None) -> socket.socket:
             return daemon
         daemon = socket.socket(socket.AF_UNIX, socket.SOCK_STREAM)
         daemon.settimeout(30)
+        # As much as the pipe before it holds, so that the two sides wait for each other less often.
+        daemon.setsockopt(socket.SOL_SOCKET, socket.SO_SNDBUF, PIPE_SIZE)
         daemon.connect(path)
         return daemon
     except OSError as why:

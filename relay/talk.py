@@ -11,8 +11,8 @@ from relay.allowance import Allowance
 from relay.commands import MOST_COMMAND, BadCommand, BadName, Console, OfSession, Open, Read, read_command
 from relay.errors import DaemonLost
 from relay.journal import Journal, shown
-from relay.packets import (BAD_COMMAND, BAD_NAME, BAD_SPAN, END_OF_DATA, HEARTBEAT, HEARTBEAT_RESPONSE, IN_USE, MOST_BYTES,
-                           POLL, TERMINATE, TOO_LONG, is_refusal, line, packet, signal)
+from relay.packets import (BAD_COMMAND, BAD_NAME, BAD_SPAN, END_OF_DATA, HEARTBEAT, HEARTBEAT_RESPONSE, IN_USE, LENGTH,
+                           MOST_BYTES, POLL, TERMINATE, TOO_LONG, is_refusal, line, packet, signal)
 from relay.phases import DataPhase, ReadPhase, SpanPhase, Stop
 from relay.roles import Rights
 from relay.store import Store
@@ -172,22 +172,32 @@ class Talk:
         while True:
             at, stop = phase.walk(client.store, client.start, client.end, self.allowance.take)
             if at > client.start:
-                self.ends.write_daemon(client.view[client.start:at])
+                self.ends.add(client.view[client.start:at])
                 client.start = at
+            if stop is not Stop.MORE:
+                self.ends.send_held()
             if stop in (Stop.END, Stop.LIMIT):
                 return stop
-            if stop is Stop.MORE and self.ends.appends_unread and phase.left >= LARGE:
+            if not (self.ends.appends_unread and phase.size >= LARGE):
+                self._go_on(stop)
+            elif phase.left >= LARGE:
                 self._pass_large(phase)
             else:
-                self._go_on(stop)
+                self._go_on(stop, phase.left + FEW)
 
     def _pass_large(self, phase: DataPhase) -> None:
-        """Passes on the rest of a large payload unread, and reads what comes before the next one."""
-        while phase.left:
-            if not (count := self.ends.pass_client(phase.left)):
-                raise Over("truncated")
-            phase.left -= count
-        self._go_on(Stop.MORE, FEW)
+        """Passes on the rest of a large payload unread, and further ones as long as they follow: of each only the length
+        is read. What else comes is left to a walk."""
+        ends, may_go = self.ends, self.allowance.take
+        while True:
+            while phase.left:
+                if not (count := ends.pass_client(phase.left)):
+                    raise Over("truncated")
+                phase.left -= count
+            head = ends.client.read_few()
+            if len(head) < 4 or (length := LENGTH.unpack(head)[0]) < LARGE or phase.packet(length, may_go):
+                return ends.client.put_back(head)
+            ends.add(head)
 
     def _end_at_limit(self, phase: DataPhase) -> None:
         """Ends the daemon's phase and gives up the session, as after a refused record; drops what the client goes on to
@@ -264,12 +274,12 @@ class Talk:
                 return
             if stop is not Stop.MORE:
                 raise DaemonLost("the daemon says what is no record")
-            if not (self.ends.reads_unread and phase.left >= LARGE):
+            if not (self.ends.reads_unread and phase.size >= LARGE):
                 self.ends.read_daemon()
                 continue
-            while phase.left:
+            while phase.left >= LARGE:
                 phase.left -= self.ends.pass_daemon(phase.left)
-            self.ends.read_daemon(FEW)
+            self.ends.read_daemon(phase.left + FEW)
 
     # What these have in common.
 

@@ -6,6 +6,8 @@ import os
 import socket
 
 SOCKET, PORT, HOST = "/run/sdd-clients/socket", 9103, "127.0.0.1"
+# So much may be on its way: with the system's 200 KB the client and who passes it on wait for each other at each few records.
+SEND_SIZE = 1 << 20
 
 
 class SocketTransport:
@@ -41,6 +43,7 @@ def local(port: int | None, timeout: float | None = None, path: str = SOCKET) ->
 def by_socket(path: str, timeout: float | None) -> socket.socket:
     made = socket.socket(socket.AF_UNIX, socket.SOCK_STREAM)
     made.settimeout(timeout)
+    made.setsockopt(socket.SOL_SOCKET, socket.SO_SNDBUF, SEND_SIZE)
     try:
         made.connect(path)
     except PermissionError as why:

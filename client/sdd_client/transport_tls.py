@@ -27,7 +27,8 @@ def command(host: str, file: str) -> list[str]:
         name, port = host, str(PORT)
     if not port.isdigit() or not 1 <= int(port) <= 65535:
         raise ValueError(f"--tls {host}: the port is no number from 1 to 65535")
-    return [sys.executable, "-I", os.path.abspath(__file__), name.strip("[]"), port, os.path.abspath(file)]
+    # Without the modules of the site it starts in half the time.
+    return [sys.executable, "-IS", os.path.abspath(__file__), name.strip("[]"), port, os.path.abspath(file)]
 
 
 def connected(host: str, port: int, file: str) -> ssl.SSLSocket:
