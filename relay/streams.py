@@ -229,7 +229,6 @@ class Ends:
     def read_daemon(self, most: int = SIZE) -> None:
         """Reads more of the daemon, once there is more. However long that takes, it is waited for while the client is
         there."""
-        self.send_held()
         while (count := self.daemon.read(most)) is None:
             self._wait_for_daemon(select.POLLIN)
         if not count:
