@@ -15,6 +15,7 @@ from drawn import DAY, JOBS, POOLS, Quiet
 from fake import packet, signal
 from relay import streams, talk
 from relay.allowance import Allowance
+from relay.errors import Failed
 from relay.roles import Rights, Role
 from relay.store import Store
 
@@ -84,7 +85,10 @@ class One:
         sends.start()
         allowance = Counting(self.store, rights, lambda: DAY)
         with near, contextlib.closing(allowance), contextlib.closing(streams.Ends(reads, out, near, 30)) as ends:
-            talk.Talk(rights, ends, self.store, allowance, Quiet()).hold()
+            try:
+                talk.Talk(rights, ends, self.store, allowance, Quiet()).hold()
+            except Failed as why:
+                self.checks.check(f"stream {self.number} is held to its end", False, repr(why))
         os.close(out)
         os.close(reads)
         for thread in (sends, daemon):
