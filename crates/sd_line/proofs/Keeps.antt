@@ -22,7 +22,7 @@ use Rattle.sd_world.proofs.Changes.{running_bodies, spool_is_honest}
 use Rattle.sd_line.specs.Ends.{ToldSession, EndIs, KeepsEnd, IsOfLane, IsOver, LastIsOver, TellsAll, SentBy, BringsStore, LastGivesBack, pieces_from, last_store, lane_store}
 use Rattle.sd_line.specs.Parts.{PartIs, KeepsPart, told_of, end_of, next_piece}
 use Rattle.sd_line.proofs.Sequences.{all_push, all_front, all_last, pieces_push, earlier_over, all_over, last_over, over_earlier, last_store_push, tells_weaker, sent_weaker, sent_push, sent_last}
-use Rattle.sd_line.proofs.Steps.{next_store, next_room}
+use Rattle.sd_world.proofs.Despool.{next_store, next_room}
 use Rattle.sd_line.proofs.ToldLemmas.{StepsOn, told, not_closed, not_purged}
 
 -- A step that sends nothing.
