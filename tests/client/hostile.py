@@ -1,17 +1,25 @@
-"""Archives that whoever may append could have made to harm whoever restores them: nothing is written outside the folder."""
+"""What could harm: archives that whoever may append could have made, by which nothing is written outside the folder of a
+restore; and trees whose names and links would lead a client astray, of which nothing else is kept than what is in them."""
 import gzip
 import io
+import json
 import os
 import tarfile
+import threading
 
 import standin
 from clients import client
+from daemon import until
 from sdd_client.catalogue import Catalogue, listed
 from sdd_client.filelist import Row, plain
 from sdd_client.head import Head, Place
 from sdd_client.tarcut import END, Members
 from site_of_test import is_told, say
+from trees import differences
 
+# Names that a program or its shell could take for something else.
+ASTRAY = ["-x", "--checkpoint-action=exec=touch pwned", "--files-from=kept", "@kept", "[z]*", "z?", "new\nline", "a:b", "..x", "\\", "'",
+          "$(touch pwned)", "%d", " ", "="]
 FILE, LINK, HARD, FOLDER = tarfile.REGTYPE, tarfile.SYMTYPE, tarfile.LNKTYPE, tarfile.DIRTYPE
 
 
@@ -120,4 +128,56 @@ def broken_streams(checks, site):
             checks.check(f"restore {number}", came[1] in statuses and "Traceback" not in came[0], came)
 
 
-GROUPS = {archives: "", broken_streams: ""}
+def named_astray(checks, site):
+    """Folders whose names could be taken for options, patterns, lists or commands: each is kept alone, as it is, also by an
+    increment; and links to what is outside, to themselves and upwards are kept as links."""
+    away = site.folder / "away"
+    away.mkdir()
+    (away / "kept").write_text("good")
+    for name in [*ASTRAY, "zz", "kept"]:
+        (site.files / name).mkdir(parents=True)
+        (site.files / name / "inside").write_text(name)
+        for link, target in (("out", away), ("file", away / "kept"), ("self", "self"), ("up", ".."), ("root", "/")):
+            os.symlink(target, site.files / name / link)
+    with standin.StandIn() as daemon:
+        for number, name in enumerate(ASTRAY):
+            for day in (1, 2):
+                came = say(daemon.port, "backup", "--incremental", f"j{number}", "--", name, env=site.env, cwd=site.files)
+                is_told(checks, f"{name!r}: day {day}", came, 0)
+            rows = json.loads(say(daemon.port, "files", f"j{number}", "--json", env=site.env)[0])
+            found = {os.path.relpath(row["path"], site.files / name) for row in rows}
+            checks.same(f"{name!r}: kept", found, {".", "inside", "out", "file", "self", "up", "root"})
+            out = site.folder / "out" / str(number)
+            is_told(checks, f"{name!r}: restore", say(daemon.port, "restore", f"j{number}", "--to", out, env=site.env), 0)
+            checks.same(f"{name!r}: the same", differences(site.files / name, out / str(site.files).lstrip("/") / name), "")
+    checks.same("no command was run", list(site.folder.rglob("pwned")), [])
+    checks.same("outside", (os.listdir(away), (away / "kept").read_text()), (["kept"], "good"))
+
+
+def swapped(checks, site):
+    """A folder that becomes a link to what is outside, while the job is within a file before it: nothing is kept of what the
+    link leads to."""
+    away, files = site.folder / "away", site.files
+    away.mkdir()
+    (away / "kept").write_text("good")
+    (files / "b").mkdir(parents=True)
+    (files / "b" / "inside").write_text("x")
+    (files / "a").write_bytes(bytes([7]) * 16_000_000)
+    with standin.StandIn() as daemon:
+        def swap():
+            until(lambda: daemon.taken > 500_000)
+            (files / "b").rename(site.folder / "moved")
+            os.symlink(away, files / "b")
+
+        swapper = threading.Thread(target=swap)
+        swapper.start()
+        came = say(daemon.port, "backup", "j", "--through", "sh -c 'head -c 1500000; sleep 2; exec cat'", files, env=site.env)
+        swapper.join()
+        checks.check("told", came[1] in (0, 3) and "Traceback" not in came[0], came)
+        is_told(checks, "restore", say(daemon.port, "restore", "j", "--undo", "cat", "--to", site.folder / "out", env=site.env), 0)
+    back = site.folder / "out" / str(files).lstrip("/")
+    checks.same("the file before it", (back / "a").read_bytes(), (files / "a").read_bytes())
+    checks.check("a link or nothing", (back / "b").is_symlink() or not (back / "b").exists(), sorted(back.rglob("*")))
+
+
+GROUPS = {archives: "", broken_streams: "", named_astray: "", swapped: ""}

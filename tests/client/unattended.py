@@ -1,8 +1,12 @@
 """`run JOB`: jobs.toml, locks, commands before and after, figures, rules of what is kept, and progress on a terminal."""
+import collections
+import contextlib
 import json
 import os
 import pty
+import random
 import re
+import shutil
 import signal
 import subprocess
 import threading
@@ -14,7 +18,9 @@ from sdd_client.errors import Misused
 from sdd_client.progress import Now, line_of
 from sdd_client.settings import settings_in
 from site_of_test import is_told, say
+from trees import differences
 
+SEED, KILLS = 88, 9
 FIGURE = re.compile(r'sdd_client_(\w+)\{job="(\w+)",client="([^"]+)"\} (\S+)')
 WRONG = ["x = 1", "metrics = 1", "port = 'x'", "[job.j]", "[job.j]\npaths = '/x'", "[job.j]\npaths = ['x']", "[job.j]\npaths = ['/x']\nfrob = 1",
          "[job.j]\npaths = ['/x']\nkeep = {frob = 1}", "[job.j]\npaths = ['/x']\nkeep = {last = 0}", "[job.j]\npaths = ['/x']\nkeep = {within = 'x'}",
@@ -122,6 +128,48 @@ def one_at_a_time(checks, site):
     checks.same("parts", site.parts(), [])
 
 
+def killed_at_drawn_moments(checks, site):
+    """A timer's job that is killed at drawn moments, some of them after its end: what the catalogue says is kept is closed at
+    the daemon and restored whole, the lock is free, no file is left behind, and the next run has all that changed."""
+    place, numbers, counts, whole = Place(site), random.Random(SEED), collections.Counter(), 0.0
+    place.write("incremental = true", 'full = "1h"', "keep = {last = 3}", 'through = ["sh -c \'sleep 0.3; cat; sleep 0.3\'"]')
+    with standin.StandIn() as daemon:
+        for turn in range(KILLS):
+            (site.files / f"of turn {turn}").write_text(str(turn))
+            before, begun = len(place.rows(daemon.port)) if turn else 0, time.monotonic()
+            command = [CLIENT, "--port", str(daemon.port), "run", "j", "--jobs", str(place.jobs)]
+            with subprocess.Popen(command, env=site.env, stderr=subprocess.DEVNULL, start_new_session=True) as one:
+                if turn:
+                    # Each part of the run has its turn.
+                    time.sleep(1.2 * whole * (turn - 1 + numbers.random()) / (KILLS - 1))
+                    with contextlib.suppress(ProcessLookupError):
+                        os.killpg(one.pid, signal.SIGKILL)
+                status = one.wait(timeout=WAIT)
+            whole = whole or time.monotonic() - begun
+            rows = place.rows(daemon.port)
+            noted = [row["status"] for row in rows[before:]]
+            counts["ended" if status == 0 else noted[0] if noted else "not begun"] += 1
+            checks.check(f"turn {turn}: noted", noted == ["kept"] if status == 0 else noted in ([], ["running"], ["kept"]), status, noted)
+            closed = {f"session 1000 {number}" for number, session in enumerate(daemon.sessions, 1) if session.status == "closed"}
+            lost = [lines for row in rows if row["status"] == "kept" for lines in row["sessions"] if lines[0] not in closed]
+            checks.same(f"turn {turn}: closed", lost, [])
+            if noted == ["kept"]:
+                is_the_same(checks, f"turn {turn}", site, daemon)
+            is_told(checks, f"turn {turn}: the next run", place.run(daemon.port), 0)
+            is_the_same(checks, f"turn {turn}: next", site, daemon)
+            checks.same(f"turn {turn}: the next figure", place.figures()["last_status"], 0)
+    checks.same("parts", site.parts(), [])
+    print("a timer's job killed:", *(f"{name} {count}" for name, count in sorted(counts.items())))
+    checks.check("enough of each", counts["running"] >= 2 and counts["ended"] >= 1, counts)
+
+
+def is_the_same(checks, what, site, daemon):
+    out = site.folder / "back"
+    is_told(checks, f"{what}: restore", say(daemon.port, "restore", "j", "--undo", "cat", "--to", out, env=site.env), 0)
+    checks.same(f"{what}: the same", differences(site.files, out / str(site.files).lstrip("/")), "")
+    shutil.rmtree(out)
+
+
 def figures(checks, site):
     """The figures say when it last ran and was kept, and what of it; a failed run leaves those of the last kept one."""
     place = Place(site)
@@ -187,4 +235,4 @@ def on_a_terminal(site, port, *words):
     return b"".join(said).decode(), status
 
 
-GROUPS = dict.fromkeys([files_of_jobs, commands, one_at_a_time, figures, terminals], "")
+GROUPS = dict.fromkeys([files_of_jobs, commands, one_at_a_time, killed_at_drawn_moments, figures, terminals], "")
