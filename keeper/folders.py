@@ -83,9 +83,12 @@ class Label(typing.NamedTuple):
 
 
 def label_of(path: pathlib.Path) -> Label | None:
-    """A volume's label, if one begins the file. Whether it is whole is found by a scan."""
-    with open(path, "rb") as file:
-        mark, profile, moment, text = LABEL.unpack(file.read(LABEL.size).ljust(LABEL.size, b"\0"))
+    """A volume's label, if one begins the file. Whether it is whole, and can be read, is found by a scan."""
+    try:
+        with open(path, "rb") as file:
+            mark, profile, moment, text = LABEL.unpack(file.read(LABEL.size).ljust(LABEL.size, b"\0"))
+    except OSError:
+        return None
     if (mark, profile) != (MARK, PROFILE):
         return None
     return Label(moment, text.partition(b"\0")[0].decode(errors="replace"))

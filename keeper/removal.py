@@ -10,7 +10,7 @@ from sdd_client.errors import Failed
 from keeper.daemon import Daemon, Now
 from keeper.folders import ALONE, GONE, beside, identity_of, sync_folder
 from keeper.journal import tell
-from keeper.scans import Tool, run_tool, scan
+from keeper.scans import Tool, Unreadable, run_tool, scan
 from keeper.state import State, Volume
 from keeper.verdicts import why_daemon_needs
 
@@ -35,7 +35,10 @@ def give_back(state: State, daemon: Daemon, volume: Volume, pool: str, now: floa
 
 def scanned_otherwise(state: State, volume: Volume, tool: Tool) -> str | None:
     """What is on the volume is read once more, and must be what was known of it."""
-    found = scan(volume.folder, [volume.name], tool)
+    try:
+        found = scan(volume.folder, [volume.name], tool)
+    except Unreadable:
+        return "it can't be read"
     if identity_of(volume.folder / volume.name) != volume.identity:
         return "it has changed since it was read"
     if {one.key for one in found.sessions} != state.keys_on().get(volume.name, set()):

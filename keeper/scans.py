@@ -16,7 +16,14 @@ SESSION = re.compile(r"session (\d+) (\d+) job \d+ pool \S+ (ended|cut) .*")
 KEY = re.compile(r"session (\d+) (\d+)")
 DAMAGE = re.compile(rf"(?:damage ({VOLUME_NAME.pattern}) \d+ \w+|behind ({VOLUME_NAME.pattern}) \d+)")
 
+# The refusal that says that a disk doesn't give what is on it.
+DEVICE_FAULT = "3940 "
+
 Tool = typing.Callable[[list[str]], "subprocess.CompletedProcess[str]"]
+
+
+class Unreadable(Failed):
+    """A volume can't be read."""
 
 
 class Scan(typing.NamedTuple):
@@ -38,7 +45,8 @@ def scan(folder: pathlib.Path, names: list[str], tool: Tool = run_tool) -> Scan:
     run = tool(["scan", str(folder), *names])
     lines = run.stdout.splitlines()
     if run.returncode or not lines or not lines[-1].startswith("ok scan "):
-        raise Failed(f"{folder}: {lines[-1] if lines else 'sdtool broke off'}")
+        why = lines[-1] if lines else "sdtool broke off"
+        raise (Unreadable if why.startswith(DEVICE_FAULT) else Failed)(f"{folder}: {why}")
     found = Scan([], {})
     ended = False
     for line in lines:
@@ -67,10 +75,10 @@ def look(state: State, folder: pathlib.Path, now: float, growing: set[str], ever
     # The sessions of a copy under another name are those of the volume itself.
     foreign = [name for name in changed if is_named_otherwise(folder / name)]
     own = [name for name in changed if name not in foreign]
-    found = scan(folder, in_order(folder, own), tool) if own else Scan([], {})
+    found = scan_readable(folder, own, tool)
     if also := parts_elsewhere(state, found, set(changed)) & set(there):
         changed += also
-        found = scan(folder, in_order(folder, [*own, *also]), tool)
+        found = scan_readable(folder, [*own, *also], tool)
     volumes = []
     for name in changed:
         old = known.get(name)
@@ -78,6 +86,23 @@ def look(state: State, folder: pathlib.Path, now: float, growing: set[str], ever
         damage = [f"foreign {name} 0"] if name in foreign else found.damage.get(name, [])
         volumes.append(Volume(name, folder, there[name], now, since, damage))
     state.put_scan(volumes, found.sessions)
+
+
+def scan_readable(folder: pathlib.Path, names: list[str], tool: Tool) -> Scan:
+    """Reads these volumes. One that can't be read has that as its damage, and stops no other."""
+    try:
+        return scan(folder, in_order(folder, names), tool) if names else Scan([], {})
+    except Unreadable:
+        faults: dict[str, list[str]] = {}
+        for name in names:
+            try:
+                scan(folder, [name], tool)
+            except Unreadable as why:
+                faults[name] = [f"unreadable {name} {str(why).removeprefix(f'{folder}: ')}"]
+        if not faults:
+            raise
+        found = scan_readable(folder, [name for name in names if name not in faults], tool)
+        return Scan(found.sessions, {**found.damage, **faults})
 
 
 def in_order(folder: pathlib.Path, names: list[str]) -> list[str]:

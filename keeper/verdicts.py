@@ -53,6 +53,8 @@ def why_unread(volume: Volume | None) -> str | None:
     """Why what is on it isn't known."""
     if volume is None:
         return "its file isn't there, or can't be read"
+    if any(line.startswith("unreadable ") for line in volume.damage):
+        return "it couldn't be read"
     try:
         same = identity_of(volume.folder / volume.name) == volume.identity
     except OSError:

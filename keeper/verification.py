@@ -11,14 +11,13 @@ import typing
 from sdd_client.errors import Failed
 
 from keeper.folders import ALONE, is_as
-from keeper.scans import Tool
+from keeper.scans import DEVICE_FAULT, Tool
 from keeper.state import Key, Session, Volume
 
 # The file that names the volume, beside it.
 EXPECTED = "expected~"
-# The statuses of `sdtool verify`, and the refusal that says that a disk doesn't give what is on it.
+# The statuses of `sdtool verify`.
 SOUND, DAMAGED, ENDLESS, NOT_THERE = 0, 1, 3, 4
-DEVICE_FAULT = "3940 "
 Line = dict[str, typing.Any]
 
 

@@ -28,7 +28,7 @@ def run(checks, folder):
     with World(folder / "found", POOL.format("")) as world:
         days(world, 3, 18_500)
         found(checks, world)
-    for part in (hits, kinds, broken, catalogue, hardships, told_apart, rate):
+    for part in (hits, kinds, broken, catalogue, hardships, unreadable, told_apart, rate):
         part(checks, folder / part.__name__)
 
 
@@ -174,13 +174,15 @@ def catalogue(checks, folder):
             checks.same("both", len(state.keys_on()["Daily-00002"]), 2)
 
 
-# What stands for sdtool: its verify fails for one volume.
+# What stands for sdtool: it fails where something holds of its words, as that it verifies or scans one volume.
 FAILING = """#!/bin/sh
-if [ "$1" = verify ] && [ -e "$5/Daily-00001" ]; then
+if {}; then
   {}
 fi
 exec {} "$@"
 """
+VERIFIES = '[ "$1" = verify ] && [ -e "$5/Daily-00001" ]'
+SCANS = '[ "$1" = scan ] && [ "$*" != "${*#*Daily-00001}" ]'
 
 
 def hardships(checks, folder):
@@ -195,7 +197,7 @@ def hardships(checks, folder):
         days(world, 3, 18_500)
         for name, does, told_of, is_damage in cases:
             world.now += 31 * DAY
-            with tool_that(folder, does):
+            with tool_that(folder, VERIFIES, does):
                 told, status = scrubbed(world)
             checks.check(name, status == 1 and len(told) == 1 and told_of in told[0], told, status)
             checks.same(f"{name}: damage", bool(lines_of(world)), is_damage)
@@ -209,11 +211,11 @@ def hardships(checks, folder):
 
 
 @contextlib.contextmanager
-def tool_that(folder, does):
+def tool_that(folder, where, does):
     """A folder with a program sdtool comes first in the path."""
     place, before = folder / "tool", os.environ["PATH"]
     place.mkdir(exist_ok=True)
-    (place / "sdtool").write_text(FAILING.format(does, shutil.which("sdtool")))
+    (place / "sdtool").write_text(FAILING.format(where, does, shutil.which("sdtool")))
     (place / "sdtool").chmod(0o755)
     os.environ["PATH"] = f"{place}:{before}"
     try:
@@ -236,7 +238,7 @@ def stopped(checks, world):
     """A scrub that is killed while it reads leaves a second name of a volume, which goes with the volume, or at the next one."""
     place = world.folders[0] / ALONE
     world.now += 31 * DAY
-    with tool_that(world.folder, "kill -9 $PPID; kill -9 $$"):
+    with tool_that(world.folder, VERIFIES, "kill -9 $PPID; kill -9 $$"):
         child = os.fork()
         if not child:
             scrub(configured(world.keeper_conf), lambda: world.now)
@@ -248,6 +250,29 @@ def stopped(checks, world):
     checks.same("it has gone with its volume", ("Daily-00001" in world.volumes(), [one.name for one in place.iterdir()]),
                 (False, ["expected~"]))
     checks.same("the next one", (scrubbed(world), place.exists()), (([], 0), False))
+
+
+def unreadable(checks, folder):
+    """A volume that a round can't read stays, is told as damaged, and keeps it from nothing else."""
+    with World(folder, POOL.format('min_age = "1s"').replace("last = 9", "last = 1").replace("ready = 2", "ready = 5")) as world:
+        world.round()
+        for _ in range(3):
+            world.backup("www", "home", "Daily", [18_500])
+            world.now += DAY
+        with tool_that(folder, SCANS, "echo '3940 Device fault'; exit 1"):
+            told = []
+            with replaced(told):
+                why = {one.name: one.why for one in world.round().verdicts}
+            checks.same("it stays", why["Daily-00001"], "it couldn't be read")
+            checks.check("it is told", any("damaged (unreadable Daily-00001 3940 Device fault)" in line for line in told), told)
+            # What is first seen now is as young as that.
+            world.now += DAY
+            world.round()
+            checks.same("another one goes", sorted(world.volumes())[:2], ["Daily-00001", "Daily-00003"])
+        os.utime(world.folders[0] / "Daily-00001")
+        world.round()
+        checks.same("once it can be read it is well", (lines_of(world), figure(world, "sdd_keeper_damaged_volumes")),
+                    ([], ['{pool="Daily"} 0']))
 
 
 def told_apart(checks, folder):
