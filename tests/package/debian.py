@@ -1,0 +1,53 @@
+"""A clean Debian, and systemd booted on it."""
+import os
+import pathlib
+import shutil
+import subprocess
+
+import booted
+from package import Lacking
+
+SUITE, ARCHIVE = "bookworm", "http://deb.debian.org/debian"
+# What a server has that backs up: systemd, Python and what the package asks with.
+INCLUDED = "systemd,systemd-sysv,dbus,python3,debconf"
+# It takes minutes to make, and is taken again.
+CACHE = pathlib.Path(os.environ.get("SDD_DEBIAN", "/var/cache/pithoquze/debian"))
+
+
+def debian():
+    """The folder of a Debian that nothing was installed on. Raises Lacking if it can't be made."""
+    if os.geteuid() or not shutil.which("unshare"):
+        raise Lacking("root and unshare")
+    if CACHE.exists():
+        return CACHE
+    if not shutil.which("debootstrap", path=f"{os.environ['PATH']}:/usr/sbin"):
+        raise Lacking("debootstrap (tools/packages)")
+    part = CACHE.with_name(f"{CACHE.name}.part")
+    shutil.rmtree(part, ignore_errors=True)
+    part.parent.mkdir(parents=True, exist_ok=True)
+    command = ["debootstrap", "--variant=minbase", f"--include={INCLUDED}", SUITE, part, ARCHIVE]
+    run = subprocess.run(command, stdout=subprocess.PIPE, stderr=subprocess.STDOUT, text=True, timeout=3600,
+                         env={**os.environ, "PATH": f"{os.environ['PATH']}:/usr/sbin:/sbin"})
+    if run.returncode:
+        raise Lacking(f"a Debian by debootstrap: {run.stdout[-300:]!r}")
+    part.rename(CACHE)
+    return CACHE
+
+
+class Machine(booted.Machine):
+    """A Debian that is booted, over a layer in memory."""
+
+    boot = booted.BOOT.replace("lowerdir=/,", f"lowerdir={CACHE},")
+
+    def __init__(self, folder):
+        before, booted.BOOT = booted.BOOT, self.boot
+        try:
+            super().__init__(folder)
+        finally:
+            booted.BOOT = before
+
+    def must(self, checks, text, given=None):
+        """What a line of the shell prints, which must come to its end."""
+        said, status = self.say("bash", "-c", text, given=given)
+        checks.check(text, status == 0, said)
+        return said
