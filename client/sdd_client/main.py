@@ -11,7 +11,7 @@ import time
 import types
 import typing
 
-from . import backup, console, copies, dialogue, listing, plainfiles, rebuild, restore, retention, settings, streams, unattended, verify
+from . import backup, console, copies, dialogue, listing, plainfiles, rebuild, restore, retention, salvage, settings, streams, unattended, verify
 from .catalogue import Catalogue, Job, usual_place
 from .chosen import Choice, Undo, job_at, moment_of
 from .connection import Address, Connection, connect
@@ -125,10 +125,15 @@ def again(asked: Asked, work: typing.Callable[[], None]) -> None:
 
 
 def do_restore(asked: Asked) -> None:
+    if asked.salvage and not asked.volumes:
+        raise Misused("--salvage reads volumes: --volumes FOLDER says where they are")
     if asked.to is None:
         if len(asked.words) != 2:
             raise Misused("the forms are: restore JOB [PATH ..] --to FOLDER, and restore SPANS FOLDER")
         spans, folder = asked.words
+        if asked.salvage:
+            salvage.restore_files(lines_in(spans), asked.volumes, folder)
+            return
         plainfiles.restore(source_of(asked).records(lines_in(spans)), folder)
         return
     name, *paths = asked.words
@@ -137,9 +142,12 @@ def do_restore(asked: Asked) -> None:
         state = State(catalogue, job)
         if paths and not job.has_list:
             raise Failed("the catalogue has no list of this job's files: only all of it can be restored")
-        choice = Choice(state, paths)
-        with restore.Streams(state, source_of(asked), Undo(asked.undo, asked.identity)) as read:
-            count = restore.restore(choice, read, asked.to, asked.replace)
+        choice, undo = Choice(state, paths), Undo(asked.undo, asked.identity)
+        if asked.salvage:
+            count = salvage.restore_job(state, choice, asked.volumes, undo, asked.to, asked.replace)
+        else:
+            with restore.Streams(state, source_of(asked), undo) as read:
+                count = restore.restore(choice, read, asked.to, asked.replace)
     complain(f"{count} files are restored" if job.has_list else "all is restored")
 
 

@@ -165,6 +165,7 @@ def of_restores(tasks: typing.Any) -> None:
     add("words", nargs="+", metavar="WORD", help="the job and paths of it; without --to a file of spans and a folder")
     add("--to", metavar="FOLDER", help="a new folder, or an empty one")
     add("--replace", action="store_true", help="restores into a folder that holds something")
+    add("--salvage", action="store_true", help="with --volumes: restores what is whole of damaged sessions, and tells the rest")
     add("--at", metavar="DATE", help="the last one up to that date, or date and time")
     add("--copy", action="store_true", help="a copy of it")
     of_the_way_back(add)

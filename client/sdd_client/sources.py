@@ -42,27 +42,39 @@ class VolumesSource:
         self.folder, self.said = folder, ""
 
     def records(self, lines: list[str]) -> typing.Generator[Record, None, None]:
-        fields_of(lines)
-        command = ["sdtool", "read", "/dev/stdin", self.folder]
-        try:
-            tool = subprocess.Popen(command, stdin=subprocess.PIPE, stdout=subprocess.PIPE)
-        except OSError as why:
-            raise Unfit(f"sdtool: {why.strerror}") from why
-        with contextlib.ExitStack() as leaving:
-            leaving.callback(given_up, tool)
-            with contextlib.suppress(BrokenPipeError):
-                tool.stdin.write("".join(f"{line}\n" for line in lines).encode())
-                tool.stdin.close()
-            while head := re.fullmatch(rb"rec (\d+) (\d+) (\d+)\n", line := tool.stdout.readline()):
-                data = tool.stdout.read(int(head[3]))
-                tool.stdout.read(1)
-                yield Record(int(head[1]), int(head[2]), data)
-            said = line.decode(errors="replace").rstrip("\n")
+        said = ""
+        for one in told_by("read", lines, self.folder):
+            if isinstance(one, Record):
+                yield one
+            else:
+                said = one
         if not said.startswith("ok read "):
             raise Refused(said or "sdtool broke off")
         if not said.endswith(" ended"):
             raise Refused(f"the session was given up before its end: {said}")
         self.said = said
+
+
+def told_by(word: str, lines: list[str], folder: str) -> typing.Generator[Record | str, None, None]:
+    """What sdtool tells of a session by that word, on the volumes in a folder: its records, and lines of text."""
+    fields_of(lines)
+    try:
+        tool = subprocess.Popen(["sdtool", word, "/dev/stdin", folder], stdin=subprocess.PIPE, stdout=subprocess.PIPE)
+    except OSError as why:
+        raise Unfit(f"sdtool: {why.strerror}") from why
+    with contextlib.ExitStack() as leaving:
+        leaving.callback(given_up, tool)
+        with contextlib.suppress(BrokenPipeError):
+            tool.stdin.write("".join(f"{line}\n" for line in lines).encode())
+            tool.stdin.close()
+        while line := tool.stdout.readline():
+            if head := re.fullmatch(rb"rec (\d+) (\d+) (\d+)\n", line):
+                data = tool.stdout.read(int(head[3]))
+                if tool.stdout.read(1) != b"\n":
+                    return
+                yield Record(int(head[1]), int(head[2]), data)
+            else:
+                yield line.decode(errors="replace").rstrip("\n")
 
 
 def given_up(tool: subprocess.Popen[bytes]) -> None:

@@ -12,7 +12,7 @@ NOT_INSTALLED = ("man ", "is not executable", "Failed to open")
 
 def run(checks, folder):
     source, prefix = folder / "source", folder / "prefix"
-    for part in ("client", "examples", "docs/man", "keeper", "relay"):
+    for part in ("client", "examples", "docs", "keeper", "relay"):
         shutil.copytree(ROOT / part, source / part, ignore=shutil.ignore_patterns("__pycache__"))
     shutil.copy(ROOT / "install", source)
     (source / "bin").mkdir()

@@ -90,7 +90,7 @@ def installed(checks, folder):
 def sources(folder):
     """What `install` takes, but for the programs."""
     source = folder / "source"
-    for part in ("client", "examples", "docs/man", "keeper", "relay"):
+    for part in ("client", "examples", "docs", "keeper", "relay"):
         shutil.copytree(ROOT / part, source / part, ignore=shutil.ignore_patterns("__pycache__"))
     shutil.copy(ROOT / "install", source)
     (source / "bin").mkdir()
