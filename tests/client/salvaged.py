@@ -18,7 +18,7 @@ from words import found_in
 
 SEED = 74
 # So often volumes are damaged in some way, and so many of the ends must have come up.
-TRIES, LEAST = 14, {0: 1, 1: 1, 3: 7}
+TRIES, LEAST = 14, {0: 1, 1: 1, 3: 6}
 BLOCK, RECORD = 4096, 2048
 SETTINGS = f"block = {BLOCK}\nvolume = 120000\n"
 
@@ -35,13 +35,14 @@ def images(folder):
     return {path.name: path.read_bytes() for path in folder.glob("Vol-*")}
 
 
-def damaged(draw, files):
-    """The volumes with some damage: bytes changed, cut, holes, blocks that are gone or lie elsewhere, a volume that is away."""
+def damaged(draw, files, number):
+    """The volumes with some damage: at first none, then all away that have more than a label, and then as it is drawn: bytes
+    changed, cut, holes, blocks that are gone or lie elsewhere, a volume that is away."""
     files = dict(files)
     filled = sorted(name for name in files if len(files[name]) > BLOCK)
-    if draw.random() < 0.1:
-        return {name: files[name] for name in files if name not in filled}
-    for name in draw.sample(filled, draw.randrange(1, 3)):
+    if number < 2:
+        return {name: files[name] for name in files if number == 0 or name not in filled}
+    for name in draw.sample(filled, min(len(filled), draw.randrange(1, 3))):
         content = bytearray(files[name])
         at = draw.randrange(len(content))
         way = draw.choice(["flip", "flip", "cut", "hole", "gone", "foreign", "away"])
@@ -120,7 +121,7 @@ def salvaged_jobs(checks, site):
         state = State(catalogue, job_at(catalogue, "j", None, None))
         checks.check("several sessions", len(state.places) > 3, len(state.places))
         for number in range(TRIES):
-            broken = damaged(draw, files) if number else files
+            broken = damaged(draw, files, number)
             put(hurt, broken)
             out = site.folder / "out" / str(number)
             said, status = site.say("--volumes", hurt, "restore", "j", "--salvage", "--to", out)
@@ -184,7 +185,7 @@ def salvaged_through_stages(checks, site):
         state = State(catalogue, job_at(catalogue, "j", None, None))
         order = [row.path for row in state.rows() if row.is_member()]
         for number in range(TRIES // 2):
-            broken = damaged(draw, files) if number else files
+            broken = damaged(draw, files, number)
             put(hurt, broken)
             out = site.folder / "out"
             said, status = site.say("--volumes", hurt, "restore", "j", "--salvage", "--to", out)
@@ -200,7 +201,7 @@ def salvaged_through_stages(checks, site):
             came["some"] += lost and 0 < len(got) < len(kept)
             shutil.rmtree(out, ignore_errors=True)
     print("salvaged through stages:", *(f"{what} {count}" for what, count in came.items()))
-    checks.check("enough was drawn", came["lost"] >= 8 and came["some"] >= 2 and came["whole"] >= 1, came)
+    checks.check("enough was drawn", came["lost"] >= 4 and came["some"] >= 1 and came["whole"] >= 1, came)
 
 
 def salvaged_plain_files(checks, site):
@@ -216,7 +217,7 @@ def salvaged_plain_files(checks, site):
     kept = kept_files(site.files)
     below = str(site.files).lstrip("/")
     for number in range(TRIES):
-        broken = damaged(draw, files) if number else files
+        broken = damaged(draw, files, number)
         put(hurt, broken)
         said, status = site.say("--volumes", hurt, "restore", spans, out, "--salvage")
         wanted, lost = files_of(broken, *session_of(spans.read_text().splitlines()))
