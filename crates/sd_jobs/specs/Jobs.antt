@@ -7,6 +7,7 @@ use Rattle.sd_line.specs.declared.stop.Stop.TheVariants.{Done, OutOfTurns, Refus
 use Rattle.sd_line.specs.Side.{LineIs}
 use Rattle.sd_line.specs.Ends.{EndIs}
 use Rattle.sd_line.specs.Parts.{PartIs, end_of}
+use Rattle.sd_line.specs.Goes.{GoesOn, StopsShort, IsReceiptOf, IsGivenUp}
 
 -- a job: the place of its line among the lines, its part, its records, and the moment of its end label
 pub record JobIs : Type 0 where
