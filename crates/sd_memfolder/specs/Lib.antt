@@ -1,0 +1,5 @@
+pub mod Call
+pub mod Change
+pub mod Files
+pub mod Folder
+pub mod Memory
