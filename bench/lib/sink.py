@@ -17,6 +17,7 @@ from relay.packets import LENGTH, line
 from relay.phases import DataPhase, Stop
 
 RUN = int(time.time())
+TERMINATE, HEARTBEAT_RESPONSE = -4, -7
 
 
 class Talk:
@@ -43,7 +44,11 @@ class Talk:
         return length if length < 0 else bytes(self.store[self.start - length:self.start])
 
     def hold(self):
-        while isinstance(got := self.packet(), bytes):
+        while (got := self.packet()) not in (None, TERMINATE):
+            if isinstance(got, int):
+                # A client that has had nothing to send for a while says that it is still there.
+                self.socket.sendall(LENGTH.pack(HEARTBEAT_RESPONSE))
+                continue
             self.socket.sendall(self.answer(got.decode().rstrip("\n")))
             if got.startswith(b"append data"):
                 self.phase()
