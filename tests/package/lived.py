@@ -77,7 +77,7 @@ def installed(checks, machine):
 def first_backup(checks, machine):
     machine.must(checks, "mkdir -p /srv/www && head -c 300000 /dev/urandom > /srv/www/a && ln -s a /srv/www/b")
     machine.must(checks, "sdd-client backup www /srv/www")
-    machine.must(checks, "sdd-client restore www --to /srv/back && diff -r /srv/www /srv/back/srv/www")
+    machine.must(checks, "sdd-client restore www --to /srv/www-back && diff -r /srv/www /srv/www-back/srv/www")
 
 
 def runs(machine):
