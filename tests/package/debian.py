@@ -7,10 +7,11 @@ import subprocess
 import booted
 from package import Lacking
 
-SUITE, ARCHIVE = "bookworm", "http://deb.debian.org/debian"
+SUITE = "bookworm"
 # What a server has that backs up: systemd, Python and what the package asks with.
 INCLUDED = "systemd,systemd-sysv,dbus,python3,debconf"
-# It takes minutes to make, and is taken again.
+# It takes minutes to make, of Debian's archive, and is taken again.
+MOST = 600
 CACHE = pathlib.Path(os.environ.get("SDD_DEBIAN", "/var/cache/pithoquze/debian"))
 
 
@@ -25,9 +26,12 @@ def debian():
     part = CACHE.with_name(f"{CACHE.name}.part")
     shutil.rmtree(part, ignore_errors=True)
     part.parent.mkdir(parents=True, exist_ok=True)
-    command = ["debootstrap", "--variant=minbase", f"--include={INCLUDED}", SUITE, part, ARCHIVE]
-    run = subprocess.run(command, stdout=subprocess.PIPE, stderr=subprocess.STDOUT, text=True, timeout=3600,
-                         env={**os.environ, "PATH": f"{os.environ['PATH']}:/usr/sbin:/sbin"})
+    command = ["debootstrap", "--variant=minbase", f"--include={INCLUDED}", SUITE, part]
+    try:
+        run = subprocess.run(command, stdout=subprocess.PIPE, stderr=subprocess.STDOUT, text=True, timeout=MOST,
+                             env={**os.environ, "PATH": f"{os.environ['PATH']}:/usr/sbin:/sbin"})
+    except subprocess.TimeoutExpired as why:
+        raise Lacking(f"a Debian by debootstrap within {MOST} seconds") from why
     if run.returncode:
         raise Lacking(f"a Debian by debootstrap: {run.stdout[-300:]!r}")
     part.rename(CACHE)
