@@ -36,11 +36,11 @@ class Job(namedtuple("Job", "clients drives record queue is_before", defaults=(1
 
 class Bench:
     """What is measured, and where: `before` is a daemon before threads, or None; `total` the bytes of a job; and what else
-    the machine does only adds, so of so many rounds the least counts."""
+    the machine does only adds, so of so many rounds the least counts. The volumes' names begin with `named`."""
 
-    def __init__(self, folder, disk, program, before, total, rounds):
+    def __init__(self, folder, disk, program, before, total, rounds, named="Vol"):
         self.folder, self.disk, self.program, self.before = folder, disk, program, before
-        self.total, self.rounds = total, rounds
+        self.total, self.rounds, self.named = total, rounds, named
         self.receive, self.syncs = compiled("receive", folder), compiled("syncs", folder, "-shared", "-fPIC")
         self.measured = {}
 
@@ -69,7 +69,7 @@ class Bench:
             return took(daemon, works, kind.clients * self.total)[0]
 
     def serving(self, settings="", where=None, program=None, **options):
-        return serving(where or self.folder, program or self.program, settings, **options)
+        return serving(where or self.folder, program or self.program, settings, named=self.named, **options)
 
     @contextlib.contextmanager
     def told(self, *settings, **options):
@@ -82,7 +82,7 @@ class Bench:
 
 
 @contextlib.contextmanager
-def serving(place, program, settings="", drives=1, lanes=4, volumes=1, **options):
+def serving(place, program, settings="", drives=1, lanes=4, volumes=1, named="Vol", **options):
     """A daemon with so many drives, each with so many volumes, in a new folder, which is removed after it."""
     with tempfile.TemporaryDirectory(dir=place) as made:
         folder, labels, text = pathlib.Path(made), [], settings
@@ -90,7 +90,7 @@ def serving(place, program, settings="", drives=1, lanes=4, volumes=1, **options
             (folder / str(number)).mkdir()
             media = jobs.media_of(number)
             text += drive(media, folder / str(number), f"lanes = {lanes}")
-            labels += [f"label {number} Vol-{number}-{volume} {jobs.POOL} {media}" for volume in range(1, volumes + 1)]
+            labels += [f"label {number} {named}-{number}-{volume} {jobs.POOL} {media}" for volume in range(1, volumes + 1)]
         with Serving(folder / "sdd.conf", text, program=program, **options) as daemon:
             tell(daemon.port, *labels)
             yield daemon
