@@ -28,9 +28,11 @@ def gaps_in(lines: list[str]) -> list[Gap]:
     """The gaps of a volume, the last one up to its end if nothing is behind it."""
     found: list[Gap] = []
     for line in lines:
-        kind, _, place, *_ = line.split(" ")
+        kind, _, place, *how = line.split(" ")
         if kind == "damage":
-            found.append(Gap(int(place), math.inf))
+            # Where a block is damaged the note doesn't fit either, and what is behind is found all the same.
+            if how != ["note"] or all(gap.begin != int(place) for gap in found):
+                found.append(Gap(int(place), math.inf))
         elif kind == "behind":
             found[-1] = Gap(found[-1].begin, int(place))
         elif kind == "unreadable":

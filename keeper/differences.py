@@ -7,6 +7,7 @@ import typing
 
 from keeper.figures import Seen
 from keeper.folders import lonely_in
+from keeper.notes import why_unlike
 from keeper.state import State
 
 
@@ -19,6 +20,10 @@ def differences(state: State, seen: Seen, folders: list[pathlib.Path]) -> typing
         if name not in there.volumes:
             yield f"{name}: its file is there, and the daemon hasn't adopted it"
         elif why := too_short(volume.folder / name, there.volumes[name].end):
+            yield f"{name}: {why}"
+        now = there.volumes.get(name)
+        # Blocks may have come to a volume since the daemon was asked.
+        if why := why_unlike(volume.folder, name, now.end if now and now.status != "append" else None):
             yield f"{name}: {why}"
     for folder in folders:
         for note in lonely_in(folder):

@@ -94,6 +94,12 @@ def label_of(path: pathlib.Path) -> Label | None:
     return Label(moment, text.partition(b"\0")[0].decode(errors="replace"))
 
 
+def is_named_so(path: pathlib.Path) -> bool:
+    """Whether a file begins with a label of its name."""
+    label = label_of(path)
+    return label is not None and label.name == path.name
+
+
 def is_named_otherwise(path: pathlib.Path) -> bool:
     """Whether a file is a volume of another name, as a copy of one."""
     label = label_of(path)

@@ -1,13 +1,14 @@
 """When a volume is labelled, and under which name."""
 from __future__ import annotations
 
+import pathlib
 import typing
 
 from sdd_client.errors import Refused
 
 from keeper.configuration import Configuration, Drive, Pool
 from keeper.daemon import Daemon, Now
-from keeper.folders import free_in, volumes_in
+from keeper.folders import free_in, is_named_so, volumes_in
 from keeper.journal import tell
 from keeper.state import State
 
@@ -32,8 +33,7 @@ def wanted(configuration: Configuration, there: Now) -> list[Wanted]:
         for drive in pool.drives:
             now = there.drives.get(drive.number)
             if now and not now.is_offline and not now.sessions and drive.number not in there.requests:
-                missing = pool.ready - ready_on(configuration, pool, drive, there)
-                ahead += [Wanted(pool, drive, False)] * missing
+                ahead += [Wanted(pool, drive, False)] * missing_on(configuration, pool, drive, there)
     return ask + ahead
 
 
@@ -42,6 +42,19 @@ def ready_on(configuration: Configuration, pool: Pool, drive: Drive, there: Now)
     names = set(volumes_in(drive.folder))
     return sum(one.status == "append" and one.pool == pool.name and one.name in names
                and configuration.volume - one.end >= configuration.block for one in there.volumes.values())
+
+
+def coming(configuration: Configuration, folder: pathlib.Path, there: Now) -> dict[str, int]:
+    """The volumes of a folder that the daemon hasn't adopted, as while it starts, and how much each may get once it has."""
+    return {name: room for name, one in volumes_in(folder).items()
+            if name not in there.volumes and (room := configuration.volume - one.size) > 0 and is_named_so(folder / name)}
+
+
+def missing_on(configuration: Configuration, pool: Pool, drive: Drive, there: Now) -> int:
+    """How many volumes lack there. One that comes needs no other in its place: where it doesn't, the drive asks."""
+    come = sum(room >= configuration.block and pool.number_in(name) is not None
+               for name, room in coming(configuration, drive.folder, there).items())
+    return pool.ready - ready_on(configuration, pool, drive, there) - come
 
 
 def why_no_room(configuration: Configuration, pool: Pool, drive: Drive, there: Now, free: Free = free_in) -> str | None:
@@ -57,9 +70,10 @@ def why_no_room(configuration: Configuration, pool: Pool, drive: Drive, there: N
 
 
 def count_of(configuration: Configuration, pool: Pool, there: Now) -> int:
-    """How many volumes of the pool have a file."""
+    """How many volumes of the pool have a file. What the daemon hasn't adopted is known by its name."""
     names = {name for folder in configuration.folders() for name in volumes_in(folder)}
-    return sum(one.pool == pool.name and one.name in names for one in there.volumes.values())
+    return sum(there.volumes[name].pool == pool.name if name in there.volumes else pool.number_in(name) is not None
+               for name in names)
 
 
 def growth_of(configuration: Configuration, drive: Drive, there: Now) -> int:
@@ -71,6 +85,7 @@ def growth_of(configuration: Configuration, drive: Drive, there: Now) -> int:
             one = there.volumes.get(name)
             if one and one.status == "append":
                 growth += max(0, configuration.volume - one.end)
+        growth += sum(coming(configuration, folder, there).values())
     return growth
 
 
@@ -86,12 +101,12 @@ def next_name(configuration: Configuration, state: State, pool: Pool, there: Now
 def label(configuration: Configuration, state: State, daemon: Daemon, one: Wanted, there: Now,
           step: typing.Callable[[str], None]) -> None:
     """Labels a volume. A drive that has one loaded is unmounted before: it asks for another, or has no job."""
-    if there.drives[one.drive.number].loaded:
-        step("unmount")
-        daemon.tell(f"unmount {one.drive.number}")
     name = next_name(configuration, state, one.pool, there)
-    step("label")
     try:
+        if there.drives[one.drive.number].loaded:
+            step("unmount")
+            daemon.tell(f"unmount {one.drive.number}")
+        step("label")
         daemon.tell(f"label {one.drive.number} {name} {one.pool.name} {one.drive.media}")
     except Refused as why:
         # As if a job came in between; it has its volume then, or asks for one.

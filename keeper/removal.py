@@ -8,8 +8,9 @@ import typing
 from sdd_client.errors import Failed
 
 from keeper.daemon import Daemon, Now
-from keeper.folders import ALONE, GONE, beside, identity_of, sync_folder
+from keeper.folders import ALONE, GONE, beside, identity_of, lonely_in, sync_folder
 from keeper.journal import tell
+from keeper.notes import note_path
 from keeper.scans import Tool, Unreadable, run_tool, scan
 from keeper.state import State, Volume
 from keeper.verdicts import why_daemon_needs
@@ -60,10 +61,12 @@ def finish(state: State, daemon: Daemon, name: str, folder: pathlib.Path, pool: 
     step("remove notes")
     for path in beside(folder, name):
         if path != gone:
-            path.unlink()
+            # The daemon may just put another note in its place.
+            path.unlink(missing_ok=True)
     step("remove")
     # It may have another name for a scrub that goes on, or was stopped.
-    (folder / ALONE / name).unlink(missing_ok=True)
+    for path in ((folder / ALONE / name), note_path(folder / ALONE, name)):
+        path.unlink(missing_ok=True)
     gone.unlink()
     sync_folder(folder)
     step("note")
@@ -119,3 +122,12 @@ def restore_unknown(state: State, folder: pathlib.Path, names: list[str]) -> Non
         else:
             put_back(folder, name)
             tell(f"{folder}: {name} was renamed to be removed, and nothing is known of that: it has its name again")
+
+
+def forget_notes(state: State, folder: pathlib.Path) -> None:
+    """Removes the notes of volumes that were given back. The daemon knows such a volume until it ends, and may write one more."""
+    gone = state.given_back()
+    for note in lonely_in(folder):
+        name = note.partition("~")[0]
+        if name in gone and not (folder / name).exists():
+            (folder / note).unlink(missing_ok=True)

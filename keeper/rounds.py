@@ -15,7 +15,7 @@ from keeper.folders import LOCK, free_in, gone_in, is_as
 from keeper.jobs import find_heads, jobs_of, kept_of
 from keeper.journal import tell
 from keeper.labels import Free, label, wanted, why_no_room
-from keeper.removal import Step, give_back, recover, restore_unknown
+from keeper.removal import Step, forget_notes, give_back, recover, restore_unknown
 from keeper.scans import look
 from keeper.state import State
 from keeper.verdicts import Verdict, verdicts
@@ -49,7 +49,8 @@ class Keeper:
         return seen
 
     def show(self, seen: Seen) -> None:
-        """Tells of damage and of what doesn't fit, and writes the figures."""
+        """Tells of damage, of what doesn't fit and where there is no room, and writes the figures."""
+        self.tell_room(seen.no_room)
         for name, lines in sorted(damaged(self.state, seen.verdicts, seen.there).items()):
             self.tell_new(told(name, lines, seen.jobs, seen.kept))
         found = list(differences(self.state, seen, self.configuration.folders()))
@@ -58,6 +59,15 @@ class Keeper:
         if path := self.configuration.figures:
             figures = figures_of(self.configuration, self.state, seen, len(found), self.clock(), self.free)
             write(path, figures.text())
+
+    def tell_room(self, no_room: dict[tuple[str, int], str]) -> None:
+        """Tells where there is no room: once until there is some again, since what is free is other each time."""
+        marks = {f"no room {pool} {drive}": (pool, drive) for pool, drive in no_room}
+        for mark in marks.keys() - self.already:
+            pool, drive = marks[mark]
+            tell(f"pool {pool}, drive {drive}: no volume is labelled: {no_room[pool, drive]}")
+        self.already.difference_update([one for one in self.already if one.startswith("no room ")])
+        self.already.update(marks)
 
     def tell_new(self, text: str) -> None:
         """Tells what wasn't told before by this keeper."""
@@ -77,6 +87,7 @@ class Keeper:
             recover(self.state, self.daemon, pools, self.clock(), self.step)
         for folder in self.configuration.folders():
             restore_unknown(self.state, folder, gone_in(folder))
+            forget_notes(self.state, folder)
 
     def see(self) -> Seen:
         """What is there, and what is to be done with it."""
@@ -107,7 +118,6 @@ class Keeper:
                 continue
             if why := why_no_room(self.configuration, one.pool, one.drive, there, self.free):
                 no_room[place] = why
-                tell(f"pool {one.pool.name}, drive {one.drive.number}: no volume is labelled: {why}")
             else:
                 label(self.configuration, self.state, self.daemon, one, there, self.step)
         return no_room

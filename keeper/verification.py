@@ -11,6 +11,7 @@ import typing
 from sdd_client.errors import Failed
 
 from keeper.folders import ALONE, is_as
+from keeper.notes import note_path
 from keeper.scans import DEVICE_FAULT, Tool
 from keeper.state import Key, Session, Volume
 
@@ -52,14 +53,15 @@ def verify(volume: Volume, known: Known, rate: int | None, tool: Tool) -> list[s
 
 @contextlib.contextmanager
 def alone(volume: Volume) -> typing.Iterator[pathlib.Path | None]:
-    """A folder that has this volume alone, by a second name of its file: `sdtool verify` takes a folder, and follows no link.
-    None if the volume isn't there as it was."""
+    """A folder that has this volume alone, with its note if it has one, by second names of their files: `sdtool verify` takes a
+    folder, and follows no link. None if the volume isn't there as it was."""
     folder = volume.folder / ALONE
     try:
         folder.mkdir(mode=0o700)
         (folder / EXPECTED).write_text(f"{volume.name}\n")
         with contextlib.suppress(FileNotFoundError):
             (folder / volume.name).hardlink_to(volume.folder / volume.name)
+            note_path(folder, volume.name).hardlink_to(note_path(volume.folder, volume.name))
         yield folder if is_as(folder / volume.name, volume.identity) else None
     finally:
         clear(volume.folder)
@@ -89,9 +91,9 @@ def wrong(name: str, known: Known, status: int, lines: list[Line]) -> list[str]:
 
 
 def places(name: str, lines: list[Line]) -> list[str]:
-    """Where damage begins, and where the next whole block is."""
+    """Where damage begins, and where the next whole block is. A damaged note is no damage of the volume: rounds tell of it."""
     return [" ".join(str(one) for one in (line["line"], name, line["place"], line.get("kind")) if one is not None)
-            for line in lines if line["line"] in ("damage", "behind")]
+            for line in lines if line["line"] in ("damage", "behind") and (line["place"], line.get("kind")) != (0, "note")]
 
 
 def unsound(name: str, known: Known, lines: list[Line]) -> typing.Iterator[str]:

@@ -1,6 +1,5 @@
 """The two ends of a talk: the client on two files, and the daemon on a socket. Nothing blocks but the wait, which has an
 end, and sees it if the other side leaves."""
-import collections.abc
 import contextlib
 import fcntl
 import os
@@ -16,11 +15,15 @@ from relay.packets import LENGTH
 IDLE = 300.0
 # After so many seconds without progress of the daemon a client that has ended its sending side counts as gone.
 GRACE = 2.0
-# The most that is read at once, and all that is held of what a side sent: so much stays in a processor's cache.
+# The most that is read at once, and all that is held of what a side sent besides what is in a pipe: so much stays in a
+# processor's cache.
 SIZE = 1 << 17
 # Payloads from this size on pass unread. After one only a few bytes are read, which hold what is before the next one.
 LARGE, FEW = 1 << 15, 64
 PIPE_SIZE = 1 << 20
+# If fewer bytes went on together, the client is left alone for so many seconds: with a look at each small piece of what it
+# sends it and the relay would only wake each other.
+MUCH, MOMENT = 1 << 18, 0.0003
 NONBLOCK = os.SPLICE_F_NONBLOCK
 GONE = select.POLLERR | select.POLLHUP | select.POLLNVAL
 
@@ -58,8 +61,11 @@ class Input:
     def move(self, pipe: int, most: int) -> int | None:
         """Moves into a pipe what has come, while nothing that was read is left. Gives what `read` gives, and None too if
         the pipe is full."""
+        return self._moved(self.file, pipe, most)
+
+    def _moved(self, file: int, pipe: int, most: int) -> int | None:
         try:
-            count = os.splice(self.file, pipe, most, flags=NONBLOCK)
+            count = os.splice(file, pipe, most, flags=NONBLOCK)
         except BlockingIOError:
             return None
         except OSError:
@@ -80,6 +86,9 @@ class Input:
         self.start, self.end = 0, len(data)
         self.store[:self.end] = data
 
+    def close(self) -> None:
+        """Closes what is its own."""
+
     def length(self) -> int | None:
         """The length that begins here, if its four bytes have come."""
         return LENGTH.unpack_from(self.store, self.start)[0] if len(self) >= 4 else None
@@ -91,17 +100,60 @@ class Input:
         return taken
 
 
+class Stream(Input):
+    """The input of a pipe or a socket. All that has come, up to 1 MB, is moved into a pipe of our own at once, and is read
+    there: a pipe is locked while the client writes to it, so each look into the client's own may have to wait."""
+
+    def __init__(self, source: int):
+        self.source, self.inside = source, 0
+        file, self.pipe = made_pipe()
+        super().__init__(file)
+
+    def close(self) -> None:
+        os.close(self.file)
+        os.close(self.pipe)
+
+    def _draw(self) -> int | None:
+        """Moves into the pipe what has come. Gives what `read` gives."""
+        count = self._moved(self.source, self.pipe, PIPE_SIZE)
+        self.inside += count or 0
+        return count
+
+    def read(self, most: int = SIZE) -> int | None:
+        if not self.inside and not (count := self._draw()):
+            return count
+        count = super().read(most)
+        self.inside -= count or 0
+        return count
+
+    def move(self, pipe: int, most: int) -> int | None:
+        if not self.inside and not (count := self._draw()):
+            return count
+        count = super().move(pipe, min(most, self.inside))
+        self.inside -= count or 0
+        return count
+
+    def read_few(self) -> bytes:
+        if self.inside < 4:
+            self._draw()
+        few = super().read_few() if self.inside else b""
+        self.inside -= len(few)
+        return few
+
+
 class Ends:
     """Both ends, and the waits for them."""
 
     def __init__(self, client_in: int, client_out: int, daemon: socket.socket, idle: float = IDLE):
-        self.client, self.client_out, self.idle = Input(client_in), client_out, idle
+        self.appends_unread, self.reads_unread = is_stream(client_in), is_stream(client_out)
+        self.client = Stream(client_in) if self.appends_unread else Input(client_in)
+        self.client_in, self.client_out, self.idle = client_in, client_out, idle
         self.socket, self.daemon = daemon, Input(daemon.fileno())
         self.sent_at, self.left_at, self.has_ended = time.monotonic(), 0.0, False
         # What passes unread is in this pipe in between: the system moves it there and on, and it isn't copied. So many
         # bytes of the client are held in it: they go on together once it is full, and before anything is waited for.
-        self.pipe, self.held = os.pipe(), 0
-        for file in (client_in, client_out, self.pipe[1]):
+        self.pipe, self.held = made_pipe(), 0
+        for file in (client_in, client_out):
             enlarge(file)
             os.set_blocking(file, False)
         daemon.setblocking(False)
@@ -109,10 +161,10 @@ class Ends:
         for file in (client_in, self.daemon.file):
             self.client_sends.register(file, select.POLLIN)
         self.client_takes.register(client_out, select.POLLOUT)
-        self.appends_unread, self.reads_unread = is_stream(client_in), is_stream(client_out)
 
     def close(self) -> None:
         """Closes what isn't of the two sides."""
+        self.client.close()
         for file in self.pipe:
             os.close(file)
 
@@ -144,10 +196,11 @@ class Ends:
 
     def _pause(self) -> None:
         """Nothing more has come of the client, or the pipe is full."""
-        if self.held:
-            self.send_held()
-        else:
-            self._wait_for_client()
+        if not (size := self.held):
+            return self._wait_for_client()
+        self.send_held()
+        if size < MUCH:
+            time.sleep(MOMENT)
 
     def _wait_for_client(self) -> None:
         ready = self.client_sends.poll(self.idle * 1000)
@@ -252,7 +305,7 @@ class Ends:
             poll.register(self.socket, events)
             poll.register(self.client_out, 0)
             if not self.left_at:
-                poll.register(self.client.file, select.POLLRDHUP)
+                poll.register(self.client_in, select.POLLRDHUP)
             rest = None
             if self.left_at and not self.has_ended:
                 rest = max(0.0, max(began, self.left_at) + GRACE - time.monotonic())
@@ -261,7 +314,7 @@ class Ends:
                 return ready[self.socket.fileno()]
             if ready.get(self.client_out, 0) & GONE:
                 raise ClientLost("the client has gone")
-            if self.client.file in ready:
+            if self.client_in in ready:
                 self.left_at = time.monotonic()
             elif not ready:
                 self._end_input()
@@ -278,6 +331,15 @@ def is_stream(file: int) -> bool:
     """Whether it is a pipe or a socket: then the system moves bytes to and from it."""
     mode = os.fstat(file).st_mode
     return stat.S_ISFIFO(mode) or stat.S_ISSOCK(mode)
+
+
+def made_pipe() -> tuple[int, int]:
+    """A pipe that holds much, whose ends don't block: the one to read from, and the one to write to."""
+    ends = os.pipe()
+    enlarge(ends[0])
+    for file in ends:
+        os.set_blocking(file, False)
+    return ends
 
 
 def enlarge(file: int) -> None:

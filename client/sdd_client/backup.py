@@ -6,24 +6,23 @@ import os
 import pathlib
 import socket
 import subprocess
-import tempfile
 import time
 import typing
 
 from .catalogue import FAILED, KEPT, PARTLY, UNKNOWN, Catalogue, Job, Listed
-from .connection import connect
 from .cutter import Cutter
 from .dialogue import BUSY, NOT_YET, Appending, terminate
 from .errors import Ended, Failed, Lost, Partly, Refused, complain
 from .filelist import FAULT, Piece, Writer, plain
 from .head import HEAD_STREAM, LIST_STREAM, SNAPSHOT_STREAM, Head, Place
-from .lanes import Alive, Way, opened, pieces_of
+from .holes import NOT_KEPT
+from .lanes import Alive, Way, pieces_of, reached
 from .progress import Now, Shown
 from .snapshot import Snapshot, decoded, usable
 from .stages import Chain, Feeder, words_of
 from .state import INCREMENT, State, links_of
 from .tarcut import Damaged
-from .tarrun import ARCHIVE, CHANGED, TarRun
+from .tarrun import ARCHIVE, CHANGED, Said, TarRun
 
 # So many names are told on standard error; the catalogue has all.
 TOLD = 100
@@ -173,6 +172,8 @@ class Backup:
         self.way = wanted.way._replace(target=wanted.way.target._replace(job=number))
 
     def run(self) -> Head:
+        # Other commands don't need it, and start sooner without it.
+        import tempfile
         with contextlib.ExitStack() as leaving:
             file, snapshot = (leaving.enter_context(tempfile.TemporaryFile()) for _ in range(2))
             kept = Kept(file)
@@ -217,6 +218,7 @@ class Backup:
                     tar.wait()
                     raise
                 tar.wait()
+            tar.said += [Said(path, NOT_KEPT, True) for path in files.hidden]
             told(tar, files)
             if not files.files and not (snapshot and os.fstat(snapshot.fileno()).st_size):
                 raise Failed("there is nothing that can be backed up")
@@ -274,9 +276,10 @@ def shown(name: str) -> str:
 
 
 def send_last(way: Way, head: Head, parts: dict[int, typing.BinaryIO]) -> Place:
-    """Sends the last session: the head, plain, and the list of files and what else there is, each through the stages."""
-    with connect(way.address) as talk:
-        appending = opened(talk, way)
+    """Sends the last session: the head, plain, and the list of files and what else there is, each through the stages. The
+    others are closed, so a daemon that is restarted meanwhile costs the job nothing."""
+    talk, appending = reached(way)
+    with talk:
         appending.append(head.encoded(), 1, HEAD_STREAM)
         index, stored = 1, 0
         for stream, file in parts.items():

@@ -9,7 +9,7 @@ import sqlite3
 import typing
 
 from .errors import Failed
-from .filelist import ASKED, Piece, Row, Writer, rows_of
+from .filelist import ASKED, Extent, Piece, Row, Writer, extents_of, rows_of
 from .head import Head, Place
 
 VERSION = 2
@@ -137,7 +137,9 @@ class Catalogue:
             if version not in (0, VERSION):
                 raise Failed(f"the catalogue {path} is of version {version}, and this client knows {VERSION}: 'rebuild' makes "
                              "another")
-            self.base.execute(f"PRAGMA user_version = {VERSION}")
+            if not version:
+                # Each time that it is set costs some syncs, also where it was set before.
+                self.base.execute(f"PRAGMA user_version = {VERSION}")
         except (OSError, sqlite3.Error) as why:
             raise Failed(f"the catalogue {path} can't be used: {why}") from why
 
@@ -252,3 +254,7 @@ class Catalogue:
             for row in rows_of([piece]):
                 if row.kind != ASKED and (session is None or row.session == session):
                     yield row
+
+    def extents(self, job: int) -> typing.Iterator[Extent]:
+        """Where the files of a job lie, in the order of its streams."""
+        return extents_of(self.pieces(job))

@@ -8,7 +8,7 @@ import typing
 from .backup import this_client
 from .catalogue import KEPT, PARTLY, Catalogue, Job
 from .errors import Failed, Misused
-from .filelist import Row
+from .filelist import Extent, Row
 from .head import Head
 from .stages import inverse_of
 from .state import State
@@ -101,6 +101,12 @@ class Choice:
             if row.is_member() and (self.names(row.path) or row.path in self.also or row.kind == "d" and row.path in self.above):
                 yield row
 
+    def extents(self) -> typing.Iterator[Extent]:
+        """Where the members lie, in their order."""
+        if self.is_all and not self.job.chain:
+            return self.state.catalogue.extents(self.job.id)
+        return ((row.session, row.offset, row.length) for row in self.rows())
+
 
 def target_of(row: Row) -> bytes:
     """The path to which a hard link leads."""
@@ -126,17 +132,16 @@ class Run(typing.NamedTuple):
     members: int
 
 
-def runs_of(rows: typing.Iterable[Row]) -> typing.Iterator[Run]:
+def runs_of(extents: typing.Iterable[Extent]) -> typing.Iterator[Run]:
     """Members that follow one another in a session, taken together; not too many at once, so that tar has work while further
-    rows are read."""
+    ones are looked for."""
     session = start = end = members = 0
-    for row in rows:
-        if members and (row.session != session or row.offset != end or end - start >= MOST):
-            yield Run(session, start, end - start, members)
-            members = 0
-        if not members:
-            session, start, end = row.session, row.offset, row.offset
-        end += row.length
+    for number, offset, length in extents:
+        if number != session or offset != end or end - start >= MOST:
+            if members:
+                yield Run(session, start, end - start, members)
+            session, start, end, members = number, offset, offset, 0
+        end += length
         members += 1
     if members:
         yield Run(session, start, end - start, members)

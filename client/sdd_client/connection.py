@@ -16,8 +16,9 @@ from .transports import Transport, transport
 
 END_OF_DATA, TERMINATE, HEARTBEAT, HEARTBEAT_RESPONSE = -1, -4, -6, -7
 MOST_BYTES, PORT = 4_000_000, 9103
-# So much is read from the system at once, where a packet isn't longer.
-READ_AHEAD = 1 << 16
+# So much is read from the system at once, where a record isn't longer: four of a backup's with what stands around them.
+READ_AHEAD = (1 << 20) + (1 << 16)
+LENGTH = struct.Struct(">i")
 
 Buffer = bytes | bytearray | memoryview
 
@@ -28,7 +29,9 @@ class Connection:
 
     def __init__(self, transport: Transport, timeout: float | None = None):
         self.transport, self.timeout = transport, timeout
-        self.ahead = memoryview(b"")
+        # What was read, of which what lies between start and end is still to be taken.
+        self.store = memoryview(bytearray(READ_AHEAD))
+        self.start = self.end = 0
         self.waits_for = select.poll()
         self.waits_to = select.poll()
         self.waits_for.register(transport.reads(), select.POLLIN)
@@ -73,16 +76,51 @@ class Connection:
 
     def send_record(self, data: Buffer, before: bytes = b"") -> None:
         """Sends a packet with these bytes, and what comes before it, at once."""
-        self.send(before + struct.pack(">i", len(data)), data)
+        self.send(before + LENGTH.pack(len(data)), data)
 
-    def receive(self) -> int | bytes | memoryview:
+    def receive(self) -> int | bytes:
         """The next packet, or the next signal. A heartbeat's response is passed over."""
-        while True:
-            (length,) = struct.unpack(">i", self._bytes(4))
-            if length >= 0:
-                return self._bytes(length)
-            if length != HEARTBEAT_RESPONSE:
-                return length
+        length, at = self._next(0)
+        if length < 0:
+            self.start += at
+            return length
+        self._fill(at + length)
+        begin, self.start = self.start + at, self.start + at + length
+        return bytes(self.store[begin:self.start])
+
+    def receive_record(self) -> memoryview | None:
+        """The next packet, if the end of data is behind it, and otherwise nothing. Its bytes are good until more is received."""
+        length, at = self._next(0)
+        if length < 0:
+            return None
+        end, behind = self._next(at + length)
+        if end != END_OF_DATA:
+            return None
+        begin, self.start = self.start + at, self.start + behind
+        return self.store[begin:begin + length]
+
+    def _next(self, place: int) -> tuple[int, int]:
+        """What the packet or signal begins with that is so many bytes from here, and where that ends."""
+        length = HEARTBEAT_RESPONSE
+        while length == HEARTBEAT_RESPONSE:
+            self._fill(place + LENGTH.size)
+            (length,) = LENGTH.unpack_from(self.store, self.start + place)
+            place += LENGTH.size
+        if length > MOST_BYTES:
+            raise Lost(f"a packet of {length} bytes, which is none of the daemon's")
+        return length, place
+
+    def _fill(self, count: int) -> None:
+        """Reads until so many bytes are there, and what has come with them."""
+        if self.end - self.start >= count:
+            return
+        room = self.store if count <= len(self.store) else memoryview(bytearray(count))
+        if self.start or room is not self.store:
+            left = self.end - self.start
+            room[:left] = self.store[self.start:self.end]
+            self.store, self.start, self.end = room, 0, left
+        while self.end < count:
+            self.end += self._read_into(self.store[self.end:])
 
     def line(self) -> str:
         """The text of a packet, without its newline."""
@@ -90,26 +128,6 @@ class Connection:
         if isinstance(packet, int):
             raise Lost(f"a signal {packet} in place of a line")
         return text_of(packet)
-
-    def _bytes(self, count: int) -> bytes | memoryview:
-        """The next bytes: a part of what was read ahead where they are all in it."""
-        if count <= len(self.ahead):
-            taken, self.ahead = self.ahead[:count], self.ahead[count:]
-            return taken
-        whole = bytearray(count)
-        filled = len(self.ahead)
-        whole[:filled], self.ahead = self.ahead, memoryview(b"")
-        view = memoryview(whole)
-        while filled < count:
-            if count - filled >= READ_AHEAD:
-                filled += self._read_into(view[filled:])
-            else:
-                more = memoryview(bytearray(READ_AHEAD))
-                more = more[:self._read_into(more)]
-                part = min(len(more), count - filled)
-                view[filled:filled + part], self.ahead = more[:part], more[part:]
-                filled += part
-        return view
 
     def _read_into(self, room: memoryview) -> int:
         with self._told():
@@ -130,11 +148,11 @@ def text_of(packet: bytes | memoryview) -> str:
 
 
 def signal(number: int) -> bytes:
-    return struct.pack(">i", number)
+    return LENGTH.pack(number)
 
 
 def packet(payload: Buffer) -> bytes:
-    return struct.pack(">i", len(payload)) + payload
+    return LENGTH.pack(len(payload)) + payload
 
 
 def text_packet(text: str) -> bytes:

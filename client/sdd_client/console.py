@@ -3,7 +3,6 @@ from __future__ import annotations
 
 import os
 import re
-import tomllib
 import typing
 
 from .connection import PORT, Connection
@@ -56,6 +55,8 @@ class Configuration(typing.NamedTuple):
 
 
 def configured(path: str) -> Configuration:
+    # Few commands need it, and the others start sooner without it.
+    import tomllib
     with open(path, "rb") as file:
         try:
             text = tomllib.load(file)

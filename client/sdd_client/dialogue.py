@@ -23,7 +23,7 @@ NOT_YET, BUSY, NO_LANE, SEVERAL = "3907", "3908", "3911", "3935"
 
 
 class Record(typing.NamedTuple):
-    """A record of a session."""
+    """A record of a session. Its data is good until the next record is asked for."""
 
     index: int
     stream: int
@@ -144,8 +144,7 @@ def read_records(talk: Connection, lines: list[str]) -> typing.Generator[Record,
             raise Lost(f"a signal {header} in place of a header")
         if not (fields := HEADER.fullmatch(header)):
             raise Refused(text_of(header))
-        data, end = talk.receive(), talk.receive()
-        if isinstance(data, int) or end != END_OF_DATA:
+        if (data := talk.receive_record()) is None:
             raise Lost("a record is broken off")
         yield Record(int(fields[1]), int(fields[2]), data)
     said = answered(talk)

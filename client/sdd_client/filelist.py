@@ -12,11 +12,16 @@ import zlib
 
 from .connection import Buffer
 from .errors import Failed
+from .holes import is_hidden, may_be_one_hole
 from .tarcut import Member
 from .tarrun import Said
 
 # A path that was asked for, a name with a fault, and one that was left out knowingly; any other kind is a member's.
 ASKED, FAULT, LEFT_OUT = "@", "!", "-"
+NO_MEMBERS = frozenset(kind.encode() for kind in (ASKED, FAULT, LEFT_OUT))
+# Where a member lies: its session's number, its first byte there, and how many.
+Extent = tuple[int, int, int]
+Kind = typing.TypeVar("Kind")
 LEVEL, GZIP = 3, 31
 # A piece has so many bytes of rows, and so many are compressed at once: what fills the pipe of tar meanwhile is little.
 PIECE, PORTION = 1 << 20, 1 << 15
@@ -55,11 +60,12 @@ class Piece(typing.NamedTuple):
 
 
 class Writer:
-    """Writes a list, and gives its pieces away as they are filled."""
+    """Writes a list, and gives its pieces away as they are filled. `hidden` has the paths of files whose bytes tar didn't see."""
 
     def __init__(self, give: typing.Callable[[Piece], object]):
         self.give = give
         self.files = self.bytes = self.faults = 0
+        self.hidden: list[bytes] = []
         self._begin()
 
     def _begin(self) -> None:
@@ -75,6 +81,8 @@ class Writer:
         self.bytes += size
         self.sessions.add(session)
         self._add(b"%c %d %d %d %d %d %b\0%b\0" % (ord(kind), size, mtime, session, offset, length, plain(path), link))
+        if may_be_one_hole(member) and is_hidden(plain(path)):
+            self.hidden.append(path)
 
     def add_usual(self, members: typing.Iterator[tuple[bytes, int, bytes, int]], session: int, offset: int, most: int) -> int:
         """Adds the first members of some as `usual` gives them, which follow one another there, as long as they have so many
@@ -132,12 +140,29 @@ class Writer:
 
 def rows_of_texts(texts: list[bytes]) -> typing.Iterator[Row]:
     for head, text in zip(texts[::2], texts[1::2]):
-        kind, *numbers, path = head.split(b" ", 6)
-        yield Row(kind.decode(), *map(int, numbers), path, text)
+        kind, size, mtime, session, offset, length, path = head.split(b" ", 6)
+        yield Row(kind.decode(), int(size), int(mtime), int(session), int(offset), int(length), path, text)
+
+
+def extents_of_texts(texts: list[bytes]) -> typing.Iterator[Extent]:
+    for head in texts[::2]:
+        kind, _, _, session, offset, length, _ = head.split(b" ", 6)
+        if kind not in NO_MEMBERS:
+            yield int(session), int(offset), int(length)
 
 
 def rows_of(pieces: typing.Iterable[Buffer]) -> typing.Iterator[Row]:
     """The rows of a list that comes in pieces of any size."""
+    return read_of(pieces, rows_of_texts)
+
+
+def extents_of(pieces: typing.Iterable[Buffer]) -> typing.Iterator[Extent]:
+    """Where the members of such a list lie, in their order. It is what the rows say, in half of the time."""
+    return read_of(pieces, extents_of_texts)
+
+
+def read_of(pieces: typing.Iterable[Buffer], read: typing.Callable[[list[bytes]], typing.Iterator[Kind]]) -> typing.Iterator[Kind]:
+    """What is read of a list's texts, of which each row has two."""
     try:
         gzip, rest = zlib.decompressobj(GZIP), b""
         for piece in pieces:
@@ -147,7 +172,7 @@ def rows_of(pieces: typing.Iterable[Buffer]) -> typing.Iterator[Row]:
                 *texts, last = (rest + gzip.decompress(piece)).split(b"\0")
                 if len(texts) % 2:
                     last = texts.pop() + b"\0" + last
-                yield from rows_of_texts(texts)
+                yield from read(texts)
                 rest, piece = last, gzip.unused_data
     except (ValueError, TypeError, zlib.error) as why:
         raise Failed(f"the list of files can't be read: {why}") from why

@@ -12,7 +12,7 @@ import typing
 
 from .connection import HEARTBEAT, Address, Buffer, Connection, connect, signal
 from .dialogue import NO_LANE, Appending, Target, terminate
-from .errors import Failed, Refused, complain
+from .errors import Failed, Lost, Refused, complain
 from .stages import Chain, Feeder, words_of
 
 # Records have so many bytes, the last one of a session what is left. It is a multiple of tar's blocks.
@@ -46,6 +46,26 @@ def opened(talk: Connection, way: Way) -> Appending:
             return Appending(talk, way.target)
         except Refused as why:
             if why.number() != NO_LANE or time.monotonic() > until:
+                raise
+            if not is_told:
+                complain(f"{why}; it is tried again for {way.patience:g} seconds")
+            is_told = True
+        time.sleep(min(PAUSE, way.patience))
+
+
+def reached(way: Way) -> tuple[Connection, Appending]:
+    """A session over a connection of its own. If no daemon takes it, as while one is restarted, it tries again, as long as the
+    way says."""
+    until, is_told = time.monotonic() + way.patience, False
+    while True:
+        try:
+            with contextlib.ExitStack() as kept:
+                talk = kept.enter_context(connect(way.address))
+                appending = opened(talk, way)
+                kept.pop_all()
+                return talk, appending
+        except Lost as why:
+            if time.monotonic() >= until:
                 raise
             if not is_told:
                 complain(f"{why}; it is tried again for {way.patience:g} seconds")

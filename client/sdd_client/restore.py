@@ -19,9 +19,10 @@ from .state import State
 from .tarcut import END
 from .tarrun import TarRun
 
-EXTRACT = ["--extract", "--file=-", "--preserve-permissions", "--acls", "--xattrs", "--delay-directory-restore"]
+EXTRACT = ["--extract", "--file=-", "--blocking-factor=512", "--preserve-permissions", "--acls", "--xattrs", "--delay-directory-restore"]
 AS_ROOT = ["--same-owner", "--numeric-owner", "--xattrs-include=*"]
-BUFFER = 1 << 18
+# So much goes to tar at once of what comes in smaller parts; what is larger isn't copied before.
+BUFFER = 1 << 15
 
 
 class Streams:
@@ -95,7 +96,7 @@ def restore(choice: Choice, streams: Streams, folder: str, may_replace: bool) ->
     if may_replace:
         no_links_on_the_way(choice, folder)
     words = [*EXTRACT, *(AS_ROOT if os.geteuid() == 0 else ["--xattrs-include=user.*"]), f"--directory={folder}"]
-    runs = runs_of(choice.rows()) if job.has_list else streams.whole()
+    runs = runs_of(choice.extents()) if job.has_list else streams.whole()
     count, why = 0, None
     with TarRun(words, stdin=subprocess.PIPE, bufsize=BUFFER) as tar:
         feeding = Feeding(streams, tar)

@@ -18,7 +18,7 @@ from .catalogue import Job
 from .chosen import Choice, Undo
 from .dialogue import Record
 from .errors import Failed, Partly, complain
-from .filelist import Row
+from .filelist import Extent, Row
 from .head import Place
 from .lanes import DATA_STREAM
 from .plainfiles import NAME_STREAM, Restored
@@ -148,6 +148,9 @@ class Whole:
 
     def rows(self) -> typing.Iterator[Row]:
         return (row for row in self.choice.rows() if not self.lacks(row))
+
+    def extents(self) -> typing.Iterator[Extent]:
+        return ((row.session, row.offset, row.length) for row in self.rows())
 
 
 def restore_job(state: State, choice: Choice, folder_of_volumes: str, undo: Undo, folder: str, may_replace: bool) -> int:

@@ -4,7 +4,6 @@ from __future__ import annotations
 import datetime
 import os
 import pathlib
-import tomllib
 import typing
 
 from .cutter import SESSION
@@ -68,6 +67,8 @@ def usual_file() -> pathlib.Path:
 
 def settings_in(path: pathlib.Path) -> Settings:
     """What a file says. What it can't mean is told with the key."""
+    # As in `console`.
+    import tomllib
     try:
         said = tomllib.loads(path.read_text())
     except (OSError, ValueError) as why:

@@ -85,15 +85,22 @@ class Pump:
             except BlockingIOError:
                 return
             self.up, self.is_over = memoryview(self.room_up)[:count], count == 0
-        while self.up:
-            try:
+        if not self.up:
+            return
+        # Parts of 16 KB are written one by one: the system sends several together.
+        self._hold_back(True)
+        try:
+            while self.up:
                 self.up = self.up[self.tls.send(self.up):]
-            except ssl.SSLWantWriteError:
-                self.up_waits = select.POLLOUT
-                return
-            except ssl.SSLWantReadError:
-                self.up_waits = select.POLLIN
-                return
+            self._hold_back(False)
+        except ssl.SSLWantWriteError:
+            self.up_waits = select.POLLOUT
+        except ssl.SSLWantReadError:
+            self.up_waits = select.POLLIN
+
+    def _hold_back(self, is_held: bool) -> None:
+        """Whether the system waits for more before it sends less than a whole packet."""
+        self.tls.setsockopt(socket.IPPROTO_TCP, socket.TCP_CORK, is_held)
 
     def _receive(self) -> bool:
         """Passes on what has come. Says whether there may be more."""

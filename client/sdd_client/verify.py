@@ -125,7 +125,7 @@ def compare(choice: Choice, streams: Streams) -> int:
     differences, count = {}, 0
     with TarRun(words, stdin=subprocess.PIPE, stdout=subprocess.PIPE) as tar:
         listener = Listener(tar.process.stdout)
-        for run in runs_of(choice.rows()):
+        for run in runs_of(choice.extents()):
             streams.copy(run, tar.process.stdin.write)
             count += run.members
         tar.process.stdin.write(END)

@@ -125,6 +125,27 @@ def changing(checks, site):
             checks.same(f"{name}: the others", got.read_bytes(), (site.files / "stays").read_bytes())
 
 
+def without_blocks(checks, site):
+    """A file whose file system tells no blocks, so that tar takes it for a hole: it is named. A file that is one hole isn't."""
+    there = pathlib.Path("/sys/devices/virtual/net/lo/mtu")
+    if not there.exists() or there.stat().st_blocks:
+        print(f"not run: {checks.group}, which needs a file of /sys")
+        return
+    site.files.mkdir()
+    with open(site.files / "hole", "wb") as file:
+        file.truncate(300_000)
+    (site.files / "plain").write_text("plain")
+    with standin.StandIn() as daemon:
+        is_told(checks, "holes", said_by(site, daemon.port, "backup", "j", site.files), 0)
+        came = said_by(site, daemon.port, "backup", "j", site.files, there)
+        is_told(checks, "without blocks", came, 3, f"{there}: File has bytes, but no blocks", "kept, but for")
+        rows = json.loads(said_by(site, daemon.port, "files", "j", "--json")[0])
+        # Tar may also tell it as changed, since such a file may be another one at each look.
+        checks.same("in the catalogue", {row["path"] for row in rows if row["kind"] == "!"}, {str(there)})
+        is_told(checks, "restore", said_by(site, daemon.port, "restore", "j", site.files, "--to", site.folder / "out"), 0)
+        checks.same("the others", differences(site.files, site.folder / "out" / str(site.files).lstrip("/")), "")
+
+
 def append_to(path, count):
     with open(path, "ab") as file:
         file.write(bytes(count))
@@ -315,6 +336,31 @@ def killed_daemons(checks, site):
     checks.check("enough of each", counts[0] >= 1 and counts[1] >= 3 and set(counts) <= {0, 1, 3}, counts)
 
 
+def restarted_daemon(checks, site):
+    """The daemon is ended gently while a job sends its files, and another begins: the job's last session goes to that one."""
+    site.draw()
+    # More than a record, so that some of it is sent before the end.
+    (site.files / "large").write_bytes(os.urandom(4_000_000))
+    stop, go, volume = site.folder / "stop", site.folder / "go", site.volumes / "Vol-0001"
+    # The session of the files isn't at its end before that file is there.
+    stage = f"sh -c 'cat; until [ -e {go} ]; do sleep 0.05; done'"
+    command = [CLIENT, "--port", str(site.port), "backup", "restarted", "--through", stage, site.files]
+    with site.daemon("--until", stop) as daemon:
+        site.label(volume.name)
+        labelled = volume.stat().st_size
+        with subprocess.Popen(command, env=site.env, stderr=subprocess.PIPE, text=True) as one:
+            checks.check("it sends", until(lambda: volume.stat().st_size > labelled or one.poll() is not None, 4 * WAIT))
+            stop.touch()
+            checks.check("no client more is taken", until(lambda: site.say("console", "status")[1] == 3, WAIT))
+            go.touch()
+            checks.same("that daemon ends", daemon.process.wait(timeout=4 * WAIT), 0)
+            later_second()
+            with site.daemon("--adopt"):
+                said = one.communicate(timeout=4 * WAIT)[1]
+    is_told(checks, "a daemon that is restarted", (said, one.returncode), 0, "it is tried again")
+    checks.same("the job is kept", by_names(site).get("restarted"), "kept")
+
+
 def found_anew(checks, site):
     """A new catalogue, made from the volumes alone."""
     anew = site.folder / "anew"
@@ -328,5 +374,5 @@ def by_names(site, catalogue=None):
     return {row["name"]: row["status"] for row in json.loads(site.say(*words, "list", "--json")[0])}
 
 
-GROUPS = dict.fromkeys([stages, killed_tars, changing, refusals, slow_replies, ended_clients, ended_restores, broken_restores, hanging,
-                        killed_daemons], "")
+GROUPS = dict.fromkeys([stages, killed_tars, changing, without_blocks, refusals, slow_replies, ended_clients, ended_restores,
+                        broken_restores, hanging, killed_daemons, restarted_daemon], "")

@@ -12,7 +12,7 @@ import subprocess
 import time
 
 import standin
-from daemon import CLIENT, WAIT, later_second, until
+from daemon import CLIENT, until
 from jobs import is_root, restored
 from site_of_test import is_told, say
 from trees import Tree, differences
@@ -265,6 +265,32 @@ def faults(checks, site):
         checks.same("the same", differences(site.files, restored(site, "out")), "")
 
 
+def nothing_deleted(checks, site):
+    """A restore deletes nothing. Of an increment it makes what was there that day: in a folder of its own that is all, and in
+    another one, on request, what else is there stays."""
+    site.draw()
+    with standin.StandIn() as daemon:
+        is_told(checks, "first", backup(site, daemon.port), 0)
+        (site.files / "39").unlink()
+        os.rename(site.files / "a byte", site.files / "renamed")
+        is_told(checks, "second", backup(site, daemon.port), 0)
+        checks.same("levels", [row["level"] for row in runs(site, daemon.port)], ["full", "incremental"])
+        for name in ("new", "old"):
+            back = restored(site, name)
+            others = [back / "39", back / "mine", back / "under" / "mine"] if name == "old" else []
+            for other in others:
+                other.parent.mkdir(parents=True, exist_ok=True)
+                other.write_text("stays")
+            words = ["restore", "j", "--to", site.folder / name, *(["--replace"] if others else [])]
+            is_told(checks, name, say(daemon.port, *words, env=site.env), 0)
+            checks.same(f"{name}: what else was there", [other.read_text() for other in others], ["stays"] * len(others))
+            for other in others:
+                other.unlink()
+                # Its folder is as it was restored, but for its moment.
+                shutil.copystat(site.files / other.parent.relative_to(back), other.parent)
+            checks.same(f"{name}: the same", differences(site.files, back), "")
+
+
 def lone_files(checks, site):
     """Files that are named themselves, unchanged or not."""
     site.draw()
@@ -302,4 +328,4 @@ def found_again(checks, site):
     checks.same("what rsync would do", differences(site.files, restored(site, "out")), "")
 
 
-GROUPS = dict.fromkeys([days, grounds, faults, lone_files, found_again], "")
+GROUPS = dict.fromkeys([days, grounds, faults, nothing_deleted, lone_files, found_again], "")

@@ -2,6 +2,7 @@
 pieces. Without a daemon."""
 import contextlib
 import io
+import itertools
 import os
 import queue
 import random
@@ -9,10 +10,11 @@ import subprocess
 import tarfile
 
 from sdd_client import filelist
-from sdd_client.catalogue import Catalogue, listed
+from sdd_client.catalogue import VERSION, Catalogue, listed
+from sdd_client.chosen import MOST, runs_of
 from sdd_client.cutter import Cutter
 from sdd_client.errors import Failed
-from sdd_client.filelist import Row, Writer, plain, rows_of
+from sdd_client.filelist import Row, Writer, extents_of, plain, rows_of
 from sdd_client.head import Head, Place
 from sdd_client.tarcut import END, Damaged, Member, Members, Parser, nanoseconds, padded, usual
 from sdd_client.tarrun import ARCHIVE
@@ -261,16 +263,52 @@ def lists(checks, site):
         checks.same("the path", catalogue.jobs()[0].paths, ["/asked"])
         for session in (1, 3, 7, 8):
             checks.same(f"session {session}", list(catalogue.rows(number, session)), [row for row in rows if row.session == session and row.is_member()])
+        extents = [(row.session, row.offset, row.length) for row in rows if row.is_member()]
+        checks.same("extents", list(catalogue.extents(number)), extents)
         checks.check("fewer pieces", len(list(catalogue.pieces(number, 1))) < len(list(catalogue.pieces(number))) / 3)
         whole = b"".join(catalogue.pieces(number))
         for step in (1, 1000, len(whole)):
-            checks.same(f"in steps of {step}", list(rows_of(whole[at:at + step] for at in range(0, len(whole), step))), rows)
+            checks.same(f"in steps of {step}", list(rows_of(in_steps(whole, step))), rows)
+            checks.same(f"extents in steps of {step}", list(extents_of(in_steps(whole, step))), extents)
         for other in (whole[:-1], whole[:1000], whole[:100] + b"?" + whole[101:], b"", b"x", whole + b"x"):
-            try:
-                checks.check("broken", len(list(rows_of([other]))) < 0)
-            except Failed as why:
-                checks.check("told", "the list of files" in str(why), why)
+            for read in (rows_of, extents_of):
+                try:
+                    checks.check("broken", len(list(read([other]))) < 0)
+                except Failed as why:
+                    checks.check("told", "the list of files" in str(why), why)
+    was = site.catalogue.read_bytes()
+    with Catalogue(site.catalogue) as catalogue:
+        checks.same("the version", catalogue.base.execute("PRAGMA user_version").fetchone()[0], VERSION)
+    # The database counts its changes.
+    checks.same("opened, and not changed", site.catalogue.read_bytes() == was, True)
     filelist.PIECE = size
 
 
-GROUPS = dict.fromkeys([parsed, damaged_headers, cut, lists], "")
+def in_steps(data, step):
+    return (data[at:at + step] for at in range(0, len(data), step))
+
+
+def runs(checks, site):
+    """Runs are the members in their order, and each is one stretch of a session."""
+    numbers = random.Random(SEED)
+    for least in (1, 20_000, 1 << 20):
+        extents, session, at = [], 1, 0
+        for _ in range(2000):
+            if numbers.random() < 0.01:
+                session, at = session + 1, 0
+            at += numbers.choice([0, 0, 0, 0, 0, 0, 0, 512])
+            extents.append((session, at, numbers.randrange(1, least + 1)))
+            at += extents[-1][2]
+        got, left = list(runs_of(extents)), iter(extents)
+        for run in got:
+            mine = list(itertools.islice(left, run.members))
+            ends = [offset + length for _, offset, length in mine]
+            fits = [run.start, *ends] == [offset for _, offset, _ in mine] + [run.start + run.length]
+            checks.check(f"{least}: a stretch", fits and {one[0] for one in mine} == {run.session}, run)
+            checks.check(f"{least}: not long", run.length < MOST + least, run)
+        checks.same(f"{least}: all", sum(run.members for run in got), len(extents))
+        checks.check(f"{least}: few", len(got) < len(extents) * (0.3 if least < MOST else 1), len(got))
+    checks.same("none", list(runs_of([])), [])
+
+
+GROUPS = dict.fromkeys([parsed, damaged_headers, cut, lists, runs], "")

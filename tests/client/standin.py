@@ -14,11 +14,11 @@ class Session:
 
 class StandIn:
     """Listens on a port of its own. `refuse` has refusals by the command that gets them, each given once, in order; `delay`
-    is added to each reply, in seconds; after `breaks_after` bytes of records it ends the talk that sent them."""
+    is added to each reply, in seconds, of which `replies` counts those given; after `breaks_after` bytes of records it ends the talk that sent them."""
 
     def __init__(self, delay=0.0, refuse=None, breaks_after=None, keeps=True):
         self.delay, self.refuse, self.breaks_after, self.keeps = delay, refuse or {}, breaks_after, keeps
-        self.sessions, self.taken, self.lock = [], 0, threading.Lock()
+        self.sessions, self.taken, self.replies, self.lock = [], 0, 0, threading.Lock()
         self.talks = set()
         self.listening = socket.create_server(("127.0.0.1", 0))
         self.port = self.listening.getsockname()[1]
@@ -67,6 +67,8 @@ class Talk:
 
     def say(self, *lines, end=False):
         time.sleep(self.daemon.delay)
+        with self.daemon.lock:
+            self.daemon.replies += 1
         self.socket.sendall(b"".join(struct.pack(">i", len(line) + 1) + line.encode() + b"\n" for line in lines)
                             + (b"\xff\xff\xff\xff" if end else b""))
 

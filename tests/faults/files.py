@@ -10,6 +10,7 @@ import stat
 
 from drive_model import label_block, seal
 from sites import Site, session_body, volume_of, whole
+from volumes import note
 
 OK_LABEL, LABELLED = "ok labelled", "3935 Volume already labelled"
 NOT_THERE, NOT_OURS = "3930 Volume not on the shelf", "3931 Not a volume of this profile"
@@ -24,11 +25,16 @@ MOMENT = TIME * 1_000_000
 # The host of a daemon whose configuration names none.
 HOST = "localhost"
 
-# The calls that operations make, in their order. A file is opened once for many calls, and the folder is synced once for
+# The calls that operations make, in their order. A label and an adoption begin with a look at the volume's note, and take one away
+# that is there: it is opened, compared, read to its end, removed, and the folder is synced. If the volume is refused the note
+# comes back, as a new file that takes its place. A file is opened once for many calls, and the folder is synced once for
 # each create or load. After each sync it is looked whether the file has its name still. Each talk reads by a device of its
 # own, which loads also the volume that its drive has loaded.
 LOOK_CALLS = ["look V", "stat V"]
 SYNC_CALLS = ["datasync V", "open .", "sync .", *LOOK_CALLS]
+NOTE_CALLS = ["look V~"]
+TAKE_CALLS = [*NOTE_CALLS, "open V~", "stat V~", "read V~", "read V~", "unlink V~", "open .", "sync ."]
+BACK_CALLS = ["unlink V~~", "open V~~", "write V~~", "datasync V~~", "rename V~~", "open .", "sync ."]
 LABEL_CALLS = ["open V", "write V", *SYNC_CALLS]
 LOAD_CALLS = ["look V", "open V", "stat V"]
 READ_CALLS = [*LOAD_CALLS, "stat V", "read V", "read V"]
@@ -47,14 +53,25 @@ LABELS = [
     *(("datasync", 1, "fail", number, FAULT, LABELLED, "whole") for number in (errno.EIO, errno.ENOSPC, errno.EDQUOT)),
     *(("open", 2, "fail", number, FAULT, LABELLED, "whole") for number in (errno.EMFILE, errno.EACCES)),
     ("sync", 1, "fail", errno.EIO, FAULT, LABELLED, "whole"),
-    *(("look", 1, *how, FAULT, LABELLED, "whole") for how in (
+    # The first look is for a note, and without one nothing is to be taken away; the second is for the file's name.
+    *(("look", 1, "fail", number, OK_LABEL, LABELLED, "whole") for number in (errno.ENOENT, errno.EACCES, errno.EIO)),
+    *(("look", 2, *how, FAULT, LABELLED, "whole") for how in (
         ("fail", errno.ENOENT), ("fail", errno.EACCES), ("elsewhere", 0), ("abroad", 0))),
     ("stat", 1, "fail", errno.EIO, FAULT, LABELLED, "whole"),
 ]
 # What a label answers if a file of that name is there already: the call's kind, which of the kind, how, the system's
-# error, and the answer.
+# error, and the answer. The first look is for a note.
 STANDING = [
-    ("none", 1, "fail", 0, LABELLED), ("look", 1, "fail", errno.EACCES, FAULT), ("look", 1, "fail", errno.ENOENT, FAULT),
+    ("none", 1, "fail", 0, LABELLED), ("look", 1, "fail", errno.EACCES, LABELLED), ("look", 2, "fail", errno.EACCES, FAULT),
+    ("look", 2, "fail", errno.ENOENT, FAULT),
+]
+# What becomes of a note that is there, and of the label or adoption before which it is to be taken away, if a call of that fails:
+# whether the event is given. A note that can't be read counts as none, and stays.
+TAKES = [
+    ("look", 1, "fail", errno.EACCES, True), ("open", 1, "fail", errno.EACCES, True), ("open", 1, "fail", errno.EIO, True),
+    ("stat", 1, "fail", errno.EIO, True), ("read", 1, "fail", errno.EIO, True), ("read", 2, "fail", errno.EIO, True),
+    ("read", 1, "short", 0, True), ("read", 1, "fail", errno.EINTR, True), *(("unlink", 1, "fail", number, False) for number in (
+        errno.EACCES, errno.EIO, errno.EROFS)), ("open", 2, "fail", errno.EMFILE, False), ("sync", 1, "fail", errno.EIO, False),
 ]
 # What a load answers, inside a mount or an adoption; the look at the name, its opening and the look at the open file.
 LOADS = [
@@ -69,11 +86,12 @@ ADOPTIONS = [
     ("read", 1, "fail", errno.EINTR, None), ("read", 1, "short", 0, None), ("stat", 4, "fail", errno.EIO, FAULT),
     ("truncate", 1, "fail", errno.EIO, FAULT), ("truncate", 1, "fail", errno.EACCES, FAULT),
 ]
-# The calls of its sync. If one fails, what the disk has isn't known: the volume isn't adopted in this run.
+# The calls of its sync. If one fails, what the disk has isn't known: the volume isn't adopted in this run. The fourth look is the one
+# after the sync, behind those for a note, at the survey and at the load.
 TORN = [
     ("datasync", 1, "fail", errno.EIO), ("datasync", 1, "fail", errno.ENOSPC), ("open", 3, "fail", errno.EACCES),
-    ("sync", 1, "fail", errno.EIO), ("look", 3, "fail", errno.ENOENT), ("look", 3, "elsewhere", 0),
-    ("look", 3, "abroad", 0), ("stat", 5, "fail", errno.EIO),
+    ("sync", 1, "fail", errno.EIO), ("look", 4, "fail", errno.ENOENT), ("look", 4, "elsewhere", 0),
+    ("look", 4, "abroad", 0), ("stat", 5, "fail", errno.EIO),
 ]
 # What a reading answers if another of its calls fails; None if it goes on.
 READINGS = [
@@ -118,7 +136,7 @@ def calls_made(site):
 
     site.calls()
     yield from differs("label", site.say("label 1 Vol-A Calls File"), OK_LABEL)
-    yield from differs("calls of a label", made("Vol-A"), LABEL_CALLS)
+    yield from differs("calls of a label", made("Vol-A"), NOTE_CALLS + LABEL_CALLS)
     yield from differs("mount", site.say("mount 1 Vol-A"), "ok mounted")
     yield from differs("calls of a mount", made("Vol-A"), LOAD_CALLS)
     lines = site.job(RECORDS, "Calls")
@@ -135,7 +153,37 @@ def calls_made(site):
     (site.volumes / "Made-B").write_bytes(volume_of("Made-B", [session_body([b"hello"])]) + bytes(9))
     site.say("adopt 1 Made-B")
     yield from differs("calls of an adoption", made("Made-B"), [
-        *LOAD_CALLS, "stat V", *3 * ["read V"], *LOAD_CALLS, "stat V", "truncate V", *SYNC_CALLS])
+        *NOTE_CALLS, *LOAD_CALLS, "stat V", *3 * ["read V"], *LOAD_CALLS, "stat V", "truncate V", *SYNC_CALLS])
+    (site.volumes / "Noted-C~").write_bytes(note())
+    yield from differs("label over a note", site.say("label 1 Noted-C Calls File"), OK_LABEL)
+    yield from differs("calls of a label over a note", made("Noted-C"), TAKE_CALLS + LABEL_CALLS)
+    (site.volumes / "Noted-D~").write_bytes(note())
+    yield from differs("adoption of a note", site.say("adopt 1 Noted-D"), NOT_THERE)
+    yield from differs("calls of an adoption of a note", made("Noted-D"), [*TAKE_CALLS, "look V", *BACK_CALLS])
+
+
+def notes_taken(site):
+    """A label and an adoption over a note that is to be taken away, the calls of which fail in turn: they are done, or refused with all as
+    it was but for the note, which may be gone."""
+    for at, (*call, is_given) in enumerate(TAKES):
+        content = note(7, 92, 0, 1, 0)
+        for word in ("label", "adopt"):
+            name = f"Taken-{word}-{at}"
+            path, beside = site.volumes / name, site.volumes / f"{name}~"
+            bytes_ = volume_of(name, [session_body([b"hello"])])
+            line, done = {"label": (f"label 1 {name} Calls File", OK_LABEL), "adopt": (f"adopt 1 {name}", f"ok adopted {len(bytes_)} 2")}[word]
+            beside.write_bytes(content)
+            if word == "adopt":
+                path.write_bytes(bytes_ + bytes(50))
+            site.fail(*call)
+            yield from differs(f"{word} over a note, {said(*call)}", site.say(line), done if is_given else FAULT)
+            site.well()
+            if not is_given:
+                left = path.read_bytes() if path.exists() else b""
+                yield from differs(f"{word}: the volume, {said(*call)}", left, bytes_ + bytes(50) if word == "adopt" else b"")
+                kept = [content] if call[0] == "unlink" else [content, None]
+                yield from differs(f"{word}: the note, {said(*call)}", (beside.read_bytes() if beside.exists() else None) in kept, True)
+                yield from differs(f"{word} behind {said(*call)}", site.say(line), done)
 
 
 def bytes_written(site):
@@ -183,7 +231,8 @@ def mounts(site):
 
 def adoptions(site):
     """An adoption whose calls fail in turn, and then the same one. The volume is cut after its last whole block."""
-    rows = [(kind, nth, *rest) for kind, *rest in LOADS for nth in (1, 3 if kind == "stat" else 2)] + ADOPTIONS
+    # The first look is for a note.
+    rows = [(kind, nth + (kind == "look"), *rest) for kind, *rest in LOADS for nth in (1, 3 if kind == "stat" else 2)] + ADOPTIONS
     for at, (*call, answer) in enumerate(rows + [(*call, FAULT) for call in TORN]):
         name = f"Adopt-{at}"
         bytes_ = volume_of(name, [session_body([b"hello"])])
@@ -419,7 +468,7 @@ def readers(folder, shim):
     yield from differs("ls, its last read", site.tool("ls", site.volumes / "Vol-0001"), (f"{listed}{FAULT}\n", 1))
 
 
-OPERATIONS = (bytes_written, calls_made, labels, mounts, adoptions, readings, jobs, taken, full_device, cut_volumes, other_volumes,
+OPERATIONS = (bytes_written, calls_made, notes_taken, labels, mounts, adoptions, readings, jobs, taken, full_device, cut_volumes, other_volumes,
               no_files, replaced, no_folders, modes)
 DRIVES = (("File", "volumes"), ("Lost", "lost"), ("Blocked", "file"), ("Proc", "/proc"))
 

@@ -7,6 +7,7 @@ from ample import never_wanting
 from clients import client
 from daemon import SDD, SDTOOL, WAIT, free_port
 from drive_model import END_LABEL, START_LABEL, fragment, label_block, seal, session_label
+from noters import noters
 from printed import records_of
 from shim import loaded
 
@@ -36,6 +37,8 @@ class Site:
         self.plan, self.made, self.conf = folder / "plan", folder / "calls", folder / "sdd.conf"
         self.serial, self.told = 0, 0
         self.volumes, self.spools, self.watched = folder / "volumes", folder / "spools", folder / watched
+        # The calls of the threads that write notes come at any time, and are none of those that fail.
+        self.aside = noters(shim, len(drives))
         for place in (self.volumes, self.spools):
             place.mkdir(exist_ok=True)
         tables = (f'[[drive]]\nmedia = "{media}"\nfolder = "{folder / place}"' for media, place in drives)
@@ -43,7 +46,8 @@ class Site:
 
     def env(self, seconds):
         """What a program is given so that its calls fail, and its clock says so many seconds."""
-        return loaded(self.shim, FAULTS_FOLDER=self.watched, FAULTS_PLAN=self.plan, FAULTS_LOG=self.made, CLOCK_SECONDS=seconds)
+        return loaded(self.shim, FAULTS_FOLDER=self.watched, FAULTS_PLAN=self.plan, FAULTS_LOG=self.made, CLOCK_SECONDS=seconds,
+                      ASIDE=self.aside)
 
     def daemon(self, seconds, *words, program=SDD, **options):
         """The daemon in the run of that time. The files that it makes have the permissions that it asks for, no fewer."""

@@ -7,25 +7,31 @@ import threading
 
 import rules
 from reader import Reader
+from removals import STEPS
 from world import BEGIN, DAY, World
 
 DAYS = int(os.environ.get("KEEPER_DAYS", "90"))
-VOLUME, RESERVE, CAPACITY = 2_000_000, 5_000_000, 62_000_000
-KEEP, MIN_AGE, MIN_GOOD = {"last": 2, "daily": 7, "weekly": 2}, 4 * DAY, 2
-POOLS_ON = (("Daily", 1), ("Other", 2))
-POOLS = "".join(
-    f'[pool.{name}]\ndrives = [{drive}]\nnames = "{name}-%05d"\nready = 1\nreserve = "{RESERVE}"\nmin_age = "4d"\n'
-    'min_good = 2\nunknown = "9d"\nkeep = { last = 2, daily = 7, weekly = 2 }\n' for name, drive in POOLS_ON)
-# A client, its job, its pool, and the bytes of a full and of an incremental job.
+# A client, its job, its pool, and the bytes of a full job, which comes once a week, and of an incremental one.
 CLIENTS = [("www", "home", "Daily", 1_300_000, 200_000), ("desk", "home", "Daily", 900_000, 150_000),
            ("mail", "spool", "Other", 1_200_000, 300_000)]
+VOLUME, RESERVE = 2_000_000, 2_000_000
+KEEP, MIN_AGE, MIN_GOOD = {"last": 2, "daily": 7, "weekly": 2}, 4 * DAY, 2
+POOLS_ON = (("Daily", 1), ("Other", 2))
+# The disk holds what the clients write in 30 days: besides what is kept, 14 days at most, it has what killed jobs left, a
+# volume that is ready in each pool, and the reserve. And since the daemon chooses a job's drive, it has for each pool a volume
+# more that was begun in the other drive, which is kept as long as its last job.
+CAPACITY = 30 * sum(full + 6 * more for *_, full, more in CLIENTS) // 7 + len(POOLS_ON) * VOLUME
+POOLS = "".join(
+    f'[pool.{name}]\ndrives = [{drive}]\nnames = "{name}-%05d"\nready = 1\nreserve = "{RESERVE}"\nmin_age = "4d"\n'
+    'min_good = 2\nunknown = "5d"\nkeep = { last = 2, daily = 7, weekly = 2 }\n' for name, drive in POOLS_ON)
 
 
 class Simulation:
     def __init__(self, checks, world):
-        self.checks, self.world, self.draw = checks, world, random.Random(83)
+        self.checks, self.world, self.draw = checks, world, random.Random(int(os.environ.get("KEEPER_SEED", "83")))
         self.reader, self.counts = Reader(world.folders), {}
         self.chains, self.lost = {}, []
+        self.failed_before = checks.failed
 
     def run(self):
         for day in range(DAYS):
@@ -36,7 +42,8 @@ class Simulation:
             self.world.now += 6 * 3600
             self.keep()
             self.look()
-            if self.checks.failed:
+            # What another part found ends no day of these.
+            if self.checks.failed > self.failed_before:
                 break
         self.ended()
 
@@ -99,13 +106,25 @@ class Simulation:
         if whole and self.draw.random() < 0.06:
             self.count("daemon killed")
             self.world.restart()
-        self.world.round(lambda _: self.check_free())
+        self.world.round(lambda step: self.comes_between(step, whole))
         self.check_free()
         # The job beside it may have ended before the round looked, or after.
         before, after = self.needed(heads), self.needed({**heads, **self.reader.heads()})
         for name in set(there) - set(self.world.volumes()):
             self.count("removed")
             self.checks.check(f"{name} was of no kept job", name not in before or name not in after, before.get(name))
+
+    def comes_between(self, step, whole):
+        """Before a step of a removal the daemon is at times killed and started again, and maybe given the oldest volume to load."""
+        self.check_free()
+        if not whole or step not in STEPS or self.draw.random() >= 0.06:
+            return
+        self.count("daemon killed in a removal")
+        self.world.restart()
+        drive = self.draw.choice((1, 2, None))
+        names = sorted(name for name, folder in self.world.volumes().items() if folder == self.world.folders[(drive or 1) - 1])
+        if drive and names and self.world.say(f"mount {drive} {names[0]}") == ["ok mounted"]:
+            self.count("mounted in a removal")
 
     def check_free(self):
         if self.world.free() < RESERVE:
@@ -155,7 +174,8 @@ class Simulation:
         print(f"{DAYS} days:", ", ".join(f"{what} {count}" for what, count in sorted(self.counts.items())),
               f"and {len(self.world.volumes())} volumes are left")
         for what, least in (("removed", DAYS // 3), ("keeper killed", DAYS // 9), ("daemon killed", DAYS // 20),
-                            ("client killed", DAYS // 20), ("daemon killed in a job", DAYS // 20), ("restored", 20)):
+                            ("client killed", DAYS // 20), ("daemon killed in a job", DAYS // 20), ("restored", 20),
+                            ("daemon killed in a removal", DAYS // 45), ("mounted in a removal", 1)):
             self.checks.check(f"{what} came up", self.counts.get(what, 0) >= least, self.counts)
 
 

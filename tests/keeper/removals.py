@@ -1,7 +1,9 @@
 """Volumes given back, with the keeper killed, the volume mounted, or the daemon killed at each step."""
+import contextlib
 import itertools
 
 from reader import Reader
+from sdd_client.errors import Failed
 from world import DAY, World
 
 POOL = ('[pool.Daily]\ndrives = [1]\nnames = "Daily-%05d"\nready = 2\nkeep = {{ last = 2 }}\nmin_age = "1s"\n{}')
@@ -13,6 +15,8 @@ def run(checks, folder):
         one(checks, folder / str(number), step, event)
     checks.group = "removals"
     held(checks, folder / "held")
+    failed(checks, folder / "failed")
+    late(checks, folder / "late")
     unknown(checks, folder / "unknown")
     chains(checks, folder / "chains")
     unmounted(checks, folder / "unmounted")
@@ -27,8 +31,7 @@ def one(checks, folder, step, event):
         world.backup("www", "home", "Daily", [18_500])
         world.now += DAY
         first = sorted(world.volumes())[0]
-        note = world.folders[0] / f"{first}~note"
-        note.write_text("a note")
+        world.note(first)
         reader = Reader(world.folders)
         if event == "killed":
             checks.check("it comes to that step", world.killed(step))
@@ -37,7 +40,7 @@ def one(checks, folder, step, event):
             said = happen(world, step, event, first)
             checks.check("what comes between", said.startswith("ok") == (before_rename or event == "restarted"), said)
             checks.same("it has its name again, or is gone", first in world.volumes(), before_rename)
-        left = sorted(one.name for one in world.folders[0].iterdir() if one.name.startswith(first))
+        left = [name for name in names(world) if name.startswith(first)]
         wanted = {"scan": 2, "write down": 2, "rename": 2, "ask": 2, "remove notes": 2, "remove": 1, "note": 0}[step]
         if event == "killed":
             checks.same("what is left of it", len(left), wanted)
@@ -111,6 +114,49 @@ def held(checks, folder):
 def no_labels(step):
     """The drive is left as it is."""
     assert step not in ("unmount", "label"), step
+
+
+def failed(checks, folder):
+    """A volume whose device failed goes as a full one does: not before its jobs aren't kept, with what was lost on it."""
+    with World(folder, POOL.format('unknown = "1d"')) as world:
+        world.round()
+        first = world.backup("www", "home", "Daily", [3_000])
+        path, away = world.folders[0] / "Daily-00001", folder / "away"
+        # The next sync finds no file of its name, as if the device had failed.
+        path.rename(away)
+        with contextlib.suppress(Failed):
+            checks.check("a job is lost", not world.session("Daily", [(2, world.draw.randbytes(3_000))]))
+        away.rename(path)
+        checks.same("it is in error", world.status()["Daily-00001"], "error")
+        world.note("Daily-00001")
+        world.now += 2 * DAY
+        why = {one.name: one.why for one in world.round().verdicts}
+        checks.check("a kept job holds it", "needs it" in why["Daily-00001"] and world.restores(first) is True, why)
+        days(world, 2)
+        world.now += 2 * DAY
+        world.round()
+        checks.same("then it goes", ("Daily-00001" in world.volumes(), "Daily-00001~" in names(world)), (False, False))
+        checks.same("the kept ones restore", [world.restores(one) for one in world.kept[-2:]], [True, True])
+
+
+def late(checks, folder):
+    """The daemon knows a volume that was given back until it ends, and may write one more note of it: that goes too. The notes of
+    other volumes stay, be they there or not."""
+    with World(folder, POOL.format("")) as world:
+        days(world, 5)
+        checks.check("it went", "Daily-00001" not in world.volumes(), world.volumes())
+        last = max(world.volumes())
+        world.note(last)
+        content = (world.folders[0] / f"{last}~").read_bytes()
+        for name in ("Daily-00001~", "Daily-00001~~", "Other-1~"):
+            (world.folders[0] / name).write_bytes(content)
+        world.round()
+        checks.same("what stays", [name in names(world) for name in ("Daily-00001~", "Daily-00001~~", f"{last}~", "Other-1~")],
+                    [False, False, True, True])
+
+
+def names(world):
+    return sorted(one.name for one in world.folders[0].iterdir())
 
 
 def unknown(checks, folder):

@@ -1,5 +1,6 @@
 """Damage on volumes that aren't written any more: found when it is due, at a rate, and told with the jobs that it hits."""
 import contextlib
+import datetime
 import os
 import shutil
 import signal
@@ -9,6 +10,7 @@ import keeper.rounds
 import keeper.scrubs
 from keeper.configuration import configured
 from keeper.folders import ALONE
+from keeper.notes import why_unlike
 from keeper.scrubs import one_at_a_time, scrub
 from keeper.state import Session, State
 from keeper.verification import Known, wrong
@@ -28,7 +30,7 @@ def run(checks, folder):
     with World(folder / "found", POOL.format("")) as world:
         days(world, 3, 18_500)
         found(checks, world)
-    for part in (hits, kinds, broken, catalogue, hardships, unreadable, told_apart, rate):
+    for part in (hits, noted, kinds, broken, catalogue, hardships, unreadable, told_apart, notes_told, rate):
         part(checks, folder / part.__name__)
 
 
@@ -94,6 +96,8 @@ def hits(checks, folder):
     """Damage hits the jobs that have blocks there, and no others of the volume: these restore, and it doesn't."""
     with World(folder, POOL.format("")) as world:
         days(world, 6, 5_500)
+        for name in world.volumes():
+            world.note(name)
         first = [one for one in world.kept if one.volumes() == {"Daily-00001"}]
         span = first[1].head.sessions[0].lines[1].split()
         world.now += 31 * DAY
@@ -106,6 +110,45 @@ def hits(checks, folder):
         checks.same("which of them restore", [world.restores(one) is True for one in world.kept], [True, False] + 4 * [True])
         world.round()
         checks.same("one job is hit", figure(world, "sdd_keeper_damaged_jobs"), [" 1"])
+
+
+def noted(checks, folder):
+    """A note tells of blocks that have gone without a trace, and the jobs that lie there. A damaged note is no damage."""
+    with World(folder, POOL.format("")) as world:
+        days(world, 6, 4_800)
+        for name in world.volumes():
+            world.note(name)
+        path, fields = world.folders[0] / "Daily-00001", world.note("Daily-00001")
+        world.now += 31 * DAY
+        checks.same("all is well", scrubbed(world), ([], 0))
+        world.now += 31 * DAY
+        note = path.with_name("Daily-00001~")
+        note.write_bytes(note.read_bytes()[:-1])
+        checks.same("a damaged note", scrubbed(world), ([], 0))
+        world.now += 31 * DAY
+        world.note("Daily-00001", last=fields["last"] - 1)
+        told, status = scrubbed(world)
+        checks.check("other blocks", status == 1 and f"(damage Daily-00001 {fields['end']} note)" in told[0], told, status)
+        world.note("Daily-00001")
+        os.truncate(path, fields["last"])
+        # It is read as it changed, which finds a volume that is whole, and is due later.
+        world.round()
+        checks.same("a scan finds nothing", lines_of(world), [])
+        world.now += 31 * DAY
+        told, status = scrubbed(world)
+        checks.check("a block that has gone", status == 1 and f"(damage Daily-00001 {fields['last']} note)" in told[0], told, status)
+        checks.same("its job, and no other", [f"www/home of {began(one)}" in told[0] for one in world.kept],
+                    [lies_behind(one, "Daily-00001", fields["last"]) for one in world.kept])
+
+
+def lies_behind(backup, name, place):
+    """Whether a job has bytes of a volume behind a place."""
+    lines = [line.split() for text in (backup.lines, *(one.lines for one in backup.head.sessions)) for line in text[1:]]
+    return any(words[1] == name and int(words[6]) > place for words in lines)
+
+
+def began(backup):
+    return datetime.datetime.fromtimestamp(backup.head.began // 1_000_000, datetime.timezone.utc).strftime("%Y-%m-%d %H:%M:%S")
 
 
 def kinds(checks, folder):
@@ -237,6 +280,7 @@ def one_at_once(checks, world):
 def stopped(checks, world):
     """A scrub that is killed while it reads leaves a second name of a volume, which goes with the volume, or at the next one."""
     place = world.folders[0] / ALONE
+    world.note("Daily-00001")
     world.now += 31 * DAY
     with tool_that(world.folder, VERIFIES, "kill -9 $PPID; kill -9 $$"):
         child = os.fork()
@@ -244,7 +288,7 @@ def stopped(checks, world):
             scrub(configured(world.keeper_conf), lambda: world.now)
             os._exit(0)
         checks.same("it is killed", os.waitpid(child, 0)[1], signal.SIGKILL)
-    checks.same("what is left", sorted(one.name for one in place.iterdir()), ["Daily-00001", "expected~"])
+    checks.same("what is left", sorted(one.name for one in place.iterdir()), ["Daily-00001", "Daily-00001~", "expected~"])
     world.write(POOL.format('min_age = "1s"').replace("last = 9", "last = 1"))
     world.round()
     checks.same("it has gone with its volume", ("Daily-00001" in world.volumes(), [one.name for one in place.iterdir()]),
@@ -281,14 +325,15 @@ def told_apart(checks, folder):
         days(world, 2, 18_500)
         world.say("unmount 1")
         world.say("label 1 Other-1 Other File")
-        (world.folders[0] / "Daily-00001~note").write_text("a note")
+        world.note("Daily-00001")
+        (world.folders[0] / "Daily-00002~text").write_text("a text of the operator's")
         checks.same("all fits", differing(world), [])
-        (world.folders[0] / "Gone-1~note").write_text("a note")
+        (world.folders[0] / "Gone-1~").write_bytes((world.folders[0] / "Daily-00001~").read_bytes())
         (world.folders[0] / "Lost-1").write_bytes((world.folders[0] / "Daily-00001").read_bytes())
         checks.same("a note, and a file", differing(world), [
             "Lost-1: its file is there, and the daemon hasn't adopted it",
-            f"{world.folders[0]}: Gone-1~note goes with a volume that isn't there"])
-        for name in ("Gone-1~note", "Lost-1"):
+            f"{world.folders[0]}: Gone-1~ goes with a volume that isn't there"])
+        for name in ("Gone-1~", "Lost-1"):
             (world.folders[0] / name).unlink()
         os.truncate(world.folders[0] / "Daily-00001", 9_000)
         told = differing(world)
@@ -298,6 +343,42 @@ def told_apart(checks, folder):
         told = differing(world)
         checks.check("a file that has gone", "Daily-00001: the daemon has it, and its file isn't there" in told, told)
         checks.same("how many", figure(world, "sdd_keeper_differences"), [f" {len(told)}"])
+
+
+def notes_told(checks, folder):
+    """What a volume's note says that doesn't fit is told; a note that isn't there, or of a later form, is passed over."""
+    with World(folder, POOL.format("")) as world:
+        days(world, 3, 18_500)
+        path = world.folders[0] / "Daily-00001~"
+        fields = world.note("Daily-00001")
+        end = fields["end"]
+        checks.same("it fits", differing(world), [])
+        cases = [("one of an earlier moment", {"end": fields["last"]}, []), ("a later form", {"form": b"SN02"}, []),
+                 ("another label", {"moment": fields["moment"] + 1}, ["Daily-00001: its note is of another label"]),
+                 ("a length", {"end": end + 7}, [f"Daily-00001: its file has {end} bytes, and its note knows blocks up to {end + 7}"])]
+        for name, changed, wanted in cases:
+            world.note("Daily-00001", **changed)
+            checks.same(name, (differing(world), figure(world, "sdd_keeper_differences")), (wanted, [f" {len(wanted)}"]))
+        world.note("Daily-00001")
+        # Where no daemon writes it anew.
+        apart, whole = folder / "apart", path.read_bytes()
+        apart.mkdir()
+        shutil.copy(world.folders[0] / "Daily-00001", apart)
+        for at in (*range(4), *range(8, 48)):
+            (apart / path.name).write_bytes(whole[:at] + bytes([whole[at] ^ 1]) + whole[at + 1:])
+            checks.same(f"byte {at}", why_unlike(apart, "Daily-00001", None), "its note isn't whole")
+        for content in (b"", whole[:-1], whole + b"x"):
+            (apart / path.name).write_bytes(content)
+            checks.same(f"{len(content)} bytes", why_unlike(apart, "Daily-00001", None), "its note isn't whole")
+        # More than the daemon knows, but for a volume that takes blocks.
+        for name, wanted in (("Daily-00001", [f"Daily-00001: the daemon knows blocks up to {end}, and its note up to {end + 7}"]),
+                             (max(world.volumes()), [])):
+            with open(world.folders[0] / name, "ab") as file:
+                file.write(b"a block")
+            world.note(name, end=(world.folders[0] / name).stat().st_size)
+            checks.same(f"more in {name}", differing(world), wanted)
+            path.unlink(missing_ok=True)
+        checks.same("without a note", differing(world), [])
 
 
 def differing(world):

@@ -3,6 +3,7 @@ changed but in memory."""
 import pathlib
 import shutil
 import sys
+import time
 
 from daemon import ROOT, SDD, SDTOOL, until
 from scrubs import turn
@@ -14,6 +15,9 @@ from units import sources
 # Nothing is waited for longer, in seconds: a round reads some volumes.
 LONG = 180
 FIGURES = "/var/lib/sdd-keeper/sdd-keeper.prom"
+# So long after a reading the next one is due, by `verify` below.
+DUE = 1.1
+AS_KEEPER = ("setpriv", "--reuid=sdd", "--regid=sdd", "--init-groups")
 # What an administrator types, by docs/OPERATIONS.md. Of a keeper's times only those are other that a test can't wait for.
 SETUP = r"""
 set -e
@@ -129,11 +133,13 @@ def scrubbed(checks, machine, root):
     checks.same("the timer", machine.say("systemctl", "enable", "--now", "sdd-keeper-scrub.timer")[1], 0)
     checks.same("it has run, and found nothing", until(lambda: ended(machine), LONG), ("success", "0"))
     checks.same("it told nothing", log(root, "sdd-keeper-scrub"), "")
-    status, _ = machine.client("", "--port", "9103", "console", "status")
-    full = min(line.split()[1] for line in status.splitlines() if line.startswith("volume ") and " full " in line
-               and line.split()[1] in volumes(root))
-    turn(root / "var/lib/sdd" / full, 1_000_000)
     machine.say("systemctl", "stop", "sdd-keeper-scrub.timer")
+    # Nothing gives it back or reads it until it is damaged and due; from then on rounds go on beside the scrub.
+    machine.say("systemctl", "stop", "sdd-keeper")
+    full = needed(checks, machine)
+    turn(root / "var/lib/sdd" / full, 1_000_000)
+    time.sleep(DUE)
+    machine.say("systemctl", "start", "sdd-keeper")
     checks.check("damage fails it", machine.say("systemctl", "start", "sdd-keeper-scrub")[1] != 0, log(root))
     checks.same("with its status", ended(machine), ("exit-code", "1"))
     told = log(root, "sdd-keeper-scrub")
@@ -141,6 +147,19 @@ def scrubbed(checks, machine, root):
                  and " is hit" in told, told)
     checks.check("its figure", until(lambda: figure(root, "damaged_volumes") == 1, LONG), log(root))
     checks.same("nothing is left of the reading", (root / "var/lib/sdd/.verify~").exists(), False)
+    turn(root / "var/lib/sdd" / full, 1_000_000)
+    time.sleep(DUE)
+    checks.same("once it is well again", (machine.say("systemctl", "start", "sdd-keeper-scrub"), ended(machine)),
+                (("", 0), ("success", "0")))
+    checks.check("so says the figure", until(lambda: figure(root, "damaged_volumes") == 0, LONG), log(root))
+
+
+def needed(checks, machine):
+    """A full volume that a kept job needs. No job comes any more, so it stays."""
+    said, status = machine.say(*AS_KEEPER, "/usr/local/bin/sdd-keeper", "--dry-run", "/usr/local/etc/keeper.toml")
+    names = [line.partition(" stays: ")[0] for line in said.splitlines() if line.endswith(" needs it (last)")]
+    checks.check("a kept job needs a full volume", status == 0 and names, said)
+    return names[-1]
 
 
 def ended(machine):
@@ -152,9 +171,9 @@ def ended(machine):
 
 def outlasts(checks, machine, root):
     """The daemon's restart holds up a round or two; a keeper that is killed is started again."""
-    before = main_process(machine, "sdd-keeper")
+    before, already = main_process(machine, "sdd-keeper"), len(log(root))
     checks.same("the daemon is stopped", machine.say("systemctl", "stop", "sdd")[1], 0)
-    checks.check("it is told", until(lambda: "no daemon listens" in log(root), LONG), log(root))
+    checks.check("it is told", until(lambda: "no daemon listens" in log(root)[already:], LONG), log(root))
     checks.same("the daemon is started", machine.say("systemctl", "start", "sdd")[1], 0)
     checks.check("rounds go on", goes_on(root), log(root))
     checks.same("by the same keeper", main_process(machine, "sdd-keeper"), before)

@@ -4,9 +4,10 @@ import hashlib
 import os
 import random
 import signal
+import struct
 import subprocess
 
-from daemon import Daemon, free_port, later_second, until
+from daemon import SOON, Daemon, free_port, later_second, until
 from keeper.configuration import configured
 from keeper.rounds import Keeper
 from keeper.state import State
@@ -14,6 +15,7 @@ from sdd_client import dialogue
 from sdd_client.connection import Address, connect
 from sdd_client.errors import Failed
 from sdd_client.head import HEAD_STREAM, LIST_STREAM, Head, Place
+from volumes import BLOCK_HEADER, note
 
 DAY = 86_400
 # A Monday.
@@ -35,6 +37,14 @@ class Backup:
         return {line.split()[1] for lines in places for line in lines[1:]}
 
 
+def size_of(file):
+    """How many bytes it has; none, if it is gone by now, as a note that was being written."""
+    try:
+        return file.stat().st_size
+    except FileNotFoundError:
+        return 0
+
+
 class World:
     """`pools` is the text of the keeper's tables, `drives` how many drives there are, each with a folder."""
 
@@ -44,7 +54,7 @@ class World:
         self.folders = [folder / f"drive{number}" for number in range(1, drives + 1)]
         for one in self.folders:
             one.mkdir()
-        self.port, self.daemon, self.kept = free_port(), None, []
+        self.port, self.daemon, self.kept, self.noted = free_port(), None, [], set()
         self.conf, self.keeper_conf = folder / "sdd.conf", folder / "keeper.toml"
         tables = "".join(f'[[drive]]\nmedia = "File"\nfolder = "{one}"\n' for one in self.folders)
         self.conf.write_text(f"port = {self.port}\nvolume = {volume}\nblock = {block}\n{tables}")
@@ -63,9 +73,13 @@ class World:
 
     # The daemon.
 
-    def start(self, wait=WAIT):
+    def start(self, adopts=True):
         later_second()
-        self.daemon = Daemon(self.conf, "--wait", str(wait), port=self.port)
+        self.daemon = Daemon(self.conf, "--wait", str(WAIT), port=self.port)
+        if adopts:
+            self.adopt()
+
+    def adopt(self):
         for number, folder in enumerate(self.folders, 1):
             for name in sorted(one.name for one in folder.iterdir() if "~" not in one.name):
                 self.say(f"adopt {number} {name}")
@@ -134,13 +148,13 @@ class World:
 
     def free(self, _folder=None):
         """What is free: of a disk of so many bytes, if one is handed in."""
-        used = sum(file.stat().st_size for folder in self.folders for file in folder.iterdir())
+        used = sum(size_of(file) for folder in self.folders for file in folder.iterdir())
         return self.capacity - used if self.capacity else 10**12
 
-    def round(self, step=lambda name: None):
+    def round(self, step=lambda name: None, already=None):
         """One round of the keeper."""
         with contextlib.closing(State(self.folder / "state")) as state:
-            return Keeper(configured(self.keeper_conf), state, lambda: self.now, self.free, step).round()
+            return Keeper(configured(self.keeper_conf), state, lambda: self.now, self.free, step, already).round()
 
     def killed(self, at):
         """A round in a process of its own, which is killed before a step: one of a name, or the one of that number. Says
@@ -163,6 +177,22 @@ class World:
     def volumes(self):
         """The volumes that have a file, with their folders."""
         return {one.name: folder for folder in self.folders for one in folder.iterdir() if "~" not in one.name}
+
+    def note(self, name, **changed):
+        """The note that a daemon would write of a volume as it is; and it is written, with some fields changed, once the daemon has
+        written its own."""
+        path = self.volumes()[name] / name
+        data, at, last, number, time = path.read_bytes(), 0, 0, 0, 0
+        while at + BLOCK_HEADER <= len(data):
+            size, of = struct.unpack_from(">4xI12xI", data, at)
+            at, last, number, time = at + size, at, number + 1, max(time, of)
+        fields = {"moment": struct.unpack_from(">q", data, 52)[0], "end": at, "last": last, "next_number": number, "time": time}
+        beside = path.with_name(f"{name}~")
+        if name not in self.noted:
+            until(lambda: beside.exists() and beside.read_bytes() == note(**fields), SOON)
+            self.noted.add(name)
+        beside.write_bytes(note(**{**fields, **changed}))
+        return fields
 
     def status(self):
         return {line.split()[1]: line.split()[4] for line in self.say("status") if line.startswith("volume ")}

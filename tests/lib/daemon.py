@@ -84,6 +84,16 @@ def until(holds, seconds=WAIT):
     return given
 
 
+def is_note(name):
+    """Whether that is the name of a volume's note, or of one that is being written."""
+    return name.endswith("~") and name != LOCK
+
+
+def listed(folder):
+    """The names of the files in a folder but for notes, which the daemon writes when it comes to that."""
+    return sorted(name for name in os.listdir(folder) if not is_note(name))
+
+
 def drive(media, folder, *lines):
     """The lines of a drive in a configuration."""
     return "\n".join(["[[drive]]", f'media = "{media}"', f'folder = "{folder}"', *lines, ""])
@@ -94,6 +104,14 @@ def later_second():
     now = int(time.time())
     while int(time.time()) == now:
         time.sleep(0.02)
+
+
+class NotListening(TimeoutError):
+    """A daemon doesn't listen. Its status, if it has ended."""
+
+    def __init__(self, said, status):
+        super().__init__(said)
+        self.status = status
 
 
 class Daemon:
@@ -108,9 +126,10 @@ class Daemon:
             self.process = subprocess.Popen([program, "serve", conf, *words], **options)
         end = time.monotonic() + WAIT
         while not is_listened_on(port) or (log and not self.log()):
-            if self.process.poll() is not None or time.monotonic() > end:
+            if (status := self.process.poll()) is not None or time.monotonic() > end:
                 self.kill()
-                raise TimeoutError(f"not listening: {self.out.read_text()!r} {self.logged.read_text(errors='replace')!r}")
+                said = f"not listening: {self.out.read_text()!r} {self.logged.read_text(errors='replace')!r}"
+                raise NotListening(said, status)
             time.sleep(0.002)
 
     def __enter__(self):

@@ -27,21 +27,29 @@
      on         the NTH call and each behind it fails with NUMBER
      elsewhere  a look at a path tells of another file than stands there
      abroad     it tells of the file of that number on another device
-   The kinds are open, look (at a path), stat (of an open file), read, write, truncate, datasync, sync and unlink.
+   The kinds are open, look (at a path), stat (of an open file), read, write, truncate, datasync, sync, rename (of what is told the
+   old name) and unlink.
 
    Each call that changes or syncs a file below the folder STOP_FOLDER, or syncs that folder, is counted from 1 on, and once it
    is done it is told in the file STOP_LOG by a line:
      create NAME            write NAME AT SIZE     cut NAME TO
      sync NAME              folder                 unlink NAME
+     rename NAME TO
    At the call of the number STOP_BEFORE the program ends before it, as by kill -9, and at that of STOP_AFTER behind it. The
    write of the number STOP_FAILS, of those alone, is done and fails.
 
    Of both folders the file by which a daemon locks them is left out: each call on it goes on as it is.
 
+   Threads that are told apart, as those that write the daemon's notes, which come whenever it is time for them.
+     ASIDE        FIRST LAST: the threads that are started as these, from 1 on. Their calls are told in ASIDE_LOG and fail by ASIDE_PLAN
+                  in place of the words above; and for STOP_FOLDER they don't count, unless ASIDE_COUNTS is set
+     ASIDE_GATE   a file: while it is there each of their calls on files waits before it is made
+     WHO_LOG      a file, in which each file that is made is told by the number of the thread and its path
+
    Calls that are held, and threads.
      HOLDS       a file of lines KIND PATH NUMBER. A call of that kind on a path that begins so is held until no line says so any
                  more; then it goes on, or, if NUMBER isn't 0, fails with that error of the system. The kinds are open, read,
-                 write, sync, truncate, unlink and look; and futex, whose PATH is the number of a thread and a slash: a thread
+                 write, sync, truncate, rename, unlink and look; and futex, whose PATH is the number of a thread and a slash: a thread
                  that waited for a lock is held as it wakes
      HOLDS_LOG   each call that is held is told there, by a line KIND PATH
      PAUSES      SEED PERCENT MICROS: of all these calls, held or not, and of waking others by a lock, so many wait up to so
@@ -73,6 +81,11 @@
 
 #define NEXT(name) ((__typeof__(&name))dlsym(RTLD_NEXT, #name))
 
+extern void *__libc_malloc(size_t size);
+extern void *__libc_calloc(size_t count, size_t size);
+extern void *__libc_realloc(void *old, size_t size);
+extern void __libc_free(void *old);
+
 static long number_in(const char *name)
 {
     const char *word = getenv(name);
@@ -96,6 +109,46 @@ static void tell(const char *name, const char *line, int size)
         syscall(SYS_write, file, line, size);
         syscall(SYS_close, file);
     }
+}
+
+/* --- Threads that are told apart ------------------------------------------------------------------------------------ */
+
+static long threads_started;
+static __thread long own_number;
+static __thread int aside;
+
+struct begun { void *(*run)(void *); void *given; long number; };
+
+static void *run_begun(void *given)
+{
+    struct begun begun = *(struct begun *)given;
+    const char *word = getenv("ASIDE");
+    long first, last;
+
+    __libc_free(given);
+    own_number = begun.number;
+    aside = word && sscanf(word, "%ld %ld", &first, &last) == 2 && first <= begun.number && begun.number <= last;
+    return begun.run(begun.given);
+}
+
+int pthread_create(pthread_t *thread, const pthread_attr_t *attributes, void *(*run)(void *), void *given)
+{
+    struct begun *begun = __libc_malloc(sizeof *begun);
+
+    if (!begun)
+        return EAGAIN;
+    *begun = (struct begun){run, given, __atomic_add_fetch(&threads_started, 1, __ATOMIC_SEQ_CST)};
+    return NEXT(pthread_create)(thread, attributes, run_begun, begun);
+}
+
+/* Waits while those that are told apart are not to go on. */
+static void wait_aside(void)
+{
+    const char *gate = aside ? getenv("ASIDE_GATE") : NULL;
+    struct stat there;
+
+    while (gate && syscall(SYS_newfstatat, AT_FDCWD, gate, &there, 0) == 0)
+        usleep(1000);
 }
 
 /* --- Calls that are held, and threads ------------------------------------------------------------------------------- */
@@ -141,6 +194,7 @@ static int held(const char *kind, const char *path)
     long number = 0, last = 0;
     int told = 0;
 
+    wait_aside();
     pause_some();
     while (path && getenv("HOLDS") && is_held(kind, path, &number)) {
         if (!told++)
@@ -160,6 +214,7 @@ static int held_file(const char *kind, int file)
     ssize_t size;
 
     if (!getenv("HOLDS")) {
+        wait_aside();
         pause_some();
         return 0;
     }
@@ -223,10 +278,6 @@ int clock_gettime(clockid_t clock, struct timespec *now)
 
 /* The writes that are told apart; what is allocated behind the last of them is told together. */
 #define WRITES 4096
-
-extern void *__libc_malloc(size_t size);
-extern void *__libc_calloc(size_t count, size_t size);
-extern void *__libc_realloc(void *old, size_t size);
 
 /* The number of the allocation that is refused, 0 for none; less than that before it was read. */
 static long refused = -1;
@@ -331,36 +382,41 @@ enum how { GOES, FAILS, SHORT, FULL, ELSEWHERE, ABROAD };
 
 /* Threads call at once. */
 static pthread_mutex_t plan_read = PTHREAD_MUTEX_INITIALIZER, changing = PTHREAD_MUTEX_INITIALIZER;
-static long serial = -1, count;
-static char full_kind[16];
+
+/* How far a plan is: which it is, how many calls of its kind came since, and the kind whose next call fails. */
+struct progress { long serial, count; char full_kind[16]; };
+
+/* That of all threads but some, and that of those which are told apart. */
+static struct progress progress[2] = {{-1, 0, ""}, {-1, 0, ""}};
 
 /* What becomes of a call of this kind, for who has the plan alone. */
-static enum how planned_for(const char *kind, const char *name)
+static enum how planned_for(const char *kind, const char *name, struct progress *at)
 {
     char text[100] = "", wanted[16] = "", how[16] = "";
+    const char *path = getenv(aside ? "ASIDE_PLAN" : "FAULTS_PLAN");
     long now = 0, nth = 0, number = 0;
     int plan;
 
-    tell("FAULTS_LOG", text, snprintf(text, sizeof text, "%s %.80s\n", kind, name));
+    tell(aside ? "ASIDE_LOG" : "FAULTS_LOG", text, snprintf(text, sizeof text, "%s %.80s\n", kind, name));
     memset(text, 0, sizeof text);
-    plan = syscall(SYS_openat, AT_FDCWD, getenv("FAULTS_PLAN"), O_RDONLY);
+    plan = path ? syscall(SYS_openat, AT_FDCWD, path, O_RDONLY) : -1;
     if (plan >= 0) {
         syscall(SYS_read, plan, text, sizeof text - 1);
         syscall(SYS_close, plan);
     }
     if (sscanf(text, "%ld %15s %ld %15s %ld", &now, wanted, &nth, how, &number) != 5)
         return GOES;
-    if (now != serial) {
-        serial = now;
-        count = 0;
-        full_kind[0] = 0;
+    if (now != at->serial) {
+        at->serial = now;
+        at->count = 0;
+        at->full_kind[0] = 0;
     }
-    if (strcmp(kind, full_kind) == 0) {
-        full_kind[0] = 0;
+    if (strcmp(kind, at->full_kind) == 0) {
+        at->full_kind[0] = 0;
         errno = number;
         return FAILS;
     }
-    if (strcmp(kind, wanted) != 0 || ++count < nth || (count > nth && strcmp(how, "on") != 0))
+    if (strcmp(kind, wanted) != 0 || ++at->count < nth || (at->count > nth && strcmp(how, "on") != 0))
         return GOES;
     if (strcmp(how, "short") == 0)
         return SHORT;
@@ -369,7 +425,7 @@ static enum how planned_for(const char *kind, const char *name)
     if (strcmp(how, "abroad") == 0)
         return ABROAD;
     if (strcmp(how, "full") == 0) {
-        strcpy(full_kind, kind);
+        strcpy(at->full_kind, kind);
         return SHORT;
     }
     errno = number;
@@ -384,7 +440,7 @@ static enum how struck(const char *kind, const char *name)
     if (!name)
         return GOES;
     pthread_mutex_lock(&plan_read);
-    how = planned_for(kind, name);
+    how = planned_for(kind, name, &progress[aside]);
     pthread_mutex_unlock(&plan_read);
     return how;
 }
@@ -392,6 +448,9 @@ static enum how struck(const char *kind, const char *name)
 static size_t part(enum how how, size_t size) { return how == SHORT ? (size + 1) / 2 : size; }
 
 static long changes, changing_writes;
+
+/* Whether the changes of this thread count. */
+static int counts(void) { return !aside || getenv("ASIDE_COUNTS"); }
 
 static void end_here(void)
 {
@@ -429,13 +488,16 @@ static long done(long answer, const char *form, ...)
 static int opened(int folder, const char *path, int flags, mode_t mode)
 {
     const char *name = name_in(path, "FAULTS_FOLDER"), *stop = name_in(path, "STOP_FOLDER");
-    int is_change = stop && (flags & (O_CREAT | O_TRUNC)), file;
+    int is_change = stop && counts() && (flags & (O_CREAT | O_TRUNC)), file;
+    char line[500];
 
     if (held("open", path) || struck("open", name) == FAILS)
         return -1;
     if (is_change)
         begin();
     file = syscall(SYS_openat, folder, path, flags, mode);
+    if (file >= 0 && flags & O_CREAT)
+        tell("WHO_LOG", line, snprintf(line, sizeof line, "%ld %.400s\n", own_number, path));
     keep(planned, file, name);
     keep(counted, file, stop);
     return is_change ? done(file, "create %s\n", stop) : file;
@@ -488,7 +550,7 @@ ssize_t pread(int file, void *into, size_t size, off_t at) { return pread64(file
 
 static ssize_t written(int file, const void *bytes, size_t size, off_t at)
 {
-    const char *name = name_of(counted, file);
+    const char *name = counts() ? name_of(counted, file) : NULL;
     ssize_t answer;
 
     if (!name)
@@ -522,7 +584,7 @@ ssize_t write(int file, const void *bytes, size_t size)
     if (held_file("write", file) || (how = struck("write", name_of(planned, file))) == FAILS)
         return -1;
     size = part(how, size);
-    if (!name_of(counted, file))
+    if (!counts() || !name_of(counted, file))
         return syscall(SYS_write, file, bytes, size);
     at = lseek(file, 0, SEEK_CUR);
     if ((answer = written(file, bytes, size, at)) > 0)
@@ -532,7 +594,7 @@ ssize_t write(int file, const void *bytes, size_t size)
 
 static int synced(const char *kind, int call, int file)
 {
-    const char *name = name_of(counted, file);
+    const char *name = counts() ? name_of(counted, file) : NULL;
 
     if (held_file("sync", file) || struck(kind, name_of(planned, file)) == FAILS)
         return -1;
@@ -547,7 +609,7 @@ int fdatasync(int file) { return synced("datasync", SYS_fdatasync, file); }
 
 int ftruncate64(int file, off64_t size)
 {
-    const char *name = name_of(counted, file);
+    const char *name = counts() ? name_of(counted, file) : NULL;
 
     if (held_file("truncate", file) || struck("truncate", name_of(planned, file)) == FAILS)
         return -1;
@@ -561,14 +623,35 @@ int ftruncate(int file, off_t size) { return ftruncate64(file, size); }
 
 static int given_up(int folder, const char *path, int flags)
 {
-    const char *name = name_in(path, "STOP_FOLDER");
+    const char *name = counts() ? name_in(path, "STOP_FOLDER") : NULL;
+    struct stat there;
 
     if (held("unlink", path) || struck("unlink", name_in(path, "FAULTS_FOLDER")) == FAILS)
         return -1;
-    if (!name)
+    /* Where nothing is there nothing changes. */
+    if (!name || syscall(SYS_newfstatat, folder, path, &there, AT_SYMLINK_NOFOLLOW) != 0)
         return syscall(SYS_unlinkat, folder, path, flags);
     begin();
     return done(syscall(SYS_unlinkat, folder, path, flags), "unlink %s\n", name);
+}
+
+static int renamed(int folder, const char *path, int to_folder, const char *to, unsigned flags)
+{
+    const char *name = counts() ? name_in(path, "STOP_FOLDER") : NULL;
+
+    if (held("rename", path) || struck("rename", name_in(path, "FAULTS_FOLDER")) == FAILS)
+        return -1;
+    if (!name)
+        return syscall(SYS_renameat2, folder, path, to_folder, to, flags);
+    begin();
+    return done(syscall(SYS_renameat2, folder, path, to_folder, to, flags), "rename %s %s\n", name, name_in(to, "STOP_FOLDER"));
+}
+
+int rename(const char *path, const char *to) { return renamed(AT_FDCWD, path, AT_FDCWD, to, 0); }
+int renameat(int folder, const char *path, int to_folder, const char *to) { return renamed(folder, path, to_folder, to, 0); }
+int renameat2(int folder, const char *path, int to_folder, const char *to, unsigned flags)
+{
+    return renamed(folder, path, to_folder, to, flags);
 }
 
 int unlink(const char *path) { return given_up(AT_FDCWD, path, 0); }

@@ -27,6 +27,14 @@ def block(key, number, body, mark=b"BB02", size=None):
     return summed(struct.pack(">II4sII", length, number, mark, key[1], key[0]) + body)
 
 
+NOT_TORN = 2**64 - 1
+
+
+def note(moment=0, end=0, last=0, next_number=1, time=0, torn=NOT_TORN, form=b"SN01"):
+    """The note of a volume, with its checksum."""
+    return summed(form + struct.pack(">qQQIIQ", moment, end, last, next_number, time, torn))
+
+
 def texts(*words):
     """Texts of a label, each with its zero byte."""
     return b"".join(word + b"\0" for word in words)

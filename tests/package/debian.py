@@ -1,4 +1,5 @@
 """A clean Debian, and systemd booted on it."""
+import functools
 import os
 import pathlib
 import shutil
@@ -15,15 +16,31 @@ MOST = 600
 CACHE = pathlib.Path(os.environ.get("SDD_DEBIAN", "/var/cache/pithoquze/debian"))
 
 
+@functools.cache
+def made():
+    """Makes it, or gives why it can't be made. Tried once: it takes long."""
+    try:
+        return debian_in(CACHE), ""
+    except Lacking as why:
+        return None, str(why)
+
+
 def debian():
     """The folder of a Debian that nothing was installed on. Raises Lacking if it can't be made."""
+    place, why = made()
+    if place is None:
+        raise Lacking(why)
+    return place
+
+
+def debian_in(place):
     if os.geteuid() or not shutil.which("unshare"):
         raise Lacking("root and unshare")
-    if CACHE.exists():
-        return CACHE
+    if place.exists():
+        return place
     if not shutil.which("debootstrap", path=f"{os.environ['PATH']}:/usr/sbin"):
         raise Lacking("debootstrap (tools/packages)")
-    part = CACHE.with_name(f"{CACHE.name}.part")
+    part = place.with_name(f"{place.name}.part")
     shutil.rmtree(part, ignore_errors=True)
     part.parent.mkdir(parents=True, exist_ok=True)
     command = ["debootstrap", "--variant=minbase", f"--include={INCLUDED}", SUITE, part]
@@ -34,8 +51,8 @@ def debian():
         raise Lacking(f"a Debian by debootstrap within {MOST} seconds") from why
     if run.returncode:
         raise Lacking(f"a Debian by debootstrap: {run.stdout[-300:]!r}")
-    part.rename(CACHE)
-    return CACHE
+    part.rename(place)
+    return place
 
 
 class Machine(booted.Machine):

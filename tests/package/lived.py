@@ -15,8 +15,14 @@ ENABLED = "systemctl is-enabled sdd sdd-keeper sdd-keeper-scrub.timer sdd-client
 # A drop-in for the timer of a job, and the file of jobs.
 SOON = "[Timer]\nOnActiveSec=1s\nRandomizedDelaySec=0\nAccuracySec=1s\n"
 JOBS = '[job.www]\npaths = ["/srv/www"]\nschedule = "daily"\nkeep = { daily = 7 }\n'
-# It sends a record now and then, for a while.
-SLOW = "sdd-client append --command 'for n in $(seq 15); do head -c 70000 /dev/urandom; sleep 1; done' /root/spans; echo status $?; date +%s.%N"
+# It sends a record now and then until the daemon is to stop, and then goes on for a while.
+SENDS = """#!/bin/bash
+until [ -e /run/sdd/stop ]; do head -c 9000 /dev/urandom; sleep 0.3; done | tee /root/sent
+for n in 1 2 3 4 5; do head -c 70000 /dev/urandom; sleep 1; done | tee -a /root/sent
+"""
+SLOW = "sdd-client append --command /root/sends /root/spans; echo status $?; date +%s.%N"
+# A job that waits for the daemon's end before it begins: what then reaches no daemon tries again for minutes.
+WAITS = 'before = "touch /root/waits; while systemctl is-active --quiet sdd; do sleep 0.2; done"\n'
 NUMBER = re.compile(r"\d+(?:\.\d+)?(?: (?:bytes|[KMG]B))?")
 QUIET = "DEBIAN_FRONTEND=noninteractive"
 
@@ -34,12 +40,12 @@ def run(checks, folder, deb):
             return None
         root = pathlib.Path(f"/proc/{machine.first()}/root")
         shutil.copy(deb, root / "root")
-        shutil.copy(later(deb, folder), root / "root/later.deb")
+        shutil.copy(later(folder / "later"), root / "root/later.deb")
         first_screen(checks, machine)
         installed(checks, machine)
         first_backup(checks, machine)
         timer(checks, machine, root)
-        upgraded(checks, machine, field(deb, "Version"))
+        upgraded(checks, machine, root, field(deb, "Version"))
         removed(checks, machine, root)
         purged(checks, machine, root)
     return "systemd, booted in namespaces on a Debian of debootstrap"
@@ -96,9 +102,11 @@ def timer(checks, machine, root):
     machine.must(checks, "systemctl stop sdd-backup@www.timer")
 
 
-def upgraded(checks, machine, version):
+def upgraded(checks, machine, root, version):
     """An upgrade waits for the job that runs, which is kept; what was kept before is there after it."""
     said = []
+    (root / "root/sends").write_text(SENDS)
+    (root / "root/sends").chmod(0o755)
     job = threading.Thread(target=lambda: said.append(machine.say("bash", "-c", SLOW)[0]))
     job.start()
     checks.check("a job runs", until(lambda: " active " in machine.say("sdd-client", "console", "status")[0], LONG))
@@ -111,21 +119,27 @@ def upgraded(checks, machine, version):
     checks.check("the upgrade waited for it", bool(lines) and float(lines[-1]) < ended, lines, ended)
     checks.check("another daemon runs", machine.say("systemctl", "show", "-P", "MainPID", "sdd")[0] not in (before, "0"))
     checks.same("of the later version", machine.say("dpkg-query", "--show", "--showformat=${Version}", "sdd")[0], f"{version}+later")
-    size = machine.must(checks, "sdd-client read /root/spans - 2> /dev/null | wc -c")
-    checks.same("all of it", size, str(15 * 70_000))
+    machine.must(checks, "sdd-client read /root/spans - 2> /dev/null | cmp - /root/sent")
+    checks.check("some after the stop began", (root / "root/sent").stat().st_size > 5 * 70_000)
     machine.must(checks, "sdd-client check www")
 
 
 def removed(checks, machine, root):
-    """A removal ends the daemon, and keeps volumes, catalogue and configuration; another installation finds them."""
+    """A removal ends the daemon and a timer's job, and keeps volumes, catalogue and configuration; another installation finds
+    them."""
+    (root / "etc/sdd-client/jobs.toml").write_text(JOBS + WAITS)
     machine.must(checks, "systemctl start sdd-backup@www.timer && echo '# mine' >> /etc/sdd/sdd.conf")
+    checks.check("a timer's job goes on", until(lambda: (root / "root/waits").exists(), LONG))
     machine.must(checks, f"{QUIET} dpkg -r sdd")
     checks.same("no daemon", machine.say("bash", "-c", "ls /proc/*/exe -l 2> /dev/null | grep -c bin/sdd")[0], "0")
-    checks.same("no timer", machine.say("systemctl", "is-active", "sdd-backup@www.timer")[0], "inactive")
+    checks.same("no client", machine.say("bash", "-c", "ls /proc/*/cmdline | xargs cat 2> /dev/null | tr '\\0' '\\n' | grep -c 'bin/sdd-client$'")[0], "0")
+    checks.same("no timer, no job", [machine.say("systemctl", "is-active", f"sdd-backup@www.{kind}")[0] in ("inactive", "failed")
+                                     for kind in ("timer", "service")], [True, True])
     checks.same("no program, and nothing beside it",
                 [str(one) for one in (root / "usr").rglob("*sdd*") if "sysusers" not in str(one)], [])
     there = ("var/lib/sdd/Vol-0001", "var/lib/sdd-client/catalogue", "etc/sdd/sdd.conf")
     checks.same("what stays", [place for place in there if not (root / place).exists()], [])
+    (root / "etc/sdd-client/jobs.toml").write_text(JOBS)
     machine.must(checks, f"{QUIET} dpkg -i /root/later.deb")
     checks.check("its configuration", "# mine" in (root / "etc/sdd/sdd.conf").read_text())
     machine.must(checks, "rm -r /srv/back; sdd-client restore www --to /srv/back && diff -r /srv/www /srv/back/srv/www")

@@ -7,7 +7,7 @@ import os
 import random
 import subprocess
 
-from daemon import CLIENT, ROOT, SDTOOL, WAIT, Daemon, drive, environment, free_port, later_second
+from daemon import CLIENT, ROOT, SDTOOL, WAIT, Daemon, drive, environment, free_port, later_second, listed
 
 KEEPER = ROOT / "keeper" / "sdd-keeper"
 DISK, ROOM, RESERVE = 6_000_000, 900_000, 1_000_000
@@ -113,10 +113,10 @@ def draw(folder, numbers, name, size):
 
 def refused(checks, site):
     """The keeper labels nothing below its reserve, and removes nothing; where it can't write it says so."""
-    before = sorted(one.name for one in site.volumes.iterdir())
+    before = listed(site.volumes)
     said, status = site.keep()
     checks.check("the keeper says what came of it", "Traceback" not in said and (status == 0 or status == 1 and said), said, status)
-    after = sorted(one.name for one in site.volumes.iterdir())
+    after = listed(site.volumes)
     checks.check("no volume more", set(after) <= set(before), before, after)
 
 

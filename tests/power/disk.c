@@ -1,12 +1,12 @@
 /* disk MOUNTPOINT LOG IMAGE WRITE_US FLUSH_US SEED: a disk with a volatile cache, as the file `disk` of a file system at MOUNTPOINT,
    for a loop device. It speaks the protocol of linux/fuse.h itself, so it needs no library. What is written to the other file there,
-   `mark`, goes into the log alone.
+   `mark`, goes into the log alone; but from `fail TEXT` on each write that holds this text is refused with EIO, up to `heal`.
 
    IMAGE, a file of the disk's size, is what it holds at first, and has each write when that is received. LOG gets an entry for all
    that happens, in its order:
      W  a write was received, with its data    Z  so was a discard or a write of zeros, without data
      A  that write was answered                S  a flush was received    E  that flush was answered
-     M  what was written to `mark`
+     M  what was written to `mark`           F  a write was refused
    A write is answered after 0 to 2 * WRITE_US microseconds, a flush after as many of FLUSH_US; others are received meanwhile. The
    entry of an answer stands before all that comes in because of it. */
 #define _GNU_SOURCE
@@ -31,7 +31,7 @@ struct entry { uint8_t kind, pad[3]; uint32_t size; uint64_t id, at; };
 /* A request that is answered later: at that moment, in microseconds; with how many bytes written, for a write. */
 struct waiting { uint64_t due, request, id; uint32_t written; char kind; };
 
-static char *disk;
+static char *disk, refused[64];
 static uint64_t disk_size, ids;
 static int kernel, log_file;
 static long write_us, flush_us;
@@ -130,7 +130,14 @@ static void write_some(uint64_t request, uint64_t file, const struct fuse_write_
 
     if (file == MARK) {
         tell('M', 0, 0, asked->size, data);
+        if (asked->size > 5 && asked->size < 5 + sizeof refused && memcmp(data, "fail ", 5) == 0)
+            snprintf(refused, sizeof refused, "%.*s", (int)asked->size - 5, data + 5);
+        if (asked->size == 4 && memcmp(data, "heal", 4) == 0)
+            refused[0] = 0;
         answer(request, 0, &written, sizeof written);
+    } else if (refused[0] && memmem(data, asked->size, refused, strlen(refused))) {
+        tell('F', 0, asked->offset, asked->size, NULL);
+        answer(request, EIO, NULL, 0);
     } else if (asked->offset > disk_size || asked->size > disk_size - asked->offset) {
         answer(request, ENOSPC, NULL, 0);
     } else {

@@ -4,6 +4,7 @@ cut left is looked at. An image may be where the next life of the same disk begi
 import collections
 import contextlib
 import dataclasses
+import errno
 import os
 import pathlib
 import random
@@ -15,7 +16,7 @@ import typing
 from acknowledged import READS
 from clients import client
 from cuts import Cut, Images, drawn
-from daemon import SDTOOL
+from daemon import SDTOOL, WAIT
 from disk import SYSTEMS, FileSystem, Log, NotMounted, copy, made, mounted, recorded
 from promises import DRIVES, Closed, Ends, Labelled, Left, Promise
 from shim import loaded
@@ -151,14 +152,26 @@ class Trial:
     def look(self, due: list[Promise], by_daemon: bool, numbers: random.Random) -> list[str]:
         """What is lost of what is due in the image."""
         try:
-            with mounted(self.system, self.image, self.room):
-                left = Left(self.room)
-                lost = [said for one in due if (said := one.lost(left, self.ends))]
-                lost += self.by_tool(left, [one for one in due if isinstance(one, Closed)], numbers)
-                return lost + self.by_daemon(due) if by_daemon else lost
+            return self.lost_in_image(due, by_daemon, numbers)
         except NotMounted as why:
-            self.found.counts["not mounted"] += 1
-            return [str(why)]
+            if not self.is_mended(why):
+                self.found.counts["not mounted"] += 1
+                return [str(why)]
+        return self.lost_in_image(due, by_daemon, numbers)
+
+    def lost_in_image(self, due: list[Promise], by_daemon: bool, numbers: random.Random) -> list[str]:
+        with mounted(self.system, self.image, self.room):
+            left = Left(self.room)
+            lost = [said for one in due if (said := one.lost(left, self.ends))]
+            lost += self.by_tool(left, [one for one in due if isinstance(one, Closed)], numbers)
+            return lost + self.by_daemon(due) if by_daemon else lost
+
+    def is_mended(self, why: NotMounted) -> bool:
+        """Whether the check that a system makes as it starts has mended the file system: of ext4 the first block may be torn, and has copies."""
+        if why.errno != errno.EBADMSG or not self.found.kind.system.startswith("ext4") or not shutil.which("e2fsck"):
+            return False
+        self.found.counts["mended by e2fsck"] += 1
+        return subprocess.run(["e2fsck", "-fy", self.image], capture_output=True, timeout=4 * WAIT).returncode in (0, 1)
 
     def by_tool(self, left: Left, closed: list[Closed], numbers: random.Random) -> list[str]:
         """What `sdtool read` doesn't give of those that were closed last and of some others, or of all."""
@@ -178,13 +191,21 @@ class Trial:
             stack.callback(serving.kill)
             self.found.counts.update({"later daemons": 1, "volumes adopted": len(serving.adopted),
                                       "refused, of no answered label": len(set(serving.refused) - labelled)})
-            lost = [f"{name} is refused: {why}" for name, why in serving.refused.items() if name in labelled or why != NO_VOLUME]
+            lost = [f"{name} is refused: {why}" for name, why in serving.refused.items() if self.is_lost(name, why, labelled)]
             lost += [f"{name} isn't there" for name in labelled - set(serving.adopted) - set(serving.refused)]
+            self.found.counts["adopted by a note"] += sum(not line.endswith("read from 0 on") for line in serving.daemon.log() if "is adopted up to" in line)
             with serving.talk() as talk:
                 lost += [said for one in closed if (said := given_of(talk, one))]
                 self.found.counts["read by a daemon"] += len(closed)
                 lost += self.goes_on(talk)
-        return lost + self.verified(labelled)
+        return lost + self.verified(labelled & set(serving.adopted))
+
+    def is_lost(self, name: str, why: str, labelled: set[str]) -> bool:
+        """Whether a volume must not be refused so. One without a note may be taken for damaged, since it got blocks before it had one."""
+        if "damaged at" in why and not (Left(self.room).folder_of(name) / f"{name}~").exists():
+            self.found.counts["damaged without a note"] += 1
+            return False
+        return name in labelled or why != NO_VOLUME
 
     def goes_on(self, talk: client.Talk) -> list[str]:
         """The later daemon takes a label and a job, and gives that back."""

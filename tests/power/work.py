@@ -9,6 +9,7 @@ import itertools
 import os
 import pathlib
 import random
+import re
 import threading
 import time
 import typing
@@ -37,8 +38,12 @@ MOST_SECONDS, LOOKS = 600, 0.1
 client.CLOSING = 10
 
 
+# What the log has of a volume at the start: that it is adopted, or why it isn't.
+TOLD = re.compile(r"drive \d+: volume (\S+) (?:is adopted up to .*|can't be adopted: (.*)|((?:is damaged at|isn't adopted).*))")
+
+
 class Serving:
-    """A daemon over the folders of the drives below a mount. At its start it adopts all that is there."""
+    """A daemon over the folders of the drives below a mount. At its start it adopts all that is there, by its notes."""
 
     def __init__(self, room: pathlib.Path, folder: pathlib.Path, env: dict[str, str], block: int = BLOCKS[1], spool: int = 0):
         self.room, self.port, conf = room, free_port(), folder / f"conf-{time.monotonic_ns()}"
@@ -46,23 +51,15 @@ class Serving:
         conf.write_text(f'port = {self.port}\nblock = {block}\nvolume = {VOLUME}\nspool = {spool}\n'
                         f'spool_folder = "{folder}"\n{drives}')
         later_second()
-        self.daemon = Daemon(conf, "--wait", "60", port=self.port, program=daemon.SDD, env=env)
-        self.adopted: list[str] = []
-        self.refused: dict[str, str] = {}
-        self.adopt()
+        self.daemon = Daemon(conf, "--adopt", "--wait", "60", port=self.port, program=daemon.SDD, env=env)
+        with self.talk() as talk:
+            talk.console("requests")
+        told = [found.groups() for line in self.daemon.log() if (found := TOLD.fullmatch(line))]
+        self.adopted = [name for name, refusal, damage in told if not (refusal or damage)]
+        self.refused: dict[str, str] = {name: refusal or damage for name, refusal, damage in told if refusal or damage}
 
     def talk(self) -> client.Talk:
         return client.Talk(self.port, timeout=PATIENCE)
-
-    def adopt(self):
-        with self.talk() as talk:
-            for number, folder in enumerate(DRIVES, 1):
-                for name in sorted(path.name for path in (self.room / folder).glob("Vol-*")):
-                    try:
-                        talk.console(f"adopt {number} {name}")
-                        self.adopted.append(name)
-                    except client.Refused as why:
-                        self.refused[name] = str(why)
 
     def kill(self):
         self.daemon.kill()
@@ -182,7 +179,7 @@ class Work:
 
     def _write_back(self, _: client.Talk, numbers: random.Random):
         """The system may write what is dirty at any moment: it is asked to, for a part of a volume, without a flush."""
-        volumes = [path for folder in DRIVES for path in (self.room / folder).glob("Vol-*")]
+        volumes = [path for folder in DRIVES for path in (self.room / folder).glob("Vol-*[!~]")]
         for path in sorted(volumes, key=lambda one: one.stat().st_mtime_ns)[-2:]:
             with open(path, "rb") as file:
                 at = max(0, os.fstat(file.fileno()).st_size - numbers.randrange(400_000))

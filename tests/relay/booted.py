@@ -6,12 +6,14 @@ import pathlib
 import shutil
 import subprocess
 
-from daemon import ROOT, SDD, SDTOOL, WAIT, until
+from daemon import SDD, SDTOOL, WAIT, until
 from namespaces import DIES_WITH_US
 from units import sources
 
 SYSTEMD = pathlib.Path("/lib/systemd/systemd")
 KINDS = ("mount", "pid", "cgroup", "net", "uts", "ipc")
+# A boot takes seconds, and longer beside other work.
+BOOT_WAIT = 180
 # What a first process finds: the files below a layer in memory, and of the machine itself only what it may not change.
 BOOT = """
 set -e
@@ -74,8 +76,10 @@ class Machine:
         self.log = folder.parent / "boot.log"
         with open(self.log, "wb") as log:
             self.process = subprocess.Popen([*DIES_WITH_US, *words], stdin=subprocess.DEVNULL, stdout=log, stderr=log)
-        if not until(self.is_up):
-            self.problem = f"a systemd that comes up here: {self.log.read_text()[-300:]!r}"
+        if not until(self.is_up, BOOT_WAIT):
+            self.problem = f"a systemd that comes up here within {BOOT_WAIT} seconds: {self.log.read_text()[-300:]!r}"
+        elif self.process.poll() is not None:
+            self.problem = f"namespaces and mounts to boot systemd in: {self.log.read_text()[-300:]!r}"
 
     def __enter__(self):
         return self

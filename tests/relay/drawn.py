@@ -269,5 +269,7 @@ class Streams:
 
 
 def run(checks, folder):
+    # A client here has ended its sending side before its talk begins; the daemon is a thread, which may be run late.
+    streams.GRACE = 20
     with tempfile.TemporaryDirectory(dir=MEMORY if MEMORY.is_dir() else folder) as place:
         Streams(checks, pathlib.Path(place), COUNT).run()

@@ -5,7 +5,6 @@ import contextlib
 import os
 import random
 import socket
-import struct
 import threading
 import time
 
@@ -25,6 +24,8 @@ SIZES = (0, 1, streams.LARGE - 1, streams.LARGE, streams.LARGE + 1, 65536, 65536
 
 
 def run(checks, folder):
+    # The daemon is a thread, which may be run late.
+    streams.GRACE = 20
     store, counts = Store(folder), collections.Counter()
     for number in range(COUNT):
         One(checks, store, number, counts).run()

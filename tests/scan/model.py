@@ -2,65 +2,10 @@
 docs/FORMATS.md alone."""
 import datetime
 import json
-import re
 import struct
-import zlib
 
-from volumes import BLOCK_HEADER, LEAST_BLOCK, MOST_BLOCK, MOST_DATA, PROFILE, RECORD_HEADER
-
-NAME = re.compile(r"(?!\.\.?$)[A-Za-z0-9:._-]{1,127}")
-
-
-def header(image, at):
-    """The size, the number and the key of a block's header, or the word for what is wrong with it."""
-    if len(image) - at < BLOCK_HEADER:
-        return "short"
-    _, size, number, mark, session, time = struct.unpack_from(">III4sII", image, at)
-    if mark != b"BB02":
-        return "id"
-    if not LEAST_BLOCK <= size <= MOST_BLOCK:
-        return "size"
-    return size, number, (time, session)
-
-
-def whole_block(image, at):
-    """The size, number, key and body of the whole block at a place, or the word for what is wrong there."""
-    head = header(image, at)
-    if isinstance(head, str):
-        return head
-    size, number, key = head
-    if size > len(image) - at:
-        return "short"
-    if zlib.crc32(image[at + 4:at + size]) != struct.unpack_from(">I", image, at)[0]:
-        return "checksum"
-    return size, number, key, image[at + BLOCK_HEADER:at + size]
-
-
-def names_in(data, count):
-    """So many texts at the front of the data, each with its zero byte, and what is after them."""
-    texts = []
-    for _ in range(count):
-        text, zero, data = data.partition(b"\0")
-        if not zero or not NAME.fullmatch(text.decode("latin-1")):
-            return None
-        texts.append(text.decode())
-    return texts, data
-
-
-def label_of(name, image):
-    """The moment of the label block of that name at the front of a file, and its size; none if there is none."""
-    found = whole_block(image, 0)
-    if isinstance(found, str) or found[1] != 0 or found[2] != (0, 0):
-        return None
-    body = found[3]
-    if len(body) < RECORD_HEADER + len(PROFILE) + 12 or not body[RECORD_HEADER:].startswith(PROFILE):
-        return None
-    index, stream, size = struct.unpack_from(">iiI", body)
-    version, moment = struct.unpack_from(">Iq", body, RECORD_HEADER + len(PROFILE))
-    texts = names_in(body[RECORD_HEADER + len(PROFILE) + 12:], 2 + version) if version in (1, 2) else None
-    if (index, stream, size) != (-2, 1, len(body) - RECORD_HEADER) or texts is None or texts[1] or texts[0][0] != name:
-        return None
-    return moment, found[0]
+from blocks import NAME, Note, label_of, names_in, note_in, whole_block
+from volumes import BLOCK_HEADER, MOST_DATA, PROFILE, RECORD_HEADER
 
 
 def session_label(index, stream, data):
@@ -219,22 +164,61 @@ def behind(name, image, at, with_spans):
             yield told(key, session, with_spans)
 
 
+def note_of(files, name):
+    """The note beside a file, or a word for what it is; or none."""
+    return note_in(files.get(name + "~"))
+
+
+def ends_of(name, image):
+    """What each front of a volume's blocks comes to, from the label alone to all of them: where it ends, where its last block
+    begins, the number that comes next, and the greatest time."""
+    ends = [(label_of(name, image).size, 0, 1, 0)]
+    while True:
+        at, _, number, time = ends[-1]
+        found = whole_block(image, at)
+        if isinstance(found, str) or found[1] != number:
+            return ends
+        ends.append((at + found[0], at, number + 1, max(time, found[2][0])))
+
+
+def noted(files, name):
+    """The line of a volume's note, if it has one that doesn't fit or counts as none."""
+    note, ends = note_of(files, name), ends_of(name, files[name])
+    if note is None:
+        return ""
+    if note == "form":
+        return f"note {name} form\n"
+    if note == "damaged":
+        return f"damage {name} 0 note\n"
+    if note.moment != label_of(name, files[name]).moment:
+        return f"note {name} label\n"
+    if not any(one[0] == note.end for one in ends):
+        return f"damage {name} {min(note.end, ends[-1][0])} note\n"
+    # No block below the end is of a later time.
+    if not any(one[:3] == (note.end, note.last, note.next_number) and one[3] <= note.time for one in ends):
+        return f"damage {name} {note.end} note\n"
+    return f"damage {name} {note.torn} note\n" if note.torn is not None and note.torn < ends[-1][0] else ""
+
+
 def lines_of(files, names, with_spans, expected=()):
     if names is None:
         labels = {name: label_of(name, image) for name, image in files.items() if NAME.fullmatch(name)}
+        due = {name for name in labels if not with_spans and (name in expected or isinstance(note_of(files, name), Note))}
         for name in sorted(name for name, label in labels.items() if label is None):
-            yield f"damage {name} 0 label\n" if name in expected else f"foreign {name}\n"
+            yield f"damage {name} 0 label\n" if name in due else f"foreign {name}\n"
         yield "".join(f"missing {name}\n" for name in expected if name not in labels)
-        names = sorted((name for name, label in labels.items() if label), key=lambda name: (labels[name][0], name))
+        names = sorted((name for name, label in labels.items() if label), key=lambda name: (labels[name].moment, name))
     sessions = {}
     for name in names:
         image = files[name]
         yield f"volume {name} {len(image)}\n"
         label = label_of(name, image)
-        at = take_run(name, image, label[1], 1, sessions) if label else 0
+        at = take_run(name, image, label.size, 1, sessions) if label else 0
         yield from behind(name, image, at, with_spans)
     for key, session in sessions.items():
         yield told(key, session, with_spans)
+    if not with_spans:
+        yield from (noted(files, name) for name in sorted(names))
     yield f"ok scan {len(names)} {len(sessions)}\n"
 
 
@@ -255,7 +239,7 @@ def verified(files, expected=()):
 
 
 KEYS = {"foreign": ["volume"], "volume": ["volume", "bytes"], "damage": ["volume", "place", "kind"], "behind": ["volume", "place"],
-        "missing": ["volume"], "broken": ["time", "id"], "ok": ["volumes", "sessions"], "fault": ["fault"]}
+        "missing": ["volume"], "note": ["volume", "kind"], "broken": ["time", "id"], "ok": ["volumes", "sessions"], "fault": ["fault"]}
 
 
 def as_json(lines):

@@ -12,7 +12,7 @@ import time
 
 from clients import client
 from crowds import MOST_TALKS, Two, refused
-from daemon import SDD, SOON, WAIT, drive, later_second, until
+from daemon import SDD, SOON, WAIT, drive, later_second, listed, until
 from hardships import HELLO, Place
 from metered import FILE, PERIOD, metered, refused as figure_of, samples_in
 
@@ -163,7 +163,7 @@ def named_volumes(checks, folder, _):
         samples = written(place, lambda some: both.items() <= some.items())
         checks.same("the figures", {name: samples[name] for name in both}, both)
     later_second()
-    names = sorted(path.name for path in place.volumes.iterdir() if path.name.startswith("Vol-"))
+    names = [name for name in listed(place.volumes) if name.startswith("Vol-")]
     with metered(place) as daemon, place.talk() as talk:
         adopted = [talk.console(f"adopt 1 {name}")[0].rsplit(" ", 2)[0] for name in names]
         checks.same("adopted", adopted, ["ok adopted"] * len(names))

@@ -15,7 +15,7 @@ import subprocess
 import time
 
 from clients import client, say
-from daemon import LOCK, SDTOOL, WAIT, Daemon, dated, drive, free_port, serve_status, until
+from daemon import LOCK, SDTOOL, WAIT, Daemon, dated, drive, free_port, listed, serve_status, until
 from shim import loaded
 
 # So much is neither kept by the system for a client that reads nothing, nor long to write.
@@ -201,8 +201,8 @@ def beside(place, *folders, settings=""):
 
 
 def holds(folder):
-    """What the files of a folder hold, and their modes."""
-    return {path.name: (path.read_bytes(), path.stat().st_mode & 0o777) for path in folder.iterdir()}
+    """What the files of a folder hold but for notes, and their modes."""
+    return {name: ((folder / name).read_bytes(), (folder / name).stat().st_mode & 0o777) for name in listed(folder)}
 
 
 def two_daemons(checks, folder, _):
@@ -293,7 +293,7 @@ def without_lock(checks, folder, _):
             place.label(checks)
             place.serves(checks, f"beside a {kind}")
         checks.same(f"the {kind}", (place.volumes / LOCK).lstat().st_mode, made)
-        checks.same("files", sorted(os.listdir(place.volumes)), [LOCK, "Vol-0001"])
+        checks.same("files", listed(place.volumes), [LOCK, "Vol-0001"])
 
 
 def dropped_spans(checks, folder, _):

@@ -135,7 +135,7 @@ class Crowd:
         """Gives drives volumes that they wait for, and draws another line."""
         supply(self.site, talk)
         number = numbers.randint(1, len(self.site.folders))
-        volumes = sorted(path.name for path in self.site.folders[number - 1].glob("D*"))
+        volumes = sorted(path.name for path in self.site.folders[number - 1].glob("D*[!~]"))
         line = numbers.choice(("status", "requests", f"unmount {number}",
                                f"label {number} {self.site.name(number)} {numbers.choice(POOLS)} File",
                                f"mount {number} {numbers.choice(volumes or ['D0'])}",

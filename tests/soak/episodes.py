@@ -1,6 +1,7 @@
 """Operators and clients at once at the daemon of a soak, while all others rest: whether their answers have an order that explains
 them (tests/serve/order.py). Each episode has pools and volumes of its own, and begins with no volume loaded.
 """
+import contextlib
 import random
 import threading
 import time
@@ -39,7 +40,7 @@ class Episode:
         for thread in threads:
             thread.join()
         setting = Setting(("File",) * DRIVES, LANES, tuple({} for _ in range(DRIVES)))
-        return not self.faults and any(order.is_explained(setting, begin, self.lines, by_steps) for by_steps in (False, True))
+        return not self.faults and order.is_explained(setting, begin, self.lines)
 
     def _begins(self) -> State:
         """Each drive has a volume of each pool of the episode, none is loaded, and each serves the first pool."""
@@ -56,7 +57,7 @@ class Episode:
             talk.console(f"cancel {ticket}")
             talk.__exit__()
         self.site.tickets += opened
-        drives = tuple(Drive(None, self.pools[0], self.pools[0], (), tuple(one)) for one in volumes)
+        drives = tuple(Drive(None, self.pools[0], (), tuple(one)) for one in volumes)
         return State(drives, len(self.site.tickets) + 1, frozenset())
 
     def _base(self, at: int, pool: str) -> str:
@@ -103,6 +104,9 @@ class Episode:
                 self.site.tickets.append(answer[1])
                 if numbers.random() < 0.5:
                     self._tell("cancel", (), lambda: talk.console(f"cancel {answer[1]}")[0], place)
+                    # The talk learns of it by a command of the session.
+                    with contextlib.suppress(client.Refused):
+                        talk.ask(f"append end session {answer[1]}")
                 else:
                     self._tell("close", (), lambda: self._closed(talk, answer[1]), place)
 

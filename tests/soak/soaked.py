@@ -63,7 +63,7 @@ class Site:
         self.daemon = Daemon(self.conf, "--wait", str(WAITS), "--until", str(self.stop_file), port=self.port, env=env)
         with self.talk() as talk:
             for number, folder in enumerate(self.folders, 1):
-                for path in sorted(folder.glob("D*")):
+                for path in sorted(folder.glob("D*[!~]")):
                     self.adopt(talk, number, path.name)
                 for pool in sorted(set(POOLS)):
                     talk.console(f"label {number} {self.name(number)} {pool} File")
@@ -85,10 +85,11 @@ class Site:
     def take_old(self):
         """Reads what is on volumes that are old, and takes these away."""
         for folder in self.folders:
-            old = sorted(folder.glob("D*"))[:-STAY]
+            old = sorted(folder.glob("D*[!~]"))[:-STAY]
             self.kept.take_away({path.name for path in old}, self.folder_of)
             for path in old:
                 path.unlink()
+                path.with_name(f"{path.name}~").unlink(missing_ok=True)
             self.kept.count("volumes read and taken away", len(old))
 
     def figures(self) -> dict[str, int]:
@@ -190,7 +191,7 @@ def resources(site: Site):
     if not until(lambda: site.figures()["Threads"] == site.threads, WAIT):
         kept.fault(f"threads: {site.figures()['Threads']} in place of {site.threads}")
     kept.count("rests with the threads of the begin")
-    blocks = sum(path.stat().st_size for folder in site.folders for path in folder.glob("D*")) // 2000
+    blocks = sum(path.stat().st_size for folder in site.folders for path in folder.glob("D*[!~]")) // 2000
     has, most = site.figures()["VmRSS"], site.memory + blocks * A_BLOCK + len(site.tickets) * A_SESSION + ALL_ELSE
     if not site.memory:
         site.memory = has

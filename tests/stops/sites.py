@@ -1,5 +1,5 @@
-"""A daemon over a folder of volumes that is stopped at a call on their files, what such a stop may leave of the folder, and
-a client of the daemon.
+"""A daemon over a folder of volumes that is stopped at a call on their files, what such a stop may leave of the folder and of the
+notes in it, and a client of the daemon.
 """
 import contextlib
 import itertools
@@ -9,8 +9,10 @@ import subprocess
 import typing
 import zlib
 
+from blocks import Note, note_in
 from clients import END_OF_DATA, client
-from daemon import SDTOOL, WAIT, Daemon, drive, free_port
+from daemon import SDTOOL, WAIT, Daemon, NotListening, drive, free_port, is_listened_on, until
+from noters import noters
 from shim import loaded
 
 # A close that comes too early is told at once.
@@ -20,6 +22,10 @@ BLOCK_HEADER, LEAST_BLOCK, MOST_BLOCK = 24, 36, 1_048_576
 
 class Stopped(Exception):
     """The daemon was stopped in the middle of a talk."""
+
+
+class StoppedAtStart(Exception):
+    """The daemon was stopped before it listened."""
 
 
 class Talk(client.Talk):
@@ -79,37 +85,88 @@ class Volume(typing.NamedTuple):
 
 
 class Site:
-    """A folder with a configuration and the folders of the volumes and of the spools."""
+    """A folder with a configuration and the folders of the volumes and of the spools. The threads that write notes come when they are
+    let, and their calls count if they are asked to."""
 
     def __init__(self, folder, settings):
         self.folder, self.port = folder, free_port()
         self.volumes, self.spools, self.conf, self.log = (folder / word for word in ("volumes", "spools", "conf", "calls"))
+        self.gate = folder / "gate"
         self.spools.mkdir(parents=True)
         self.volumes.mkdir()
+        # The notes that the disk had when all of them were written last, or when the run began.
+        self.noted = {}
         lines = [*settings, f"port = {self.port}", f'spool_folder = "{self.spools}"', drive("File", self.volumes)]
         self.conf.write_text("\n".join(lines))
 
-    def lay(self, volumes):
+    def lay(self, files):
         """Makes the folder what a stop left: bytes by their names."""
         for path in self.volumes.iterdir():
             path.unlink()
-        for name, content in volumes.items():
+        for name, content in files.items():
             (self.volumes / name).write_bytes(content)
+        self.noted = self.notes()
+
+    def notes(self):
+        """The notes that are there, by the names of their files."""
+        return {path.name: path.read_bytes() for path in self.volumes.glob("*[!~]~") if path.name != ".lock~"}
 
     @contextlib.contextmanager
-    def daemon(self, shim, seconds, **stop):
+    def daemon(self, shim, seconds, *words, **stop):
         """The port of a daemon in the run of that time, which is stopped as the words of tests/lib/shim.c say."""
         self.log.write_text("")
-        words = {word.upper(): number for word, number in stop.items()}
-        env = loaded(shim, STOP_FOLDER=self.volumes, STOP_LOG=self.log, CLOCK_SECONDS=seconds, **words)
+        self.gate.touch()
+        named = {word.upper(): number for word, number in stop.items()}
+        env = loaded(shim, STOP_FOLDER=self.volumes, STOP_LOG=self.log, CLOCK_SECONDS=seconds, ASIDE=noters(shim, 1, *words),
+                     ASIDE_GATE=self.gate, **named)
+        stops = any(word.startswith(("stop_before", "stop_after")) for word in stop)
+        try:
+            daemon = Daemon(self.conf, *words, port=self.port, env=env)
+        except NotListening as why:
+            if stops and why.status == -signal.SIGKILL:
+                raise StoppedAtStart from why
+            raise
         is_stopped = False
-        with Daemon(self.conf, port=self.port, env=env) as daemon:
+        with daemon:
             try:
                 yield self.port
             except (Stopped, client.Lost):
                 is_stopped = daemon.process.wait(timeout=WAIT) == -signal.SIGKILL
-        if is_stopped != any(word.startswith(("stop_before", "stop_after")) for word in stop):
+        if is_stopped != stops:
             raise RuntimeError(f"the daemon is stopped otherwise than by {stop}: {daemon.process.returncode}")
+
+    def let_notes(self, port):
+        """Lets the notes be written, all of them. If the daemon is stopped at that, this is told."""
+        with Talk(port) as talk:
+            said = [line.split() for line in talk.console("status") if line.startswith("volume ")]
+        begun = len(self.calls())
+        # The first ones are written by a start itself, before it serves anybody.
+        self.noted = self.notes()
+        self.gate.unlink()
+
+        def are_written():
+            if not is_listened_on(self.port):
+                return True
+            now, calls = self.notes(), self.calls()[begun:]
+            changed = sum(content != self.noted.get(name) for name, content in now.items())
+            is_named = "rename" not in [kind for kind, *_ in itertools.takewhile(lambda call: call[0] != "folder", reversed(calls))]
+            return (all(self.is_noted(name, status, int(end)) for _, name, _, _, status, end in said)
+                    and sum(kind == "rename" for kind, *_ in calls) >= changed and is_named)
+
+        until(are_written, WAIT)
+        self.gate.touch()
+        self.noted = self.notes()
+        # If it was stopped at that there is no talk.
+        with Talk(port) as talk:
+            talk.console("requests")
+
+    def is_noted(self, name, status, end):
+        """Whether the note says what the status of a volume says. One in error is torn if a sync of it failed, and else as any other."""
+        try:
+            note = note_in((self.volumes / f"{name}~").read_bytes())
+        except FileNotFoundError:
+            return False
+        return isinstance(note, Note) and ((note.end, note.torn) == (end, None) or status == "error" and note.torn is not None)
 
     def calls(self):
         """The calls that were made, each as its words."""
@@ -122,7 +179,10 @@ class Site:
             if kind == "folder":
                 volumes = {name: volume._replace(is_named=True) for name, volume in volumes.items()}
                 continue
-            name, *numbers = words[0], *map(int, words[1:])
+            name, *numbers = words
+            if name.endswith("~"):
+                continue
+            numbers = [int(number) for number in numbers]
             volume = volumes.get(name, Volume(b"", 0, False))
             if kind == "write":
                 at, count = numbers
@@ -136,6 +196,18 @@ class Site:
                 raise RuntimeError(f"the daemon makes a call of another kind: {kind} {name}")
             volumes[name] = volume
         return {name: self.as_written(name, volume) for name, volume in volumes.items()}
+
+    def left_notes(self):
+        """What may be left of the notes: the contents that each may have, nothing for none, and what is there of a new one."""
+        now, unsettled = self.notes(), set()
+        for kind, *words in self.calls():
+            if kind == "folder":
+                unsettled.clear()
+            if kind in ("rename", "unlink"):
+                unsettled.update(word for word in words if word.endswith("~") and not word.endswith("~~"))
+        names = {*now, *self.noted}
+        contents = {name: ([self.noted.get(name)] if name in unsettled else []) + [now.get(name)] for name in names}
+        return contents, {path.name: path.read_bytes() for path in self.volumes.glob("*~~")}
 
     def as_written(self, name, volume):
         content = (self.volumes / name).read_bytes()

@@ -4,9 +4,10 @@ use Rattle.clap.specs.Matches.{subcommand_name_of}
 use Rattle.clap.specs.Simple.{Shape, built, subcommand_rows_of}
 use Rattle.clap.specs.Walk.{Row, Text, rows_after}
 use Rattle.clap.specs.declared.parser.matches.ArgMatches.{ArgMatches}
-use Rattle.sd_arguments.specs.Lines.{IsGiven}
+use Rattle.clap.specs.declared.error.kind.ErrorKind.{ErrorKind}
+use Rattle.sd_arguments.specs.Lines.{IsGiven, NamesCommand}
 use Rattle.sd_arguments.proofs.GivenLemmas.{given_word}
-use Rattle.sd_arguments.specs.Daemon.{AsksDaemon, IsServing, daemon_line}
+use Rattle.sd_arguments.specs.Daemon.{AsksDaemon, IsServing, Misuses, MisusesServe, daemon_line}
 use Rattle.sd_arguments.specs.declared.daemon.DaemonTask.TheVariants.{Check, Serve}
 use Rattle.sd_arguments.specs.declared.daemon.Serving.{Serving}
 use Rattle.sd_arguments.proofs.LineLemmas.{AreGiven, IsOneOf, IsProgram, Named, name_told, name_untold, rows_told}
@@ -48,3 +49,12 @@ pub conf_is_given : (words : List Text) (m : ArgMatches) (n : Named daemon_line 
 conf_is_given words m n given named rows =
     subst (IsGiven (codes "CONF")) (rows_told n given rows)
     (conf_in n.shape n.known (sym n.name ∙ name_told n (codes "serve") named) n.rest n.given.1 n.matched n.are_given)
+
+-- what is wrong with the words of `serve` though the parser takes them
+pub misuses_serve : (words : List Text) (m : ArgMatches) (n : Named daemon_line words m) (given : List Row) (why : ErrorKind)
+    → subcommand_name_of m ≡ Some (codes "serve") → option_map (λ p. p.1) (subcommand_rows_of m) ≡ Some given → Misuses given why → MisusesServe words why
+misuses_serve words m n given why named rows wrong = (
+  n.given.1,
+  subst (λ (name : Text). NamesCommand daemon_line words name n.given.1) (name_told n (codes "serve") named) n.names,
+  subst (λ (g : List Row). Misuses g why) (sym (rows_told n given rows)) wrong,
+)

@@ -1,5 +1,6 @@
 pub mod BuildingLemmas
 pub mod LineLemmas
+pub mod NameLemmas
 pub mod GivenLemmas
 pub mod ValueLemmas
 pub mod DaemonLemmas

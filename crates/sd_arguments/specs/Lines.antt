@@ -1,7 +1,7 @@
 -- The command lines of the programs, as the parser reads them.
-use Rattle.std.specs.Prelude.{◌≡◌, ◌<◌, ◌^◌, ℕ, Bool, true, false, List, [], Option, Some, None, IsSome, codes}
+use Rattle.std.specs.Prelude.{◌≡◌, ◌<◌, ◌^◌, ℕ, Bool, true, false, List, [], Option, Some, None, IsSome, codes, unwrap_or}
 use Rattle.std.specs.Str.Parse.{IsNumeral, digits_value, without_leading_plus}
-use Rattle.clap.specs.Words.{App, Row, Rule, Shape, Text, fault_of, first_of, new_rule, subcommand_of}
+use Rattle.clap.specs.Words.{App, Row, Rule, Shape, Text, all_of, fault_of, first_of, new_rule, subcommand_of}
 use Rattle.clap.specs.Simple.{new_shape}
 use Rattle.clap.specs.declared.builder.ArgAction.TheVariants.{Set, SetTrue}
 
@@ -58,3 +58,7 @@ abbrev pub IsFlagOf : Option Text → Bool → Type 0
 IsFlagOf None is_given = is_given ≡ false
 IsFlagOf (Some text) is_given =
     (text ≡ codes "true" → is_given ≡ true) × (text ≡ codes "false" → is_given ≡ false)
+
+-- all words for an argument
+abbrev pub texts_at : Text → List Row → List Text
+texts_at argument given = unwrap_or (all_of argument given) []

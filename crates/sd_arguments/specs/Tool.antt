@@ -1,9 +1,9 @@
 -- What a command line of `sdtool` asks for.
-use Rattle.std.specs.Prelude.{◌≡◌, ◌⊎◌, Bool, List, [], ◌∷◌, Some, codes, map, option_map, unwrap_or}
+use Rattle.std.specs.Prelude.{◌≡◌, ◌⊎◌, Bool, List, [], ◌∷◌, Some, codes, map, option_map}
 use Rattle.clap.specs.Lexer.{usize_max}
-use Rattle.clap.specs.Words.{App, IsAmong, Row, Rule, Shape, Text, all_of, fault_of, first_of, kind_of, new_rule, one_of}
+use Rattle.clap.specs.Words.{App, IsAmong, Row, Rule, Shape, Text, fault_of, first_of, kind_of, new_rule, one_of}
 use Rattle.clap.specs.declared.builder.ArgAction.TheVariants.{Append}
-use Rattle.sd_arguments.specs.Lines.{IsFlagOf, IsGiven, NamesCommand, command_shape, file_rule, flag_rule, program_line, required_rule}
+use Rattle.sd_arguments.specs.Lines.{IsFlagOf, IsGiven, NamesCommand, command_shape, file_rule, flag_rule, program_line, required_rule, texts_at}
 use Rattle.sd_arguments.specs.declared.tool.ToolTask.{ToolTask}
 use Rattle.sd_arguments.specs.declared.tool.ToolTask.TheVariants as asks
 
@@ -56,10 +56,6 @@ pub record HasItsWords (name : Text) (given : List Row) : Type 0 where
   pub salvage : name ≡ codes "salvage" → IsGiven (codes "SPANS") given × IsGiven (codes "FOLDER") given
   pub scan : name ≡ codes "scan" → IsGiven (codes "FOLDER") given
   pub verify : name ≡ codes "verify" → IsGiven (codes "FOLDER") given
-
--- all words for an argument
-abbrev pub texts_at : Text → List Row → List Text
-texts_at argument given = unwrap_or (all_of argument given) []
 
 -- whether a reading is told of: `--progress` is given
 abbrev pub IsProgress : List Row → Bool → Type 0

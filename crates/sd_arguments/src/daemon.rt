@@ -1,12 +1,16 @@
 // The command line of the daemon.
-ghost use Rattle.std.specs.Prelude.{◌≡◌, IfErr, IfOk, [], codes, false, map, string_bytes};
-ghost use Rattle.clap.specs.Words.{HasKind, app_of, fault_of, found_of, rows_of, rule_of, shape_of};
+ghost use Rattle.std.specs.Prelude.{◌≡◌, ◌≢◌, IfErr, IfOk, IsFalse, IsTrue, [], codes, false, map, string_bytes};
+ghost use Rattle.clap.specs.Words.{app_of, found_of, rows_of, rule_of, shape_of};
+ghost use Rattle.clap.specs.Values.{kind_of};
 ghost use Rattle.clap.specs.declared.builder.command.Command.TheViews.{out-Command as fields_of};
 ghost use Rattle.sd_arguments.specs.Lines.{IsGiven, command_shape, flag_rule, required_rule};
-ghost use Rattle.sd_arguments.specs.Daemon.{AsksDaemon, IsServing, daemon_line, metrics_rule, serve_shape, talks_rule, until_rule, wait_rule};
+ghost use Rattle.sd_arguments.specs.Daemon.{AsksDaemon, FailsDaemon, IsServing, Misuses, daemon_line, misuse_kind, metrics_rule, serve_shape, talks_rule, until_rule, wait_rule};
 
+use crate::adopting::{adopt_argument, adopt_damaged_argument, names_of};
+use crate::misuse::Misuse;
 use crate::status::lacks_memory;
 use clap::{Arg, ArgAction, ArgMatches, Command, Error};
+use sd_base::VolName;
 use std::alloc::{AllocError, Global};
 
 /// What a command line of `sdd` asks for.
@@ -23,7 +27,7 @@ pub enum DaemonTask<'a> {
 }
 
 /// How clients are to be served.
-#[derive(Clone, Copy)]
+#[derive(Drop)]
 pub struct Serving<'a> {
     /// The path of the configuration.
     pub path: &'a str,
@@ -37,6 +41,10 @@ pub struct Serving<'a> {
     pub until: Option<&'a str>,
     /// Whether a log is written.
     pub log: bool,
+    /// Whether the volumes of the drives' folders are adopted before clients are served.
+    pub adopt: bool,
+    /// The damaged volumes that are adopted too, and cut where they are damaged.
+    pub adopt_damaged: Vec<VolName>,
 }
 
 /// What `words`, the program's name first, ask for.
@@ -53,13 +61,25 @@ pub fn daemon_task(alloc: Global, words: &[String]) -> DaemonTask<'_>
 // What the words ask for, if that is anything.
 fn parse(alloc: Global, words: &[String]) -> Result<DaemonTask<'_>, Error>
     ensures ok { IfOk result (AsksDaemon (map string_bytes words.entry.now)) }
-    ensures err { IfErr result (HasKind (fault_of daemon_line (map string_bytes words.entry.now))) }
+    ensures err { IfErr result (FailsDaemon (map string_bytes words.entry.now)) }
 {
     let matches = command(alloc)?.try_get_matches_from(words)?;
-    match matches.subcommand_matches("serve") {
-        Some(given) => Ok(DaemonTask::Serve(asked_of(given))),
-        None => Ok(DaemonTask::Check),
+    let Some(given) = matches.subcommand_matches("serve") else {
+        return Ok(DaemonTask::Check);
+    };
+    match asked_of(alloc, given) {
+        Ok(asked) => Ok(DaemonTask::Serve(asked)),
+        Err(misuse) => Err(misuse_error(alloc, misuse)?),
     }
+}
+
+// The error of a misuse, with the usage of the program.
+fn misuse_error(alloc: Global, misuse: Misuse<'_>) -> Result<Error, AllocError>
+    ensures { IfOk result (λ error. kind_of error ≡ misuse_kind misuse.entry) }
+{
+    let mut command = command(alloc)?;
+    let message = misuse.message(alloc)?;
+    command.error(misuse.kind(), message.as_str())
 }
 
 fn command<'a>(alloc: Global) -> Result<Command<'a>, AllocError>
@@ -95,6 +115,8 @@ fn serve_command<'a>(alloc: Global) -> Result<Command<'a>, AllocError>
     let metrics = metrics_argument(alloc);
     let until = until_argument(alloc);
     let log = log_argument(alloc);
+    let adopt = adopt_argument(alloc);
+    let adopt_damaged = adopt_damaged_argument(alloc);
     Command::new(alloc, "serve")
         .about("Serves clients on 127.0.0.1")
         .arg(path)?
@@ -102,7 +124,9 @@ fn serve_command<'a>(alloc: Global) -> Result<Command<'a>, AllocError>
         .arg(wait)?
         .arg(metrics)?
         .arg(until)?
-        .arg(log)
+        .arg(log)?
+        .arg(adopt)?
+        .arg(adopt_damaged)
 }
 
 fn path_argument<'a>(alloc: Global) -> Arg<'a>
@@ -173,16 +197,33 @@ fn log_argument<'a>(alloc: Global) -> Arg<'a>
 }
 
 // What is asked of the daemon. The other values are there too, since the words were read so.
-fn asked_of<'a>(given: &ArgMatches<'a>) -> Serving<'a>
+fn asked_of<'a>(alloc: Global, given: &ArgMatches<'a>) -> Result<Serving<'a>, Misuse<'a>>
     requires { IsGiven (codes "CONF") (rows_of (found_of given.now)) }
-    ensures { IsServing (rows_of (found_of given.now)) result }
+    ensures ok { IfOk result (IsServing (rows_of (found_of given.now))) }
+    ensures err { IfErr result (λ misuse. Misuses (rows_of (found_of given.now))
+        (misuse_kind misuse)) }
 {
-    Serving {
+    let adopt = given.get_flag("adopt");
+    let adopt_damaged = names_of(alloc, given)?;
+    if lacks_adopt(adopt, &adopt_damaged) {
+        return Err(Misuse::WithoutAdopt);
+    }
+    Ok(Serving {
         path: given.get_str("CONF").unwrap(),
         talks: given.get_one("talks").unwrap_or(0),
         wait: given.get_one("wait").unwrap_or(0),
         metrics: given.get_str("metrics"),
         until: given.get_str("until"),
         log: given.get_flag("log"),
-    }
+        adopt,
+        adopt_damaged,
+    })
+}
+
+// Whether damaged volumes are named, and no volume is to be adopted.
+fn lacks_adopt(adopt: bool, names: &[VolName]) -> bool
+    ensures lacks { IsTrue result → (adopt ≡ false) × (names.now ≢ []) }
+    ensures complete { IsFalse result → adopt ≡ false → names.now ≡ [] }
+{
+    !adopt && !names.is_empty()
 }

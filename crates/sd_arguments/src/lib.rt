@@ -1,7 +1,9 @@
 //! The programs' command lines, and the exit status of those that ask for help or are wrong.
 #![tactic(auto)]
 
+mod adopting;
 mod daemon;
+mod misuse;
 mod status;
 mod tool;
 

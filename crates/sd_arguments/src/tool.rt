@@ -2,9 +2,9 @@
 ghost use Rattle.std.specs.Prelude.{◌≡◌, IfErr, IfOk, Some, [], codes, false, map, option_map, string_bytes};
 ghost use Rattle.clap.specs.Words.{HasKind, app_of, fault_of, first_of, found_of, one_of, rows_of, rule_of, shape_of};
 ghost use Rattle.clap.specs.declared.builder.command.Command.TheViews.{out-Command as fields_of};
-ghost use Rattle.sd_arguments.specs.Lines.{IsFlagOf, IsGiven, command_shape, file_rule, flag_rule, required_rule};
+ghost use Rattle.sd_arguments.specs.Lines.{IsFlagOf, IsGiven, command_shape, file_rule, flag_rule, required_rule, texts_at};
 ghost use Rattle.sd_arguments.specs.Tool.{AsksTool, HasItsWords, IsProgress, IsToolCommand, IsToolTask, list_shape};
-ghost use Rattle.sd_arguments.specs.Tool.{read_shape, salvage_shape, scan_shape, texts_at, tool_line, verify_shape, volumes_rule};
+ghost use Rattle.sd_arguments.specs.Tool.{read_shape, salvage_shape, scan_shape, tool_line, verify_shape, volumes_rule};
 
 use crate::status::lacks_memory;
 use clap::{Arg, ArgAction, ArgMatches, Command, Error};

@@ -25,6 +25,8 @@ fn serve_dialogue(rt: HostRuntime) -> Result<(), Fail> {
         wait: 0,
         metrics: None,
         until: None,
+        adopt: false,
+        adopt_damaged: &[],
     };
     let (served, played) = thread::join(
         &rt,

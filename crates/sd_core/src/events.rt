@@ -3,17 +3,20 @@ ghost use Rattle.std.specs.Prelude.{◌≡◌};
 ghost use Rattle.sd_world.specs.Moves.{Moves};
 ghost use Rattle.sd_world.specs.Rules.{IsWorld};
 ghost use Rattle.sd_events.specs.View.{reply_of, world_of};
-ghost use Rattle.sd_machine.specs.declared.event.Event.TheVariants.{Append};
+ghost use Rattle.sd_events.specs.Noted.{IsTrueAt};
+ghost use Rattle.sd_machine.specs.declared.event.Event.TheVariants.{Adopt, Append};
 ghost use Rattle.sd_world.specs.Steps.{DrivesKeep};
 
 use crate::kept::know_drives;
-use sd_base::{Rec, Refusal, Ticket};
+use sd_base::{DriveNo, Rec, Refusal, Ticket, VolName};
 use sd_driver::Driver;
 use sd_events::{
-    Parts, append, cancel, close, despool, end, media, open, operate, purge, retire, spool,
+    Parts, append, cancel, close, despool, end, media, open, operate, operate_noted, purge, retire,
+    spool,
 };
 use sd_lane::Lanes;
 use sd_machine::{Event, Reply};
+use sd_note::Note;
 use sd_spool::SpoolStore;
 
 /// Answers one event; and what is known then of the drives.
@@ -43,6 +46,24 @@ pub(crate) fn answer_append<D: Driver + Drop, Q: Lanes, S: SpoolStore + Drop>(
     ensures drives { DrivesKeep (λ d. D.meaning d) (world_of parts.new).bays }
 {
     let reply = reply_of(append(parts, ticket, rec));
+    know_drives(&parts.bays);
+    reply
+}
+
+/// Answers the event `Adopt` by the volume's note, which is to be true; and what is known then of the drives.
+pub(crate) fn answer_noted<D: Driver + Drop, Q: Lanes, S: SpoolStore + Drop>(
+    parts: &mut Parts<D, Q, S>,
+    drive: DriveNo,
+    name: &VolName,
+    note: &Note,
+) -> Reply
+    requires world { IsWorld (world_of parts.old) }
+    requires known { IsTrueAt (λ d. D.meaning d) (world_of parts.old) drive name.now note.now }
+    ensures moves { Moves (λ d. D.meaning d) (world_of parts.old) (Adopt drive name.now) result
+        (world_of parts.new) }
+    ensures drives { DrivesKeep (λ d. D.meaning d) (world_of parts.new).bays }
+{
+    let reply = reply_of(operate_noted(parts, drive, name, note));
     know_drives(&parts.bays);
     reply
 }

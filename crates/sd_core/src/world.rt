@@ -3,7 +3,8 @@ ghost use Rattle.std.specs.Prelude.{◌≡◌, ◌≤◌, length, IfOk, IfErr, O
 ghost use Rattle.std.specs.List.{AllZip};
 ghost use Rattle.sd_base.specs.Limits.{most_number};
 ghost use Rattle.sd_machine.specs.Machine.{empty_machine};
-ghost use Rattle.sd_machine.specs.declared.event.Event.TheVariants.{Append};
+ghost use Rattle.sd_events.specs.Noted.{IsTrueAt};
+ghost use Rattle.sd_machine.specs.declared.event.Event.TheVariants.{Adopt, Append};
 ghost use Rattle.sd_world.specs.Matches.{Matches};
 ghost use Rattle.sd_world.specs.Deeds.{IsRead};
 ghost use Rattle.sd_world.specs.Rules.{IsWorld};
@@ -15,19 +16,20 @@ ghost use Rattle.sd_core.specs.View.{status_at, devices_of, running_tickets, vie
 
 use crate::conf::{NotMade, WorldConf};
 use crate::drivers::take_devices;
-use crate::events::{answer_append, answer_event};
+use crate::events::{answer_append, answer_event, answer_noted};
 use crate::kept::know_drives;
 use crate::listing::list_running;
 use crate::new_bays::fill_bays;
 use crate::reading::read_knowing;
 use crate::status::{show_drives, show_sessions, show_volumes};
-use sd_base::{Rec, Refusal, SessionKey, Ticket};
+use sd_base::{DriveNo, Rec, Refusal, SessionKey, Ticket, VolName};
 use sd_desk::{Desk, Request};
 use sd_drive::Limits;
 use sd_driver::Driver;
 use sd_events::{Parts, find};
 use sd_lane::Lanes;
 use sd_machine::{Event, Reply, View};
+use sd_note::Note;
 use sd_readback::{ReadEnd, Sink};
 use sd_session::Status;
 use sd_span::Span;
@@ -167,6 +169,16 @@ impl<D: Driver + Drop, Q: Lanes, S: SpoolStore + Drop> World<D, Q, S> {
         ensures { IsStep (λ d. D.meaning d) self.old (Append ticket rec.now) result self.new }
     {
         answer_append(&mut self.parts, ticket, rec)
+    }
+
+    /// The event `Adopt`, by the volume's note: the drive reads the label, the last block that the note tells of, and on
+    /// from there. What the note says is to be true, if the device is honest; then this is the step of that event, and
+    /// every theorem of steps holds of it.
+    pub fn adopt_noted(&mut self, drive: DriveNo, name: &VolName, note: &Note) -> Reply
+        requires known { IsTrueAt (λ d. D.meaning d) self.old drive name.now note.now }
+        ensures { IsStep (λ d. D.meaning d) self.old (Adopt drive name.now) result self.new }
+    {
+        answer_noted(&mut self.parts, drive, name, note)
     }
 
     /// All the events, in order, with the reply to each; it costs what its steps do. An `Err` comes before the first.

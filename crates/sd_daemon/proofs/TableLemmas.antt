@@ -15,34 +15,34 @@ still_there (y ∷ xs) ys zero x is = is
 still_there (y ∷ xs) ys (suc k) x is = still_there xs ys k x is
 
 -- the first drives are named by what names all,
-pub first_named : (table : ℕ → TableId) (time : ℕ → ℕ) (all rest : List UnusedIs) (last : UnusedIs) → all ≡ rest ++ last ∷ [] → AreNamed table time all
+pub first_named : {D : Type 0} (table : ℕ → TableId) (time : ℕ → ℕ) (all rest : List (UnusedIs D)) (last : UnusedIs D) → all ≡ rest ++ last ∷ [] → AreNamed table time all
     → AreNamed table time rest
 first_named table time all rest last are named at u is = named at u (ap (λ l. slice_get l at) are ∙ still_there rest (last ∷ []) at u is)
 
 -- and so is the last one, by the number after theirs
-pub last_named : (table : ℕ → TableId) (time : ℕ → ℕ) (all rest : List UnusedIs) (last : UnusedIs) (number : ℕ) → all ≡ rest ++ last ∷ [] → AreNamed table time all
+pub last_named : {D : Type 0} (table : ℕ → TableId) (time : ℕ → ℕ) (all rest : List (UnusedIs D)) (last : UnusedIs D) (number : ℕ) → all ≡ rest ++ last ∷ [] → AreNamed table time all
     → number ≡ length rest + 1 → (last.table ≡ table number) × (last.limits.time ≡ time number)
 last_named table time all rest last number are named number_is =
     rw number_is (named (length rest) last (ap (λ l. slice_get l (length rest)) are ∙ there rest last))
 
 -- the table at a place, and that of a drive's number
-at_place : List UnusedIs → ℕ → TableId
+at_place : {D : Type 0} → List (UnusedIs D) → ℕ → TableId
 at_place [] k = no_table
 at_place (u ∷ us) zero = u.table
 at_place (u ∷ us) (suc k) = at_place us k
 
-pub named_table : List UnusedIs → ℕ → TableId
+pub named_table : {D : Type 0} → List (UnusedIs D) → ℕ → TableId
 named_table all zero = no_table
 named_table all (suc k) = at_place all k
 
-at_there : (all : List UnusedIs) (k : ℕ) (u : UnusedIs) → slice_get all k ≡ Some u → u.table ≡ at_place all k
+at_there : {D : Type 0} (all : List (UnusedIs D)) (k : ℕ) (u : UnusedIs D) → slice_get all k ≡ Some u → u.table ≡ at_place all k
 unfolding at_place
 at_there [] k u is = absurd (cc is)
 at_there (v ∷ us) zero u is = let same : v ≡ u = cc is in ap (λ x. x.table) (sym same)
 at_there (v ∷ us) (suc k) u is = at_there us k u is
 
 -- drives of a run are named by their own tables, and by the run's time
-pub named_by_own : (time : ℕ) (all : List UnusedIs) → ((at : ℕ) (u : UnusedIs) → slice_get all at ≡ Some u → u.limits.time ≡ time)
+pub named_by_own : {D : Type 0} (time : ℕ) (all : List (UnusedIs D)) → ((at : ℕ) (u : UnusedIs D) → slice_get all at ≡ Some u → u.limits.time ≡ time)
     → AreNamed (named_table all) (λ no. time) all
 unfolding named_table
 named_by_own time all times at u is =

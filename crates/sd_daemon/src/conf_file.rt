@@ -5,7 +5,8 @@ ghost use Rattle.sd_text.specs.Says.{Says, said_view};
 ghost use Rattle.sd_text.specs.Lines.{line};
 ghost use Rattle.sd_daemon.specs.Serve.{IsConfOf, IsFaultOf, IsOutcomeOf, PrintsServe, folder_text, outcome_lines, settle_lines, status_of, unserved_line};
 
-use crate::daemon::{Bounds, ServeFault, serve};
+use crate::daemon::{ServeFault, serve};
+use crate::run::Bounds;
 use crate::serve_line::ServeLine;
 use sd_base::DriveNo;
 use sd_conf::{CheckFault, Conf, ConfFault, Place, Text, conf_in, print_conf_fault, print_place};
@@ -43,7 +44,7 @@ pub enum Outcome {
 /// that; or prints the line of what is wrong, and on `errors` what more is known of it. Answers the status: 0 if clients were served and all drives settled, and
 /// else 1.
 pub fn serve_file<
-    R: Threads + Wait + Clock + Sync + Copy + Drop,
+    R: Threads + Wait + Clock + Send + Sync + Copy + Drop,
     W: Write,
     E: Write,
     L: Write + Send + Drop,
@@ -76,7 +77,7 @@ fn status_of(outcome: &Outcome, failed: bool) -> u8
 }
 
 // What comes of the file.
-fn outcome_of<R: Threads + Wait + Clock + Sync + Copy + Drop, L: Write + Send + Drop>(
+fn outcome_of<R: Threads + Wait + Clock + Send + Sync + Copy + Drop, L: Write + Send + Drop>(
     rt: &HostRuntime,
     wait: R,
     path: &str,

@@ -11,9 +11,13 @@ use crate::drives::{UnusedFiles, unused_drives};
 use crate::hub::{FileHub, hub_of};
 use crate::locks::{FolderLocks, lock_all};
 use crate::metering::Metering;
+use crate::note_keeping::NoteKeeping;
+use crate::planning::Plan;
 use crate::port_fault::PortFault;
+use crate::run::{Bounds, Run};
 use crate::settling::settle_drives;
 use crate::shared::share;
+use crate::starting::{adopt_folders, claim_names};
 use crate::talks::FileTalks;
 use crate::threads::hold_talks;
 use sd_base::DriveNo;
@@ -42,24 +46,11 @@ pub enum ServeFault {
     Memory,
 }
 
-/// How long a daemon serves, how long its talks wait, and where its figures are written.
-#[derive(Clone, Copy)]
-pub struct Bounds<'b> {
-    /// After how many talks the daemon ends; 0 if it goes on.
-    pub talks: u32,
-    /// How many seconds a record and a close wait for a volume that their drive needs.
-    pub wait: u32,
-    /// The file that its figures are written to, if any.
-    pub metrics: Option<&'b str>,
-    /// The file that ends the daemon once it is there, if any.
-    pub until: Option<&'b str>,
-}
-
 /// Serves clients on the port of the configuration and on 127.0.0.1 alone, each in a thread of its own, over drives of files
 /// that are new: their run's time is the clock's. Meanwhile it has the folders of the drives and of the spools locked. Ends
 /// after so many talks, or after those that began before a file was there, and then settles the line of each drive; answers
 /// which of them can't be settled.
-pub fn serve<W: Threads + Wait + Clock + Sync + Copy + Drop, L: Write + Send + Drop>(
+pub fn serve<W: Threads + Wait + Clock + Send + Sync + Copy + Drop, L: Write + Send + Drop>(
     rt: &HostRuntime,
     wait: W,
     conf: &Conf,
@@ -77,7 +68,7 @@ pub fn serve<W: Threads + Wait + Clock + Sync + Copy + Drop, L: Write + Send + D
         Err(fault) => return Err(port_fault(conf.port, &fault)),
     };
     let locks = lock_all(rt, conf)?;
-    let Ok(drives) = unused_drives(rt, wait, conf, time) else {
+    let Ok(mut drives) = unused_drives(rt, wait, conf, time) else {
         return Err(ServeFault::Memory);
     };
     let run = Run {
@@ -88,29 +79,22 @@ pub fn serve<W: Threads + Wait + Clock + Sync + Copy + Drop, L: Write + Send + D
         bounds,
         log,
     };
-    serve_drives::<Brand, W, L>(&run, &listening, drives, &locks)
-}
-
-// A run of a daemon.
-#[derive(Drop)]
-struct Run<'d, W, L> {
-    rt: &'d HostRuntime,
-    wait: W,
-    conf: &'d Conf,
-    time: u32,
-    bounds: Bounds<'d>,
-    log: &'d Log<L>,
+    let Ok(start) = adopt_folders(&run, &mut drives) else {
+        return Err(ServeFault::Memory);
+    };
+    serve_drives::<Brand, W, L>(&run, &listening, drives, &start, &locks)
 }
 
 // Serves clients over these drives. It is lent the locks of the folders, so that they are let go after it.
 fn serve_drives<
     N: Naming + Send + Sync,
-    W: Threads + Wait + Clock + Sync + Copy + Drop,
+    W: Threads + Wait + Clock + Send + Sync + Copy + Drop,
     L: Write + Send + Drop,
 >(
     run: &Run<'_, W, L>,
     listening: &Listening,
     drives: Vec<UnusedFiles<W>>,
+    start: &Plan,
     _locks: &FolderLocks,
 ) -> Result<Vec<DriveNo>, ServeFault>
     requires locked { AreLocksOf run.now.conf.now _locks.now }
@@ -119,10 +103,14 @@ fn serve_drives<
 {
     let conf = run.conf;
     let keeps_receipts = run.bounds.talks > 0;
-    let Ok(hub) = hub_of::<N, W>(run.rt, run.wait, conf, run.time, drives, keeps_receipts) else {
+    let Ok(mut hub) = hub_of::<N, W>(run.rt, run.wait, conf, run.time, drives, keeps_receipts)
+    else {
         return Err(ServeFault::Memory);
     };
-    if !hold_all(run, listening, &hub) {
+    let Ok(()) = claim_names(&mut hub, start) else {
+        return Err(ServeFault::Memory);
+    };
+    if !hold_all(run, listening, &hub, start) {
         return Err(ServeFault::Memory);
     }
     match settle_drives(hub, run.log) {
@@ -134,10 +122,13 @@ fn serve_drives<
 // Holds the talks of a run.
 fn hold_all<
     N: Naming + Send + Sync,
-    W: Threads + Wait + Clock + Sync + Copy + Drop,
+    W: Threads + Wait + Clock + Send + Sync + Copy + Drop,
     L: Write + Send + Drop,
->(run: &Run<'_, W, L>, listening: &Listening, hub: &FileHub<N, W>) -> bool {
+>(run: &Run<'_, W, L>, listening: &Listening, hub: &FileHub<N, W>, start: &Plan) -> bool {
     let Ok(connections) = Connections::new(run.rt.alloc()) else {
+        return false;
+    };
+    let Ok(notes) = NoteKeeping::of(hub, start) else {
         return false;
     };
     let connections = &connections;
@@ -152,6 +143,8 @@ fn hold_all<
         connections,
         patience: run.bounds.wait,
         metering: &metering,
+        start,
+        notes: &notes,
     };
     shares_hub::<N, FileSpool<HostRuntime>, FileDrive<HostRuntime>, W>();
     share(run.rt);
@@ -159,6 +152,9 @@ fn hold_all<
     share(hub);
     share(run.log);
     share(connections);
+    share(start);
+    share(&notes);
+    talks.write_first_notes();
     let serving = Serving {
         connections: bound_of(run.bounds.talks),
         until: run.bounds.until,

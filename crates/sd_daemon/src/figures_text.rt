@@ -1,13 +1,19 @@
 // The figures of a daemon in the text form that Prometheus reads.
 use crate::drive_figure::{DRIVE_FIGURES, DriveFigure};
+use crate::note_figures::NoteFigures;
+use crate::note_keeping::NoteKeeping;
+use crate::planning::Plan;
 use sd_lines::{DriveFigures, Figures, RefusedJobs, Tries, VolumeFaults};
 use sd_serve::{ConnectionFigures, Holder};
 use std::fmt;
 
 /// The figures of a daemon. Displays them: of each its help, its type, and its values.
 #[derive(Drop)]
-pub(crate) struct FiguresText {
+pub(crate) struct FiguresText<'d> {
     pub(crate) figures: Figures,
+    /// What was found at the start.
+    pub(crate) start: &'d Plan,
+    pub(crate) notes: &'d NoteKeeping,
     pub(crate) connections: ConnectionFigures,
     /// Who has held a connection longest, if as many are open as there may be.
     pub(crate) holders: Vec<Holder>,
@@ -302,7 +308,7 @@ impl fmt::Display for Holders<'_> {
     }
 }
 
-impl fmt::Display for FiguresText {
+impl fmt::Display for FiguresText<'_> {
     fn fmt<W: fmt::Write>(&self, f: &mut fmt::Formatter<W>) -> fmt::Result {
         let drives = self.figures.drives.as_slice();
         for figure in DRIVE_FIGURES {
@@ -320,7 +326,12 @@ impl fmt::Display for FiguresText {
         let sessions = Sessions {
             standings: self.figures.sessions,
         };
-        write!(f, "{faults}{load_faults}{sessions}")?;
+        let noted = NoteFigures {
+            drives,
+            start: self.start,
+            notes: self.notes,
+        };
+        write!(f, "{faults}{load_faults}{noted}{sessions}")?;
         let given = self.figures.given;
         let records = Single::counter(
             "sdd_restored_records_total",

@@ -1,11 +1,12 @@
 // The file that a daemon writes its figures to.
+use crate::ending::Ending;
 use crate::figures_text::FiguresText;
 use crate::talks::FileTalks;
 use sd_line::Naming;
 use sd_serve::{Log, LogLine, ShownPath};
 use std::fs;
 use std::io::{self, Write};
-use std::sync::{Condvar, Mutex, Wait};
+use std::sync::Wait;
 use std::thread::Scope;
 use std::time::{Clock, Duration};
 
@@ -16,8 +17,7 @@ const PERIOD_SECONDS: u64 = 10;
 #[derive(Drop)]
 pub(crate) struct Metering<'d> {
     file: Option<&'d str>,
-    ended: Mutex<bool>,
-    due: Condvar,
+    ending: Ending,
 }
 
 impl<'d> Metering<'d> {
@@ -25,25 +25,8 @@ impl<'d> Metering<'d> {
     pub(crate) fn new(file: Option<&'d str>) -> Self {
         Metering {
             file,
-            ended: Mutex::new(false),
-            due: Condvar::new(),
+            ending: Ending::new(),
         }
-    }
-
-    // Waits until the figures are to be written again. Whether for the last time.
-    fn wait<R: Wait + Clock>(&self, rt: &R) -> bool {
-        let period = Duration::from_secs(PERIOD_SECONDS);
-        let (ended, _) = self
-            .due
-            .wait_timeout_while(rt, self.ended.lock(rt), period, |ended| !*ended);
-        *ended
-    }
-
-    // Has the last figures written.
-    fn end<R: Wait>(&self, rt: &R) {
-        let mut ended = self.ended.lock(rt);
-        *ended = true;
-        self.due.notify_all();
     }
 }
 
@@ -80,7 +63,8 @@ impl<N: Naming + Send + Sync, W: Wait + Clock + Sync + Copy + Drop, L: Write + S
         };
         let mut could = self.write_to(file, true);
         for _period in hub.rt.forever() {
-            let is_last = self.metering.wait(&hub.rt);
+            let period = Duration::from_secs(PERIOD_SECONDS);
+            let is_last = self.metering.ending.wait(&hub.rt, period);
             could = self.write_to(file, could);
             if is_last {
                 return;
@@ -89,7 +73,7 @@ impl<N: Naming + Send + Sync, W: Wait + Clock + Sync + Copy + Drop, L: Write + S
     }
 
     fn end(&self) {
-        self.metering.end(&self.hub.rt);
+        self.metering.ending.end(&self.hub.rt);
     }
 }
 
@@ -117,6 +101,8 @@ impl<N: Naming, W: Wait + Clock + Copy + Drop, L: Write> FileTalks<'_, N, W, L> 
         };
         let figures = FiguresText {
             figures: self.hub.figures()?,
+            start: self.start,
+            notes: self.notes,
             connections,
             holders,
         };

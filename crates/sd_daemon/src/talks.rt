@@ -2,6 +2,9 @@
 use crate::drives::devices_of;
 use crate::hub::FileHub;
 use crate::metering::Metering;
+use crate::note_keeping::NoteKeeping;
+use crate::planning::Plan;
+use crate::talk_means::TalkMeans;
 use sd_conf::Conf;
 use sd_filedrive::FileDrive;
 use sd_line::Naming;
@@ -32,6 +35,8 @@ pub(crate) struct FileTalks<'d, N: Naming, W: Wait + Drop, L> {
     // How many seconds a record and a close wait for a volume that their drive needs.
     pub(crate) patience: u32,
     pub(crate) metering: &'d Metering<'d>,
+    pub(crate) start: &'d Plan,
+    pub(crate) notes: &'d NoteKeeping,
 }
 
 impl<N: Naming + Send + Sync, W: Wait + Clock + Sync + Copy + Drop, L: Write + Send> TalkHolder
@@ -43,7 +48,12 @@ impl<N: Naming + Send + Sync, W: Wait + Clock + Sync + Copy + Drop, L: Write + S
             stream,
             most: Duration::from_secs(u64::from(self.patience)),
         };
-        let port = LinePort::new(self.hub, self.readers(), moment, patience);
+        let means = TalkMeans {
+            patience,
+            rt: self.rt,
+            conf: self.conf,
+        };
+        let port = LinePort::new(self.hub, self.readers(), moment, means);
         let mut port = LoggedPort::begin(port, &self.wait, self.log, self.connections, seat);
         let end = hold_talk(self.rt.alloc(), stream, self.connections, seat, &mut port);
         port.end(&end).finish();

@@ -1,5 +1,6 @@
 // The threads of a daemon.
 use crate::metering::{FiguresWriter, start_writer};
+use crate::notes::{NotesWriter, start_notes};
 use crate::workers::{DriveWorker, start_workers};
 use sd_serve::{Connections, Listening, Serving, TalkHolder, serve_each};
 use std::sync::Wait;
@@ -7,12 +8,12 @@ use std::thread;
 use std::thread::Threads;
 use std::time::Clock;
 
-/// Holds the talks of a run, while a worker works for each drive, and a thread writes the figures if they are asked for.
-/// Ends once all talks have ended, all that could be placed is placed, and the last figures are written. If no thread
-/// can be made for a worker or for the figures, no talk is held, and the answer is no.
+/// Holds the talks of a run, while a worker works for each drive, a thread writes the notes of its volumes, and one writes the
+/// figures if they are asked for. Ends once all talks have ended, all that could be placed is placed, and the last notes and
+/// figures are written. If no thread can be made for one of these, no talk is held, and the answer is no.
 pub(crate) fn hold_talks<
     W: Threads + Wait + Clock + Sync,
-    K: TalkHolder + DriveWorker + FiguresWriter,
+    K: TalkHolder + DriveWorker + FiguresWriter + NotesWriter,
 >(
     host: &HostRuntime,
     rt: &W,
@@ -23,7 +24,9 @@ pub(crate) fn hold_talks<
 ) -> bool {
     thread::scope(thread::scope_env(), rt, move |writers| {
         let all = start_writer(writers, talks)
+            && start_notes(writers, talks)
             && hold_beside_workers(host, rt, listening, serving, connections, talks);
+        talks.end_notes();
         talks.end();
         all
     })

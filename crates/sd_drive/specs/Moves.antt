@@ -67,7 +67,11 @@ next_placement piece volume = record {
 -- a volume with this piece's block after its blocks
 abbrev pub with_block : Piece → VolumeView → VolumeView
 with_block piece volume =
-    record volume { end = volume.end + block_length piece; next_number = volume.next_number + 1 }
+    record volume {
+      end = volume.end + block_length piece;
+      next_number = volume.next_number + 1;
+      last = volume.end;
+    }
 
 -- what placing a piece on a volume does to volume and journal: by its answer
 abbrev pub PlacesOn : {E : Type 0} → Result Placed E → ℕ → Piece → VolumeView → VolumeView → List Entry → List Entry → Type 0

@@ -30,7 +30,7 @@ pub use closing::{close, media};
 pub use entry::{SessionEntry, find};
 pub use lanes::{free_lanes, is_done};
 pub use opening::open;
-pub use operating::operate;
+pub use operating::{operate, operate_noted};
 pub use parts::Parts;
 pub use place::online;
 pub use purging::purge;

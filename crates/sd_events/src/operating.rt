@@ -1,13 +1,15 @@
 // An event of a drive.
 ghost use Rattle.std.specs.Prelude.{◌≡◌};
+ghost use Rattle.sd_machine.specs.declared.event.Event.TheVariants.{Adopt};
 ghost use Rattle.sd_world.specs.Drives.{IsOfDrive};
 ghost use Rattle.sd_world.specs.Moves.{Moves};
 ghost use Rattle.sd_world.specs.Rules.{IsWorld};
 ghost use Rattle.sd_events.specs.View.{reply_of, world_of};
 ghost use Rattle.sd_events.specs.AtStations.{MovesHere, IsStation};
 ghost use Rattle.sd_events.specs.Losing.{is_device_fault};
+ghost use Rattle.sd_events.specs.Noted.{IsTrueAt};
 
-use crate::adopting::adopt;
+use crate::adopting::{adopt, adopt_noted};
 use crate::labelling::label;
 use crate::losing::fail_lost;
 use crate::mounting::mount;
@@ -17,12 +19,13 @@ use crate::placing::place;
 use crate::seeking::seek;
 use crate::syncing::{sync, unmount};
 use crate::taking::take;
-use sd_base::{DriveNo, Refusal};
+use sd_base::{DriveNo, Refusal, VolName};
 use sd_desk::Desk;
 use sd_drive::Drive;
 use sd_driver::Driver;
 use sd_lane::Lanes;
 use sd_machine::{Event, Reply};
+use sd_note::Note;
 use sd_spool::SpoolStore;
 
 /// Answers an event of this drive, but its retirement: no such drive, or drive offline, before any other refusal. If a
@@ -44,6 +47,32 @@ pub fn operate<D: Driver, Q: Lanes, S: SpoolStore + Drop>(
         unreachable!();
     };
     let reply = operate_on(at, &mut bay.queue, &mut parts.desk, drive, event);
+    if !is_device_fault(&reply) {
+        return Ok(reply);
+    }
+    fail_lost(&mut parts.sessions, &bay.lanes, at);
+    Ok(reply)
+}
+
+/// Answers the event `Adopt` as `operate` does, by the volume's note: the drive reads on from where that says. What the
+/// note says is to be true.
+pub fn operate_noted<D: Driver, Q: Lanes, S: SpoolStore + Drop>(
+    parts: &mut Parts<D, Q, S>,
+    drive: DriveNo,
+    name: &VolName,
+    note: &Note,
+) -> Result<Reply, Refusal>
+    requires world { IsWorld (world_of parts.old) }
+    requires known { IsTrueAt (λ d. D.meaning d) (world_of parts.old) drive name.now note.now }
+    ensures moves { Moves (λ d. D.meaning d) (world_of parts.old) (Adopt drive name.now)
+        (reply_of result) (world_of parts.new) }
+{
+    let place = online(parts, drive)?;
+    let bay = &mut parts.bays[place];
+    let Some(at) = &mut bay.drive else {
+        unreachable!();
+    };
+    let reply = adopt_noted(at, &mut parts.desk, drive, name, note);
     if !is_device_fault(&reply) {
         return Ok(reply);
     }

@@ -2,3 +2,4 @@ pub mod FrontLemmas
 pub mod HeldLemmas
 pub mod SharedLemmas
 pub mod TakenLemmas
+pub mod UnusedLemmas

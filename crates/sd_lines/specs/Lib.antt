@@ -1,4 +1,6 @@
+pub mod Claims
 pub mod Held
+pub mod Noting
 pub mod Opening
 pub mod Pools
 pub mod Port

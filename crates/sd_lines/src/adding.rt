@@ -45,7 +45,8 @@ impl<D: Driver + Drop, N: Naming, R: Wait + Clock + Drop, S: SpoolStore + Drop> 
         }
     }
 
-    /// The drive of this number, which is the next, comes to the hub, with the stores of its lanes' spools.
+    /// The drive of this number, which is the next, comes to the hub, with the stores of its lanes' spools. The volumes that it
+    /// adopted are published.
     pub fn add_drive(
         &mut self,
         no: DriveNo,
@@ -63,6 +64,9 @@ impl<D: Driver + Drop, N: Naming, R: Wait + Clock + Drop, S: SpoolStore + Drop> 
             return Err(AddFault::Memory);
         };
         let Ok(post) = new_post(self.alloc, line, ends.len()) else {
+            return Err(AddFault::Memory);
+        };
+        let Ok(()) = post.station.publish(&self.rt) else {
             return Err(AddFault::Memory);
         };
         add_lanes(self.front.get_mut(), &post, ends)?;

@@ -3,6 +3,8 @@ ghost use Rattle.std.specs.Prelude.{All, IfOk};
 ghost use Rattle.sd_append.specs.Port.{IsLine};
 
 use crate::hub::{Hub, Post};
+use crate::notes::Notes;
+use crate::noting::give_unnoted;
 use sd_base::{DriveNo, Items, Refusal, VolName};
 use sd_bnet::Payload;
 use sd_console::AdoptedLine;
@@ -14,21 +16,23 @@ use std::sync::Wait;
 use std::time::Clock;
 
 /// Takes over a volume at a drive, and counts that.
-pub(crate) fn adopt<D: Driver, N: Naming, R: Wait + Clock + Drop, S: SpoolStore + Drop>(
+pub(crate) fn adopt<D: Driver, N: Naming, R: Wait + Clock + Drop, S: SpoolStore + Drop, P: Notes>(
     hub: &Hub<D, N, R, S>,
+    notes: &P,
     drive: DriveNo,
     name: &VolName,
 ) -> Result<Items<Payload>, Refusal>
     ensures { IfOk result (λ lines. All IsLine lines) }
 {
-    let answer = try_adopt(hub, drive, name);
+    let answer = try_adopt(hub, notes, drive, name);
     hub.answers.adoptions.count(answer.is_ok());
     answer
 }
 
 // Takes over a volume at a drive, and claims its name for the time of that: it is claimed if the drive has the volume then.
-fn try_adopt<D: Driver, N: Naming, R: Wait + Clock + Drop, S: SpoolStore + Drop>(
+fn try_adopt<D: Driver, N: Naming, R: Wait + Clock + Drop, S: SpoolStore + Drop, P: Notes>(
     hub: &Hub<D, N, R, S>,
+    notes: &P,
     drive: DriveNo,
     name: &VolName,
 ) -> Result<Items<Payload>, Refusal>
@@ -47,7 +51,7 @@ fn try_adopt<D: Driver, N: Naming, R: Wait + Clock + Drop, S: SpoolStore + Drop>
         drive,
         name: name.copy(),
     };
-    let reply = post.station.operate(&hub.rt, event);
+    let reply = give_unnoted(&hub.rt, post, notes, drive, name, event);
     hub.end_claim(post, name, &reply);
     post.station.wait_for_rest(&hub.rt);
     match reply {

@@ -1,6 +1,10 @@
-// A line that labels a volume or takes one over claims its name, until it is answered.
+// A line that labels a volume or takes one over claims its name, until it is answered; and so does a start for those that it has.
+ghost use Rattle.std.specs.Prelude.{◌≡◌, ◌⊎◌, IfErr};
+ghost use Rattle.sd_base.specs.declared.refusal.Refusal.TheVariants.{AlreadyLabelled, Memory};
+
 use crate::front::Front;
 use crate::hub::{Hub, Post};
+use crate::noting::is_done;
 use sd_base::{DriveNo, Refusal, VolName};
 use sd_board::{Claiming, VolumePlace};
 use sd_driver::Driver;
@@ -11,6 +15,13 @@ use std::sync::Wait;
 use std::time::Clock;
 
 impl<D: Driver, N: Naming, R: Wait + Clock + Drop, S: SpoolStore + Drop> Hub<D, N, R, S> {
+    /// Claims a name for a drive, before any thread shares the hub. Refused if it is claimed, or if out of memory.
+    pub fn claim_volume(&mut self, name: &VolName, drive: DriveNo) -> Result<(), Refusal>
+        ensures { IfErr result (λ why. (why ≡ AlreadyLabelled) ⊎ (why ≡ Memory)) }
+    {
+        self.front.get_mut().claim(name, drive)
+    }
+
     /// Begins to claim a name for a drive, until `end_claim`. While somebody else is claiming it, that is waited for, with
     /// no lock held: the name may be claimed then or free. Refused if it is claimed, or if out of memory.
     pub(crate) fn begin_claim(&self, name: &VolName, drive: DriveNo) -> Result<(), Refusal> {
@@ -69,9 +80,4 @@ impl<D: Driver, N: Naming, R: Wait + Clock + Drop, S: SpoolStore + Drop> Hub<D, 
         }
         Ok(None)
     }
-}
-
-// Whether the volume is at the drive by this.
-fn is_done(reply: &Reply) -> bool {
-    matches!(reply, Reply::Labelled | Reply::Adopted { .. })
 }

@@ -7,6 +7,7 @@ use crate::adopting::adopt;
 use crate::held::Held;
 use crate::hub::Hub;
 use crate::labelling::label;
+use crate::notes::Notes;
 use crate::status::view;
 use sd_base::{DriveNo, Items, Refusal, SessionKey, Ticket};
 use sd_bnet::Payload;
@@ -28,7 +29,7 @@ pub(crate) fn obey_line<
     N: Naming,
     R: Wait + Clock + Drop,
     S: SpoolStore + Drop,
-    P: Patience + Drop,
+    P: Patience + Notes + Drop,
 >(held: &mut Held<'_, D, N, R, S, P>, moment: i64, line: &[u8]) -> Result<Items<Payload>, Refusal>
     ensures lines { IfOk result (λ lines. All IsLine lines) }
     ensures own { GivesUpAtMost (last_of held.old) (last_of held.new) }
@@ -39,7 +40,13 @@ pub(crate) fn obey_line<
     }
 }
 
-fn obey<D: Driver, N: Naming, R: Wait + Clock + Drop, S: SpoolStore + Drop, P: Patience + Drop>(
+fn obey<
+    D: Driver,
+    N: Naming,
+    R: Wait + Clock + Drop,
+    S: SpoolStore + Drop,
+    P: Patience + Notes + Drop,
+>(
     held: &mut Held<'_, D, N, R, S, P>,
     moment: i64,
     command: ConsoleCmd,
@@ -54,8 +61,8 @@ fn obey<D: Driver, N: Naming, R: Wait + Clock + Drop, S: SpoolStore + Drop, P: P
             volume,
             pool,
             media,
-        } => label(hub, drive, &volume, &pool, &media, moment),
-        ConsoleCmd::Adopt { drive, volume } => adopt(hub, drive, &volume),
+        } => label(hub, held.notes(), drive, &volume, &pool, &media, moment),
+        ConsoleCmd::Adopt { drive, volume } => adopt(hub, held.notes(), drive, &volume),
         ConsoleCmd::Mount { drive, volume } => {
             let event = Event::Mount {
                 drive,

@@ -1,14 +1,15 @@
 // What lies under the lock of the desk.
-ghost use Rattle.std.specs.Prelude.{◌≡◌, ◌-◌, None, Some, IfErr, IfNone, IfOk, IfSome, OnErr, slice_get};
+ghost use Rattle.std.specs.Prelude.{◌≡◌, ◌-◌, None, Some, IfErr, IfNone, IfOk, IfSome, OnErr, OnOk, slice_get};
 ghost use Rattle.sd_board.specs.Board.{MayRest, Rests};
 ghost use Rattle.sd_board.specs.Lines.{posted_in};
 ghost use Rattle.sd_board.specs.Opening.{ChoosesLane, ChoosesLater, ChoosesNone, Numbers};
 ghost use Rattle.sd_line.specs.Ends.{LastIsOver};
+ghost use Rattle.sd_lines.specs.Claims.{ClaimsName, ClaimsNoName};
 ghost use Rattle.sd_lines.specs.Pools.{pools_by, seen_of};
 
 use crate::standings::Standings;
-use sd_base::{DriveNo, LaneNo, MOST_DRIVES, MediaName, PoolName, Refusal, Ticket};
-use sd_board::{Board, Chosen, DriveSeen, Numbered, Sent};
+use sd_base::{DriveNo, LaneNo, MOST_DRIVES, MediaName, PoolName, Refusal, Ticket, VolName};
+use sd_board::{Board, Chosen, Claiming, DriveSeen, Numbered, Sent};
 use sd_line::{LaneEnd, Naming};
 use sd_session::Status;
 use sd_spool::SpoolStore;
@@ -109,6 +110,27 @@ impl<N: Naming, S: SpoolStore + Drop> Front<N, S> {
     {
         // Its slot is empty since it was chosen.
         let _ = self.board.rest(end, on_its_way);
+    }
+
+    /// A name is claimed for a drive from now on, unless it is claimed or being claimed (already labelled), or there is no
+    /// memory for that.
+    pub(crate) fn claim(&mut self, name: &VolName, drive: DriveNo) -> Result<(), Refusal>
+        ensures ok { OnOk result (ClaimsName name.now drive self.old.board.names
+            self.new.board.names) }
+        ensures err { IfErr result (λ why. ClaimsNoName why name.now self.old.board.names
+            self.new.board.names) }
+        ensures same { self.new ≡ record self.old {
+          board = record self.old.board { names = self.new.board.names };
+        } }
+    {
+        match self.board.begin_claim(name, drive) {
+            Claiming::Begun => {
+                self.board.end_claim(name, true);
+                Ok(())
+            }
+            Claiming::Taken | Claiming::UnderWay => Err(Refusal::AlreadyLabelled),
+            Claiming::Memory => Err(Refusal::Memory),
+        }
     }
 
     /// The session's line says from now on that it has this status and took so many records.

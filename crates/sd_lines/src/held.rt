@@ -59,6 +59,11 @@ impl<
         self.hub
     }
 
+    /// What the talk reaches the notes of volumes by.
+    pub(crate) fn notes(&self) -> &P {
+        &self.patience
+    }
+
     /// What an event comes to.
     pub(crate) fn answer(&mut self, event: Event) -> Reply
         ensures { AnswersEvent event result (last_of self.old) (last_of self.new) }

@@ -3,6 +3,8 @@ ghost use Rattle.std.specs.Prelude.{All, IfOk};
 ghost use Rattle.sd_append.specs.Port.{IsLine};
 
 use crate::hub::{Hub, Post};
+use crate::notes::Notes;
+use crate::noting::give_unnoted;
 use sd_base::{DriveNo, Items, MediaName, PoolName, Refusal, VolName};
 use sd_bnet::Payload;
 use sd_console::one_line;
@@ -14,8 +16,9 @@ use std::sync::Wait;
 use std::time::Clock;
 
 /// Labels a new volume at a drive, and counts that.
-pub(crate) fn label<D: Driver, N: Naming, R: Wait + Clock + Drop, S: SpoolStore + Drop>(
+pub(crate) fn label<D: Driver, N: Naming, R: Wait + Clock + Drop, S: SpoolStore + Drop, P: Notes>(
     hub: &Hub<D, N, R, S>,
+    notes: &P,
     drive: DriveNo,
     name: &VolName,
     pool: &PoolName,
@@ -24,15 +27,16 @@ pub(crate) fn label<D: Driver, N: Naming, R: Wait + Clock + Drop, S: SpoolStore 
 ) -> Result<Items<Payload>, Refusal>
     ensures { IfOk result (λ lines. All IsLine lines) }
 {
-    let answer = try_label(hub, drive, name, pool, media, moment);
+    let answer = try_label(hub, notes, drive, name, pool, media, moment);
     hub.answers.labels.count(answer.is_ok());
     answer
 }
 
 // Labels a new volume at a drive, and claims its name for the time of that: it is claimed if the drive has the volume then. A
 // name that is claimed is refused after what the drive would refuse before it.
-fn try_label<D: Driver, N: Naming, R: Wait + Clock + Drop, S: SpoolStore + Drop>(
+fn try_label<D: Driver, N: Naming, R: Wait + Clock + Drop, S: SpoolStore + Drop, P: Notes>(
     hub: &Hub<D, N, R, S>,
+    notes: &P,
     drive: DriveNo,
     name: &VolName,
     pool: &PoolName,
@@ -55,7 +59,7 @@ fn try_label<D: Driver, N: Naming, R: Wait + Clock + Drop, S: SpoolStore + Drop>
         media: media.copy(),
         moment,
     };
-    let reply = post.station.operate(&hub.rt, event);
+    let reply = give_unnoted(&hub.rt, post, notes, drive, name, event);
     hub.end_claim(post, name, &reply);
     post.station.wait_for_rest(&hub.rt);
     match reply {

@@ -8,6 +8,7 @@ ghost use Rattle.sd_lines.specs.Port.{KeepsPort, behind, new_port};
 use crate::console::obey_line;
 use crate::held::Held;
 use crate::hub::Hub;
+use crate::notes::Notes;
 use crate::reading::{Reading, read};
 use sd_append::{Exchanges, ReadBack};
 use sd_base::{Items, Refusal, SessionKey};
@@ -56,10 +57,10 @@ impl<
     N: Naming,
     R: Wait + Clock + Drop,
     S: SpoolStore + Drop,
-    P: Patience + Drop,
+    P: Patience + Notes + Drop,
 > LinePort<'h, D, N, R, S, P> {
     /// The port of a talk that begins, at this moment in microseconds. A record and a close wait so patiently for a volume
-    /// that their drive needs.
+    /// that their drive needs. By the same the notes of volumes are reached that a line of the console labels or takes over.
     pub fn new(hub: &'h Hub<D, N, R, S>, readers: Vec<D>, moment: i64, patience: P) -> Self
         ensures { result ≡ new_port moment }
     {

@@ -1,4 +1,5 @@
 // The port of talks over files.
+use crate::notes::Notes;
 use crate::port::LinePort;
 use sd_append::{ReadBack, SessionPort};
 use sd_base::{Items, Refusal, SessionKey};
@@ -13,7 +14,7 @@ use sd_stations::Patience;
 use std::sync::Wait;
 use std::time::Clock;
 
-impl<N: Naming, R: Wait + Clock + Drop, P: Patience + Drop> SessionPort
+impl<N: Naming, R: Wait + Clock + Drop, P: Patience + Notes + Drop> SessionPort
     for LinePort<'_, FileDrive<HostRuntime>, N, R, FileSpool<HostRuntime>, P> {
     ghost asked = { λ p. p.asked };
 

@@ -90,14 +90,16 @@ fn show_volumes(rows: Vec<VolumeRow>, volumes: &mut Vec<VolumeLine>) -> Result<(
             pool,
             media,
             status,
-            end,
+            extent,
+            synced: _,
+            is_torn: _,
         } = row;
         volumes.push(VolumeLine {
             name,
             pool,
             media,
             status,
-            end,
+            end: extent.end,
         })?;
     }
     Ok(())

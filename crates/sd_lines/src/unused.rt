@@ -1,21 +1,31 @@
 // A drive of which nothing was used yet.
-ghost use Rattle.std.specs.Prelude.{◌≡◌, ◌≤◌, ℕ, [], Some, IfSome, slice_get};
+ghost use Rattle.std.specs.Prelude.{◌≡◌, ◌≢◌, ◌≤◌, ℕ, [], None, Some, IfErr, IfOk, IfSome, IsErrOf, IsSome, OnErr, slice_get};
+ghost use Rattle.std.specs.Option.{option_copied};
 ghost use Rattle.sd_base.specs.Limits.{most_lanes};
 ghost use Rattle.sd_drive.specs.Limits.{AreLimits};
+ghost use Rattle.sd_drive.specs.Moves.{index_of};
+ghost use Rattle.sd_driver.specs.Meaning.{IsHonest};
+ghost use Rattle.sd_driver.specs.Shelf.{SameShelf, StillLasts, StillLastsBelow};
 ghost use Rattle.sd_line.specs.Side.{SeatIs};
+ghost use Rattle.sd_lines.specs.Unused.{AdoptsUnused};
+ghost use Rattle.sd_volume.specs.Adopt.{IsDue, KeepsWholeBlocks};
+ghost use Rattle.sd_volume.specs.Fault.{adopt_refusal};
+ghost use Rattle.sd_volume.specs.Noted.{IsTrueNote};
+ghost use Rattle.sd_volume.specs.declared.fault.AdoptFault.{AdoptFault as SpecFault};
 
-use sd_base::{DriveNo, MediaName};
-use sd_drive::{Drive, Limits};
+use sd_base::{DriveNo, MediaName, Refusal, VolName};
+use sd_drive::{Adopted, Drive, Limits};
 use sd_driver::Driver;
 use sd_line::{LaneEnd, Line, Naming, Seat};
+use sd_note::Note;
 use sd_ruled::RuledLanes;
 use sd_spool::SpoolStore;
 use std::alloc::Global;
 use std::marker::Model;
 use std::sync::Wait;
 
-/// A drive and the queue before it, of which no line is made yet and nothing was used. In a contract it is an `UnusedIs`: by
-/// that the lines of a daemon are named, before the first of them is made.
+/// A drive and the queue before it, of which no line is made yet and nothing was used; it may have adopted volumes. In a
+/// contract it is an `UnusedIs`: by that the lines of a daemon are named, before the first of them is made.
 #[derive(Drop)]
 pub struct UnusedDrive<D: Driver, R: Wait + Drop> {
     drive: Drive<D>,
@@ -28,7 +38,7 @@ impl<D: Driver, R: Wait + Drop> Model for UnusedDrive<D, R> {
     ghost use Rattle.sd_drive.specs.Limits.{AreLimits};
     ghost use Rattle.sd_lines.specs.Unused.{UnusedIs};
 
-    ghost Value = { UnusedIs };
+    ghost Value = { UnusedIs D };
 
     ghost view = { λ u. record {
       table = u.lanes.table;
@@ -36,10 +46,13 @@ impl<D: Driver, R: Wait + Drop> Model for UnusedDrive<D, R> {
       room = u.lanes.capacity;
       media = u.drive.media;
       limits = u.drive.limits;
+      device = u.drive.device;
+      volumes = u.drive.volumes;
     } };
 
     ghost invariant = { λ u. record {
       limits : AreLimits u.drive.limits;
+      loaded : u.drive.loaded ≡ None;
       journal : u.drive.journal ≡ [];
       hand : u.drive.hand ≡ None;
       lanes : u.lanes.lanes ≤ most_lanes;
@@ -64,12 +77,54 @@ impl<D: Driver + Drop, R: Wait + Drop> UnusedDrive<D, R> {
         ensures lanes { IfSome result (λ unused. (unused.lanes ≡ lanes) × (unused.room ≡ room)) }
         ensures media { IfSome result (λ unused. unused.media ≡ media) }
         ensures limits { IfSome result (λ unused. unused.limits ≡ limits) }
+        ensures volumes { IfSome result (λ unused. unused.volumes ≡ []) }
+        ensures honest { IfSome result
+            (λ unused. (D.meaning unused.device).honest ≡ (D.meaning device).honest) }
     {
         let Ok(drive) = Drive::new(alloc, device, media, limits) else {
             return None;
         };
         let lanes = RuledLanes::new(rt, alloc, lanes, room).ok()?;
         Some(UnusedDrive { drive, lanes })
+    }
+
+    /// The media of the drive.
+    pub fn media(&self) -> &MediaName
+        ensures { result.now ≡ self.now.media }
+    {
+        self.drive.media()
+    }
+
+    /// Takes over a volume that an earlier run left, as `Drive::adopt`; or by its note, if there is one, as
+    /// `Drive::adopt_noted`: then what the note says is to be true of the volume. Already labelled, if the drive has a volume
+    /// of that name. None is loaded, so the drive is never in use.
+    pub fn adopt(&mut self, name: &VolName, note: Option<&Note>) -> Result<Adopted, Refusal>
+        requires known { IsHonest (D.meaning self.old.device) → IfSome (option_copied note)
+            (λ given. IsTrueNote given name.now (D.meaning self.old.device).shelf) }
+        ensures refused { IsSome (index_of self.old.volumes name.now)
+            → IsErrOf result Refusal.AlreadyLabelled × (self.new ≡ self.old) }
+        ensures ok { IfOk result (λ answer. AdoptsUnused name.now answer
+            (D.meaning self.old.device) (D.meaning self.new.device) self.old self.new) }
+        ensures err { OnErr result (self.new ≡ record self.old { device = self.new.device }) }
+        ensures honest { (D.meaning self.new.device).honest ≡ (D.meaning self.old.device).honest }
+        ensures due { IsHonest (D.meaning self.old.device) → index_of self.old.volumes name.now ≡ None
+            → IfErr result (λ fault. fault ≢ Refusal.DeviceFault → fault ≢ Refusal.Memory
+            → (cause : SpecFault) × (fault ≡ adopt_refusal cause) × IsDue cause name.now
+            self.old.media self.old.limits.time (D.meaning self.old.device).shelf) }
+        ensures same { IsHonest (D.meaning self.old.device)
+            → IfErr result (λ fault. fault ≢ Refusal.DeviceFault
+            → SameShelf (D.meaning self.old.device).shelf (D.meaning self.new.device).shelf) }
+        ensures whole_blocks { IsHonest (D.meaning self.old.device) → KeepsWholeBlocks name.now
+            (D.meaning self.old.device).shelf (D.meaning self.new.device).shelf }
+        ensures others_last { StillLastsBelow 0 name.now
+            (D.meaning self.old.device).shelf (D.meaning self.new.device).shelf }
+        ensures refused_last { IfErr result (λ fault. fault ≢ Refusal.DeviceFault
+            → StillLasts (D.meaning self.old.device).shelf (D.meaning self.new.device).shelf) }
+    {
+        match note {
+            Some(note) => self.drive.adopt_noted(name, note),
+            None => self.drive.adopt(name),
+        }
     }
 
     /// The drive's line of this number, and the ends of its lanes, each with one of the stores, in their order. `None`

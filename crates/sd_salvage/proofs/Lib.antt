@@ -1,3 +1,4 @@
 pub mod PrinterLemmas
+pub mod ReadLemmas
 pub mod ReadableLemmas
 pub mod SalvageLemmas

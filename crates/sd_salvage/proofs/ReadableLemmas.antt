@@ -19,7 +19,7 @@ within_bytes bytes at key number body begins =
     omega (arith, long, length-take (24 + length body) (drop at bytes), length-drop at bytes)
 
 -- blocks that begin at one place are equally long
-one_size : (bytes : List ℕ) (key key' : SessionKey) (number number' : ℕ) (body body' : List ℕ) → BeginsWithBlock bytes key number body → BeginsWithBlock bytes key' number' body'
+pub one_size : (bytes : List ℕ) (key key' : SessionKey) (number number' : ℕ) (body body' : List ℕ) → BeginsWithBlock bytes key number body → BeginsWithBlock bytes key' number' body'
     → length body ≡ length body'
 one_size bytes key key' number number' body body' begins begins' =
     let image = take (24 + length body) bytes in

@@ -1,11 +1,16 @@
 -- What is printed of a salvage.
-use Rattle.std.specs.Prelude.{ℕ, Bool, true, false, Option, Some, None, List, [], ◌∷◌, ◌++◌, max, codes, Result, Ok, Err, if◌then◌else◌}
+use Rattle.std.specs.Prelude.{ℕ, ◌<◌, ◌^◌, Bool, true, false, Option, Some, None, List, [], ◌∷◌, ◌++◌, length, max, codes, Result, Ok, Err, if◌then◌else◌}
 use Rattle.std.specs.Fmt.{decimal}
 use Rattle.sd_base.specs.Record.{Record}
 use Rattle.sd_collect.specs.Whole.{Place}
+use Rattle.sd_files.specs.End.{end_text}
 use Rattle.sd_files.specs.Lines.{record_lines}
+use Rattle.sd_base.specs.Refusal.{refusal_text}
+use Rattle.sd_label.specs.Cutting.{total_bytes}
+use Rattle.sd_readback.specs.Faults.{fault_refusal}
 use Rattle.sd_readback.specs.declared.fault.ReadFault.{ReadFault}
 use Rattle.sd_text.specs.Lines.{line}
+use Rattle.sd_salvage.specs.declared.printer.Counts.{Counts}
 use Rattle.sd_salvage.specs.declared.session.SalvageEnd.{SalvageEnd}
 use Rattle.sd_salvage.specs.declared.event.Event.{Event}
 use Rattle.sd_salvage.specs.declared.event.Event.TheVariants as events
@@ -57,6 +62,26 @@ abbrev pub last_after : ℕ → List Event → ℕ
 last_after last [] = last
 last_after last (events.Record r ∷ es) = last_after r.index es
 last_after last (events.Lost volume at ∷ es) = last_after last es
+
+-- the records, their data bytes and the places are each of a number that 64 bits hold
+pub record AreCountable (es : List Event) : Type 0 where
+  pub records : length (records_in es) < 2 ^ 64
+  pub bytes : total_bytes (records_in es) < 2 ^ 64
+  pub gaps : length (places_in es) < 2 ^ 64
+
+-- the last line, with these counts: if nothing is lost, that of a reading
+abbrev pub counted_lines : SalvageEnd → Counts → List ℕ
+counted_lines end counts =
+    if end.sound then line (end_text (record { records = counts.records; bytes = counts.bytes; ended = end.ended }))
+    else line (line_text (lines.Salvaged counts.records counts.bytes counts.gaps))
+
+-- what is printed of how a salvage ended, after what was handed over and told: which FileIndexes may be lost behind the last
+-- record, if some may be, and the last line; or the refusal of the fault that was met
+abbrev pub end_lines : List Event → Result SalvageEnd ReadFault → List ℕ
+end_lines es (Ok end) =
+    missing_lines (lost_after false es) (last_after 0 es) None
+    ++ counted_lines end (record { records = length (records_in es); bytes = total_bytes (records_in es); gaps = length (places_in es) })
+end_lines es (Err fault) = line (refusal_text (fault_refusal fault))
 
 -- the status: 0 if nothing was lost, and all could be written
 abbrev pub salvage_status : Result SalvageEnd ReadFault → Bool → ℕ

@@ -1,10 +1,15 @@
 // A session salvaged from the files of a folder.
-ghost use Rattle.std.specs.Prelude.{◌≡◌, ◌++◌, List, ℕ, OnOk, IsErrOf, false};
+ghost use Rattle.std.specs.Prelude.{◌≡◌, ◌++◌, ◌<◌, ◌^◌, Bool, List, length, ℕ, IfOk, IsErrOf, false};
+ghost use Rattle.sd_base.specs.Record.{Record};
 ghost use Rattle.sd_driver.specs.Meaning.{IsHonest};
-ghost use Rattle.sd_readback.specs.Reading.{volumes_on};
-ghost use Rattle.sd_salvage.specs.Lines.{event_lines, places_in, records_in, salvage_status};
+ghost use Rattle.sd_files.specs.End.{end_text};
+ghost use Rattle.sd_files.specs.Lines.{records_lines};
+ghost use Rattle.sd_label.specs.Cutting.{total_bytes};
+ghost use Rattle.sd_readback.specs.Reading.{Reads, volumes_on};
+ghost use Rattle.sd_salvage.specs.Lines.{AreCountable, end_lines, event_lines, places_in, records_in, salvage_status};
 ghost use Rattle.sd_salvage.specs.Salvage.{Salvages};
 ghost use Rattle.sd_salvage.specs.declared.event.Event.{Event};
+ghost use Rattle.sd_text.specs.Lines.{line};
 ghost use Rattle.sd_text.specs.Says.{Says, said_view};
 ghost use Rattle.sd_volume.specs.Device.{OnlyReads};
 
@@ -77,9 +82,20 @@ fn salvage_out<K: Before, D: Driver, W: Write>(
         (D.meaning driver.old) (D.meaning driver.new) }
     ensures salvages { (told : List Event) × (last : List ℕ)
         × Says K.before (said_view W.contents result.out) (event_lines false 0 told ++ last)
-        × (IsHonest (D.meaning driver.old) → OnOk result.result
+        × (AreCountable told → last ≡ end_lines told result.result)
+        × (IsHonest (D.meaning driver.old) → IfOk result.result
         (Salvages (volumes_on (D.meaning driver.old).shelf) read.now.key read.now.spans
         (records_in told) (places_in told))) }
+    ensures whole { IsHonest (D.meaning driver.old)
+        → (records : List Record) (ended : Bool)
+        → length records < 2 ^ 64 → total_bytes records < 2 ^ 64
+        → Reads (volumes_on (D.meaning driver.old).shelf) read.now.key read.now.spans records ended
+        → IfOk result.result (λ _end. Says K.before (said_view W.contents result.out)
+        (records_lines records ++ line (end_text (record {
+          records = length records;
+          bytes = total_bytes records;
+          ended = ended;
+        })))) }
 {
     let mut sink: SalvagePrinter<K, W> = SalvagePrinter::new(out);
     let result = salvage(alloc, driver, read.key, read.spans.as_slice(), &mut sink);

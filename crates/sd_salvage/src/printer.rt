@@ -1,7 +1,7 @@
 // What is salvaged, printed as it comes.
-ghost use Rattle.std.specs.Prelude.{◌≡◌, ◌++◌, [], List, ℕ, false};
+ghost use Rattle.std.specs.Prelude.{◌≡◌, ◌++◌, ◌+◌, ◌<◌, ◌^◌, [], List, ℕ, false};
 ghost use Rattle.sd_files.specs.Lines.{record_lines};
-ghost use Rattle.sd_salvage.specs.Lines.{event_lines, missing_lines};
+ghost use Rattle.sd_salvage.specs.Lines.{AreCountable, counted_lines, end_lines, event_lines, missing_lines};
 ghost use Rattle.sd_text.specs.Says.{Says, said_view};
 
 use crate::event::Event;
@@ -32,10 +32,37 @@ pub struct SalvagePrinter<K: Before, W: Write> {
 
 /// How many records and data bytes were printed, and how many places.
 #[derive(Clone, Copy, Debug, PartialEq, Eq)]
-struct Counts {
-    records: u64,
-    bytes: u64,
-    gaps: u64,
+pub struct Counts {
+    pub records: u64,
+    pub bytes: u64,
+    pub gaps: u64,
+}
+
+impl Counts {
+    // With a record of so many bytes more.
+    fn with_record(self, size: u64) -> Self
+        ensures records { self.records + 1 < 2 ^ 64 → result.records ≡ self.records + 1 }
+        ensures bytes { self.bytes + size < 2 ^ 64 → result.bytes ≡ self.bytes + size }
+        ensures gaps { result.gaps ≡ self.gaps }
+    {
+        Counts {
+            records: self.records.saturating_add(1),
+            bytes: self.bytes.saturating_add(size),
+            gaps: self.gaps,
+        }
+    }
+
+    // With a place more.
+    fn with_gap(self) -> Self
+        ensures records { result.records ≡ self.records }
+        ensures bytes { result.bytes ≡ self.bytes }
+        ensures gaps { self.gaps + 1 < 2 ^ 64 → result.gaps ≡ self.gaps + 1 }
+    {
+        Counts {
+            gaps: self.gaps.saturating_add(1),
+            ..self
+        }
+    }
 }
 
 impl<K: Before, W: Write> Model for SalvagePrinter<K, W> {
@@ -48,7 +75,7 @@ impl<K: Before, W: Write> Model for SalvagePrinter<K, W> {
     ghost view = { λ s. record { out = s.out; told = seen_of s.told } };
 
     ghost invariant = { λ s. Keeps K.before (said_view W.contents s.out) (seen_of s.told)
-        s.lost s.last };
+        s.lost s.last s.counts };
 }
 
 impl<K: Before, W: Write> SalvagePrinter<K, W> {
@@ -74,7 +101,8 @@ impl<K: Before, W: Write> SalvagePrinter<K, W> {
     /// The printer, after how the salvage ended was printed too: as a reading ends, if nothing is lost.
     pub fn end(self, ended: &Result<SalvageEnd, ReadFault>) -> Printer<W>
         ensures { (last : List ℕ) × Says K.before (said_view W.contents result)
-            (event_lines false 0 self.told ++ last) }
+            (event_lines false 0 self.told ++ last)
+            × (AreCountable self.told → last ≡ end_lines self.told ended.now) }
     {
         let SalvagePrinter {
             mut out,
@@ -125,8 +153,8 @@ fn print_record<W: Write>(rec: &Rec, out: &mut Printer<W>)
 
 // Prints what a session came to.
 fn print_end<W: Write>(end: &SalvageEnd, counts: Counts, out: &mut Printer<W>)
-    ensures { (last : List ℕ)
-        × Says (said_view W.contents out.old) (said_view W.contents out.new) last }
+    ensures { Says (said_view W.contents out.old) (said_view W.contents out.new)
+        (counted_lines end.now counts) }
 {
     let Counts {
         records,
@@ -165,8 +193,7 @@ impl<K: Before, W: Write> Salvaged for SalvagePrinter<K, W> {
         print_record(&rec, &mut self.out);
         self.lost = false;
         self.last = rec.index;
-        self.counts.records = self.counts.records.saturating_add(1);
-        self.counts.bytes = self.counts.bytes.saturating_add(rec.bytes.len() as u64);
+        self.counts = self.counts.with_record(rec.bytes.len() as u64);
         let event = Event::Record(rec);
         self.told = Some(Seen::with(&self.told, &event));
         Ok(())
@@ -178,7 +205,7 @@ impl<K: Before, W: Write> Salvaged for SalvagePrinter<K, W> {
             at,
         });
         self.lost = true;
-        self.counts.gaps = self.counts.gaps.saturating_add(1);
+        self.counts = self.counts.with_gap();
         let event = Event::Lost {
             volume: volume.copy(),
             at,

@@ -1,11 +1,15 @@
 // The salvager: what is found of spans in, the whole records of one session out.
-ghost use Rattle.std.specs.Prelude.{◌≡◌, [], ◌∷◌, ◌++◌, List, None, OnOk};
+ghost use Rattle.std.specs.Prelude.{◌≡◌, ◌&&◌, [], ◌∷◌, ◌++◌, ℕ, List, None, Some, OnOk, IfOk, IfErr, true, false};
+ghost use Rattle.sd_base.specs.Record.{Record};
 ghost use Rattle.sd_collect.specs.Whole.{Place};
 ghost use Rattle.sd_salvage.specs.Readable.{Lost, Read, place};
-ghost use Rattle.sd_salvage.specs.Salvage.{IsTold, Takes};
+ghost use Rattle.sd_salvage.specs.Salvage.{Course, HasCome, IsEndOf, Takes, Unpacked, told_unless};
+ghost use Rattle.sd_unpack.specs.Unpacking.{Unpacks};
 
+use crate::session::SalvageEnd;
 use sd_base::{SessionKey, VolName};
 use sd_collect::{Collector, Salvaged, take_body};
+use sd_readback::ReadFault;
 use sd_unpack::{AddFault, Unpacker};
 use std::alloc::{AllocError, Global};
 
@@ -26,6 +30,7 @@ impl Salvager {
     pub(crate) fn new(alloc: Global, key: SessionKey) -> Self
         ensures key { result.key ≡ key }
         ensures due { result.collector.due ≡ None }
+        ensures come { HasCome (Some []) result }
     {
         Salvager {
             key,
@@ -39,7 +44,7 @@ impl Salvager {
     /// Goes on after a place from which on some may be lost.
     pub(crate) fn lose<S: Salvaged>(&mut self, volume: &VolName, at: u64, sink: &mut S)
         ensures key { self.new.key ≡ self.old.key }
-        ensures takes { Takes self.old.key self.old.collector self.new.collector
+        ensures takes { Takes self.old.key self.old self.new
             (Lost (place volume.now at) ∷ []) (S.got sink.old) (S.got sink.new)
             (S.lost sink.old) (S.lost sink.new) }
     {
@@ -58,7 +63,7 @@ impl Salvager {
         sink: &mut S,
     ) -> Result<(), AllocError>
         ensures key { self.new.key ≡ self.old.key }
-        ensures takes { OnOk result (Takes self.old.key self.old.collector self.new.collector
+        ensures takes { OnOk result (Takes self.old.key self.old self.new
             (Read (place volume.now at) (record { key = key; body = body.now }) ∷ [])
             (S.got sink.old) (S.got sink.new) (S.lost sink.old) (S.lost sink.new)) }
     {
@@ -66,42 +71,88 @@ impl Salvager {
             return Ok(());
         }
         self.found = true;
-        let sound = take_body(&mut self.collector, body, sink)?;
+        let whole = take_body(&mut self.collector, body, sink)?;
         let follows = self.follows(body)?;
-        self.sound = self.sound && sound && follows;
-        tell_body(sound, follows, volume, at, sink);
+        let goes_on = both(whole, follows);
+        self.sound = both(self.sound, goes_on);
+        tell_body(goes_on, volume, at, sink);
         Ok(())
     }
 
     // Whether the body follows those before it, if nothing was lost so far.
     fn follows(&mut self, body: &[u8]) -> Result<bool, AllocError>
-        ensures key { self.new.key ≡ self.old.key }
-        ensures collector { self.new.collector ≡ self.old.collector }
+        ensures rest { self.new ≡ record self.old { unpacker = self.new.unpacker } }
+        ensures lost { self.old.sound ≡ false → IfOk result (λ follows. follows ≡ true) }
+        ensures course { self.old.sound ≡ true → (bodies : List (List ℕ)) (taken : List Record)
+            → self.old.unpacker.damage ≡ None → Unpacks bodies taken self.old.unpacker
+            → IfOk result (λ follows. Unpacked bodies body.now follows self.new.unpacker) }
     {
         if !self.sound {
             return Ok(true);
         }
-        match self.unpacker.add(body) {
-            Ok(()) => {
-                while let Some(rec) = self.unpacker.take_record() {
-                    let _ = rec;
-                }
-                Ok(true)
-            }
-            Err(AddFault::Damaged(_)) => Ok(false),
-            Err(AddFault::Memory) => Err(AllocError),
+        unpack(&mut self.unpacker, body)
+    }
+
+    /// What the salvage came to, after all spans. Spans in which nothing is lost, and no block is the session's, are bad.
+    pub(crate) fn end(&self) -> Result<SalvageEnd, ReadFault>
+        ensures ok { IfOk result (λ end. (course : Course) → HasCome course self.now
+            → IsEndOf course end) }
+        ensures bad { IfErr result (λ fault. fault ≡ ReadFault.BadSpan) }
+        ensures err { IfErr result (λ fault. (course : Course) → HasCome course self.now
+            → course ≡ Some []) }
+    {
+        if self.sound && !self.found {
+            return Err(ReadFault::BadSpan);
         }
+        Ok(SalvageEnd {
+            sound: self.sound,
+            ended: self.unpacker.ended(),
+        })
     }
 }
 
-// Tells that some may be lost from a block on, if its body isn't fragments to its end, or doesn't follow those before it.
-fn tell_body<S: Salvaged>(sound: bool, follows: bool, volume: &VolName, at: u64, sink: &mut S)
-    ensures got { S.got sink.new ≡ S.got sink.old }
-    ensures told { (more : List Place) × IsTold sound (place volume.now at) more
-        × (S.lost sink.new ≡ S.lost sink.old ++ more) }
+// Has the unpacker take the session's next body, and lets the records go. Says whether the body can follow those before it.
+fn unpack(unpacker: &mut Unpacker, body: &[u8]) -> Result<bool, AllocError>
+    ensures { (bodies : List (List ℕ)) (taken : List Record)
+        → unpacker.old.damage ≡ None → Unpacks bodies taken unpacker.old
+        → IfOk result (λ follows. Unpacked bodies body.now follows unpacker.new) }
 {
-    if sound && follows {
-        return;
+    match unpacker.add(body) {
+        Ok(()) => {
+            let_go(unpacker);
+            Ok(true)
+        }
+        Err(AddFault::Damaged(_)) => Ok(false),
+        Err(AddFault::Memory) => Err(AllocError),
     }
-    sink.lose(volume, at);
+}
+
+// Lets the records go that wait.
+fn let_go(unpacker: &mut Unpacker)
+    ensures damage { unpacker.new.damage ≡ unpacker.old.damage }
+    ensures unpacks { (bodies : List (List ℕ)) (taken : List Record)
+        → Unpacks bodies taken unpacker.old
+        → (more : List Record) × Unpacks bodies more unpacker.new }
+{
+    while let Some(rec) = unpacker.take_record() {
+        let _ = rec;
+    }
+}
+
+// Tells that some may be lost from a block on, unless the session goes on with it.
+fn tell_body<S: Salvaged>(goes_on: bool, volume: &VolName, at: u64, sink: &mut S)
+    ensures got { S.got sink.new ≡ S.got sink.old }
+    ensures told { S.lost sink.new
+        ≡ S.lost sink.old ++ told_unless goes_on (place volume.now at) }
+{
+    if !goes_on {
+        sink.lose(volume, at);
+    }
+}
+
+// Whether the one holds, and the other.
+fn both(one: bool, other: bool) -> bool
+    ensures { result ≡ (one && other) }
+{
+    one && other
 }

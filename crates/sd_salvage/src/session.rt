@@ -1,10 +1,10 @@
 // A session's spans in, all its whole records out.
-ghost use Rattle.std.specs.Prelude.{◌≡◌, ◌++◌, List, OnOk, IsErrOf};
+ghost use Rattle.std.specs.Prelude.{◌≡◌, ◌⊎◌, ◌++◌, Bool, true, List, [], IfOk, IsErrOf};
 ghost use Rattle.sd_base.specs.Record.{Record};
 ghost use Rattle.sd_collect.specs.Whole.{Place};
 ghost use Rattle.sd_driver.specs.Meaning.{IsHonest};
-ghost use Rattle.sd_readback.specs.Reading.{volumes_on};
-ghost use Rattle.sd_salvage.specs.Salvage.{Salvages};
+ghost use Rattle.sd_readback.specs.Reading.{Reads, volumes_on};
+ghost use Rattle.sd_salvage.specs.Salvage.{HasNone, Salvages};
 ghost use Rattle.sd_volume.specs.Device.{OnlyReads};
 
 use crate::salvager::Salvager;
@@ -42,10 +42,18 @@ pub fn salvage<D: Driver, S: Salvaged>(
     ensures device { OnlyReads (IsErrOf result ReadFault.Device)
         (D.meaning driver.old) (D.meaning driver.new) }
     ensures salvages { IsHonest (D.meaning driver.old)
-        → OnOk result ((records : List Record) × (told : List Place)
+        → IfOk result (λ end. (records : List Record) × (told : List Place)
         × (S.got sink.new ≡ S.got sink.old ++ records)
         × (S.lost sink.new ≡ S.lost sink.old ++ told)
-        × Salvages (volumes_on (D.meaning driver.old).shelf) key spans.now records told) }
+        × Salvages (volumes_on (D.meaning driver.old).shelf) key spans.now records told end) }
+    ensures bad_spans { IsHonest (D.meaning driver.old) → IsErrOf result ReadFault.BadSpan
+        → (spans.now ≡ []) ⊎ HasNone (volumes_on (D.meaning driver.old).shelf) key spans.now }
+    ensures whole { IsHonest (D.meaning driver.old)
+        → (records : List Record) (ended : Bool)
+        → Reads (volumes_on (D.meaning driver.old).shelf) key spans.now records ended
+        → IfOk result (λ end. (end ≡ record { sound = true; ended = ended })
+        × (S.got sink.new ≡ S.got sink.old ++ records)
+        × (S.lost sink.new ≡ S.lost sink.old)) }
 {
     let Some(first) = spans.first() else {
         return Err(ReadFault::BadSpan);
@@ -55,11 +63,5 @@ pub fn salvage<D: Driver, S: Salvaged>(
     for span in spans {
         salvage_span(driver, span, &mut volume, &mut salvager, sink)?;
     }
-    if salvager.sound && !salvager.found {
-        return Err(ReadFault::BadSpan);
-    }
-    Ok(SalvageEnd {
-        sound: salvager.sound,
-        ended: salvager.unpacker.ended(),
-    })
+    salvager.end()
 }

@@ -29,9 +29,10 @@ pub(crate) fn salvage_span<D: Driver, S: Salvaged>(
     ensures key { salvager.new.key ≡ salvager.old.key }
     ensures device { OnlyReads (IsErrOf result ReadFault.Device)
         (D.meaning driver.old) (D.meaning driver.new) }
+    ensures faults { IfErr result (λ fault. fault ≢ ReadFault.BadSpan) }
     ensures takes { IsHonest (D.meaning driver.old) → OnOk result ((pieces : List Piece)
         × FindsInSpan (volumes_on (D.meaning driver.old).shelf) span.now pieces
-        × Takes salvager.old.key salvager.old.collector salvager.new.collector pieces
+        × Takes salvager.old.key salvager.old salvager.new pieces
         (S.got sink.old) (S.got sink.new) (S.lost sink.old) (S.lost sink.new)) }
 {
     let size = match driver.len(&span.volume) {
@@ -58,12 +59,13 @@ fn salvage_part<D: Driver, S: Salvaged>(
     ensures key { salvager.new.key ≡ salvager.old.key }
     ensures device { OnlyReads (IsErrOf result ReadFault.Device)
         (D.meaning driver.old) (D.meaning driver.new) }
+    ensures faults { IfErr result (λ fault. fault ≢ ReadFault.BadSpan) }
     ensures takes { IsHonest (D.meaning driver.old) → Shows volume.old (D.meaning driver.old).shelf
         → (held : Held) → (D.meaning driver.old).shelf.volume volume.old.name ≡ Some held
         → size ≡ length held.bytes
         → OnOk result ((bs : List Stored)
         × AreReadable held.bytes span.now.start span.now.end bs
-        × Takes salvager.old.key salvager.old.collector salvager.new.collector
+        × Takes salvager.old.key salvager.old salvager.new
         (pieces_of span.now.volume span.now.start None span.now.end bs)
         (S.got sink.old) (S.got sink.new) (S.lost sink.old) (S.lost sink.new)) }
 {
@@ -91,7 +93,7 @@ fn tell_before<S: Salvaged>(
     sink: &mut S,
 )
     ensures key { salvager.new.key ≡ salvager.old.key }
-    ensures takes { Takes salvager.old.key salvager.old.collector salvager.new.collector
+    ensures takes { Takes salvager.old.key salvager.old salvager.new
         (before volume.now at last (stored whole.now.at whole.now.head []))
         (S.got sink.old) (S.got sink.new) (S.lost sink.old) (S.lost sink.new) }
 {
@@ -110,7 +112,7 @@ fn tell_rest<S: Salvaged>(
     sink: &mut S,
 )
     ensures key { salvager.new.key ≡ salvager.old.key }
-    ensures takes { Takes salvager.old.key salvager.old.collector salvager.new.collector
+    ensures takes { Takes salvager.old.key salvager.old salvager.new
         (rest_of volume.now at end)
         (S.got sink.old) (S.got sink.new) (S.lost sink.old) (S.lost sink.new) }
 {

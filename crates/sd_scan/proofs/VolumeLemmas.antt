@@ -2,7 +2,6 @@
 use Rattle.std.proofs.Common.{◌≡◌, inl, inr, ℕ, zero, suc, ◌+◌, ◌-◌, ◌<◌, ◌≤◌, Bool, true, false, List, [], ◌∷◌, ◌++◌, length, map, take, drop, refl, sym, ap, ap₂, subst, ◌∙◌, arith, add-one}
 use Rattle.std.specs.Prelude.{max, ◌&&◌, Some, slice_get}
 use Rattle.std.proofs.lemmas.List.{append_assoc, append-nil, drop-drop, drop-take, length-append, length-drop, length-take, map-append, take-take, take_all}
-use Rattle.std.proofs.lemmas.List.Folds.{list_all-append}
 use Rattle.std.proofs.lemmas.Grind.{flat_map-append}
 use Rattle.std.proofs.lemmas.Bool.{cases_lt}
 use Rattle.sd_base.specs.Limits.{most_block}
@@ -23,10 +22,10 @@ use Rattle.sd_span.specs.declared.placement.Placement.{Placement}
 use Rattle.sd_text.specs.Lines.{line}
 use Rattle.sd_volume.specs.Adopt.{BlockStandsAt}
 use Rattle.sd_volume.specs.Image.{BeginsWithBlock, Block, images}
-use Rattle.sd_scan.specs.Lines.{broken_lines, cut_lines, found_of, found_text, of_report, of_reports, of_volumes, report_lines, reports_lines, told_text, unsound_lines, whole_lines, worse}
+use Rattle.sd_scan.specs.Lines.{broken_lines, cut_lines, found_of, found_text, of_report, of_reports, of_volumes, report_lines, reports_lines, told_text, whole_lines, worse}
 use Rattle.sd_scan.specs.declared.line.Found.{Found}
 use Rattle.sd_scan.specs.Run.{IsFirstWhole, NoneAt, NoneBetween, RunTo, found_from}
-use Rattle.sd_scan.specs.Scan.{Scans, ScansVolumes}
+use Rattle.sd_scan.specs.Scan.{Looks, Scans, ScansVolumes}
 use Rattle.sd_scan.specs.declared.outcome.Outcome.{Outcome}
 use Rattle.sd_scan.specs.declared.outcome.Outcome.TheVariants.{Sound, Unended, Damaged}
 use Rattle.sd_scan.specs.declared.told.Told.{Told}
@@ -304,17 +303,33 @@ pub keeps_join : (found more others : List FoundBlock) (s : Sessions) → Keeps 
 keeps_join found more others s keeps = subst (λ (l : List FoundBlock). Keeps l s) (append_assoc found more others) keeps
 
 -- a whole scan
-pub scans_all : (told : Told) (shelf : Shelf) (names : List (List ℕ)) (front lines : List ℕ) (found : List FoundBlock) (undamaged : Bool) (volumes_to printed : Outcome) (reports : List Report) (s : Sessions) (count : ℕ) (outcome : Outcome)
+pub looks_all : (told : Told) (shelf : Shelf) (names : List (List ℕ)) (front lines : List ℕ) (found : List FoundBlock) (undamaged : Bool) (volumes_to printed : Outcome) (reports : List Report) (s : Sessions) (outcome : Outcome)
     → ScansVolumes told shelf names found front undamaged → Keeps found s → AreReports found reports → lines ≡ reports_lines told reports → printed ≡ of_reports reports
-    → count ≡ length (keys_in s) → volumes_to ≡ of_volumes undamaged → outcome ≡ worse volumes_to printed
-    → Scans told shelf names (front ++ (lines ++ line (told_text told (Done (length names) count)))) outcome
-scans_all told shelf names front lines found undamaged volumes_to printed reports s count outcome volumes keeps are lines_are printed_is count_is volumes_is outcome_is = record {
+    → volumes_to ≡ of_volumes undamaged → outcome ≡ worse volumes_to printed → Looks told shelf names (front ++ lines) outcome s
+looks_all told shelf names front lines found undamaged volumes_to printed reports s outcome volumes keeps are lines_are printed_is volumes_is outcome_is = record {
   found = found;
   front = front;
   undamaged = undamaged;
   volumes = volumes;
+  keeps = keeps;
   reports = reports;
   reports_are = are;
-  due_is = ap₂ (λ (l : List ℕ) (n : ℕ). front ++ (l ++ line (told_text told (Done (length names) n)))) lines_are (count_is ∙ ap length keeps.1.keys_are);
+  due_is = ap (λ (l : List ℕ). front ++ l) lines_are;
   outcome_is = outcome_is ∙ ap₂ worse volumes_is printed_is;
 }
+
+-- with the last line
+pub scans_all : (told : Told) (shelf : Shelf) (names : List (List ℕ)) (due : List ℕ) (outcome : Outcome) (s : Sessions) → Looks told shelf names due outcome s
+    → Scans told shelf names (due ++ line (told_text told (Done (length names) (length (keys_in s))))) outcome
+scans_all told shelf names due outcome s looks =
+    let last = line (told_text told (Done (length names) (length (keys_in s)))) in record {
+      found = looks.found;
+      front = looks.front;
+      undamaged = looks.undamaged;
+      volumes = looks.volumes;
+      reports = looks.reports;
+      reports_are = looks.reports_are;
+      due_is = ap (λ (l : List ℕ). l ++ last) looks.due_is ∙ append_assoc looks.front (reports_lines told looks.reports) last
+          ∙ ap (λ n. looks.front ++ (reports_lines told looks.reports ++ line (told_text told (Done (length names) n)))) (ap length looks.keeps.1.keys_are);
+      outcome_is = looks.outcome_is;
+    }

@@ -49,6 +49,10 @@ json_text (lines.Session found) = found_json found
 json_text (lines.Broken key) = codes "{\"line\":\"broken\",\"time\":" ++ decimal key.time ++ codes ",\"id\":" ++ decimal key.id ++ codes "}"
 json_text (lines.Unlabelled name) = codes "{\"line\":\"damage\",\"volume\":\"" ++ name ++ codes "\",\"place\":0,\"kind\":\"label\"}"
 json_text (lines.Missing name) = codes "{\"line\":\"missing\",\"volume\":\"" ++ name ++ codes "\"}"
+json_text (lines.Misnoted volume at) =
+    codes "{\"line\":\"damage\",\"volume\":\"" ++ volume ++ codes "\",\"place\":" ++ decimal at ++ codes ",\"kind\":\"note\"}"
+json_text (lines.OtherLabel name) = codes "{\"line\":\"note\",\"volume\":\"" ++ name ++ codes "\",\"kind\":\"label\"}"
+json_text (lines.OtherForm name) = codes "{\"line\":\"note\",\"volume\":\"" ++ name ++ codes "\",\"kind\":\"form\"}"
 json_text (lines.Done volumes sessions) = done_json volumes sessions
 json_text lines.NoFolder = codes "{\"line\":\"fault\",\"fault\":\"folder\"}"
 json_text lines.NoFile = codes "{\"line\":\"fault\",\"fault\":\"file\"}"

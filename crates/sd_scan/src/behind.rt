@@ -9,6 +9,7 @@ ghost use Rattle.sd_volume.specs.Image.{BeginsWithBlock};
 ghost use Rattle.sd_volume.specs.Reader.{Shows};
 ghost use Rattle.sd_scan.specs.Volume.{Region, TellsBehind, TellsRun};
 
+use crate::chain::Chain;
 use crate::fault::ScanFault;
 use crate::kind::kind_at;
 use crate::line::ScanLine;
@@ -102,7 +103,17 @@ fn tell_run<D: Driver, W: Write>(
     });
     let mut sessions = Sessions::new(alloc);
     let number = whole.head.number as u64;
-    let end = take_run(driver, reader, name, whole.at, number, size, &mut sessions)?;
+    let mut chain = Chain::new(whole.at, None);
+    let end = take_run(
+        driver,
+        reader,
+        name,
+        whole.at,
+        number,
+        size,
+        &mut chain,
+        &mut sessions,
+    )?;
     print_sessions(alloc, &sessions, told, out)?;
     Ok(end_behind(whole.at, end))
 }

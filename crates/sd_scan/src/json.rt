@@ -56,6 +56,21 @@ impl fmt::Display for JsonLine<'_> {
                     name.as_str()
                 )
             }
+            ScanLine::Misnoted { volume, at } => write!(
+                f,
+                "{{\"line\":\"damage\",\"volume\":\"{}\",\"place\":{at},\"kind\":\"note\"}}",
+                volume.as_str()
+            ),
+            ScanLine::OtherLabel(name) => write!(
+                f,
+                "{{\"line\":\"note\",\"volume\":\"{}\",\"kind\":\"label\"}}",
+                name.as_str()
+            ),
+            ScanLine::OtherForm(name) => write!(
+                f,
+                "{{\"line\":\"note\",\"volume\":\"{}\",\"kind\":\"form\"}}",
+                name.as_str()
+            ),
             ScanLine::Done { volumes, sessions } => write!(f, "{}", JsonDone(*volumes, *sessions)),
             ScanLine::NoFolder => write!(f, "{{\"line\":\"fault\",\"fault\":\"folder\"}}"),
             ScanLine::NoFile => write!(f, "{{\"line\":\"fault\",\"fault\":\"file\"}}"),

@@ -4,6 +4,7 @@
 
 mod behind;
 mod block;
+mod chain;
 mod due;
 mod expected;
 mod fault;
@@ -15,6 +16,7 @@ mod kind;
 mod labels;
 mod line;
 mod moment;
+mod notes;
 mod order;
 mod outcome;
 mod print;
@@ -30,12 +32,14 @@ mod volumes;
 mod write;
 
 pub use block::FoundBlock;
+pub use chain::{BlocksEnd, Chain, Fit};
 pub use fault::ScanFault;
 pub use folder::{scan_folder, scan_named};
 pub use indexes::{Indexes, indexes_in};
 pub use kind::Kind;
 pub use line::ScanLine;
 pub use moment::Moment;
+pub use notes::NoteFolder;
 pub use outcome::Outcome;
 pub use report::{Report, Start};
 pub use search::{Whole, next_whole};

@@ -39,6 +39,15 @@ pub enum ScanLine {
     Unlabelled(VolName),
     /// A volume that is to be there, and isn't.
     Missing(VolName),
+    /// From that place on a volume isn't as its note says; from its front on, if the note is damaged or can't be read.
+    Misnoted {
+        volume: VolName,
+        at: u64,
+    },
+    /// The note of a volume is of another label, and counts as none.
+    OtherLabel(VolName),
+    /// The note of a volume is of another form, and is passed over.
+    OtherForm(VolName),
     /// All volumes were read: how many, and how many sessions are on them.
     Done {
         volumes: usize,
@@ -105,6 +114,9 @@ impl fmt::Display for ScanLine {
             ScanLine::Broken(key) => write!(f, "broken {} {}", key.time, key.id),
             ScanLine::Unlabelled(name) => write!(f, "damage {} 0 label", name.as_str()),
             ScanLine::Missing(name) => write!(f, "missing {}", name.as_str()),
+            ScanLine::Misnoted { volume, at } => write!(f, "damage {} {at} note", volume.as_str()),
+            ScanLine::OtherLabel(name) => write!(f, "note {} label", name.as_str()),
+            ScanLine::OtherForm(name) => write!(f, "note {} form", name.as_str()),
             ScanLine::Done { volumes, sessions } => write!(f, "ok scan {volumes} {sessions}"),
             ScanLine::NoFolder => write!(f, "fault folder"),
             ScanLine::NoFile => write!(f, "fault file"),

@@ -11,6 +11,7 @@ ghost use Rattle.sd_volume.specs.Reader.{IsBlockOf, Shows};
 ghost use Rattle.sd_scan.specs.Run.{RunTo, found_from};
 
 use crate::block::FoundBlock;
+use crate::chain::Chain;
 use crate::due::due_block;
 use crate::fault::ScanFault;
 use crate::sessions::Sessions;
@@ -21,7 +22,7 @@ use sd_volume::VolumeReader;
 use std::alloc::AllocError;
 
 /// Takes the blocks of a volume of that size that lie one after another from a place on, the first
-/// of them with that number and each of the others with the next one. Says where they end.
+/// of them with that number and each of the others with the next one. Says where they end. The chain is told of each.
 pub(crate) fn take_run<D: Driver>(
     driver: &mut D,
     reader: &mut VolumeReader,
@@ -29,10 +30,12 @@ pub(crate) fn take_run<D: Driver>(
     start: u64,
     first: u64,
     size: u64,
+    chain: &mut Chain,
     sessions: &mut Sessions,
 ) -> Result<u64, ScanFault>
     requires start { start ≤ size }
     requires first { first ≤ 2 ^ 32 }
+    requires chain { chain.old.so_far.end ≡ start }
     ensures name { reader.new.name ≡ reader.old.name }
     ensures device { OnlyReads (IsErrOf result ScanFault.Device)
         (D.meaning driver.old) (D.meaning driver.new) }
@@ -51,6 +54,7 @@ pub(crate) fn take_run<D: Driver>(
     let mut number = first;
     while let Some(head) = due_block(driver, reader, end, number, size)? {
         take_shown(sessions, name, end, &head, reader.shown())?;
+        chain.pass(&head);
         end += head.size as u64;
         number += 1;
     }

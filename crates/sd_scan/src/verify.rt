@@ -2,15 +2,18 @@
 ghost use Rattle.std.specs.Prelude.{◌≡◌};
 ghost use Rattle.sd_scan.specs.Lines.{verify_status};
 
+use crate::chain::Fit;
 use crate::expected::{expected_names, is_among};
 use crate::labels::Volumes;
 use crate::line::ScanLine;
+use crate::notes::{NoteFolder, NotedVolume, Notes};
 use crate::outcome::Outcome;
 use crate::told::{Told, ToldLine};
-use crate::volumes::scan;
+use crate::volumes::{look, print_done};
 use sd_base::{Refusal, VolName};
 use sd_files::{Host, ShownProgress};
 use sd_text::Printer;
+use std::alloc::AllocError;
 use std::io::Write;
 
 /// The status if all is sound.
@@ -40,8 +43,9 @@ struct Unverified {
 }
 
 /// Verifies all volumes of a folder, in the order in which `scan_folder` reads them: prints what is damaged, the sessions
-/// that are cut, and which of the volumes that the file `expected` names, one a line, are missing. Answers the status.
-pub fn verify_folder<H: Host + AllocGlobal, W: Write>(
+/// that are cut, which volumes aren't as the notes beside them say, and which of the volumes that the file `expected` names,
+/// one a line, are missing. Answers the status.
+pub fn verify_folder<H: Host + NoteFolder + AllocGlobal, W: Write>(
     host: &H,
     folder: &str,
     expected: Option<&str>,
@@ -75,7 +79,7 @@ fn status_of(outcome: Outcome, all_there: bool) -> u8
     }
 }
 
-fn verify<H: Host + AllocGlobal, W: Write>(
+fn verify<H: Host + NoteFolder + AllocGlobal, W: Write>(
     host: &H,
     folder: &str,
     expected: Option<&str>,
@@ -89,25 +93,44 @@ fn verify<H: Host + AllocGlobal, W: Write>(
     let Ok(mut device) = host.open_folder(folder, ShownProgress::Silent) else {
         return Err(given_up(Refusal::Memory));
     };
-    let labels = Volumes::among(host.alloc(), &mut device, &files, &expected, told, out);
+    let (mut notes, volumes_due) = noted_in(host, folder, &files, &expected)?;
+    let labels = Volumes::among(host.alloc(), &mut device, &files, &volumes_due, told, out);
     let volumes = match labels {
         Ok(volumes) => volumes,
         Err(fault) => return Err(given_up(fault.refusal())),
     };
     let missing = print_missing(&expected, &files, told, out);
-    let outcome = scan_volumes(host, folder, &volumes, told, out)?;
+    let outcome = scan_volumes(host, folder, &volumes, told, &mut notes, out)?;
     Ok(Verified {
         outcome: outcome.or_worse(Outcome::of_volumes(!volumes.label_lost)),
         all_there: !missing && !volumes.volumes.is_empty(),
     })
 }
 
-// Reads the volumes to their ends, and shows how far that has come.
+// The notes beside these files of a folder, and the names of those files that are to be volumes: they are expected, or have
+// a whole note.
+fn noted_in<H: NoteFolder + AllocGlobal>(
+    host: &H,
+    folder: &str,
+    files: &[VolName],
+    expected: &[VolName],
+) -> Result<(Notes, Vec<VolName>), Unverified> {
+    let Ok(notes) = Notes::beside(host, folder, files) else {
+        return Err(given_up(Refusal::Memory));
+    };
+    match notes.names_after(host.alloc(), expected) {
+        Ok(names) => Ok((notes, names)),
+        Err(AllocError) => Err(given_up(Refusal::Memory)),
+    }
+}
+
+// Reads the volumes to their ends, and shows how far that has come; then tells how their notes stand to them.
 fn scan_volumes<H: Host + AllocGlobal, W: Write>(
     host: &H,
     folder: &str,
     volumes: &Volumes,
     told: Told,
+    notes: &mut Notes,
     out: &mut Printer<W>,
 ) -> Result<Outcome, Unverified> {
     let Ok(names) = volumes.names(host.alloc()) else {
@@ -117,10 +140,39 @@ fn scan_volumes<H: Host + AllocGlobal, W: Write>(
     let Ok(mut device) = host.open_folder(folder, progress) else {
         return Err(given_up(Refusal::Memory));
     };
-    match scan(host.alloc(), &mut device, &names, told, out) {
-        Ok(scanned) => Ok(scanned.outcome),
+    match look(host.alloc(), &mut device, &names, told, notes, out) {
+        Ok(scanned) => {
+            let noted = print_notes(notes, told, out);
+            print_done(&names, &scanned.sessions, told, out);
+            Ok(scanned.outcome.or_worse(noted))
+        }
         Err(fault) => Err(given_up(fault.refusal())),
     }
+}
+
+// Prints a line for each note that counts as none or doesn't fit, and says what they come to.
+fn print_notes<W: Write>(notes: &Notes, told: Told, out: &mut Printer<W>) -> Outcome {
+    let mut outcome = Outcome::Sound;
+    for one in notes.noted.as_slice() {
+        print_note(one, told, out);
+        outcome = outcome.or_worse(Outcome::of_volumes(!matches!(one.fit, Fit::Unfit(_))));
+    }
+    outcome
+}
+
+// Prints the line of a note that counts as none or doesn't fit.
+fn print_note<W: Write>(one: &NotedVolume, told: Told, out: &mut Printer<W>) {
+    let volume = one.name.copy();
+    match one.fit {
+        Fit::Fits => {}
+        Fit::OtherLabel => print(ScanLine::OtherLabel(volume), told, out),
+        Fit::OtherForm => print(ScanLine::OtherForm(volume), told, out),
+        Fit::Unfit(at) => print(ScanLine::Misnoted { volume, at }, told, out),
+    }
+}
+
+fn print<W: Write>(line: ScanLine, told: Told, out: &mut Printer<W>) {
+    out.line(ToldLine { told, line });
 }
 
 // The names of the volumes that are to be there; none if no file says them.

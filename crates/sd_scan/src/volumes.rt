@@ -3,16 +3,21 @@ ghost use Rattle.std.specs.Prelude.{◌≡◌, ℕ, List, ◌++◌, length, Some
 ghost use Rattle.sd_driver.specs.Meaning.{IsHonest};
 ghost use Rattle.sd_driver.specs.Shelf.{Held};
 ghost use Rattle.sd_scan.specs.Found.{Found};
-ghost use Rattle.sd_scan.specs.Sessions.{Keeps};
+ghost use Rattle.sd_scan.specs.Lines.{told_text};
+ghost use Rattle.sd_scan.specs.Sessions.{Keeps, keys_in};
+ghost use Rattle.sd_scan.specs.declared.line.ScanLine.TheVariants.{Done};
+ghost use Rattle.sd_text.specs.Lines.{line};
 ghost use Rattle.sd_text.specs.Says.{Says, said_view};
 ghost use Rattle.sd_volume.specs.Device.{OnlyReads};
 ghost use Rattle.sd_volume.specs.Reader.{Shows};
-ghost use Rattle.sd_scan.specs.Scan.{Scans, ScansVolumes};
+ghost use Rattle.sd_scan.specs.Scan.{Looks, Scans, ScansVolumes};
 ghost use Rattle.sd_scan.specs.Volume.{FindsOn, ScansVolume};
 
 use crate::behind::tell_behind;
+use crate::chain::Chain;
 use crate::fault::ScanFault;
 use crate::line::ScanLine;
+use crate::notes::Notes;
 use crate::outcome::Outcome;
 use crate::print::{both, print_sessions};
 use crate::run::take_run;
@@ -52,9 +57,46 @@ pub fn scan<D: Driver, W: Write>(
         × (IsHonest (D.meaning driver.old) → IfOk result
         (λ scanned. Scans told (D.meaning driver.old).shelf names.now due scanned.outcome)) }
 {
+    let mut notes = Notes::none(alloc);
+    let scanned = look(alloc, driver, names, told, &mut notes, out)?;
+    print_done(names, &scanned.sessions, told, out);
+    Ok(scanned)
+}
+
+/// Reads the volumes of these names as `scan` does, and prints all but the last line. The notes of those that have one are
+/// compared with what is found there.
+pub(crate) fn look<D: Driver, W: Write>(
+    alloc: Global,
+    driver: &mut D,
+    names: &[VolName],
+    told: Told,
+    notes: &mut Notes,
+    out: &mut Printer<W>,
+) -> Result<Scanned, ScanFault>
+    ensures device { OnlyReads (IsErrOf result ScanFault.Device)
+        (D.meaning driver.old) (D.meaning driver.new) }
+    ensures looks { (due : List ℕ)
+        × Says (said_view W.contents out.old) (said_view W.contents out.new) due
+        × (IsHonest (D.meaning driver.old) → IfOk result (λ scanned.
+        Looks told (D.meaning driver.old).shelf names.now due scanned.outcome scanned.sessions)) }
+{
     let mut sessions = Sessions::new(alloc);
-    let undamaged = scan_volumes(alloc, driver, names, told, &mut sessions, out)?;
+    let undamaged = scan_volumes(alloc, driver, names, told, notes, &mut sessions, out)?;
     let printed = print_sessions(alloc, &sessions, told, out)?;
+    let outcome = Outcome::of_volumes(undamaged).or_worse(printed);
+    Ok(Scanned { outcome, sessions })
+}
+
+/// Prints the last line: how many volumes were read, and how many sessions are on them.
+pub(crate) fn print_done<W: Write>(
+    names: &[VolName],
+    sessions: &Sessions,
+    told: Told,
+    out: &mut Printer<W>,
+)
+    ensures { Says (said_view W.contents out.old) (said_view W.contents out.new)
+        (line (told_text told (Done (length names.now) (length (keys_in sessions.now))))) }
+{
     out.line(ToldLine {
         told,
         line: ScanLine::Done {
@@ -62,8 +104,6 @@ pub fn scan<D: Driver, W: Write>(
             sessions: sessions.len(),
         },
     });
-    let outcome = Outcome::of_volumes(undamaged).or_worse(printed);
-    Ok(Scanned { outcome, sessions })
 }
 
 // Reads the volumes of these names, and says whether none is damaged.
@@ -72,6 +112,7 @@ fn scan_volumes<D: Driver, W: Write>(
     driver: &mut D,
     names: &[VolName],
     told: Told,
+    notes: &mut Notes,
     sessions: &mut Sessions,
     out: &mut Printer<W>,
 ) -> Result<bool, ScanFault>
@@ -86,7 +127,7 @@ fn scan_volumes<D: Driver, W: Write>(
 {
     let mut undamaged = true;
     for name in names {
-        let whole = scan_volume(alloc, driver, name, told, sessions, out)?;
+        let whole = scan_volume(alloc, driver, name, told, notes, sessions, out)?;
         undamaged = both(undamaged, whole);
     }
     Ok(undamaged)
@@ -98,6 +139,7 @@ fn scan_volume<D: Driver, W: Write>(
     driver: &mut D,
     name: &VolName,
     told: Told,
+    notes: &mut Notes,
     sessions: &mut Sessions,
     out: &mut Printer<W>,
 ) -> Result<bool, ScanFault>
@@ -119,7 +161,7 @@ fn scan_volume<D: Driver, W: Write>(
             size,
         },
     });
-    let end = take_image(driver, &mut reader, name, size, sessions)?;
+    let end = take_image(driver, &mut reader, name, size, notes, sessions)?;
     tell_behind(alloc, driver, &mut reader, name, end, size, told, out)?;
     Ok(end == size)
 }
@@ -131,6 +173,7 @@ fn take_image<D: Driver>(
     reader: &mut VolumeReader,
     name: &VolName,
     size: u64,
+    notes: &mut Notes,
     sessions: &mut Sessions,
 ) -> Result<u64, ScanFault>
     ensures name { reader.new.name ≡ reader.old.name }
@@ -147,5 +190,17 @@ fn take_image<D: Driver>(
     let Some(found) = read_label(driver, reader, name, size)? else {
         return Ok(0);
     };
-    take_run(driver, reader, name, found.first, 1, size, sessions)
+    let mut chain = Chain::new(found.first, notes.end_of(name));
+    let end = take_run(
+        driver,
+        reader,
+        name,
+        found.first,
+        1,
+        size,
+        &mut chain,
+        sessions,
+    )?;
+    notes.compare(name, found.label.moment, &chain);
+    Ok(end)
 }

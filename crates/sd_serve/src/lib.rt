@@ -29,5 +29,5 @@ pub use log_line::{LogLine, TakenAmount};
 pub use logged::LoggedPort;
 pub use naming_line::NamingAct;
 pub use server::{Serving, TalkHolder, serve_each};
-pub use shown::{NoFolder, ShownPath};
+pub use shown::{NoFolder, ShownPath, UnheededNote};
 pub use talk::{TURNS, hold_talk};

@@ -2,7 +2,7 @@
 use crate::connections::Holder;
 use crate::fault::FaultPlace;
 use crate::naming_line::NamingAct;
-use crate::shown::{NoFolder, ShownPath};
+use crate::shown::{NoFolder, ShownPath, UnheededNote};
 use jiff::Timestamp;
 use sd_append::TalkEnd;
 use sd_base::{MediaName, PoolName, Refusal, VolName};
@@ -125,6 +125,62 @@ pub enum LogLine<'a> {
     /// The figures of the daemon can't be written to this file.
     Unwritten {
         file: ShownPath<'a>,
+    },
+    /// At the start a drive adopted a volume: where its blocks end and the number of the next one, how many bytes behind them
+    /// were cut, and from where on it was read.
+    Adopted {
+        drive: u32,
+        volume: &'a VolName,
+        end: u64,
+        next: u32,
+        cut: u64,
+        from: u64,
+    },
+    /// At the start a volume wasn't adopted: it is damaged at this place, or a sync of it failed when the disk had so much of
+    /// it, or for this refusal.
+    Damaged {
+        drive: u32,
+        volume: &'a VolName,
+        at: u64,
+    },
+    Torn {
+        drive: u32,
+        volume: &'a VolName,
+        at: u64,
+    },
+    NotAdopted {
+        drive: u32,
+        volume: &'a VolName,
+        refusal: Refusal,
+    },
+    /// The note of a volume is there, and the volume isn't.
+    Missing {
+        drive: u32,
+        volume: &'a VolName,
+    },
+    /// The note of a volume isn't heeded.
+    Unheeded {
+        drive: u32,
+        volume: &'a VolName,
+        why: UnheededNote,
+    },
+    /// The volumes in the folder of a drive can't be listed.
+    Unlisted {
+        drive: u32,
+        folder: ShownPath<'a>,
+    },
+    /// A volume is to be adopted even if it is damaged, and no damaged one has its name.
+    NoneDamaged {
+        volume: &'a VolName,
+    },
+    /// The note of a volume can't be written, or is written again after that.
+    Unnoted {
+        drive: u32,
+        volume: &'a VolName,
+    },
+    NotedAgain {
+        drive: u32,
+        volume: &'a VolName,
     },
 }
 
@@ -260,6 +316,83 @@ impl fmt::Display for LogLine<'_> {
             LogLine::Settled { drive } => write!(f, "drive {drive} is settled"),
             LogLine::Unsettled { drive } => write!(f, "drive {drive} can't be settled"),
             LogLine::Unwritten { file } => write!(f, "metrics {file} can't be written"),
+            LogLine::Adopted {
+                drive,
+                volume,
+                end,
+                next,
+                cut,
+                from,
+            } => {
+                let volume = volume.as_str();
+                write!(
+                    f,
+                    "drive {drive}: volume {volume} is adopted up to {end}, its next block is {next}; cut {cut} bytes, read from {from} on"
+                )
+            }
+            LogLine::Damaged { drive, volume, at } => {
+                let volume = volume.as_str();
+                write!(
+                    f,
+                    "drive {drive}: volume {volume} is damaged at {at}, and isn't adopted"
+                )
+            }
+            LogLine::Torn { drive, volume, at } => {
+                let volume = volume.as_str();
+                write!(
+                    f,
+                    "drive {drive}: volume {volume} isn't adopted, since a sync of it failed when the disk had {at} bytes"
+                )
+            }
+            LogLine::NotAdopted {
+                drive,
+                volume,
+                refusal,
+            } => {
+                let volume = volume.as_str();
+                write!(
+                    f,
+                    "drive {drive}: volume {volume} can't be adopted: {refusal}"
+                )
+            }
+            LogLine::Missing { drive, volume } => {
+                let volume = volume.as_str();
+                write!(
+                    f,
+                    "drive {drive}: volume {volume} is missing, its note is there"
+                )
+            }
+            LogLine::Unheeded { drive, volume, why } => {
+                let volume = volume.as_str();
+                write!(
+                    f,
+                    "drive {drive}: the note of volume {volume} isn't heeded: it {why}"
+                )
+            }
+            LogLine::Unlisted { drive, folder } => {
+                write!(f, "drive {drive}: its folder {folder} can't be listed")
+            }
+            LogLine::NoneDamaged { volume } => {
+                let volume = volume.as_str();
+                write!(
+                    f,
+                    "no volume {volume} is damaged, so none is adopted as such"
+                )
+            }
+            LogLine::Unnoted { drive, volume } => {
+                let volume = volume.as_str();
+                write!(
+                    f,
+                    "drive {drive}: the note of volume {volume} can't be written"
+                )
+            }
+            LogLine::NotedAgain { drive, volume } => {
+                let volume = volume.as_str();
+                write!(
+                    f,
+                    "drive {drive}: the note of volume {volume} is written again"
+                )
+            }
         }
     }
 }

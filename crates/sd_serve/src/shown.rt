@@ -39,6 +39,25 @@ impl fmt::Display for NoFolder {
     }
 }
 
+/// Why the note of a volume isn't heeded. Displays it.
+#[derive(Clone, Copy, Debug, PartialEq, Eq)]
+pub enum UnheededNote {
+    /// A later daemon may have written it.
+    OtherForm,
+    Damaged,
+    Unreadable,
+}
+
+impl fmt::Display for UnheededNote {
+    fn fmt<W: fmt::Write>(&self, f: &mut fmt::Formatter<W>) -> fmt::Result {
+        match self {
+            UnheededNote::OtherForm => write!(f, "has another form"),
+            UnheededNote::Damaged => write!(f, "is damaged"),
+            UnheededNote::Unreadable => write!(f, "can't be read"),
+        }
+    }
+}
+
 impl fmt::Display for Holder {
     fn fmt<W: fmt::Write>(&self, f: &mut fmt::Formatter<W>) -> fmt::Result {
         let (talk, peer, age, bytes) = (self.talk, self.peer, self.age, self.bytes);

@@ -1,5 +1,5 @@
 // A drive with its line and its worker.
-ghost use Rattle.std.specs.Prelude.{◌≡◌, ◌≢◌, List, [], IfErr, IfOk, IfSome, Some};
+ghost use Rattle.std.specs.Prelude.{◌≡◌, ◌≢◌, ◌↔◌, List, [], IfErr, IfOk, IfSome, IsTrue, Some};
 ghost use Rattle.sd_line.specs.Goes.{GoesOn, StopsShort};
 ghost use Rattle.sd_line.specs.declared.stop.Stop.TheVariants as stop;
 ghost use Rattle.sd_journal.specs.Journal.{Entry};
@@ -7,11 +7,12 @@ ghost use Rattle.sd_line.specs.Closes.{MayCloseBy};
 ghost use Rattle.sd_line.specs.Operates.{MayOperate, Operates, operated_at};
 ghost use Rattle.sd_line.specs.Parts.{OpensAt};
 ghost use Rattle.sd_machine.specs.declared.reply.Reply.TheVariants.{Refused};
-ghost use Rattle.sd_base.specs.declared.refusal.Refusal.TheVariants.{BadCommand};
+ghost use Rattle.sd_base.specs.declared.refusal.Refusal.TheVariants.{BadCommand, DeviceFault};
 
 use crate::meter::{Meter, Metered};
 use crate::patience::Patience;
-use crate::status::{DriveStatus, NextVolume, Reached, VolumeRow};
+use crate::row::VolumeRow;
+use crate::status::{DriveStatus, NextVolume, Reached};
 use crate::watch::{Backlog, Headway, Moves, Task, Waited, Watch};
 use sd_base::{PoolName, Refusal, SessionKey, VolName};
 use sd_drive::{Drive, Placed, Receipt};
@@ -145,6 +146,14 @@ impl Before {
     }
 }
 
+// Whether by an event with this reply a sync failed for which blocks waited, or may have failed: a mount whose device failed
+// does not tell whether that was the sync or the load.
+fn may_have_torn(was: Before, reply: &Reply) -> bool
+    ensures { IsTrue result ↔ (IsTrue was.awaits_sync × (reply.now ≡ Refused DeviceFault)) }
+{
+    was.awaits_sync && matches!(reply, Reply::Refused(Refusal::DeviceFault))
+}
+
 // The name of the volume at this place of a drive.
 fn name_at<D: Driver>(drive: &Drive<D>, place: Option<usize>) -> Option<VolName> {
     Some(drive.volumes().get(place?)?.name().copy())
@@ -227,7 +236,8 @@ fn came_failed(loaded: Option<VolName>) -> Came {
 }
 
 impl<D: Driver, N: Naming, R: Wait + Clock + Drop> Station<D, N, R> {
-    /// The station of a line whose drive has no volume yet, and of which nothing was pushed. Takes no memory.
+    /// The station of a line of which nothing was pushed, and whose drive has no volume yet, or has those that `publish` is to
+    /// publish. Takes no memory.
     pub fn new(alloc: Global, line: Line<D, N, R>) -> Self
         ensures { result ≡ line }
     {
@@ -266,6 +276,16 @@ impl<D: Driver, N: Naming, R: Wait + Clock + Drop> Station<D, N, R> {
 
     pub(crate) fn alloc(&self) -> Global {
         self.alloc
+    }
+
+    /// Publishes the volumes that the drive was given before this station was made. Each was labelled or adopted, so the disk has
+    /// all of it. Comes before all that changes the drive. If out of memory, none is published.
+    pub fn publish(&self, rt: &R) -> Result<(), AllocError> {
+        let mut side = self.line.lock();
+        let side: &mut DriveSide<D, N> = &mut side;
+        let mut status = self.status.lock(rt);
+        let status: &mut DriveStatus = &mut status;
+        status.publish(self.alloc, side.drive())
     }
 
     /// A session that was prepared begins: the drive notes it, with its lock held.
@@ -390,8 +410,9 @@ impl<D: Driver, N: Naming, R: Wait + Clock + Drop> Station<D, N, R> {
         if let Ok(Placed::At(placement)) = &turned.place {
             status.placed(placement.key);
         }
-        status.look(drive, was_loaded);
-        if let Some(Err(_)) = &turned.sync {
+        let has_failed = matches!(turned.sync, Some(Err(_)));
+        status.look(drive, was_loaded, has_failed);
+        if has_failed {
             status.look_for_failed(drive);
         }
     }
@@ -548,7 +569,7 @@ impl<D: Driver, N: Naming, R: Wait + Clock + Drop> Station<D, N, R> {
         let begun = Instant::now(rt).ok();
         let reply = side.operate_on(event);
         self.meter.synced(rt, begun, syncs);
-        let failed = self.publish_event(rt, side.drive(), was.loaded, &reply);
+        let failed = self.publish_event(rt, side.drive(), was, &reply);
         Operated {
             is_change: is_change(was.loaded.is_some(), &reply),
             reply,
@@ -566,22 +587,21 @@ impl<D: Driver, N: Naming, R: Wait + Clock + Drop> Station<D, N, R> {
         }
     }
 
-    // Publishes what came of an event, before which the volume at this place was loaded. That volume, if the device failed
-    // with it.
+    // Publishes what came of an event, before which the drive was so. The volume that was loaded, if the device failed with it.
     fn publish_event(
         &self,
         rt: &R,
         drive: &Drive<D>,
-        was_loaded: Option<usize>,
+        was: Before,
         reply: &Reply,
     ) -> Option<VolName> {
         let (has_mounted, failed) = {
             let mut status = self.status.lock(rt);
             let status: &mut DriveStatus = &mut status;
-            status.look(drive, was_loaded);
+            status.look(drive, was.loaded, may_have_torn(was, reply));
             (
                 status.ends_mount(),
-                failed_by(status, drive, was_loaded, reply),
+                failed_by(status, drive, was.loaded, reply),
             )
         };
         if has_mounted {

@@ -1,50 +1,15 @@
 // What others may know of a drive without its lock: whoever changes the drive writes it here before he gives that lock back.
-ghost use Rattle.std.specs.Prelude.{◌≡◌};
+ghost use Rattle.std.specs.Prelude.{◌≡◌, IfOk, OnErr, OnOk, map};
+ghost use Rattle.sd_stations.specs.Shows.{shown};
 
-use sd_base::{LaneNo, MOST_LANES, MediaName, PoolName, SessionKey, VolName};
+use crate::row::{VolumeRow, blocks_at};
+use sd_base::{LaneNo, MOST_LANES, PoolName, SessionKey, VolName};
 use sd_drive::Drive;
 use sd_driver::Driver;
 use sd_volume::{Volume, VolumeStatus};
 use std::alloc::{AllocError, Global};
 
 const LANES: usize = MOST_LANES as usize;
-
-/// A volume of a drive.
-#[derive(Drop)]
-pub struct VolumeRow {
-    pub name: VolName,
-    pub pool: PoolName,
-    pub media: MediaName,
-    pub status: VolumeStatus,
-    /// Where its blocks end.
-    pub end: u64,
-}
-
-impl VolumeRow {
-    // That of a volume as it is now.
-    fn of(volume: &Volume) -> Self {
-        VolumeRow {
-            name: volume.name().copy(),
-            pool: volume.pool().copy(),
-            media: volume.media().copy(),
-            status: volume.status(),
-            end: volume.end(),
-        }
-    }
-
-    /// The same once more.
-    pub fn copy(&self) -> Self
-        ensures { result ≡ self.now }
-    {
-        VolumeRow {
-            name: self.name.copy(),
-            pool: self.pool.copy(),
-            media: self.media.copy(),
-            status: self.status,
-            end: self.end,
-        }
-    }
-}
 
 // A volume, and whether the drive's worker passes it over, since it couldn't be loaded.
 #[derive(Drop)]
@@ -54,6 +19,16 @@ struct Shown {
 }
 
 impl Shown {
+    // A volume that came to the drive.
+    fn of(volume: &Volume) -> Self
+        ensures { result ≡ shown volume.now }
+    {
+        Shown {
+            row: VolumeRow::of(volume),
+            is_passed_over: false,
+        }
+    }
+
     // Whether the worker would load it for blocks of this pool.
     fn takes(&self, pool: &PoolName) -> bool {
         self.row.status == VolumeStatus::Append
@@ -117,11 +92,36 @@ impl DriveStatus {
         self.volumes.reserve(1)
     }
 
-    /// Looks at a drive in which the volume at this place was loaded before a turn or an event. No other volume changes by
-    /// that but the one that is loaded then; and one may have come, for which there is room.
-    pub(crate) fn look<D: Driver>(&mut self, drive: &Drive<D>, was_loaded: Option<usize>) {
-        self.look_at(drive, was_loaded);
-        self.look_at(drive, drive.loaded());
+    /// Shows the volumes that a drive has from the start, each of which was labelled or adopted. If out of memory, nothing
+    /// changes.
+    pub(crate) fn publish<D: Driver>(
+        &mut self,
+        alloc: Global,
+        drive: &Drive<D>,
+    ) -> Result<(), AllocError>
+        ensures volumes { OnOk result
+            (self.new.volumes.items ≡ map shown drive.now.volumes) }
+        ensures loaded { OnOk result (self.new.loaded ≡ drive.now.loaded) }
+        ensures err { OnErr result (self.new ≡ self.old) }
+    {
+        self.volumes = shown_of(alloc, drive.volumes())?;
+        self.loaded = drive.loaded();
+        Ok(())
+    }
+
+    /// Looks at a drive in which the volume at this place was loaded before a turn or an event, by which a sync failed for
+    /// which blocks waited, or may have failed. No other volume changes by that but the one that is loaded then; and one may
+    /// have come, for which there is room.
+    pub(crate) fn look<D: Driver>(
+        &mut self,
+        drive: &Drive<D>,
+        was_loaded: Option<usize>,
+        has_failed: bool,
+    ) {
+        self.look_at(drive, was_loaded, has_failed);
+        if drive.loaded() != was_loaded {
+            self.look_at(drive, drive.loaded(), has_failed);
+        }
         self.look_for_more(drive);
         self.loaded = drive.loaded();
         if self.is_waiting {
@@ -130,23 +130,20 @@ impl DriveStatus {
     }
 
     // Looks at the volume at this place.
-    fn look_at<D: Driver>(&mut self, drive: &Drive<D>, place: Option<usize>) {
+    fn look_at<D: Driver>(&mut self, drive: &Drive<D>, place: Option<usize>, has_failed: bool) {
         let Some(at) = place else {
             return;
         };
         if let (Some(shown), Some(volume)) = (self.volumes.get_mut(at), drive.volumes().get(at)) {
-            shown.row.status = volume.status();
-            shown.row.end = volume.end();
+            let blocks = blocks_at(drive, at, volume.status(), has_failed);
+            shown.row.look(volume, blocks);
         }
     }
 
     // Looks for a volume that came.
     fn look_for_more<D: Driver>(&mut self, drive: &Drive<D>) {
         if let Some(volume) = drive.volumes().get(self.volumes.len()) {
-            let _ = self.volumes.push(Shown {
-                row: VolumeRow::of(volume),
-                is_passed_over: false,
-            });
+            let _ = self.volumes.push(Shown::of(volume));
         }
     }
 
@@ -337,6 +334,17 @@ impl DriveStatus {
             None
         }
     }
+}
+
+// What is shown of these volumes, each of which was labelled or adopted.
+fn shown_of(alloc: Global, volumes: &[Volume]) -> Result<Vec<Shown>, AllocError>
+    ensures { IfOk result (λ rows. rows.items ≡ map shown volumes.now) }
+{
+    let mut rows = Vec::with_capacity(alloc, volumes.len())?;
+    for volume in volumes {
+        rows.push(Shown::of(volume))?;
+    }
+    Ok(rows)
 }
 
 // Whether the pool is this one.

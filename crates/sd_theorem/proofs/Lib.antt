@@ -4,6 +4,7 @@ pub mod Deeds
 mod FoundLemmas
 pub mod Fresh
 pub mod Head
+pub mod Noted
 mod PlacedLemmas
 pub mod Read
 mod ReportLemmas

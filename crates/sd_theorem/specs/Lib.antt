@@ -2,6 +2,7 @@ pub mod Closed
 pub mod Gives
 pub mod Headline
 pub mod Lists
+pub mod Noted
 pub mod Placed
 pub mod Returns
 pub mod RoundTrip

@@ -1,5 +1,6 @@
-// The theorem of the daemon, in two laws.
+// The theorem of the daemon, in two laws; and that it stands for starts by notes.
 ghost use Rattle.sd_theorem.specs.Headline.{Headline};
+ghost use Rattle.sd_theorem.specs.Noted.{NotedStarts};
 ghost use Rattle.sd_theorem.specs.Stops.{StopTheorem};
 
 /// The session theorem: whatever a world was asked, its replies and its sessions are those of a list machine; and while
@@ -11,4 +12,11 @@ pub fn headline<D, Q, S, Z>()
 /// The stop theorem: what was told to be closed comes back after any stop, also one inside a call.
 pub fn stop_theorem<D, Q, S, Z>()
     ensures { StopTheorem D Q S Z }
+{}
+
+/// Starts by notes: what a note of bytes that last says is true in each later run, whatever stops and runs come between; and
+/// an adoption by a true note is a step of the event `Adopt` (`sd_core::World::adopt_noted`). So both theorems stand for
+/// worlds that adopt by notes.
+pub fn noted_starts<D, Q, S, Z>()
+    ensures { NotedStarts D Q S Z }
 {}

@@ -15,7 +15,7 @@ mod scanned;
 mod stopped;
 
 pub use given::{Told, run_and_read};
-pub use laws::{headline, stop_theorem};
+pub use laws::{headline, noted_starts, stop_theorem};
 pub use port::know_lists;
 pub use round_trip::packed_comes_back;
 pub use running::{thread_stop_theorem, thread_theorem};

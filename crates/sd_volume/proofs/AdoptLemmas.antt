@@ -1,5 +1,5 @@
 -- The blocks of a volume one after another, and what an adoption finds.
-use Rattle.std.proofs.Common.{◌≡◌, ℕ, ◌+◌, ◌<◌, ◌≤◌, List, [], ◌∷◌, ◌++◌, length, take, drop, ap, sym, ◌∙◌, subst, arith}
+use Rattle.std.proofs.Common.{◌≡◌, ℕ, ◌+◌, ◌<◌, ◌≤◌, List, [], ◌∷◌, ◌++◌, length, take, drop, refl, inr, ap, sym, ◌∙◌, subst, arith}
 use Rattle.std.proofs.lemmas.List.{drop-drop, length-append, length-take, length-drop, take-append-drop}
 use Rattle.std.proofs.lemmas.List.Elements.{All-push}
 use Rattle.sd_base.specs.declared.number.SessionKey.{SessionKey}
@@ -12,14 +12,19 @@ use Rattle.sd_label.specs.Label.{IsVolumeLabel, volume_label_bytes}
 use Rattle.sd_volume.specs.Image.{Block, BeginsWithBlock, no_session, label_block, VolumeImage}
 use Rattle.sd_volume.specs.Reader.{IsBlockOf}
 use Rattle.sd_volume.specs.Adopt.{GoesUpTo, HasBlockOfThisRun, BlockStandsAt, IsLabelled}
-use Rattle.sd_volume.proofs.ImageLemmas.{block_and_behind, own_image, one_block_there, one_block_more, volume_end-more, length-image, label_image, length-label_block}
+use Rattle.sd_volume.proofs.ImageLemmas.{block_and_behind, own_image, IsOneBlock, one_block_there, one_block_more, volume_end-more, length-image, label_image, length-label_block}
 
 -- at one place begins one block
+pub one_block_at : (bytes : List ℕ) (key key' : SessionKey) (number number' : ℕ) (body body' : List ℕ) → BeginsWithBlock bytes key number body → BeginsWithBlock bytes key' number' body'
+    → IsOneBlock (record { key = key; body = body }) (record { key = key'; body = body' }) number number' (drop (24 + length body) bytes) (drop (24 + length body') bytes)
+one_block_at bytes key key' number number' body body' is is' =
+    one_block_there (record { key = key; body = body }) (record { key = key'; body = body' }) number number' _ _ (own_image _ key number body is) (own_image _ key' number' body' is')
+    (sym (block_and_behind bytes key number body is) ∙ block_and_behind bytes key' number' body' is')
+
 pub one_block_begins : (bytes : List ℕ) (key key' : SessionKey) (number number' : ℕ) (body body' : List ℕ) → BeginsWithBlock bytes key number body → BeginsWithBlock bytes key' number' body'
     → number ≡ number'
 one_block_begins bytes key key' number number' body body' is is' =
-    (one_block_there (record { key = key; body = body }) (record { key = key'; body = body' }) number number' _ _ (own_image _ key number body is) (own_image _ key' number' body' is')
-    (sym (block_and_behind bytes key number body is) ∙ block_and_behind bytes key' number' body' is')).number_is
+    (one_block_at bytes key key' number number' body body' is is').number_is
 
 -- a block that was shown is there
 pub shown_stands : (bytes shown : List ℕ) (at : ℕ) (head : Head) → shown ≡ take head.size (drop at bytes) → IsBlockOf shown head → BlockStandsAt at head.number bytes head
@@ -32,9 +37,9 @@ shown_within bytes shown at head is block within =
     omega (arith, block.size_is, ap length is, length-take head.size (drop at bytes), length-drop at bytes)
 
 -- one block more
-pub goes_on : (start : ℕ) (bytes : List ℕ) (label : VolumeLabel) (end next : ℕ) (head : Head) → GoesUpTo start bytes label end next → BlockStandsAt end next bytes head → head.key.time < start
-    → GoesUpTo start bytes label (end + head.size) (next + 1)
-goes_on start bytes label end next head goes stands earlier =
+pub goes_on : (start : ℕ) (bytes : List ℕ) (label : VolumeLabel) (end next last : ℕ) (head : Head) → GoesUpTo start bytes label end next last → BlockStandsAt end next bytes head → head.key.time < start
+    → GoesUpTo start bytes label (end + head.size) (next + 1) end
+goes_on start bytes label end next last head goes stands earlier =
     let block : Block = record { key = head.key; body = stands.0 } in
     let there : BeginsWithBlock (drop end bytes) head.key (1 + length goes.blocks) stands.0 = subst (λ n. BeginsWithBlock (drop end bytes) head.key n stands.0) goes.next_is stands.1 in
     let more = one_block_more bytes label goes.blocks (drop end bytes) block goes.image there in
@@ -43,13 +48,14 @@ goes_on start bytes label end next head goes stands earlier =
       image = subst (λ (tail : List ℕ). VolumeImage bytes label (goes.blocks ++ block ∷ []) tail) (drop-drop (24 + length stands.0) end bytes ∙ ap (λ n. drop (end + n) bytes) (sym stands.2)) more;
       end_is = ap (λ n. end + n) stands.2 ∙ ap (λ n. n + (24 + length stands.0)) goes.end_is ∙ sym (volume_end-more label goes.blocks block);
       next_is = omega (arith, goes.next_is, length-append goes.blocks (block ∷ []));
+      last_is = inr (goes.blocks, block, refl, goes.end_is);
       earlier = All-push (λ (b : Block). b.key.time < start) goes.blocks block goes.earlier earlier;
     }
 
 -- a block that is of no earlier run
-pub of_this_run : (start : ℕ) (bytes : List ℕ) (label : VolumeLabel) (end next : ℕ) (head : Head) → GoesUpTo start bytes label end next → BlockStandsAt end next bytes head → start ≤ head.key.time
+pub of_this_run : (start : ℕ) (bytes : List ℕ) (label : VolumeLabel) (end next last : ℕ) (head : Head) → GoesUpTo start bytes label end next last → BlockStandsAt end next bytes head → start ≤ head.key.time
     → HasBlockOfThisRun start bytes label
-of_this_run start bytes label end next head goes stands late =
+of_this_run start bytes label end next last head goes stands late =
     let block : Block = record { key = head.key; body = stands.0 } in
     record {
       before = goes.blocks;

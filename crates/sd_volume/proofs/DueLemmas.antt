@@ -12,7 +12,7 @@ use Rattle.sd_volume.specs.Volume.{VolumeView}
 use Rattle.sd_volume.specs.Adopt.{IsVolumeOf, AreEarlier, HasBlockOfThisRun, IsDue, IsAdoptable, Adopts, CutsAt, KeepsUpTo, KeepsWholeBlocks, GoesUpTo}
 use Rattle.sd_volume.proofs.ImageLemmas.{one_label, whole_image_goes_on, bytes_before, images-append}
 
-same_held : (shelf : Shelf) (name : List ℕ) (held other : Held) → shelf.volume name ≡ Some held → shelf.volume name ≡ Some other → held ≡ other
+pub same_held : (shelf : Shelf) (name : List ℕ) (held other : Held) → shelf.volume name ≡ Some held → shelf.volume name ≡ Some other → held ≡ other
 same_held shelf name held other there here = some_is (sym there ∙ here)
   where
     some_is : {a b : Held} → Some a ≡ Some b → a ≡ b
@@ -26,7 +26,7 @@ gone shelf name held none there = absurd (never (sym none ∙ there))
 
 -- The label.
 
-label_and_rest : (name bytes : List ℕ) (label : VolumeLabel) → IsVolumeOf name bytes label → bytes ≡ label_block label ++ drop (length (label_block label)) bytes
+pub label_and_rest : (name bytes : List ℕ) (label : VolumeLabel) → IsVolumeOf name bytes label → bytes ≡ label_block label ++ drop (length (label_block label)) bytes
 label_and_rest name bytes label is =
     sym (take-append-drop (length (label_block label)) bytes) ∙ ap (λ (l : List ℕ). l ++ drop (length (label_block label)) bytes) is.begins
 
@@ -36,7 +36,7 @@ one_label_of name bytes label other is is' =
 
 -- a volume's label block alone
 pub goes_from_label : (start : ℕ) (bytes : List ℕ) (label : VolumeLabel) (first : ℕ) → IsVolumeLabel label → BeginsWith bytes (label_block label) → first ≡ length (label_block label)
-    → GoesUpTo start bytes label first 1
+    → GoesUpTo start bytes label first 1 0
 goes_from_label start bytes label first is begins first_is =
     let front = append-nil (label_block label) in
     let whole : bytes ≡ label_block label ++ drop first bytes =
@@ -46,6 +46,7 @@ goes_from_label start bytes label first is begins first_is =
       image = record { label_is = is; blocks_are = tt; bytes_are = whole ∙ ap (λ (l : List ℕ). l ++ drop first bytes) (sym front) };
       end_is = first_is ∙ ap length (sym front);
       next_is = refl;
+      last_is = inl (refl, refl);
       earlier = λ k d lt. absurd (omega arith);
     }
 
@@ -158,7 +159,7 @@ due_behind_label Memory name media start shelf held label others there ours same
 -- What is adopted.
 
 pub adoptable_of : (name media : List ℕ) (start : ℕ) (bytes : List ℕ) (v : VolumeView) (label : VolumeLabel) → IsVolumeOf name bytes label → label.media ≡ media → v.pool ≡ label.pool
-    → v.first ≡ length (label_block label) → GoesUpTo start bytes label v.end v.next_number → NoBlockNext v.next_number (drop v.end bytes) → IsAdoptable name media start bytes v
+    → v.first ≡ length (label_block label) → GoesUpTo start bytes label v.end v.next_number v.last → NoBlockNext v.next_number (drop v.end bytes) → IsAdoptable name media start bytes v
 adoptable_of name media start bytes v label ours same pool first goes ended = record {
   label = label;
   blocks = goes.blocks;
@@ -171,6 +172,7 @@ adoptable_of name media start bytes v label ours same pool first goes ended = re
   end_is = goes.end_is;
   next_is = goes.next_is;
   first_is = first;
+  last_is = goes.last_is;
 }
 
 -- the bytes up to where the blocks end are a volume with those blocks and no tail

@@ -6,3 +6,4 @@ pub mod PurgeLemmas
 pub mod ReaderLemmas
 pub mod VolumeLemmas
 pub mod DueLemmas
+pub mod NotedLemmas

@@ -25,7 +25,7 @@ image_added bytes label blocks block image is block_is = record {
 
 pub block_added : (v after : VolumeView) (old new : Shelf) (loaded : Option (List ℕ)) (label : VolumeLabel) (blocks : List Block) (block : Block) (image : List ℕ) (size : ℕ)
     → loaded ≡ Some v.name → IsBlockImage most_block image block.key v.next_number block.body → size ≡ 24 + length block.body
-    → after ≡ record v { end = v.end + size; next_number = v.next_number + 1 }
+    → after ≡ record v { end = v.end + size; next_number = v.next_number + 1; last = v.end }
     → Appends image loaded old new → StandsOn v old label blocks [] → StandsOn after new label (blocks ++ block ∷ []) []
 block_added v after old new loaded label blocks block image size is block_is size_is after_is appends stands =
     let there = appends.here v.name stands.held is stands.there in

@@ -1,7 +1,8 @@
 -- What adopting a volume finds on the shelf, and what it leaves there.
-use Rattle.std.specs.Prelude.{◌≡◌, ◌≢◌, ℕ, ◌+◌, ◌<◌, ◌≤◌, List, [], ◌∷◌, ◌++◌, length, take, drop, All, if◌then◌else◌, nat_le, None, Some}
+use Rattle.std.specs.Prelude.{◌≡◌, ◌≢◌, ℕ, ◌+◌, ◌<◌, ◌≤◌, ◌⊎◌, List, [], ◌∷◌, ◌++◌, length, take, drop, All, if◌then◌else◌, nat_le, None, Some, Result, IfOk, IfErr, IsErrOf, IsErrAnd}
 use Rattle.sd_base.specs.Limits.{block_header, most_volume}
 use Rattle.sd_block.specs.declared.head.Head.{Head}
+use Rattle.sd_driver.specs.Meaning.{Meaning}
 use Rattle.sd_driver.specs.Shelf.{Shelf, Held, BeginsWith, Lasts, StillLastsBelow}
 use Rattle.sd_label.specs.declared.label.VolumeLabel.{VolumeLabel}
 use Rattle.sd_label.specs.Label.{IsVolumeLabel}
@@ -9,7 +10,8 @@ use Rattle.sd_volume.specs.declared.volume.VolumeStatus.{VolumeStatus}
 use Rattle.sd_volume.specs.declared.volume.VolumeStatus.TheVariants.{Append, Full}
 use Rattle.sd_volume.specs.declared.fault.AdoptFault.{AdoptFault}
 use Rattle.sd_volume.specs.declared.fault.AdoptFault.TheVariants.{NotOnShelf, NotOurVolume, OtherMedia, BlocksOfThisRun, Device, Memory}
-use Rattle.sd_volume.specs.Image.{Block, label_block, volume_end, BeginsWithBlock, VolumeImage, WholeImage}
+use Rattle.sd_volume.specs.Device.{OnlyReads}
+use Rattle.sd_volume.specs.Image.{Block, label_block, volume_end, LastBegins, BeginsWithBlock, VolumeImage, WholeImage}
 use Rattle.sd_volume.specs.Volume.{VolumeView, StandsOn}
 
 -- the bytes begin with the block of this label, which has this name
@@ -60,7 +62,8 @@ IsDue Device name media start shelf = ⊥
 IsDue Memory name media start shelf = ⊥
 
 -- The bytes are a volume of this name and media type, all of whose blocks are of earlier runs, and this is known
--- of it: where its blocks end, so that no block with the next number is there, and what that number is.
+-- of it: where its blocks end, so that no block with the next number is there, what that number is, and where the
+-- last of them begins.
 pub record IsAdoptable (name media : List ℕ) (start : ℕ) (bytes : List ℕ) (v : VolumeView) : Type 0 where
   pub label : VolumeLabel
   pub blocks : List Block
@@ -73,6 +76,7 @@ pub record IsAdoptable (name media : List ℕ) (start : ℕ) (bytes : List ℕ) 
   pub end_is : v.end ≡ volume_end label blocks
   pub next_is : v.next_number ≡ 1 + length blocks
   pub first_is : v.first ≡ length (label_block label)
+  pub last_is : LastBegins label blocks v.last
 
 -- The volume was there and adoptable. It was cut where its blocks end and nowhere else, is there with those
 -- blocks, and all of it lasts from now on; all other volumes stay.
@@ -104,6 +108,19 @@ KeepsWholeBlocks name old new = (held : Held) → old.volume name ≡ Some held
     → (label : VolumeLabel) (blocks : List Block) (tail : List ℕ) → VolumeImage held.bytes label blocks tail
     → KeepsUpTo (volume_end label blocks) name old new × StillLastsBelow (volume_end label blocks) name old new
 
+-- What an adoption answers and leaves, with an honest device. It adopts the volume, or answers which refusal is due,
+-- unless the device failed or memory ran out; and each refusal that is due is answered, or one of those two. Whole
+-- blocks are kept, whatever it answers. If a refusal is due, the device is only read.
+pub record AnswersAdoption (name media : List ℕ) (start : ℕ)
+    (result : Result VolumeView AdoptFault) (old new : Meaning) : Type 0 where
+  pub adopts : IfOk result (λ volume. Adopts name media start volume old.shelf new.shelf)
+  pub due : IfErr result (λ fault. fault ≢ Device → fault ≢ Memory → IsDue fault name media start old.shelf)
+  pub refuses : (fault : AdoptFault) → IsDue fault name media start old.shelf
+      → IsErrAnd result (λ answer. (answer ≡ fault) ⊎ (answer ≡ Device) ⊎ (answer ≡ Memory))
+  pub keeps : KeepsWholeBlocks name old.shelf new.shelf
+  pub only_reads : (fault : AdoptFault) → IsDue fault name media start old.shelf
+      → OnlyReads (IsErrOf result Device) old new
+
 -- a volume was cut at a place, and all of what is left lasts from now on; all others stay
 pub record CutsAt (to : ℕ) (name : List ℕ) (old new : Shelf) : Type 0 where
   pub here : (held : Held) → old.volume name ≡ Some held
@@ -113,12 +130,14 @@ pub record CutsAt (to : ℕ) (name : List ℕ) (old new : Shelf) : Type 0 where
       → Lasts new.moment name (take to held.bytes) new
   pub others : (other : List ℕ) → other ≢ name → new.volume other ≡ old.volume other
 
--- the blocks that come in order after the label, all of earlier runs, up to a place where the next number is due
-pub record GoesUpTo (start : ℕ) (bytes : List ℕ) (label : VolumeLabel) (end next : ℕ) : Type 0 where
+-- the blocks that come in order after the label, all of earlier runs, up to a place where the next number is due; and
+-- where the last of them begins
+pub record GoesUpTo (start : ℕ) (bytes : List ℕ) (label : VolumeLabel) (end next last : ℕ) : Type 0 where
   pub blocks : List Block
   pub image : VolumeImage bytes label blocks (drop end bytes)
   pub end_is : end ≡ volume_end label blocks
   pub next_is : next ≡ 1 + length blocks
+  pub last_is : LastBegins label blocks last
   pub earlier : AreEarlier start blocks
 
 -- at that place is the block with this head and that number

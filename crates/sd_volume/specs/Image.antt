@@ -1,5 +1,5 @@
 -- The image of a volume: what its bytes are, and where its blocks end.
-use Rattle.std.specs.Prelude.{◌≡◌, ℕ, ◌+◌, List, [], ◌∷◌, ◌++◌, length, take}
+use Rattle.std.specs.Prelude.{◌≡◌, ℕ, ◌+◌, ◌⊎◌, List, [], ◌∷◌, ◌++◌, length, take}
 use Rattle.sd_base.specs.Limits.{block_header, most_block}
 use Rattle.sd_base.specs.declared.number.SessionKey.{SessionKey}
 use Rattle.sd_block.specs.Image.{block_image, IsBlockImage}
@@ -55,6 +55,12 @@ pub record VolumeImage (bytes : List ℕ)
 -- where these blocks end
 abbrev pub volume_end : VolumeLabel → List Block → ℕ
 volume_end label blocks = length (label_and_blocks label blocks)
+
+-- the last of these blocks begins there; or there is none, and the place is 0
+abbrev pub LastBegins : VolumeLabel → List Block → ℕ → Type 0
+LastBegins label blocks last =
+    ((blocks ≡ []) × (last ≡ 0))
+    ⊎ ((before : List Block) × (block : Block) × (blocks ≡ before ++ block ∷ []) × (last ≡ volume_end label before))
 
 -- These are all the blocks: at `volume_end` of them, the volume's end, no block with the next number begins.
 pub record WholeImage (bytes : List ℕ)

@@ -17,6 +17,7 @@ new_volume label =
       end = length (label_block label);
       next_number = 1;
       first = length (label_block label);
+      last = 0;
     }
 
 -- a volume of these bytes under a name that the shelf lacked, which lasts from now on; all others stay

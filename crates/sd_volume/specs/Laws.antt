@@ -1,9 +1,11 @@
--- What holds of the images of volumes, whoever wrote them.
+-- What holds of the images of volumes, and of their notes, whoever wrote them.
 use Rattle.std.specs.Prelude.{◌≡◌, ℕ, ◌+◌, List, [], ◌∷◌, ◌++◌, length, take, drop, Some}
 use Rattle.sd_base.specs.Limits.{block_header}
-use Rattle.sd_driver.specs.Shelf.{Shelf, Held, BeginsWith}
+use Rattle.sd_driver.specs.Shelf.{Shelf, Held, BeginsWith, Lasts, StillLastsBelow, AfterStop}
 use Rattle.sd_label.specs.declared.label.VolumeLabel.{VolumeLabel}
+use Rattle.sd_note.specs.declared.note.Note.{Note}
 use Rattle.sd_volume.specs.Image.{Block, BeginsWithBlock, volume_end, VolumeImage, WholeImage}
+use Rattle.sd_volume.specs.Noted.{IsTrueOf, IsTrueNote}
 use Rattle.sd_volume.specs.Volume.{VolumeView, StandsOn}
 
 -- the whole image of bytes is one: they tell its label, its blocks and its tail
@@ -57,3 +59,15 @@ StandsByItsBytes =
     → new.volume v.name ≡ Some after
     → after.bytes ≡ held.bytes
     → StandsOn v new label blocks tail
+
+-- What a note says stays true as long as the bytes below its end last: if it is true of a volume, and these bytes have
+-- lasted since some moment and still last after more calls, it is true after those calls, and of what any stop leaves.
+abbrev pub TrueNoteStays : Type 0
+TrueNoteStays =
+    (note : Note) (name : List ℕ) (old new : Shelf) (held : Held) (since : ℕ)
+    → old.volume name ≡ Some held
+    → IsTrueOf note held.bytes
+    → Lasts since name (take note.end held.bytes) old
+    → StillLastsBelow note.end name old new
+    → IsTrueNote note name new
+    × ((left : Shelf) → AfterStop since new left → IsTrueNote note name left)

@@ -7,4 +7,5 @@ pub mod Label
 pub mod Purge
 pub mod Append
 pub mod Adopt
+pub mod Noted
 pub mod Laws

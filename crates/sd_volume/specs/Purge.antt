@@ -8,7 +8,7 @@ use Rattle.sd_volume.specs.Volume.{VolumeView, StandsOn}
 
 -- the volume with no block: its next block is the first, right after its label block
 abbrev pub emptied : VolumeStatus → VolumeView → VolumeView
-emptied status v = record v { status = status; end = v.first; next_number = 1 }
+emptied status v = record v { status = status; end = v.first; next_number = 1; last = 0 }
 
 -- whatever volume was there, its label block alone is there now
 abbrev pub LeavesLabel : VolumeView → Shelf → VolumeView → Shelf → Type 0

@@ -8,7 +8,7 @@ use Rattle.sd_volume.specs.declared.volume.VolumeStatus.TheVariants.{Append}
 use Rattle.sd_volume.specs.Image.{Block, label_block, volume_end, VolumeImage}
 
 -- A volume: its name, pool and media, as its label says them; whether blocks are added; where its blocks end,
--- which number the next one gets, and where the first one begins.
+-- which number the next one gets, where the first one begins, and where the last one begins, 0 if there is none.
 pub record VolumeView : Type 0 where
   pub name : List ℕ
   pub pool : List ℕ
@@ -17,6 +17,7 @@ pub record VolumeView : Type 0 where
   pub end : ℕ
   pub next_number : ℕ
   pub first : ℕ
+  pub last : ℕ
 
 -- It is no longer than a volume may be, and has as many blocks as its numbers say, each of them at least the least one,
 -- its label block too. So the next number fits a header.

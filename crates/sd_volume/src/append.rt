@@ -48,6 +48,7 @@ pub fn append_block<D: Driver>(
     ensures end { IfPlaced result (λ start size. volume.new ≡ record volume.old {
       end = volume.old.end + size;
       next_number = volume.old.next_number + 1;
+      last = volume.old.end;
     }) }
     ensures full { result ≡ Appended.NoRoom → volume.new ≡ record volume.old { status = Full } }
     ensures error { result ≡ Appended.Fault → volume.new ≡ record volume.old { status = Error } }
@@ -105,11 +106,12 @@ impl Volume {
         ensures volume { self.new ≡ record self.old {
           end = self.old.end + size;
           next_number = self.old.next_number + 1;
+          last = self.old.end;
         } }
     {
-        let start = self.end;
-        self.end = start + size;
+        self.last = self.end;
+        self.end += size;
         self.next_number += 1;
-        start
+        self.last
     }
 }

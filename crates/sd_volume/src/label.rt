@@ -58,6 +58,7 @@ pub fn label_new<D: Driver>(
         end,
         next_number: 1,
         first: end,
+        last: 0,
     })
 }
 

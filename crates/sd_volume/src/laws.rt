@@ -1,5 +1,5 @@
-// What holds of the images of volumes, whoever wrote them.
-ghost use Rattle.sd_volume.specs.Laws.{OneWholeImage, WholeImageGoesOn, KeptBlocksStand, OneBlockMore, PlacedBlockStands, StandsByItsBytes};
+// What holds of the images of volumes, and of their notes, whoever wrote them.
+ghost use Rattle.sd_volume.specs.Laws.{OneWholeImage, WholeImageGoesOn, KeptBlocksStand, OneBlockMore, PlacedBlockStands, StandsByItsBytes, TrueNoteStays};
 
 /// The whole image of a volume is told by its bytes.
 pub fn one_whole_image()
@@ -29,4 +29,9 @@ pub fn placed_block_stands()
 /// A volume stays as long as its bytes do.
 pub fn stands_by_its_bytes()
     ensures { StandsByItsBytes }
+{}
+
+/// What a note says stays true over any stop, as long as the bytes below its end last.
+pub fn true_note_stays()
+    ensures { TrueNoteStays }
 {}

@@ -1,5 +1,5 @@
 // What is on a volume: its label, and its blocks one after another. Nothing is changed.
-ghost use Rattle.std.specs.Prelude.{◌≡◌, ◌≢◌, ◌*◌, ◌+◌, ◌≤◌, ◌<◌, ℕ, List, [], length, drop, IfOk, IfErr, IfSome, IfNone, IsErrOf, IsTrue, ◌↔◌, None, Some};
+ghost use Rattle.std.specs.Prelude.{◌≡◌, ◌≢◌, ◌*◌, ◌+◌, ◌≤◌, ◌<◌, ◌⊎◌, ℕ, List, [], length, drop, IfOk, IfErr, IfSome, IfNone, IsErrOf, IsTrue, ◌↔◌, None, Some};
 ghost use Rattle.sd_base.specs.Limits.{least_block, most_volume};
 ghost use Rattle.sd_driver.specs.Meaning.{IsHonest};
 ghost use Rattle.sd_driver.specs.Shelf.{Held, BeginsWith};
@@ -8,6 +8,7 @@ ghost use Rattle.sd_label.specs.declared.label.VolumeLabel.{VolumeLabel as SpecL
 ghost use Rattle.sd_volume.specs.Adopt.{IsLabelled, IsLabelOf, HasBlockOfThisRun, GoesUpTo, BlockStandsAt};
 ghost use Rattle.sd_volume.specs.Device.{OnlyReads};
 ghost use Rattle.sd_volume.specs.Image.{NoBlockNext, no_session, label_block};
+ghost use Rattle.sd_volume.specs.Noted.{EndsWithBlock};
 ghost use Rattle.sd_volume.specs.Reader.{Shows, IsBlockOf};
 
 use crate::block::next_block;
@@ -26,11 +27,12 @@ pub struct Labelled {
     pub first: u64,
 }
 
-/// Where the blocks of a volume end, and which number the next one gets.
+/// Where the blocks of a volume end, which number the next one gets, and where the last one begins, 0 if there is none.
 #[derive(Clone, Copy)]
 pub(crate) struct End {
     pub(crate) end: u64,
     pub(crate) next_number: u32,
+    pub(crate) last: u64,
 }
 
 /// The label of a volume of that size, which is to have that name, or `None` if no label block of that name
@@ -105,32 +107,42 @@ fn is_label_head(head: &Head) -> bool
     head.number == 0 && head.key == NO_SESSION
 }
 
-/// Where the blocks after the label of a volume of that size end. All of them are to be of earlier runs
-/// than the one that began at `start_time`.
+/// Where the blocks of a volume of that size end that come after those up to `known`. All of them are to be of earlier
+/// runs than the one that began at `start_time`.
 pub(crate) fn find_end<D: Driver>(
     driver: &mut D,
     reader: &mut VolumeReader,
-    first: u64,
+    known: End,
     size: u64,
     start_time: u32,
 ) -> Result<End, AdoptFault>
-    requires least { least_block ≤ first }
-    requires within { first ≤ size }
+    requires within { known.end ≤ size }
     requires most { size ≤ most_volume }
+    requires least { 1 ≤ known.next_number }
+    requires next { known.next_number * least_block ≤ known.end }
     ensures name { reader.new.name ≡ reader.old.name }
     ensures device { OnlyReads (IsErrOf result AdoptFault.Device)
         (D.meaning driver.old) (D.meaning driver.new) }
     ensures faults { IfErr result
         (λ fault. (fault ≢ AdoptFault.NotOurVolume) × (fault ≢ AdoptFault.OtherMedia)) }
-    ensures first { IfOk result (λ found. first ≤ found.end) }
+    ensures first { IfOk result (λ found. known.end ≤ found.end) }
     ensures end { IfOk result (λ found. found.end ≤ size) }
     ensures least { IfOk result (λ found. 1 ≤ found.next_number) }
     ensures next { IfOk result (λ found. found.next_number * least_block ≤ found.end) }
 
     ensures goes { IsHonest (D.meaning driver.old) → Shows reader.old (D.meaning driver.old).shelf
         → (held : Held) → (D.meaning driver.old).shelf.volume reader.old.name ≡ Some held
-        → (label : SpecLabel) → GoesUpTo start_time held.bytes label first 1
-        → IfOk result (λ found. GoesUpTo start_time held.bytes label found.end found.next_number) }
+        → (label : SpecLabel)
+        → GoesUpTo start_time held.bytes label known.end known.next_number known.last
+        → IfOk result (λ found.
+        GoesUpTo start_time held.bytes label found.end found.next_number found.last) }
+    ensures stands { IsHonest (D.meaning driver.old)
+        → Shows reader.old (D.meaning driver.old).shelf
+        → (held : Held) → (D.meaning driver.old).shelf.volume reader.old.name ≡ Some held
+        → IfOk result (λ found.
+        EndsWithBlock start_time held.bytes found.last found.end found.next_number
+        ⊎ ((found.last ≡ known.last) × (found.end ≡ known.end)
+        × (found.next_number ≡ known.next_number))) }
     ensures ended { IsHonest (D.meaning driver.old) → Shows reader.old (D.meaning driver.old).shelf
         → (held : Held) → (D.meaning driver.old).shelf.volume reader.old.name ≡ Some held
         → size ≡ length held.bytes
@@ -138,22 +150,29 @@ pub(crate) fn find_end<D: Driver>(
     ensures this_run { IsHonest (D.meaning driver.old)
         → Shows reader.old (D.meaning driver.old).shelf
         → (held : Held) → (D.meaning driver.old).shelf.volume reader.old.name ≡ Some held
-        → (label : SpecLabel) → GoesUpTo start_time held.bytes label first 1
+        → (label : SpecLabel)
+        → GoesUpTo start_time held.bytes label known.end known.next_number known.last
         → IsErrOf result AdoptFault.BlocksOfThisRun
         → HasBlockOfThisRun start_time held.bytes label }
     ensures not_there { IsHonest (D.meaning driver.old) → IsErrOf result AdoptFault.NotOnShelf
         → (D.meaning driver.old).shelf.volume reader.old.name ≡ None }
 {
-    let mut end = first;
-    let mut next_number = 1;
+    let mut end = known.end;
+    let mut next_number = known.next_number;
+    let mut last = known.last;
     while let Some(head) = numbered_block(driver, reader, end, next_number as u64, size)? {
         if head.key.time >= start_time {
             return Err(AdoptFault::BlocksOfThisRun);
         }
+        last = end;
         end += head.size as u64;
         next_number += 1;
     }
-    Ok(End { end, next_number })
+    Ok(End {
+        end,
+        next_number,
+        last,
+    })
 }
 
 /// The block with that number at a place of a volume of that size, or `None` if no such whole block is there.

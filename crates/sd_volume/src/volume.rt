@@ -25,6 +25,7 @@ pub struct Volume {
     pub(crate) end: u64,
     pub(crate) next_number: u32,
     pub(crate) first: u64,
+    pub(crate) last: u64,
 }
 
 impl Model for Volume {
@@ -40,6 +41,7 @@ impl Model for Volume {
       end = v.end;
       next_number = v.next_number;
       first = v.first;
+      last = v.last;
     } };
 
     ghost invariant = { λ v. IsVolumeView (record {
@@ -50,6 +52,7 @@ impl Model for Volume {
       end = v.end;
       next_number = v.next_number;
       first = v.first;
+      last = v.last;
     }) };
 }
 
@@ -105,6 +108,13 @@ impl Volume {
         self.first
     }
 
+    /// Where its last block begins, 0 if it has its label block alone.
+    pub fn last(&self) -> u64
+        ensures { result ≡ self.now.last }
+    {
+        self.last
+    }
+
     /// Whether blocks of the pool are added to it.
     pub fn is_appendable_for(&self, pool: &PoolName) -> bool
         ensures { IsTrue result ↔ ((self.now.status ≡ Append) × (pool.now ≡ self.now.pool)) }
@@ -119,6 +129,7 @@ impl Volume {
         self.status = status;
         self.end = self.first;
         self.next_number = 1;
+        self.last = 0;
     }
 
     /// No more blocks are added, since the device failed a write of it.

@@ -59,7 +59,7 @@ fn check_input(rt: &HostRuntime) -> ExitCode {
 }
 
 /// Serves clients.
-fn serve_clients<W: Threads + Wait + Clock + Sync + Copy + Drop>(
+fn serve_clients<W: Threads + Wait + Clock + Send + Sync + Copy + Drop>(
     rt: &HostRuntime,
     wait: W,
     asked: &Serving<'_>,
@@ -71,6 +71,8 @@ fn serve_clients<W: Threads + Wait + Clock + Sync + Copy + Drop>(
         wait: asked.wait,
         metrics: asked.metrics,
         until: asked.until,
+        adopt: asked.adopt,
+        adopt_damaged: asked.adopt_damaged.as_slice(),
     };
     let mut errors = Printer::new(rt.stderr());
     let status = serve_file(rt, wait, asked.path, bounds, &log, &mut out, &mut errors);

@@ -14,6 +14,6 @@ invariant-loop-span g l =
       key : l.salvager.key ≡ l.initial.salvager.key;
       device : OnlyReads ⊥ old now;
       takes : IsHonest old → (pieces : List Piece) × FindsInSpans (volumes_on old.shelf) (take l.span-index l.spans) pieces
-          × Takes l.initial.salvager.key l.initial.salvager.collector l.salvager.collector pieces
+          × Takes l.initial.salvager.key l.initial.salvager l.salvager pieces
           (g.S.Salvaged.got l.initial.sink) (g.S.Salvaged.got l.sink) (g.S.Salvaged.lost l.initial.sink) (g.S.Salvaged.lost l.sink);
     }

@@ -16,7 +16,7 @@ loop-whole-init g c = record {
   name = refl;
   device = OnlyReads-refl (g.D.Driver.meaning c.args.driver.now);
   shows = λ honest shows. shows;
-  takes = λ honest shows held there size. ([], from_start c.args.span.now.volume held.bytes c.args.span.now.start c.args.span.now.end, takes_none c.args.salvager.now.key c.args.salvager.now.collector _ _);
+  takes = λ honest shows held there size. ([], from_start c.args.span.now.volume held.bytes c.args.span.now.start c.args.span.now.end, takes_none c.args.salvager.now.key c.args.salvager.now _ _);
 }
 
 pub loop-whole-preserved : goal.loop-whole-preserved
@@ -42,14 +42,14 @@ loop-whole-preserved g c =
           let gap = before c.args.span.now.volume c.loop-whole.at c.loop-whole.last b in
           let tell = takes_as c.loop-whole.salvager.key key so_far.key c.tell_before.ensures.takes in
           let take = takes_as c.tell_before.new.salvager.key key (c.tell_before.ensures.key ∙ so_far.key) c.in_ok-take.ensures.takes in
-          let read = subst (λ (l : List ℕ). Takes key c.tell_before.new.salvager.collector c.take.new.self.collector (Read (place c.args.span.now.volume c.in-Some.whole.at) (record { key = c.in-Some.whole.head.key; body = l }) ∷ [])
+          let read = subst (λ (l : List ℕ). Takes key c.tell_before.new.salvager c.take.new.self (Read (place c.args.span.now.volume c.in-Some.whole.at) (record { key = c.in-Some.whole.head.key; body = l }) ∷ [])
           (g.S.Salvaged.got c.tell_before.new.sink) (g.S.Salvaged.got c.take.new.sink) (g.S.Salvaged.lost c.tell_before.new.sink) (g.S.Salvaged.lost c.take.new.sink)) body take in (
             done ++ (gap ++ Read (place c.args.span.now.volume c.in-Some.whole.at) b.block ∷ []),
             subst (λ (n : ℕ). GoesFrom c.args.span.now.volume held.bytes c.args.span.now.start c.args.span.now.end (c.in-Some.whole.at + n) (Some c.in-Some.whole.head.number)
                 (done ++ (gap ++ Read (place c.args.span.now.volume c.in-Some.whole.at) b.block ∷ []))) (sym block_size)
                 (from_next c.args.span.now.volume held.bytes c.args.span.now.start c.args.span.now.end c.loop-whole.at c.loop-whole.last done b goes is_next),
-            takes_then key c.args.salvager.now.collector c.loop-whole.salvager.collector c.take.new.self.collector done (gap ++ Read (place c.args.span.now.volume c.in-Some.whole.at) b.block ∷ []) _ _ _ _ _ _ takes
-                (takes_then key c.loop-whole.salvager.collector c.tell_before.new.salvager.collector c.take.new.self.collector gap (Read (place c.args.span.now.volume c.in-Some.whole.at) b.block ∷ []) _ _ _ _ _ _ tell read),
+            takes_then key c.args.salvager.now c.loop-whole.salvager c.take.new.self done (gap ++ Read (place c.args.span.now.volume c.in-Some.whole.at) b.block ∷ []) _ _ _ _ _ _ takes
+                (takes_then key c.loop-whole.salvager c.tell_before.new.salvager c.take.new.self gap (Read (place c.args.span.now.volume c.in-Some.whole.at) b.block ∷ []) _ _ _ _ _ _ tell read),
           );
     }
 
@@ -81,9 +81,9 @@ returns-clause-takes g c = λ honest shows held there size.
     let rest = takes_as c.loop-whole.salvager.key key so_far.key c.tell_rest.ensures.takes in (
       all.0,
       all.1,
-      subst (λ (l : List Piece). Takes key c.args.salvager.now.collector c.tell_rest.new.salvager.collector l (g.S.Salvaged.got c.args.sink.now) (g.S.Salvaged.got c.tell_rest.new.sink) (g.S.Salvaged.lost c.args.sink.now) (g.S.Salvaged.lost c.tell_rest.new.sink))
+      subst (λ (l : List Piece). Takes key c.args.salvager.now c.tell_rest.new.salvager l (g.S.Salvaged.got c.args.sink.now) (g.S.Salvaged.got c.tell_rest.new.sink) (g.S.Salvaged.lost c.args.sink.now) (g.S.Salvaged.lost c.tell_rest.new.sink))
           (sym all.2)
-          (takes_then key c.args.salvager.now.collector c.loop-whole.salvager.collector c.tell_rest.new.salvager.collector done (rest_of c.args.span.now.volume c.loop-whole.at c.args.span.now.end) _ _ _ _ _ _ takes rest),
+          (takes_then key c.args.salvager.now c.loop-whole.salvager c.tell_rest.new.salvager done (rest_of c.args.span.now.volume c.loop-whole.at c.args.span.now.end) _ _ _ _ _ _ takes rest),
     )
 
 pub split_at-requires : goal.split_at-requires

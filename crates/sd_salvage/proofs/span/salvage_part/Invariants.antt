@@ -20,7 +20,7 @@ invariant-loop-whole g l =
       shows : IsHonest old → Shows l.initial.volume old.shelf → Shows l.volume now.shelf;
       takes : IsHonest old → Shows l.initial.volume old.shelf → (held : Held) → old.shelf.volume l.initial.volume.name ≡ Some held → l.size ≡ length held.bytes
           → (done : List Piece) × GoesFrom l.span.volume held.bytes l.span.start l.span.end l.at l.last done
-          × Takes l.initial.salvager.key l.initial.salvager.collector l.salvager.collector done
+          × Takes l.initial.salvager.key l.initial.salvager l.salvager done
           (g.S.Salvaged.got l.initial.sink) (g.S.Salvaged.got l.sink) (g.S.Salvaged.lost l.initial.sink) (g.S.Salvaged.lost l.sink);
     }
 

@@ -1,4 +1,4 @@
-use Rattle.std.proofs.Common.{◌≡◌, ℕ, List, [], ◌∷◌, ◌++◌, drop, sym, ap, ◌∙◌, subst, arith, rules, refl, Some}
+use Rattle.std.proofs.Common.{◌≡◌, ◌+◌, ℕ, List, [], ◌∷◌, ◌++◌, drop, sym, ap, ◌∙◌, subst, arith, rules, refl, Some}
 use Rattle.std.specs.Prelude.{IsTrue}
 use Rattle.std.proofs.lemmas.Result.{err_from_is_err_and}
 use Rattle.sd_scan.specs.Found.{Found}
@@ -12,6 +12,7 @@ use Rattle.sd_scan.proofs.run.take_run.Goals as goal
 
 pub loop-head-init : goal.loop-head-init
 loop-head-init g c = record {
+  chain = c.requires.chain;
   name = refl;
   device = search rules;
   from = omega arith;
@@ -44,6 +45,7 @@ loop-head-preserved g c =
     let here : Found = record { volume = c.args.name.now; start = c.loop-head.end; block = own } in
     let size = size_of_block c.shown.result.now c.in-Some.head (subst (λ (l : List ℕ). IsBlockOf l c.in-Some.head) (sym c.shown.ensures.shown) block) in
     record {
+      chain = c.pass.ensures ∙ ap (λ n. n + c.in-Some.head.size) so_far.chain;
       name = ensures.name ∙ so_far.name;
       device = OnlyReads-trans _ _ _ _ _ (λ n. n) so_far.device (OnlyReads-as _ _ _ _ (λ f. cc) (λ f. absurd f) ensures.device);
       from = omega (arith, so_far.from);

@@ -15,6 +15,7 @@ invariant-loop-head g l =
     let old = g.D.Driver.meaning l.initial.driver in
     let now = g.D.Driver.meaning l.driver in
     record {
+      chain : l.chain.so_far.end ≡ l.end;
       name : l.reader.name ≡ l.initial.reader.name;
       device : OnlyReads ⊥ old now;
       from : l.start ≤ l.end;

@@ -1,8 +1,9 @@
-use Rattle.std.proofs.Common.{◌≡◌, sym, ap, ◌∙◌, subst, arith, Some}
+use Rattle.std.proofs.Common.{◌≡◌, sym, ap, ◌∙◌, subst, refl, inl, arith, Some}
 use Rattle.std.specs.Prelude.{IsTrue}
 use Rattle.std.proofs.lemmas.Result.{err_from_is_err_and}
 use Rattle.sd_volume.proofs.DeviceLemmas.{OnlyReads-trans, OnlyReads-as, OnlyReads-adopting}
 use Rattle.sd_volume.proofs.AdoptLemmas.{goes_on, of_this_run}
+use Rattle.sd_volume.proofs.NotedLemmas.{ends_with_block}
 use Rattle.sd_volume.proofs.survey.find_end.Goals as goal
 
 pub returns-in_err-head-clause-device : goal.returns-in_err-head-clause-device
@@ -24,7 +25,7 @@ returns-then-head-start_time-clause-this_run g c = λ honest shows held there la
     let volume = (g.D.Driver.meaning c.loop-head.driver).shelf.volume in
     let there_still : volume c.loop-head.reader.name ≡ Some held = ap volume so_far.name ∙ (so_far.device.same honest _ ∙ there) in
     let stands = rw c.in-Some.is at (c.in_ok-head.ensures.there (subst IsTrue (sym so_far.device.counted.honest) honest) (so_far.shows honest shows) held there_still) in
-    of_this_run c.args.start_time held.bytes label c.loop-head.end c.loop-head.next_number c.in-Some.head (so_far.goes honest shows held there label goes) stands c.if-head-start_time.true
+    of_this_run c.args.start_time held.bytes label c.loop-head.end c.loop-head.next_number c.loop-head.last c.in-Some.head (so_far.goes honest shows held there label goes) stands c.if-head-start_time.true
 
 pub loop-head-preserved : goal.loop-head-preserved
 loop-head-preserved g c =
@@ -43,6 +44,11 @@ loop-head-preserved g c =
       goes = λ honest shows held there label goes. (
           let there_still : volume c.loop-head.reader.name ≡ Some held = ap volume so_far.name ∙ (so_far.device.same honest _ ∙ there) in
           let stands = rw c.in-Some.is at (ensures.there (subst IsTrue (sym so_far.device.counted.honest) honest) (so_far.shows honest shows) held there_still) in
-          goes_on c.args.start_time held.bytes label c.loop-head.end c.loop-head.next_number c.in-Some.head (so_far.goes honest shows held there label goes) stands c.if-head-start_time.false
+          goes_on c.args.start_time held.bytes label c.loop-head.end c.loop-head.next_number c.loop-head.last c.in-Some.head (so_far.goes honest shows held there label goes) stands c.if-head-start_time.false
+          );
+      stands = λ honest shows held there. (
+          let there_still : volume c.loop-head.reader.name ≡ Some held = ap volume so_far.name ∙ (so_far.device.same honest _ ∙ there) in
+          let stands = rw c.in-Some.is at (ensures.there (subst IsTrue (sym so_far.device.counted.honest) honest) (so_far.shows honest shows) held there_still) in
+          inl (ends_with_block c.args.start_time held.bytes c.loop-head.end c.loop-head.next_number c.in-Some.head _ _ stands c.if-head-start_time.false refl refl)
           );
     }

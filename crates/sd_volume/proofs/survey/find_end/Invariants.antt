@@ -1,9 +1,10 @@
-use Rattle.std.proofs.Common.{◌≡◌, ◌-◌, ◌*◌, ◌≤◌, Some}
+use Rattle.std.proofs.Common.{◌≡◌, ◌-◌, ◌*◌, ◌≤◌, ◌⊎◌, Some}
 use Rattle.sd_driver.specs.Meaning.{IsHonest}
 use Rattle.sd_driver.specs.Shelf.{Held}
 use Rattle.sd_label.specs.declared.label.VolumeLabel.{VolumeLabel}
 use Rattle.sd_volume.specs.Adopt.{GoesUpTo}
 use Rattle.sd_volume.specs.Device.{OnlyReads}
+use Rattle.sd_volume.specs.Noted.{EndsWithBlock}
 use Rattle.sd_volume.specs.Reader.{Shows}
 use Rattle.sd_volume.proofs.survey.find_end.Given as goal
 
@@ -14,12 +15,15 @@ invariant-loop-head g l =
     record {
       name : l.reader.name ≡ l.initial.reader.name;
       device : OnlyReads ⊥ old now;
-      first : l.first ≤ l.end;
+      first : l.fn.known.end ≤ l.end;
       end : l.end ≤ l.size;
       least : 1 ≤ l.next_number;
       next : l.next_number * 36 ≤ l.end;
       shows : IsHonest old → Shows l.initial.reader old.shelf → Shows l.reader now.shelf;
-      goes : IsHonest old → Shows l.initial.reader old.shelf → (held : Held) → old.shelf.volume l.initial.reader.name ≡ Some held → (label : VolumeLabel) → GoesUpTo l.start_time held.bytes label l.first 1 → GoesUpTo l.start_time held.bytes label l.end l.next_number;
+      goes : IsHonest old → Shows l.initial.reader old.shelf → (held : Held) → old.shelf.volume l.initial.reader.name ≡ Some held → (label : VolumeLabel)
+          → GoesUpTo l.start_time held.bytes label l.fn.known.end l.fn.known.next_number l.fn.known.last → GoesUpTo l.start_time held.bytes label l.end l.next_number l.last;
+      stands : IsHonest old → Shows l.initial.reader old.shelf → (held : Held) → old.shelf.volume l.initial.reader.name ≡ Some held
+          → EndsWithBlock l.start_time held.bytes l.last l.end l.next_number ⊎ ((l.last ≡ l.fn.known.last) × (l.end ≡ l.fn.known.end) × (l.next_number ≡ l.fn.known.next_number));
     }
 
 abbrev pub decreases-loop-head : goal.decreases-loop-head

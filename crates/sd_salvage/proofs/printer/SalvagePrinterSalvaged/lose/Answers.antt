@@ -10,7 +10,8 @@ use Rattle.sd_salvage.proofs.printer.SalvagePrinterSalvaged.lose.Goals as goal
 pub invariant_of-self : goal.invariant_of-self
 invariant_of-self g c =
     keeps_place g.K.Before.before (said_view g.W.Write.contents c.self.inside.out) (said_view g.W.Write.contents c.line.new.self) (seen_of c.self.inside.told) c.with.result c.self.inside.lost c.self.inside.last
-    c.args.volume.now c.copy.result c.copy-2.result c.args.at c.self.invariant c.with.ensures c.copy.ensures c.copy-2.ensures c.line.ensures.says
+    c.args.volume.now c.copy.result c.copy-2.result c.args.at c.self.inside.counts c.with_gap-self-inside.result c.self.invariant c.with.ensures c.copy.ensures c.copy-2.ensures c.line.ensures.says
+    c.with_gap-self-inside.ensures.records c.with_gap-self-inside.ensures.bytes c.with_gap-self-inside.ensures.gaps
 
 pub returns-clause-got : goal.returns-clause-got
 returns-clause-got g c =

@@ -1,4 +1,4 @@
-use Rattle.std.proofs.Common.{◌++◌, ◌∷◌, [], false, ap, sym, subst, ◌∙◌}
+use Rattle.std.proofs.Common.{◌≡◌, ◌+◌, ◌<◌, ◌^◌, ℕ, ◌++◌, ◌∷◌, [], false, ap, length, sym, subst, ◌∙◌}
 use Rattle.std.specs.Prelude.{Some}
 use Rattle.std.proofs.lemmas.List.{append-nil}
 use Rattle.sd_base.specs.Record.{Record}
@@ -13,11 +13,12 @@ use Rattle.sd_salvage.proofs.printer.SalvagePrinterSalvaged.put.Goals as goal
 pub invariant_of-self : goal.invariant_of-self
 invariant_of-self g c =
     let index = ap (λ (r : Record). r.index) c.rec.view_is in
-    subst (λ n. Keeps g.K.Before.before (said_view g.W.Write.contents c.print_record.new.out) c.with.result false n) (sym index)
+    subst (λ n. Keeps g.K.Before.before (said_view g.W.Write.contents c.print_record.new.out) c.with.result false n c.with_record-self-inside.result) (sym index)
     (keeps_record g.K.Before.before (said_view g.W.Write.contents c.self.inside.out) (said_view g.W.Write.contents c.print_missing.new.out) (said_view g.W.Write.contents c.print_record.new.out) (seen_of c.self.inside.told)
-    c.with.result c.self.inside.lost c.self.inside.last c.args.rec c.self.invariant c.with.ensures
+    c.with.result c.self.inside.lost c.self.inside.last c.args.rec c.self.inside.counts c.with_record-self-inside.result c.self.invariant c.with.ensures
     (subst (λ n. Says (said_view g.W.Write.contents c.self.inside.out) (said_view g.W.Write.contents c.print_missing.new.out) (missing_lines c.self.inside.lost c.self.inside.last (Some n))) index c.print_missing.ensures)
-    c.print_record.ensures)
+    c.print_record.ensures c.with_record-self-inside.ensures.records
+    (subst (λ (n : ℕ). c.self.inside.counts.bytes + n < 2 ^ 64 → c.with_record-self-inside.result.bytes ≡ c.self.inside.counts.bytes + n) (c.len.ensures ∙ ap (λ (r : Record). length r.bytes) c.rec.view_is) c.with_record-self-inside.ensures.bytes) c.with_record-self-inside.ensures.gaps)
 
 pub returns-clause-ok : goal.returns-clause-ok
 returns-clause-ok g c =

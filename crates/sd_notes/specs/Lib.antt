@@ -1,0 +1,4 @@
+pub mod Place
+pub mod Order
+pub mod Named
+pub mod Reading

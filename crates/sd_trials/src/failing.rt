@@ -1,0 +1,258 @@
+// An example in which one call of its device or of its spool fails: each of every kind in turn, in each way.
+
+use crate::events::{are_records_of, deeds_of, event_of, ticket};
+use crate::listed::TIME;
+use crate::rows::{Deed, Row};
+use crate::worlds::{CAPACITY, MemWorld, world_over};
+use sd_base::{Rec, Refusal, SessionKey};
+use sd_core::{Reply, Span, Status};
+use sd_machine::Event;
+use sd_memdrive::{Call, Fail, MemDrive, When};
+use sd_spool::{SpoolCall, SpoolFail};
+use std::alloc::Global;
+use std::io;
+
+static CALLS: [Call; 7] = [
+    Call::Create,
+    Call::Load,
+    Call::Len,
+    Call::Read,
+    Call::Append,
+    Call::Sync,
+    Call::Cut,
+];
+
+static SPOOL_CALLS: [SpoolCall; 3] = [SpoolCall::Append, SpoolCall::Read, SpoolCall::Clear];
+
+static WAYS: [When; 3] = [When::Before, When::Half, When::After];
+
+/// No example makes so many calls of one kind.
+const MOST_CALLS: u64 = 40;
+
+/// What came of the runs of an example.
+#[derive(Clone, Copy)]
+struct Tally {
+    /// How many met a fault.
+    faults: u32,
+    /// How many sessions were closed all the same and read to their records, and how many failed.
+    read: u32,
+    failed: u32,
+    /// How many answers or records weren't as they are to be.
+    wrong: u32,
+}
+
+/// What a run of an example came to.
+#[derive(Clone, Copy)]
+struct Came {
+    has_fault: bool,
+    tally: Tally,
+}
+
+const NONE: Tally = Tally {
+    faults: 0,
+    read: 0,
+    failed: 0,
+    wrong: 0,
+};
+
+const READ: Tally = Tally {
+    faults: 0,
+    read: 1,
+    failed: 0,
+    wrong: 0,
+};
+
+const FAILED: Tally = Tally {
+    faults: 0,
+    read: 0,
+    failed: 1,
+    wrong: 0,
+};
+
+const WRONG: Tally = Tally {
+    faults: 0,
+    read: 0,
+    failed: 0,
+    wrong: 1,
+};
+
+impl Came {
+    fn and(self, more: Came) -> Came {
+        Came {
+            has_fault: self.has_fault || more.has_fault,
+            tally: self.tally.and(more.tally),
+        }
+    }
+}
+
+impl Tally {
+    fn and(self, more: Tally) -> Tally {
+        Tally {
+            faults: self.faults.saturating_add(more.faults),
+            read: self.read.saturating_add(more.read),
+            failed: self.failed.saturating_add(more.failed),
+            wrong: self.wrong.saturating_add(more.wrong),
+        }
+    }
+}
+
+/// Plays the example with each call failing.
+pub fn run(rt: HostRuntime, row: &Row) -> io::Result<()> {
+    let alloc = rt.alloc();
+    let mut all = NONE;
+    for call in &CALLS {
+        for when in &WAYS {
+            all = all.and(of_device(alloc, row, *call, *when)?);
+        }
+    }
+    for call in &SPOOL_CALLS {
+        for when in &WAYS {
+            all = all.and(of_spool(alloc, row, *call, *when)?);
+        }
+    }
+    let name = row.name;
+    let Tally {
+        faults,
+        read,
+        failed,
+        wrong,
+    } = all;
+    println!(rt;
+        "{name}: {faults} runs met a fault; {read} sessions closed and read to their records, {failed} failed, {wrong} wrong"
+    )
+}
+
+// The runs in which a call of the device fails, up to the one that meets no fault.
+fn of_device(alloc: Global, row: &Row, call: Call, when: When) -> io::Result<Tally> {
+    let mut all = NONE;
+    for nth in 1..MOST_CALLS {
+        let device = MemDrive::new(alloc, CAPACITY, &[Fail { call, nth, when }])?;
+        let came = play(alloc, row, device, Vec::new(alloc))?;
+        all = all.and(came.tally);
+        if !came.has_fault {
+            return Ok(all);
+        }
+    }
+    Ok(all)
+}
+
+// Those in which a call of the spool fails.
+fn of_spool(alloc: Global, row: &Row, call: SpoolCall, when: When) -> io::Result<Tally> {
+    let mut all = NONE;
+    for nth in 1..MOST_CALLS {
+        let device = MemDrive::new(alloc, CAPACITY, &[])?;
+        let plan = vec![in alloc; SpoolFail { call, nth, when }]?;
+        let came = play(alloc, row, device, plan)?;
+        all = all.and(came.tally);
+        if !came.has_fault {
+            return Ok(all);
+        }
+    }
+    Ok(all)
+}
+
+// Plays the example, one event after another, and then looks at each session.
+fn play(alloc: Global, row: &Row, device: MemDrive, plan: Vec<SpoolFail>) -> io::Result<Came> {
+    let mut world = world_over(alloc, row, TIME, device, plan)?;
+    let mut came = Came {
+        has_fault: false,
+        tally: NONE,
+    };
+    for deed in &deeds_of(alloc, row)? {
+        came = came.and(step(alloc, row, &mut world, *deed)?);
+    }
+    for of in row.closes {
+        came.tally = came.tally.and(leave(&mut world, *of)?);
+    }
+    if came.has_fault {
+        came.tally.faults = 1;
+    }
+    Ok(came)
+}
+
+// Gives the world the event of a deed. A session that is closed by it is read.
+fn step(alloc: Global, row: &Row, world: &mut MemWorld, deed: Deed) -> io::Result<Came> {
+    let status = status_for(world, deed)?;
+    let reply = world.step(event_of(alloc, deed)?);
+    if let (Deed::Close(of), Reply::Closed { key, spans }) = (deed, &reply) {
+        return read(alloc, row, world, of, *key, spans.as_slice());
+    }
+    Ok(Came {
+        has_fault: is_fault(&reply),
+        tally: if is_right(deed, status, &reply) {
+            NONE
+        } else {
+            WRONG
+        },
+    })
+}
+
+// Reads a closed session, a second time if the first met a fault.
+fn read(
+    alloc: Global,
+    row: &Row,
+    world: &mut MemWorld,
+    of: u32,
+    key: SessionKey,
+    spans: &[Span],
+) -> io::Result<Came> {
+    let mut recs: Vec<Rec> = Vec::new(alloc);
+    let mut end = world.read(key, spans, &mut recs);
+    let has_fault = matches!(end, Err(Refusal::DeviceFault));
+    if has_fault {
+        recs = Vec::new(alloc);
+        end = world.read(key, spans, &mut recs);
+    }
+    let is_whole = match end {
+        Ok(end) => end.ended && are_records_of(row, of, &recs),
+        Err(_) => false,
+    };
+    Ok(Came {
+        has_fault,
+        tally: if is_whole { READ } else { WRONG },
+    })
+}
+
+// How far the session of a record or of an end label is.
+fn status_for(world: &MemWorld, deed: Deed) -> io::Result<Option<Status>> {
+    match deed {
+        Deed::Record(of, _, _) | Deed::End(of) => Ok(world.status(ticket(of)?)),
+        _ => Ok(None),
+    }
+}
+
+// Whether a record or an end label is answered as its session's status asks; every other reply is right.
+fn is_right(deed: Deed, status: Option<Status>, reply: &Reply) -> bool {
+    match (deed, status) {
+        (Deed::Record(..), Some(Status::Active)) => matches!(reply, Reply::Taken { .. }),
+        (Deed::End(_), Some(Status::Active)) => matches!(reply, Reply::Ended),
+        (Deed::Record(..) | Deed::End(_), Some(Status::Failed)) => {
+            matches!(reply, Reply::Refused(Refusal::SessionFailed))
+        }
+        (Deed::Record(..) | Deed::End(_), _) => {
+            matches!(reply, Reply::Refused(Refusal::SessionNotOpen))
+        }
+        _ => true,
+    }
+}
+
+// Cancels a session at the end, and tells whether that is answered as its status asks.
+fn leave(world: &mut MemWorld, of: u32) -> io::Result<Tally> {
+    let ticket = ticket(of)?;
+    let status = world.status(ticket);
+    let reply = world.step(Event::Cancel { ticket });
+    Ok(match (status, &reply) {
+        (Some(Status::Failed), Reply::Refused(Refusal::SessionFailed)) => FAILED,
+        (Some(Status::Active | Status::Ended), Reply::Cancelled) => NONE,
+        (Some(Status::Closed) | None, Reply::Refused(Refusal::SessionNotOpen)) => NONE,
+        _ => WRONG,
+    })
+}
+
+// Whether a reply tells of a device or a spool that failed.
+fn is_fault(reply: &Reply) -> bool {
+    matches!(
+        reply,
+        Reply::VolumeError | Reply::Refused(Refusal::DeviceFault | Refusal::SpoolFault)
+    )
+}
