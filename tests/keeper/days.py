@@ -14,16 +14,16 @@ DAYS = int(os.environ.get("KEEPER_DAYS", "90"))
 # A client, its job, its pool, and the bytes of a full job, which comes once a week, and of an incremental one.
 CLIENTS = [("www", "home", "Daily", 1_300_000, 200_000), ("desk", "home", "Daily", 900_000, 150_000),
            ("mail", "spool", "Other", 1_200_000, 300_000)]
+# The disk holds what these write in 30 days, and no more.
+CAPACITY = 30 * sum(full + 6 * more for *_, full, more in CLIENTS) // 7
+# Besides what is kept, 11 days at most, it has what killed jobs left, a volume that is ready in each pool, the reserve, and
+# volumes that have still room or of which only a part is kept: since the daemon chooses a job's drive, a pool has them in both.
 VOLUME, RESERVE = 2_000_000, 2_000_000
-KEEP, MIN_AGE, MIN_GOOD = {"last": 2, "daily": 7, "weekly": 2}, 4 * DAY, 2
+KEEP, MIN_AGE, MIN_GOOD = {"last": 2, "daily": 4, "weekly": 1}, 4 * DAY, 2
 POOLS_ON = (("Daily", 1), ("Other", 2))
-# The disk holds what the clients write in 30 days: besides what is kept, 14 days at most, it has what killed jobs left, a
-# volume that is ready in each pool, and the reserve. And since the daemon chooses a job's drive, it has for each pool a volume
-# more that was begun in the other drive, which is kept as long as its last job.
-CAPACITY = 30 * sum(full + 6 * more for *_, full, more in CLIENTS) // 7 + len(POOLS_ON) * VOLUME
 POOLS = "".join(
     f'[pool.{name}]\ndrives = [{drive}]\nnames = "{name}-%05d"\nready = 1\nreserve = "{RESERVE}"\nmin_age = "4d"\n'
-    'min_good = 2\nunknown = "5d"\nkeep = { last = 2, daily = 7, weekly = 2 }\n' for name, drive in POOLS_ON)
+    'min_good = 2\nunknown = "5d"\nkeep = { last = 2, daily = 4, weekly = 1 }\n' for name, drive in POOLS_ON)
 
 
 class Simulation:
@@ -174,7 +174,7 @@ class Simulation:
         print(f"{DAYS} days:", ", ".join(f"{what} {count}" for what, count in sorted(self.counts.items())),
               f"and {len(self.world.volumes())} volumes are left")
         for what, least in (("removed", DAYS // 3), ("keeper killed", DAYS // 9), ("daemon killed", DAYS // 20),
-                            ("client killed", DAYS // 20), ("daemon killed in a job", DAYS // 20), ("restored", 20),
+                            ("client killed", DAYS // 20), ("daemon killed in a job", DAYS // 20), ("restored", 15),
                             ("daemon killed in a removal", DAYS // 45), ("mounted in a removal", 1)):
             self.checks.check(f"{what} came up", self.counts.get(what, 0) >= least, self.counts)
 
