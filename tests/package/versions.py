@@ -158,10 +158,18 @@ class Site:
         conf = (self.root / "etc/sdd/sdd.conf").read_text()
         self.checks.check(f"change {day}: the configuration stays", conf.startswith(MINE)
                           and (self.root / "etc/sdd/keeper.toml").read_text() == KEEPER, conf)
+        self.adopt_behind_jobs()
         self.restores(f"change {day}")
         # One of those beside each other is enough from now on.
         beside = [one for one in self.kept if one[0] == "beside"]
         self.kept = [one for one in self.kept if one[0] != "beside" or one == beside[-1]]
+
+    def adopt_behind_jobs(self):
+        """A daemon that doesn't adopt by itself takes jobs before its client has adopted all for it. Behind the volume that a job then
+        has loaded none is adopted, and so it is started again once no job waits."""
+        if "--adopt" not in self.must("systemctl cat sdd"):
+            self.must("systemctl restart sdd")
+            self.count("started again")
 
     def restores(self, when):
         for name, moment, wanted in self.kept:
