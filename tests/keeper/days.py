@@ -36,6 +36,8 @@ class Simulation:
     def run(self):
         for day in range(DAYS):
             self.world.now = BEGIN + day * DAY + 3600.0
+            # (what isn't kept from this day on is removed with no job beside)
+            self.keep()
             for client in CLIENTS:
                 self.job(day, client)
             self.keep()
@@ -117,7 +119,7 @@ class Simulation:
     def comes_between(self, step, whole):
         """Before a step of a removal the daemon is at times killed and started again, and maybe given the oldest volume to load."""
         self.check_free()
-        if not whole or step not in STEPS or self.draw.random() >= 0.06:
+        if not whole or step not in STEPS or self.draw.random() >= 0.2:
             return
         self.count("daemon killed in a removal")
         self.world.restart()

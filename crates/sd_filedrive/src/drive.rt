@@ -65,6 +65,13 @@ impl<F: Folder + Drop> FolderDrive<F> {
         }
     }
 
+    /// The folder.
+    pub fn folder(&self) -> &F
+        ensures { result.now ≡ self.now.volumes.folder }
+    {
+        &self.volumes.folder
+    }
+
     /// How often it answered that it is full.
     pub fn told(&self) -> u64
         ensures { result ≡ (meaning_of self.now).told }

@@ -1,6 +1,7 @@
 pub mod Closed
 mod ClosedLemmas
 pub mod Deeds
+mod DeviceLemmas
 mod FoundLemmas
 pub mod Fresh
 pub mod Head

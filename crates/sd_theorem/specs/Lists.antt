@@ -1,4 +1,4 @@
--- What a caller has of the theorems, over devices in memory.
+-- What a caller has of the theorems, with queues and stores in memory.
 use Rattle.std.specs.Prelude.{◌≡◌, ◌⊎◌, ℕ, ◌≤◌, true, Some, Result, Err, List}
 use Rattle.std.specs.Global.{Global}
 use Rattle.sd_base.specs.Record.{Record}
@@ -6,6 +6,7 @@ use Rattle.sd_base.specs.declared.number.SessionKey.{SessionKey}
 use Rattle.sd_base.specs.declared.refusal.Refusal.{Refusal}
 use Rattle.sd_base.specs.declared.refusal.Refusal.TheVariants.{DriveOffline, VolumePurged}
 use Rattle.sd_drive.specs.View.{DriveIs}
+use Rattle.sd_driver.specs.Meaning.{Meaning}
 use Rattle.sd_driver.specs.Shelf.{Shelf, AfterStop}
 use Rattle.sd_lane.specs.Queue.{PlainView, lanes_view}
 use Rattle.sd_machine.specs.Machine.{Machine, MachineSession, empty_machine, session_of}
@@ -24,9 +25,13 @@ use Rattle.sd_theorem.specs.Headline.{HasStatus}
 use Rattle.sd_theorem.specs.Start.{Meanings, Start}
 use Rattle.sd_theorem.specs.Stops.{WasClosed, deeds_of}
 
+-- devices of this kind, with queues and stores in memory
+abbrev pub over : {D : Type 0} → (D → Meaning) → Meanings D PlainView MemSpool
+over meaning = record { device = meaning; queue = λ q. lanes_view q; store = λ s. store_of s }
+
 -- devices, queues and stores in memory
 abbrev pub in_memory : Meanings MemDrive PlainView MemSpool
-in_memory = record { device = λ d. meaning_of d; queue = λ q. lanes_view q; store = λ s. store_of s }
+in_memory = over (λ d. meaning_of d)
 
 -- what a world over them is made of
 abbrev pub MemoryStart : Type 0
@@ -43,23 +48,23 @@ pub record GivesList (m : Machine) (key : SessionKey) (got got' : List Record) (
       ⊎ ((s.status ≡ Purged) × (result ≡ Err VolumePurged))
 
 -- this holds of what a device was when the session was closed on it
-abbrev pub WhenClosed : {start : MemoryStart} {key : SessionKey} {spans : List Span} {w : WorldView MemDrive}
-    → WasClosed in_memory start key spans w → (MemDrive → Type 0) → Type 0
-WhenClosed c holds = (bay : BayView MemDrive) (d : DriveIs MemDrive) → IsOnline c.at_close c.e.drive c.at bay d → holds d.device
+abbrev pub WhenClosed : {D Q S Z : Type 0} {is : Meanings D Q S} {start : Start D Q S Z} {key : SessionKey} {spans : List Span} {w : WorldView D}
+    → WasClosed is start key spans w → (D → Type 0) → Type 0
+WhenClosed {D} c holds = (bay : BayView D) (d : DriveIs D) → IsOnline c.at_close c.e.drive c.at bay d → holds d.device
 
 -- it had changed so often at most
-abbrev pub ClosedBy : {start : MemoryStart} {key : SessionKey} {spans : List Span} {w : WorldView MemDrive}
-    → WasClosed in_memory start key spans w → ℕ → Type 0
-ClosedBy c calls = WhenClosed c (λ device. (meaning_of device).shelf.moment ≤ calls)
+abbrev pub ClosedBy : {D Q S Z : Type 0} {is : Meanings D Q S} {start : Start D Q S Z} {key : SessionKey} {spans : List Span} {w : WorldView D}
+    → WasClosed is start key spans w → ℕ → Type 0
+ClosedBy {is = is} c calls = WhenClosed c (λ device. (is.device device).shelf.moment ≤ calls)
 
 -- a stop since then left this
-abbrev pub LeftSince : {start : MemoryStart} {key : SessionKey} {spans : List Span} {w : WorldView MemDrive}
-    → WasClosed in_memory start key spans w → Shelf → Type 0
-LeftSince c left = WhenClosed c (λ device. AfterStop (meaning_of device).shelf.moment (meaning_of c.d.device).shelf left)
+abbrev pub LeftSince : {D Q S Z : Type 0} {is : Meanings D Q S} {start : Start D Q S Z} {key : SessionKey} {spans : List Span} {w : WorldView D}
+    → WasClosed is start key spans w → Shelf → Type 0
+LeftSince {is = is} c left = WhenClosed c (λ device. AfterStop (is.device device).shelf.moment (is.device c.d.device).shelf left)
 
 -- the run is one of the list machine, in which the session is closed; and this holds of its list
-abbrev pub OfItsList : {start : MemoryStart} {key : SessionKey} {spans : List Span} {w : WorldView MemDrive}
-    → WasClosed in_memory start key spans w → (List Record → Type 0) → Type 0
-OfItsList {start} {key} c holds = (m : Machine)
+abbrev pub OfItsList : {D Q S Z : Type 0} {is : Meanings D Q S} {start : Start D Q S Z} {key : SessionKey} {spans : List Span} {w : WorldView D}
+    → WasClosed is start key spans w → (List Record → Type 0) → Type 0
+OfItsList {start = start} {key = key} c holds = (m : Machine)
     × Run (empty_machine start.time) (events_in (deeds_of c)) (replies_in (deeds_of c)) m
     × (has : HasStatus m key Closed) × holds has.s.records

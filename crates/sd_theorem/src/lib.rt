@@ -2,8 +2,8 @@
 //! the stop theorem: what the daemon acknowledged comes back, once and in order, however many sessions shared a drive
 //! and whenever it was stopped; their premises are what a world was made of and what it did since. Both theorems for
 //! running threads, whose premises are what settling hands out; what a scan of volumes finds of it; and that what is
-//! packed comes back. The callers are a world over devices in memory, any world behind a port, and a session that was
-//! closed before a stop.
+//! packed comes back. The callers are a world over devices in memory or over any honest ones, any world behind a port, and
+//! a session that was closed before a stop, over devices and over folders in memory.
 #![tactic(auto)]
 
 mod given;
@@ -14,7 +14,7 @@ mod running;
 mod scanned;
 mod stopped;
 
-pub use given::{Told, run_and_read};
+pub use given::{Told, run_and_read, run_and_read_over};
 pub use laws::{headline, noted_starts, stop_theorem};
 pub use port::know_lists;
 pub use round_trip::packed_comes_back;
@@ -23,4 +23,4 @@ pub use scanned::{
     placed_blocks_are_found, placements_say, scan_tells_closed, scan_tells_session,
     scan_tells_spans, scan_tells_told,
 };
-pub use stopped::{leave, read_again};
+pub use stopped::{leave, leave_folder, read_again, read_again_over};

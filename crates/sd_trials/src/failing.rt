@@ -1,11 +1,12 @@
 // An example in which one call of its device or of its spool fails: each of every kind in turn, in each way.
 
 use crate::events::{are_records_of, deeds_of, event_of, ticket};
-use crate::listed::TIME;
+use crate::listed::{Closed, TIME};
 use crate::rows::{Deed, Row};
-use crate::worlds::{CAPACITY, MemWorld, world_over};
-use sd_base::{Rec, Refusal, SessionKey};
-use sd_core::{Reply, Span, Status};
+use crate::worlds::{CAPACITY, WorldOver, world_over};
+use sd_base::{Rec, Refusal};
+use sd_core::{Reply, Status};
+use sd_driver::Driver;
 use sd_machine::Event;
 use sd_memdrive::{Call, Fail, MemDrive, When};
 use sd_spool::{SpoolCall, SpoolFail};
@@ -24,31 +25,32 @@ static CALLS: [Call; 7] = [
 
 static SPOOL_CALLS: [SpoolCall; 3] = [SpoolCall::Append, SpoolCall::Read, SpoolCall::Clear];
 
-static WAYS: [When; 3] = [When::Before, When::Half, When::After];
+pub static WAYS: [When; 3] = [When::Before, When::Half, When::After];
 
 /// No example makes so many calls of one kind.
 const MOST_CALLS: u64 = 40;
 
 /// What came of the runs of an example.
 #[derive(Clone, Copy)]
-struct Tally {
+pub struct Tally {
     /// How many met a fault.
-    faults: u32,
+    pub faults: u32,
     /// How many sessions were closed all the same and read to their records, and how many failed.
-    read: u32,
-    failed: u32,
+    pub read: u32,
+    pub failed: u32,
     /// How many answers or records weren't as they are to be.
-    wrong: u32,
+    pub wrong: u32,
 }
 
 /// What a run of an example came to.
 #[derive(Clone, Copy)]
-struct Came {
-    has_fault: bool,
-    tally: Tally,
+pub struct Came {
+    pub has_fault: bool,
+    pub tally: Tally,
 }
 
-const NONE: Tally = Tally {
+/// What came of no run.
+pub const NONE: Tally = Tally {
     faults: 0,
     read: 0,
     failed: 0,
@@ -69,7 +71,8 @@ const FAILED: Tally = Tally {
     wrong: 0,
 };
 
-const WRONG: Tally = Tally {
+/// What came of one that is wrong.
+pub const WRONG: Tally = Tally {
     faults: 0,
     read: 0,
     failed: 0,
@@ -86,7 +89,7 @@ impl Came {
 }
 
 impl Tally {
-    fn and(self, more: Tally) -> Tally {
+    pub fn and(self, more: Tally) -> Tally {
         Tally {
             faults: self.faults.saturating_add(more.faults),
             read: self.read.saturating_add(more.read),
@@ -127,8 +130,8 @@ fn of_device(alloc: Global, row: &Row, call: Call, when: When) -> io::Result<Tal
     let mut all = NONE;
     for nth in 1..MOST_CALLS {
         let device = MemDrive::new(alloc, CAPACITY, &[Fail { call, nth, when }])?;
-        let came = play(alloc, row, device, Vec::new(alloc))?;
-        all = all.and(came.tally);
+        let (came, unread, _) = play(alloc, row, device, Vec::new(alloc))?;
+        all = all.and(came.tally).and(all_wrong(&unread));
         if !came.has_fault {
             return Ok(all);
         }
@@ -142,8 +145,8 @@ fn of_spool(alloc: Global, row: &Row, call: SpoolCall, when: When) -> io::Result
     for nth in 1..MOST_CALLS {
         let device = MemDrive::new(alloc, CAPACITY, &[])?;
         let plan = vec![in alloc; SpoolFail { call, nth, when }]?;
-        let came = play(alloc, row, device, plan)?;
-        all = all.and(came.tally);
+        let (came, unread, _) = play(alloc, row, device, plan)?;
+        all = all.and(came.tally).and(all_wrong(&unread));
         if !came.has_fault {
             return Ok(all);
         }
@@ -151,15 +154,31 @@ fn of_spool(alloc: Global, row: &Row, call: SpoolCall, when: When) -> io::Result
     Ok(all)
 }
 
-// Plays the example, one event after another, and then looks at each session.
-fn play(alloc: Global, row: &Row, device: MemDrive, plan: Vec<SpoolFail>) -> io::Result<Came> {
+// A device in memory that failed once reads what it has.
+fn all_wrong(unread: &[Closed]) -> Tally {
+    let mut all = NONE;
+    for _one in unread {
+        all = all.and(WRONG);
+    }
+    all
+}
+
+/// Plays the example, one event after another, and then looks at each session. Gives what it came to, the closed sessions that
+/// the device can't read any more, and the world.
+pub fn play<D: Driver + Drop>(
+    alloc: Global,
+    row: &Row,
+    device: D,
+    plan: Vec<SpoolFail>,
+) -> io::Result<(Came, Vec<Closed>, WorldOver<D>)> {
     let mut world = world_over(alloc, row, TIME, device, plan)?;
+    let mut unread = Vec::with_capacity(alloc, row.closes.len())?;
     let mut came = Came {
         has_fault: false,
         tally: NONE,
     };
     for deed in &deeds_of(alloc, row)? {
-        came = came.and(step(alloc, row, &mut world, *deed)?);
+        came = came.and(step(alloc, row, &mut world, *deed, &mut unread)?);
     }
     for of in row.closes {
         came.tally = came.tally.and(leave(&mut world, *of)?);
@@ -167,35 +186,40 @@ fn play(alloc: Global, row: &Row, device: MemDrive, plan: Vec<SpoolFail>) -> io:
     if came.has_fault {
         came.tally.faults = 1;
     }
-    Ok(came)
+    Ok((came, unread, world))
 }
 
 // Gives the world the event of a deed. A session that is closed by it is read.
-fn step(alloc: Global, row: &Row, world: &mut MemWorld, deed: Deed) -> io::Result<Came> {
-    let status = status_for(world, deed)?;
-    let reply = world.step(event_of(alloc, deed)?);
-    if let (Deed::Close(of), Reply::Closed { key, spans }) = (deed, &reply) {
-        return read(alloc, row, world, of, *key, spans.as_slice());
-    }
-    Ok(Came {
-        has_fault: is_fault(&reply),
-        tally: if is_right(deed, status, &reply) {
-            NONE
-        } else {
-            WRONG
-        },
-    })
-}
-
-// Reads a closed session, a second time if the first met a fault.
-fn read(
+fn step<D: Driver + Drop>(
     alloc: Global,
     row: &Row,
-    world: &mut MemWorld,
-    of: u32,
-    key: SessionKey,
-    spans: &[Span],
+    world: &mut WorldOver<D>,
+    deed: Deed,
+    unread: &mut Vec<Closed>,
 ) -> io::Result<Came> {
+    let status = status_for(world, deed)?;
+    let reply = world.step(event_of(alloc, deed)?);
+    let has_fault = is_fault(&reply);
+    let tally = if is_right(deed, status, &reply) {
+        NONE
+    } else {
+        WRONG
+    };
+    if let (Deed::Close(ticket), Reply::Closed { key, spans }) = (deed, reply) {
+        return read(alloc, row, world, Closed { ticket, key, spans }, unread);
+    }
+    Ok(Came { has_fault, tally })
+}
+
+// Reads a closed session, a second time if the first met a fault. If that meets one too, it is unread.
+fn read<D: Driver + Drop>(
+    alloc: Global,
+    row: &Row,
+    world: &mut WorldOver<D>,
+    closed: Closed,
+    unread: &mut Vec<Closed>,
+) -> io::Result<Came> {
+    let (key, spans) = (closed.key, closed.spans.as_slice());
     let mut recs: Vec<Rec> = Vec::new(alloc);
     let mut end = world.read(key, spans, &mut recs);
     let has_fault = matches!(end, Err(Refusal::DeviceFault));
@@ -203,18 +227,19 @@ fn read(
         recs = Vec::new(alloc);
         end = world.read(key, spans, &mut recs);
     }
-    let is_whole = match end {
-        Ok(end) => end.ended && are_records_of(row, of, &recs),
-        Err(_) => false,
+    let tally = match end {
+        Ok(end) if end.ended && are_records_of(row, closed.ticket, &recs) => READ,
+        Err(Refusal::DeviceFault) => {
+            unread.push(closed)?;
+            NONE
+        }
+        _ => WRONG,
     };
-    Ok(Came {
-        has_fault,
-        tally: if is_whole { READ } else { WRONG },
-    })
+    Ok(Came { has_fault, tally })
 }
 
 // How far the session of a record or of an end label is.
-fn status_for(world: &MemWorld, deed: Deed) -> io::Result<Option<Status>> {
+fn status_for<D: Driver + Drop>(world: &WorldOver<D>, deed: Deed) -> io::Result<Option<Status>> {
     match deed {
         Deed::Record(of, _, _) | Deed::End(of) => Ok(world.status(ticket(of)?)),
         _ => Ok(None),
@@ -237,7 +262,7 @@ fn is_right(deed: Deed, status: Option<Status>, reply: &Reply) -> bool {
 }
 
 // Cancels a session at the end, and tells whether that is answered as its status asks.
-fn leave(world: &mut MemWorld, of: u32) -> io::Result<Tally> {
+fn leave<D: Driver + Drop>(world: &mut WorldOver<D>, of: u32) -> io::Result<Tally> {
     let ticket = ticket(of)?;
     let status = world.status(ticket);
     let reply = world.step(Event::Cancel { ticket });

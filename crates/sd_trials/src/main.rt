@@ -3,7 +3,8 @@
 //! - each as one list, and its closed sessions read by `run_and_read` in a world of their own;
 //! - devices that stop after each of their changes, and a later run that reads what was told to be closed;
 //! - a volume that a later run takes over, and one of the same time, which is refused;
-//! - each call of a device and of a spool failing, in each way.
+//! - each call of a device and of a spool failing, in each way;
+//! - all but the spools' again over folders in memory, by the device that the daemon has over folders of the system.
 //!
 //! With the word `scarce` each is played by lists of one event each, an event that is refused for want of memory is given once
 //! more, and a later run reads its sessions again: `tests/memory/run` refuses each allocation of that in turn.
@@ -12,6 +13,7 @@
 mod adopted;
 mod events;
 mod failing;
+mod folders;
 mod listed;
 mod rows;
 mod scarce;
@@ -46,6 +48,19 @@ fn play_all(rt: HostRuntime) -> io::Result<()> {
     adopted::run(rt, &HELLO)?;
     for row in [&TWO_VOLUMES, &INTERLEAVED, &SPOOLED] {
         failing::run(rt, row)?;
+    }
+    play_over_folders(rt)
+}
+
+fn play_over_folders(rt: HostRuntime) -> io::Result<()> {
+    for row in [&HELLO, &THREE_BLOCKS, &TWO_VOLUMES, &INTERLEAVED, &SPOOLED] {
+        folders::list(rt, row)?;
+    }
+    for row in [&HELLO, &THREE_BLOCKS, &TWO_VOLUMES, &INTERLEAVED] {
+        folders::stop(rt, row)?;
+    }
+    for row in [&TWO_VOLUMES, &INTERLEAVED, &SPOOLED] {
+        folders::fail(rt, row)?;
     }
     Ok(())
 }

@@ -1,4 +1,4 @@
-// Worlds in memory.
+// Worlds with queues and spools in memory.
 ghost use Rattle.std.specs.Prelude.{◌≡◌, ◌≤◌, ◌∷◌, [], IfOk, codes, length};
 ghost use Rattle.std.specs.List.{AllZip};
 ghost use Rattle.sd_base.specs.Limits.{most_number};
@@ -8,13 +8,17 @@ ghost use Rattle.sd_lane.specs.Queue.{lanes_view};
 use crate::rows::Row;
 use sd_base::{MediaName, Name};
 use sd_core::{World, WorldConf};
+use sd_driver::Driver;
 use sd_lane::PlainLanes;
 use sd_memdrive::MemDrive;
 use sd_spool::{MemSpool, SpoolFail};
 use std::alloc::{AllocError, Global};
 
-/// A world whose devices and spools are in memory.
-pub type MemWorld = World<MemDrive, PlainLanes, MemSpool>;
+/// A world over devices of this kind, whose spools are in memory.
+pub type WorldOver<D> = World<D, PlainLanes, MemSpool>;
+
+/// A world whose devices are in memory too.
+pub type MemWorld = WorldOver<MemDrive>;
 
 /// The most bytes of a volume of a device.
 pub const CAPACITY: u64 = 1_048_576;
@@ -25,18 +29,19 @@ const LANES: u32 = 4;
 const QUEUE: usize = 8;
 
 /// A world for an example over this device, in the run of this time. Calls of the first lane's spool fail as `plan` says.
-pub fn world_over(
+pub fn world_over<D: Driver + Drop>(
     alloc: Global,
     row: &Row,
     time: u32,
-    device: MemDrive,
+    device: D,
     plan: Vec<SpoolFail>,
-) -> Result<MemWorld, AllocError>
+) -> Result<WorldOver<D>, AllocError>
     requires least { 1 ≤ time }
     requires most { time ≤ most_number }
 {
     let drives = drives(alloc)?;
-    let devices = vec![in alloc; device]?;
+    let mut devices = Vec::new(alloc);
+    devices.push(device)?;
     let queues = queues(alloc)?;
     let stores = stores(alloc, plan)?;
     match World::new(alloc, settings(row, drives), time, devices, queues, stores) {

@@ -1,46 +1,4 @@
-use Rattle.std.proofs.Common.{List, inl, inr, refl, subst}
-use Rattle.sd_world.specs.Deeds.{answered, events_in}
-use Rattle.sd_machine.specs.Machine.{empty_machine}
-use Rattle.sd_machine.specs.Step.{Run}
-use Rattle.sd_machine.specs.declared.event.Event.{Event}
-use Rattle.sd_machine.specs.declared.reply.Reply.{Reply}
-use Rattle.sd_memdrive.specs.Drive.{meaning_of}
-use Rattle.sd_theorem.specs.Start.{IsMadeOf, StartsHonest}
-use Rattle.sd_theorem.specs.Lists.{in_memory, MemoryStart}
 use Rattle.sd_theorem.proofs.given.run_and_read.Goals as goal
 
 pub returns : goal.returns
-returns g c =
-    let start : MemoryStart = record {
-      conf = c.args.conf;
-      time = c.args.time;
-      devices = c.args.devices.items;
-      queues = c.args.queues.items;
-      spools = c.args.stores.items;
-    } in
-    let made : IsMadeOf in_memory start c.in-Ok.world = record { fresh = c.in-Ok.ensures.fresh; sound = c.in-Ok.ensures.sound } in
-    let honest : StartsHonest in_memory start = record { devices = λ at device there. refl; stores = λ at place stores store there here. refl } in
-    let events = c.args.events.items in
-    let replies = c.in-Ok-run.replies.items in
-    let lead = c.steps_lead.ensures (λ d. meaning_of d) c.in-Ok.world c.run.new.self events replies c.in-Ok-run.ensures.steps in
-    let h = c.headline.ensures in_memory start c.in-Ok.world c.run.new.self (answered events replies) made lead.0 in
-    let E : List Event → Type 0 = λ es. Run (empty_machine c.args.time) es replies h.m in
-    let R : List Reply → Type 0 = λ rs. Run (empty_machine c.args.time) (events_in (answered events replies)) rs h.m in
-    record {
-      lists = (
-        h.m,
-        subst E lead.1 (subst R lead.2 h.run),
-        λ told.
-            let r = h.closed honest c.args.key c.args.spans.now told c.read-end.new.self _ _ c.read-end.result c.read-end.ensures in
-            record {
-              s = r.s;
-              there = r.has;
-              key_is = r.key_is;
-              gives = elim r.reads [
-                | inl x ↦ inl (x.0, x.1.gives)
-                | inr (inl x) ↦ inr (inl x.1)
-                | inr (inr x) ↦ inr (inr (x.0, x.1.0))
-              ];
-            },
-      );
-    }
+returns g c = c.run_and_read_over.ensures
