@@ -41,8 +41,8 @@ class Site:
         self.daemon: typing.Optional[Daemon] = None
         # The numbers of the run's sessions, as they were answered.
         self.tickets: list[int] = []
-        # The threads at the begin of the run, and the memory when all clients rested for the first time.
-        self.threads, self.memory = 0, 0
+        # The threads at the begin of the run, and the memory at each rest of all clients since.
+        self.threads, self.memories = 0, []
 
     def talk(self) -> client.Talk:
         return client.Talk(self.port, timeout=PATIENCE)
@@ -70,7 +70,7 @@ class Site:
             talk.terminate()
         if not self.daemon.logs("talk 1 ended: finished"):
             raise OSError("the talk of the begin doesn't end")
-        self.threads, self.memory = min(self.figures()["Threads"] for _ in range(50)), 0
+        self.threads, self.memories = min(self.figures()["Threads"] for _ in range(50)), []
 
     def adopt(self, talk: client.Talk, number: int, name: str):
         try:
@@ -185,17 +185,17 @@ def idle(site: Site):
 
 
 def resources(site: Site):
-    """Threads are as at the begin of the run. Memory is as at the first rest of all clients in it, when each lane had been taken, but
-    for what blocks and sessions take."""
+    """Threads are as at the begin of the run. Memory is as at the second rest of all clients in it, but for what blocks and sessions
+    take: at the first one, which may come soon after the begin, few threads have a heap yet that keeps its pages."""
     kept = site.kept
     if not until(lambda: site.figures()["Threads"] == site.threads, WAIT):
         kept.fault(f"threads: {site.figures()['Threads']} in place of {site.threads}")
     kept.count("rests with the threads of the begin")
     blocks = sum(path.stat().st_size for folder in site.folders for path in folder.glob("D*[!~]")) // 2000
-    has, most = site.figures()["VmRSS"], site.memory + blocks * A_BLOCK + len(site.tickets) * A_SESSION + ALL_ELSE
-    if not site.memory:
-        site.memory = has
+    site.memories.append(has := site.figures()["VmRSS"])
+    if len(site.memories) <= 2:
         return
+    most = site.memories[1] + blocks * A_BLOCK + len(site.tickets) * A_SESSION + ALL_ELSE
     if has > most:
-        kept.fault(f"memory: {has} in place of {site.memory}, {most} at most")
-    kept.count("rests with the memory of the run's first")
+        kept.fault(f"memory: {has} in place of {site.memories[1]}, {most} at most")
+    kept.count("rests with the memory of the run's second")

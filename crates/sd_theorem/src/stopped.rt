@@ -3,7 +3,7 @@ ghost use Rattle.std.specs.Prelude.{◌≡◌, ◌<◌, ◌≤◌, ◌+◌, List
 ghost use Rattle.std.specs.Global.{Global as TheGlobal};
 ghost use Rattle.sd_base.specs.declared.number.SessionKey.{SessionKey as SpecKey};
 ghost use Rattle.sd_driver.specs.Meaning.{IsHonest};
-ghost use Rattle.sd_driver.specs.Shelf.{Shelf};
+ghost use Rattle.sd_driver.specs.Shelf.{Shelf, AfterStop};
 ghost use Rattle.sd_filedrive.specs.Drive.{meaning_of as drive_meaning};
 ghost use Rattle.sd_lane.specs.Queue.{PlainView};
 ghost use Rattle.sd_memdrive.specs.Drive.{meaning_of};
@@ -57,6 +57,8 @@ pub fn leave_folder(
 ) -> Result<FolderDrive<MemoryFolder>, AllocError>
     requires { calls ≤ (drive_meaning device.now).shelf.moment }
     ensures honest { IfOk result (λ left. IsHonest (drive_meaning left)) }
+    ensures stop { IfOk result (λ left.
+        AfterStop calls (drive_meaning device.now).shelf (drive_meaning left).shelf) }
     ensures left { IfOk result (λ left. (start : Start _ PlainView SpecSpool TheGlobal) (key : SpecKey)
         (spans : List SpecSpan) (w : WorldView _)
         (c : WasClosed (over (λ d. drive_meaning d)) start key spans w)
