@@ -4,7 +4,7 @@ ghost use Rattle.sd_driver.specs.Meaning.{IsHonest};
 ghost use Rattle.sd_filedrive.specs.Drive.{meaning_of};
 
 use crate::events::{are_records_of, deeds_of, events_of};
-use crate::failing::{NONE, Tally, WAYS, WRONG, play as play_failing};
+use crate::failing::{Came, NONE, Tally, WAYS, WRONG, play as play_failing};
 use crate::listed::{Closed, TIME};
 use crate::rows::Row;
 use crate::stops::{LATER, TAIL, Told, adopts, device_of, play};
@@ -35,16 +35,21 @@ const MOST_CALLS: u64 = 400;
 pub fn list(rt: HostRuntime, row: &Row) -> io::Result<()> {
     let alloc = rt.alloc();
     let (_, closed) = play(alloc, row, device(alloc, &[])?, row.closes.len())?;
+    let (name, count, read) = (row.name, closed.len(), read_alone(alloc, row, &closed)?);
+    println!(rt;
+        "{name} over a folder: a list of events closes {count} sessions, of which {read} read to their records"
+    )
+}
+
+// How many of these read to their records in a world of their own.
+fn read_alone(alloc: Global, row: &Row, closed: &[Closed]) -> io::Result<u32> {
     let mut read = 0u32;
-    for one in &closed {
+    for one in closed {
         if reads_alone(alloc, row, one)? {
             read = read.saturating_add(1);
         }
     }
-    let (name, count) = (row.name, closed.len());
-    println!(rt;
-        "{name} over a folder: a list of events closes {count} sessions, of which {read} read to their records"
-    )
+    Ok(read)
 }
 
 /// Stops the folder after each of its changes. Each session that was told to be closed by then is read in a later run, which
@@ -53,19 +58,30 @@ pub fn stop(rt: HostRuntime, row: &Row) -> io::Result<()> {
     let alloc = rt.alloc();
     let (device, closed) = play(alloc, row, device(alloc, &[])?, row.closes.len())?;
     let told = told_by(alloc, row, closed)?;
-    let (mut due, mut read) = (0u32, 0u32);
-    for calls in 0..=device.folder().calls() {
-        for one in told.iter().filter(|one| one.calls <= calls) {
-            due = due.saturating_add(1);
-            if is_read_after(alloc, row, &device, calls, &one.closed)? {
-                read = read.saturating_add(1);
-            }
-        }
-    }
+    let (due, read) = read_after_stops(alloc, row, &device, &told)?;
     let (name, stops) = (row.name, device.folder().calls().saturating_add(1));
     println!(rt;
         "{name} over a folder: {stops} stops, after which {read} of {due} sessions told to be closed read to their records"
     )
+}
+
+// How many sessions were closed before stops, each counted for each stop, and how many of them read to their records.
+fn read_after_stops(
+    alloc: Global,
+    row: &Row,
+    device: &FolderDrive<MemoryFolder>,
+    told: &[Told],
+) -> io::Result<(u32, u32)> {
+    let (mut due, mut read) = (0u32, 0u32);
+    for calls in 0..=device.folder().calls() {
+        for one in told.iter().filter(|one| one.calls <= calls) {
+            due = due.saturating_add(1);
+            if is_read_after(alloc, row, device, calls, &one.closed)? {
+                read = read.saturating_add(1);
+            }
+        }
+    }
+    Ok((due, read))
 }
 
 /// Plays the example with each call of the folder failing, in each way. After a sync that failed the device reads no volume past
@@ -168,19 +184,39 @@ fn is_read_after(
 fn failing(alloc: Global, row: &Row, call: Call, when: When) -> io::Result<(Tally, u32)> {
     let (mut all, mut later) = (NONE, 0u32);
     for nth in 1..MOST_CALLS {
-        let device = device(alloc, &[Fail { call, nth, when }])?;
-        let (came, unread, world) = play_failing(alloc, row, device, Vec::new(alloc))?;
+        let (came, more) = failing_at(alloc, row, Fail { call, nth, when })?;
         all = all.and(came.tally);
+        later = later.saturating_add(more);
         if !came.has_fault {
             return Ok((all, later));
         }
-        let device = device_of(world)?;
-        for one in &unread {
-            if is_read_after(alloc, row, &device, device.folder().calls(), one)? {
-                later = later.saturating_add(1);
-            } else {
-                all = all.and(WRONG);
-            }
+    }
+    Ok((all, later))
+}
+
+// The run in which this call fails; and how many of the sessions that its device can't read are read in a later run.
+fn failing_at(alloc: Global, row: &Row, fail: Fail) -> io::Result<(Came, u32)> {
+    let device = device(alloc, &[fail])?;
+    let (came, unread, world) = play_failing(alloc, row, device, Vec::new(alloc))?;
+    let device = device_of(world)?;
+    let (wrong, later) = read_later(alloc, row, &device, &unread)?;
+    let tally = came.tally.and(wrong);
+    Ok((Came { tally, ..came }, later))
+}
+
+// Reads these sessions in a later run: what is wrong with those that don't read to their records, and how many others there are.
+fn read_later(
+    alloc: Global,
+    row: &Row,
+    device: &FolderDrive<MemoryFolder>,
+    unread: &[Closed],
+) -> io::Result<(Tally, u32)> {
+    let (mut all, mut later) = (NONE, 0u32);
+    for one in unread {
+        if is_read_after(alloc, row, device, device.folder().calls(), one)? {
+            later = later.saturating_add(1);
+        } else {
+            all = all.and(WRONG);
         }
     }
     Ok((all, later))
