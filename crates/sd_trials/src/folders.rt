@@ -1,5 +1,5 @@
 // The examples over folders in memory, by the device that the daemon has over folders of the system.
-ghost use Rattle.std.specs.Prelude.{◌≡◌, ◌≤◌, IfOk};
+ghost use Rattle.std.specs.Prelude.{◌≤◌, IfOk};
 ghost use Rattle.sd_driver.specs.Meaning.{IsHonest};
 ghost use Rattle.sd_filedrive.specs.Drive.{meaning_of};
 
