@@ -1,5 +1,5 @@
 #!/usr/bin/env python3
-"""A client of the storage daemon to begin one of your own with: the dialogue of docs/PROTOCOL.md, in Python's standard
+"""A client of the storage daemon to begin one of your own with: the dialogue of docs/use/PROTOCOL.md, in Python's standard
 library alone. The command sdd-client does much more; this shows how little a client needs.
 
     client.py PORT append JOB POOL MEDIA < DATA > LINES      backs up the standard input, and prints what a restore needs

@@ -14,7 +14,7 @@ GONE = "~gone"
 # The daemon's, in each folder that it serves; and the folder in which a volume is alone while it is read.
 LOCK, ALONE = ".lock~", ".verify~"
 NO_NOTE = re.compile(rf"{re.escape(LOCK)}|{re.escape(ALONE)}|spool~\d+~\d+|.*{GONE}")
-# The first bytes of a volume (docs/FORMATS.md, 'Labels'): its header up to the mark of blocks, then the profile of the label,
+# The first bytes of a volume (docs/use/FORMATS.md, 'Labels'): its header up to the mark of blocks, then the profile of the label,
 # the moment, and the name with a zero byte after it.
 LABEL = struct.Struct(">12x 4s 20x 12s 4x q 128s")
 MARK, PROFILE = b"BB02", b"sd-profile\n\0"

@@ -1,4 +1,4 @@
-"""The notes of volumes: what the daemon knew of a volume when it last looked, in a few bytes beside it (docs/FORMATS.md, 'A
+"""The notes of volumes: what the daemon knew of a volume when it last looked, in a few bytes beside it (docs/use/FORMATS.md, 'A
 note'). A volume needs none, and one of a later form counts as none."""
 from __future__ import annotations
 

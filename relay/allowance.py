@@ -4,7 +4,7 @@ import collections.abc
 from relay.roles import Rights
 from relay.store import Store, today
 
-# A record takes so many bytes on a volume besides its data, so empty ones aren't free. docs/FORMATS.md, 'Record header'.
+# A record takes so many bytes on a volume besides its data, so empty ones aren't free. docs/use/FORMATS.md, 'Record header'.
 RECORD_HEADER = 12
 
 

@@ -1,4 +1,4 @@
-"""Packets as docs/PROTOCOL.md has them: a signed length of four bytes, big-endian, and then that many bytes. A negative
+"""Packets as docs/use/PROTOCOL.md has them: a signed length of four bytes, big-endian, and then that many bytes. A negative
 length is a signal without bytes."""
 import re
 import struct

@@ -1,4 +1,4 @@
-"""The dialogue of docs/PROTOCOL.md over a connection: sessions are appended, closed and read back, lines of the operator
+"""The dialogue of docs/use/PROTOCOL.md over a connection: sessions are appended, closed and read back, lines of the operator
 are answered."""
 from __future__ import annotations
 

@@ -1,5 +1,5 @@
 """The list of a job's files, as its last session and the catalogue keep it: gzip of one row for each member of its streams,
-in their order, and of each path that was asked for and each name that tar spoke of (docs/FORMATS.md, 'A job of sdd-client').
+in their order, and of each path that was asked for and each name that tar spoke of (docs/use/FORMATS.md, 'A job of sdd-client').
 
 A row is `KIND SIZE MTIME SESSION OFFSET LENGTH PATH`, a zero byte, then the target of a link or what was said, and a zero
 byte. The list is in pieces, each of whole rows and a file of gzip by itself; one after another they are one file of gzip.

@@ -1,4 +1,4 @@
-"""The head of a job's last session: one record that says what the job is and where its sessions are (docs/FORMATS.md, 'The
+"""The head of a job's last session: one record that says what the job is and where its sessions are (docs/use/FORMATS.md, 'The
 last session of a job'). Whoever has the volumes finds all jobs by these."""
 from __future__ import annotations
 

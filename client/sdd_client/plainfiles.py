@@ -1,5 +1,5 @@
 """`backup --spans` and `restore SPANS FOLDER`: plain files without tar, each a record of its name and mode, and those of
-its data (docs/PROTOCOL.md). What is no plain file is left out, and told."""
+its data (docs/use/PROTOCOL.md). What is no plain file is left out, and told."""
 from __future__ import annotations
 
 import contextlib

@@ -1,4 +1,4 @@
-"""A stand-in for the daemon: it speaks docs/PROTOCOL.md, keeps records in memory, and does on request what a real one does
+"""A stand-in for the daemon: it speaks docs/use/PROTOCOL.md, keeps records in memory, and does on request what a real one does
 seldom: it refuses, is slow, breaks off. What it can't do is be wrong about a volume: that is what the real one is for."""
 import contextlib
 import socket

@@ -1,7 +1,7 @@
 """A plain model of a drive over a device in memory, of which calls fail as a plan says; tests/faults compares with it.
 
-Volumes are bytes, as docs/FORMATS.md has them. What each step of a drive asks of its device, and what a call that fails
-leaves, is in docs/SCRIPT.md; what each refusal leaves, in docs/REFUSALS.md.
+Volumes are bytes, as docs/use/FORMATS.md has them. What each step of a drive asks of its device, and what a call that fails
+leaves, is in docs/use/SCRIPT.md; what each refusal leaves, in docs/use/REFUSALS.md.
 """
 import collections
 import struct

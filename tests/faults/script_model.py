@@ -1,4 +1,4 @@
-"""A plain model of `sdtool run`: what each line of a script prints, as docs/SCRIPT.md and docs/REFUSALS.md have it.
+"""A plain model of `sdtool run`: what each line of a script prints, as docs/use/SCRIPT.md and docs/use/REFUSALS.md have it.
 tests/faults compares with it.
 """
 from drive_model import Device, Drive, Fault, Refused

@@ -1,4 +1,4 @@
-"""An independent reader of volumes: the blocks, the sessions and the heads on them, by docs/FORMATS.md alone. It shares no
+"""An independent reader of volumes: the blocks, the sessions and the heads on them, by docs/use/FORMATS.md alone. It shares no
 line with the keeper, the client or sdtool."""
 import json
 import struct

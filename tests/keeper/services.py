@@ -18,7 +18,7 @@ FIGURES = "/var/lib/sdd-keeper/sdd-keeper.prom"
 # So long after a reading the next one is due, by `verify` below.
 DUE = 1.1
 AS_KEEPER = ("setpriv", "--reuid=sdd", "--regid=sdd", "--init-groups")
-# What an administrator types, by docs/OPERATIONS.md. Of a keeper's times only those are other that a test can't wait for.
+# What an administrator types, by docs/use/OPERATIONS.md. Of a keeper's times only those are other that a test can't wait for.
 SETUP = r"""
 set -e
 cd /tmp/source

@@ -1,4 +1,4 @@
-"""Volumes and notes as they are read, byte by byte as docs/FORMATS.md has them; tests/lib/volumes.py makes them."""
+"""Volumes and notes as they are read, byte by byte as docs/use/FORMATS.md has them; tests/lib/volumes.py makes them."""
 import re
 import struct
 import typing

@@ -1,4 +1,4 @@
-"""Volumes, byte by byte as docs/FORMATS.md has them: blocks, labels and records, sessions that are cut into bodies and
+"""Volumes, byte by byte as docs/use/FORMATS.md has them: blocks, labels and records, sessions that are cut into bodies and
 placed as blocks, and the lines that tell where they lie. Made with struct and zlib alone."""
 import itertools
 import struct

@@ -1,4 +1,4 @@
-"""Labels, bodies, spans and texts, good and bad, with what comes of each by docs/FORMATS.md and docs/REFUSALS.md. The
+"""Labels, bodies, spans and texts, good and bad, with what comes of each by docs/use/FORMATS.md and docs/use/REFUSALS.md. The
 tests of tests/media give them to the programs."""
 import struct
 

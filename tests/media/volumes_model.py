@@ -1,4 +1,4 @@
-"""A plain slow reader of volumes, by docs/FORMATS.md and the orders of docs/REFUSALS.md: what a JobMedia text says,
+"""A plain slow reader of volumes, by docs/use/FORMATS.md and the orders of docs/use/REFUSALS.md: what a JobMedia text says,
 what a session's spans hold, and what an adoption finds. tests/media compares the programs with it."""
 import re
 import struct

@@ -9,7 +9,8 @@ from package import field, package
 # What is to be there besides all modules.
 FILES = {
     "usr/bin/sdd", "usr/bin/sdtool", "usr/bin/sdd-client", "usr/bin/sdd-keeper", "usr/bin/sdd-relay", "etc/sdd/sdd.conf",
-    "usr/lib/sdd/sdd-refresh", "usr/lib/sdd/sdd-listens", "etc/needrestart/conf.d/sdd.conf", "usr/lib/sysusers.d/sdd.conf", "usr/share/doc/sdd/OPERATIONS.md.gz",
+    "usr/lib/sdd/sdd-refresh", "usr/lib/sdd/sdd-listens", "etc/needrestart/conf.d/sdd.conf", "usr/lib/sysusers.d/sdd.conf",
+    "usr/share/doc/sdd/README.md.gz", "usr/share/doc/sdd/use/OPERATIONS.md.gz", "usr/share/doc/sdd/engineering/PROVED.md.gz",
     *(f"lib/systemd/system/{unit}" for unit in (
         "sdd.service", "sdd-backup@.service", "sdd-backup@.timer", "sdd-keeper.service", "sdd-keeper-scrub.service",
         "sdd-keeper-scrub.timer", "sdd-clients.service", "sdd-clients.socket")),

@@ -1,4 +1,4 @@
-"""The dialogues of docs/PROTOCOL.md, each in a talk of its own with a daemon of its own. tests/pages/run plays them;
+"""The dialogues of docs/use/PROTOCOL.md, each in a talk of its own with a daemon of its own. tests/pages/run plays them;
 the conversation that the page shows byte by byte is played by tests/talks.
 """
 import pathlib
@@ -10,7 +10,7 @@ from clients import client, say
 from daemon import ROOT, WAIT, Daemon, drive, free_port
 from shim import compiled, loaded
 
-PAGE = ROOT / "docs" / "PROTOCOL.md"
+PAGE = ROOT / "docs" / "use" / "PROTOCOL.md"
 BLOCK = re.compile(r"^```dialogue\n(.*?)^```$", re.MULTILINE | re.DOTALL)
 SECONDS, LEAST_DIALOGUES = 1000, 5
 

@@ -1,4 +1,4 @@
-"""A daemon that keeps what reaches it: the conversation of docs/PROTOCOL.md over a socket, with answers that are drawn. It
+"""A daemon that keeps what reaches it: the conversation of docs/use/PROTOCOL.md over a socket, with answers that are drawn. It
 reads packets whole and plainly, and shares no line with the relay."""
 import random
 import struct

@@ -1,5 +1,5 @@
 """What `sdtool scan` and `sdtool verify` print of a folder: a model of its own, over whole files in memory, by
-docs/FORMATS.md alone."""
+docs/use/FORMATS.md alone."""
 import datetime
 import json
 import struct

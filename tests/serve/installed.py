@@ -36,8 +36,9 @@ def installed(checks, folder, _):
     for file, to in [(ROOT / "install", "install"), (SDD, "bin/sdd"), (SDTOOL, "bin/sdtool")]:
         shutil.copy(file, source / to)
     subprocess.run([source / "install", prefix], check=True, timeout=60)
-    for place, files in (("share/doc/sdd", ROOT.glob("docs/*.md")), ("share/sdd/examples", ROOT.glob("examples/*.yml"))):
-        checks.check(f"its {place}", all((prefix / place / one.name).read_bytes() == one.read_bytes() for one in files))
+    lain = {f"share/doc/sdd/{part}": list((ROOT / "docs" / part).iterdir()) for part in ("use", "engineering", "pictures")}
+    for place, files in {**lain, "share/sdd/examples": list(ROOT.glob("examples/*.yml"))}.items():
+        checks.check(f"its {place}", files and all((prefix / place / one.name).read_bytes() == one.read_bytes() for one in files))
     library(prefix / "share/sdd/client.py")
     path = prefix / "lib/systemd/system/sdd.service"
     unit = service_of(path)

@@ -348,7 +348,7 @@ def wanting(folder, env):
 
 
 def told_in_documents(checks, folder, _):
-    """Each figure is in the table of docs/OPERATIONS.md, and nothing else is; and each that a rule of
+    """Each figure is in the table of docs/use/OPERATIONS.md, and nothing else is; and each that a rule of
     examples/alerts.yml asks for is one of them."""
     place = Place(folder / "told_in_documents")
     with metered(place, "--talks", "1") as daemon:
@@ -356,7 +356,7 @@ def told_in_documents(checks, folder, _):
             talk.console("requests")
         daemon.wait()
     names = set(re.findall(r"^# TYPE (\w+)", (place.folder / FILE).read_text(), re.MULTILINE))
-    section = (ROOT / "docs" / "OPERATIONS.md").read_text().partition("\n## What to watch\n")[2].partition("\n## ")[0]
+    section = (ROOT / "docs" / "use" / "OPERATIONS.md").read_text().partition("\n## What to watch\n")[2].partition("\n## ")[0]
     rows = re.findall(r"^\| (`sdd_[^|]*) \|", section, re.MULTILINE)
     checks.same("in the table", sorted(re.findall(r"`(sdd_\w+)`", " ".join(rows))), sorted(names))
     asked = set(re.findall(r"\bsdd_\w+", (ROOT / "examples" / "alerts.yml").read_text()))

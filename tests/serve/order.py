@@ -1,5 +1,5 @@
 """Whether there is an order of lines that explains their answers: a search, by when each line was begun and answered, over a
-small model of names, tickets, lanes and volumes that was written from docs/PROTOCOL.md and docs/REFUSALS.md.
+small model of names, tickets, lanes and volumes that was written from docs/use/PROTOCOL.md and docs/use/REFUSALS.md.
 
 A line is one step of the model, but for a close: that is the placing of its one block, before which its drive may have mounted the
 next volume of the pool, and then the end of its session.

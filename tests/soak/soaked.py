@@ -20,7 +20,7 @@ VOLUME, BLOCKS, SPOOLS = 2_000_000, (4096, 64_512), (0, 200_000)
 WAITS, PATIENCE, IDLE = 20, 2 * WAIT, 20 * WAIT
 # So many volumes of a drive stay at a restart; the older ones are read, and taken away.
 STAY = 8
-# What it takes for each block and each session of a run at most (docs/OPERATIONS.md, 'Memory'), and what may differ besides.
+# What it takes for each block and each session of a run at most (docs/use/OPERATIONS.md, 'Memory'), and what may differ besides.
 A_BLOCK, A_SESSION, ALL_ELSE = 80, 3_200, 16_000_000
 
 

@@ -1,5 +1,5 @@
-"""What a start with `--adopt` makes of its folders: a model of its own over whole files in memory, by docs/FORMATS.md and
-docs/OPERATIONS.md, 'Stop and start'."""
+"""What a start with `--adopt` makes of its folders: a model of its own over whole files in memory, by docs/use/FORMATS.md and
+docs/use/OPERATIONS.md, 'Stop and start'."""
 from __future__ import annotations
 
 import collections

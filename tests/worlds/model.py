@@ -1,5 +1,5 @@
-"""A plain model of `sdtool run`: what each line of a script prints, told from lists alone, as docs/SCRIPT.md and
-docs/REFUSALS.md have it. tests/worlds compares with it.
+"""A plain model of `sdtool run`: what each line of a script prints, told from lists alone, as docs/use/SCRIPT.md and
+docs/use/REFUSALS.md have it. tests/worlds compares with it.
 """
 import re
 import typing

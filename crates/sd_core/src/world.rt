@@ -155,8 +155,8 @@ impl<D: Driver + Drop, Q: Lanes + Drop, S: SpoolStore + Drop> World<D, Q, S> {
 }
 
 impl<D: Driver + Drop, Q: Lanes, S: SpoolStore + Drop> World<D, Q, S> {
-    /// One event. The reply says what came of it, and a refused event changes nothing but what docs/REFUSALS.md names. A
-    /// step looks at one session and one drive; an open looks at the drives, and at the lanes of the one that it chooses.
+    /// One event. The reply says what came of it, and a refused event changes nothing but what docs/use/REFUSALS.md names.
+    /// A step looks at one session and one drive; an open looks at the drives, and at the lanes of the one that it chooses.
     /// Take, Sync, Unmount and Cancel take no memory.
     pub fn step(&mut self, event: Event) -> Reply
         ensures { IsStep (λ d. D.meaning d) self.old event result self.new }
