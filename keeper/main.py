@@ -9,6 +9,7 @@ import typing
 
 from sdd_client.errors import Failed
 
+from keeper import VERSION
 from keeper.configuration import Configuration, configured
 from keeper.journal import tell
 from keeper.rounds import Keeper
@@ -18,6 +19,7 @@ from keeper.state import State
 
 def arguments() -> argparse.Namespace:
     parser = argparse.ArgumentParser(prog="sdd-keeper", description="Looks after the volumes of the storage daemon.")
+    parser.add_argument("-V", "--version", action="version", version=f"sdd-keeper {VERSION}", help="prints the version")
     parser.add_argument("conf", metavar="CONF", help="the file of pools")
     task = parser.add_mutually_exclusive_group()
     task.add_argument("--once", action="store_true", help="does what is to be done now, and ends")

@@ -9,6 +9,7 @@ import signal
 import socket
 import sys
 
+from relay import VERSION
 from relay.allowance import Allowance
 from relay.configuration import CLIENT_NAME, configured
 from relay.errors import ClientLost, Failed, NotAdmitted
@@ -27,6 +28,7 @@ SUBJECT = re.compile(rf"/?CN=({CLIENT_NAME.pattern})")
 def arguments(words: list[str]) -> argparse.Namespace:
     parser = argparse.ArgumentParser(
         prog="sdd-relay", description="Passes on to the storage daemon what a client of another machine may say.")
+    parser.add_argument("-V", "--version", action="version", version=f"sdd-relay {VERSION}", help="prints the version")
     task = parser.add_mutually_exclusive_group(required=True)
     task.add_argument("--as", dest="name", metavar="NAME", help="holds the talk of this name on standard input and output")
     task.add_argument("--tls", action="store_true", help="holds that of the name in the certificate, below stunnel")

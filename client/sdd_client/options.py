@@ -6,6 +6,7 @@ import os
 import re
 import typing
 
+from . import VERSION
 from .connection import MOST_BYTES
 from .cutter import SESSION
 from .errors import Misused
@@ -75,6 +76,7 @@ class Parser(argparse.ArgumentParser):
 def parser() -> Parser:
     made = Parser(prog="sdd-client", description="A client of the storage daemon.")
     add = made.add_argument
+    add("-V", "--version", action="version", version=f"sdd-client {VERSION}", help="prints the version")
     add("--port", type=port, help="the daemon's; else --conf's, SDD_PORT's, the socket /run/sdd-clients/socket, and else 9103")
     add("--rsh", metavar="COMMAND", help="the way to a daemon elsewhere: a remote shell's words, as 'ssh backup@host'")
     add("--tls", metavar="HOST[:PORT]", help="the way by TLS, with --cert; the port is 9104 if it isn't given")

@@ -42,7 +42,7 @@ def run(checks, folder, deb):
     checks.same("no other prefix", [name for name, text in texts.items() if "/usr/local" in text], [])
     checks.same("its configuration", subprocess.run(["dpkg-deb", "--info", deb, "conffiles"], capture_output=True, text=True).stdout.split(),
                 ["/etc/needrestart/conf.d/sdd.conf", "/etc/sdd/sdd.conf"])
-    checks.check("a version", field(deb, "Version").startswith("0.1.0+"))
+    checks.check("a version", field(deb, "Version").startswith((ROOT / "VERSION").read_text().strip() + "+"))
     if not shutil.which("lintian"):
         print("not run: lintian, which isn't there (tools/packages)")
         return
