@@ -158,6 +158,16 @@ impl Packer {
         self.waiting.pop_front()
     }
 
+    /// Gives back the memory that it has for bodies to wait in and that none needs, if no body is open. A record that
+    /// is cut into many bodies makes room for all of them.
+    pub fn shrink(&mut self)
+        ensures { self.new ≡ self.old }
+    {
+        if self.open_body.len() == 0 {
+            self.waiting.shrink_to(0);
+        }
+    }
+
     /// The closed bodies that wait.
     pub fn waiting(&self) -> usize
         ensures { result ≡ length self.now.waiting }

@@ -39,4 +39,5 @@ fn drop_bodies(packer: &mut Packer)
 {
     packer.finish();
     while let Some(_body) = packer.take_body() {}
+    packer.shrink();
 }

@@ -458,6 +458,7 @@ impl<S: SpoolStore + Drop> Session<S> {
     {
         self.may_close(progress)?;
         self.status = Status::Closed;
+        self.packer.shrink();
         Ok(())
     }
 
