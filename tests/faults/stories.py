@@ -339,7 +339,7 @@ def spool_files(folder, shim):
 
 
 # The calls by which a spool's file is found that an earlier run left, and then cleared for each session.
-FINDS = [("open", 1, errno.EIO), ("open", 1, errno.EACCES), ("look", 1, errno.EACCES), ("look", 1, None),
+FINDS = [("open", 1, errno.EIO), ("open", 1, errno.EACCES), ("look", 1, errno.EACCES), ("look", 2, None),
          ("open", 2, errno.EACCES), ("stat", 1, errno.EIO), ("truncate", 1, errno.EIO), ("truncate", 1, errno.ENOSPC)]
 
 

@@ -4,8 +4,11 @@ use Rattle.std.specs.List.{AllZip}
 use Rattle.std.proofs.lemmas.List.{map-append}
 use Rattle.sd_base.proofs.ZipLemmas.{zip_push}
 use Rattle.sd_folder.specs.Place.{folder_named}
+use Rattle.sd_folder.specs.declared.folder.Folder.{Ghosts}
+use Rattle.sd_folder.specs.declared.system.SystemFile.{SystemFile}
+use Rattle.sd_folder.specs.declared.system.SystemFolder.{SystemFolder}
 use Rattle.sd_spool.specs.FileSpool.{path_of}
-use Rattle.sd_spool.specs.declared.file.FileSpool.{FileSpool}
+use Rattle.sd_spool.specs.declared.file.FolderSpool.{FolderSpool}
 use Rattle.sd_daemon.specs.Setup.{lane_path, lane_paths}
 
 -- what is so of two lists is so with one more of each
@@ -20,7 +23,8 @@ path_is [] path file there here = here refl
 path_is (c ∷ cs) path file there here = there (λ e. absurd (let clash = e in cc))
 
 -- the spool of one lane more
-pub paths_more : {R F D : Type 0} (folder : List ℕ) (drive lanes before : ℕ) (spools all : List (FileSpool R F D)) (spool : FileSpool R F D)
+pub paths_more : {R F D : Type 0} {g : Ghosts (SystemFolder R F D) (SystemFile F)} (folder : List ℕ) (drive lanes before : ℕ)
+    → (spools all : List (FolderSpool (SystemFolder R F D) (SystemFile F) g)) (spool : FolderSpool (SystemFolder R F D) (SystemFile F) g)
     → lanes ≡ suc before → all ≡ spools ++ spool ∷ [] → map path_of spools ≡ lane_paths folder drive before → path_of spool ≡ lane_path folder drive lanes
     → map path_of all ≡ lane_paths folder drive lanes
 paths_more folder drive lanes before spools all spool lanes_are all_are paths path =

@@ -113,3 +113,13 @@ pub record MayBeCut (to : ℕ) (state after : FileState) : Type 0 where
 -- the file may be cut
 abbrev pub MayCut : List ℕ → ℕ → FolderMeaning → FolderMeaning → Type 0
 MayCut name to = Takes (MayBeCut to) name
+
+-- no file has the name any more
+pub record Removes (name : List ℕ) (old new : FolderMeaning) : Type 0 where
+  pub gone : new.file name ≡ None
+  pub others : (other : List ℕ) → other ≢ name → new.file other ≡ old.file other
+
+-- the file is as it was, or gone
+pub record MayRemove (name : List ℕ) (old new : FolderMeaning) : Type 0 where
+  pub here : (new.file name ≡ old.file name) ⊎ (new.file name ≡ None)
+  pub others : (other : List ℕ) → other ≢ name → new.file other ≡ old.file other

@@ -2,7 +2,7 @@
 ghost use Rattle.std.specs.Prelude.{◌≡◌, ◌≢◌, ◌↔◌, ◌≤◌, ◌⊎◌, ℕ, List, None, length, IfOk, IfErr, OnOk, OnErr, IsSome, IsTrue, IsErrOf};
 ghost use Rattle.sd_folder.specs.Meaning.{FolderMeaning, IsHonest, Goes, SameFiles, Stands};
 ghost use Rattle.sd_folder.specs.Place.{IsFileName};
-ghost use Rattle.sd_folder.specs.Steps.{Makes, MayMake, EndsAt, TellsEnd, Reads, Adds, MayAdd, SyncsData, MaySyncData, SyncsName, MaySyncName, Cuts, MayCut};
+ghost use Rattle.sd_folder.specs.Steps.{Makes, MayMake, EndsAt, TellsEnd, Reads, Adds, MayAdd, SyncsData, MaySyncData, SyncsName, MaySyncName, Cuts, MayCut, Removes, MayRemove};
 
 /// Why a call of the file system failed.
 #[derive(Clone, Copy, Debug, PartialEq, Eq)]
@@ -146,6 +146,20 @@ pub trait Folder {
             (Cuts (name_of file.now) to (meaning self.old) (meaning self.new)) }
         ensures err { IsHonest (meaning self.old) → OnErr result
             (MayCut (name_of file.now) to (meaning self.old) (meaning self.new)) };
+
+    /// Takes a file away, unless its name is another file's by now: `lstat`, `fstat` and `unlink`. A folder that
+    /// has no such call answers `Failed`.
+    fn remove(&mut self, file: &Self::File) -> Result<(), FolderFault>
+        ensures goes { Goes (meaning self.old) (meaning self.new) }
+        ensures faults { IfErr result (λ fault. fault ≡ FolderFault.Failed) }
+        ensures ok { IsHonest (meaning self.old) → OnOk result
+            (Removes (name_of file.now) (meaning self.old) (meaning self.new)) }
+        ensures err { IsHonest (meaning self.old) → OnErr result
+            (MayRemove (name_of file.now) (meaning self.old) (meaning self.new)) }
+    {
+        let _ = file;
+        Err(FolderFault::Failed)
+    }
 
     /// A stop now leaves of each file what the disk has of it, and that is no more than was written.
     ghost stands: { (folder : Self) → IsHonest (meaning folder) → Stands (meaning folder) };

@@ -179,6 +179,16 @@ where
         }
     }
 
+    fn remove(&mut self, file: &SystemFile<R::File>) -> Result<(), FolderFault> {
+        if !self.is_there(file)? {
+            return Ok(());
+        }
+        match fs::remove_file(&self.system, file.path.as_str()) {
+            Ok(()) => Ok(()),
+            Err(_) => Err(FolderFault::Failed),
+        }
+    }
+
     ghost stands = { λ folder h. unknown_stands h };
 }
 

@@ -1,2 +1,4 @@
 pub mod Entries
 pub mod Files
+pub mod Others
+pub mod Reading

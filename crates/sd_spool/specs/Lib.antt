@@ -2,4 +2,5 @@ pub mod Meaning
 pub mod Call
 pub mod MemSpool
 pub mod Job
+pub mod Opened
 pub mod FileSpool

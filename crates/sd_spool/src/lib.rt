@@ -6,11 +6,12 @@ mod entry;
 mod file;
 mod job;
 mod memory;
+mod opened;
 mod spool_file;
 mod store;
 
 pub use call::{SpoolCall, SpoolFail};
-pub use file::{FileSpool, lane_files_differ};
+pub use file::{FileSpool, FolderSpool, lane_files_differ};
 pub use job::{JobSpool, NotCleared, PutFault};
 pub use memory::MemSpool;
 pub use sd_plan::When;
