@@ -7,4 +7,4 @@ kept, `verdicts` which volumes may go, `labels`, `removal` and `scrubs` what is 
 is read anew, `damage` what is found by that, `differences` what doesn't fit, `figures` what is told of all, `state` what outlasts
 a stop, `rounds` one look at all, `main` the command line.
 """
-VERSION = "0.1.0"
+VERSION = "1.0.0"

@@ -1,3 +1,4 @@
 pub mod Lines
 pub mod Daemon
 pub mod Tool
+pub mod Building

@@ -19,15 +19,17 @@ volumes_rule = record (new_rule (codes "VOLUMES")) {
 abbrev pub list_shape : Shape
 list_shape = command_shape (codes "ls") (required_rule (codes "VOLUME") ∷ flag_rule (codes "progress") ∷ [])
 
+-- `SPANS FOLDER [--progress]`
+abbrev pub session_rules : List Rule
+session_rules = required_rule (codes "SPANS") ∷ required_rule (codes "FOLDER") ∷ flag_rule (codes "progress") ∷ []
+
 -- `read SPANS FOLDER [--progress]`
 abbrev pub read_shape : Shape
-read_shape =
-    command_shape (codes "read") (required_rule (codes "SPANS") ∷ required_rule (codes "FOLDER") ∷ flag_rule (codes "progress") ∷ [])
+read_shape = command_shape (codes "read") session_rules
 
 -- `salvage SPANS FOLDER [--progress]`
 abbrev pub salvage_shape : Shape
-salvage_shape =
-    command_shape (codes "salvage") (required_rule (codes "SPANS") ∷ required_rule (codes "FOLDER") ∷ flag_rule (codes "progress") ∷ [])
+salvage_shape = command_shape (codes "salvage") session_rules
 
 -- `scan FOLDER [VOLUME].. [--write TEXTS] [--progress]`
 abbrev pub scan_shape : Shape

@@ -4,6 +4,7 @@ ghost use Rattle.clap.specs.Words.{found_of, rows_of, rule_of};
 ghost use Rattle.sd_arguments.specs.Lines.{flag_rule, texts_at};
 ghost use Rattle.sd_arguments.specs.Daemon.{IsBadName, adopt_damaged_rule};
 
+use crate::arguments::flag_argument;
 use crate::misuse::Misuse;
 use clap::{Arg, ArgAction, ArgMatches};
 use sd_base::VolName;
@@ -16,10 +17,11 @@ pub(crate) fn adopt_argument<'a>(alloc: Global) -> Arg<'a>
     ensures rule { rule_of result ≡ flag_rule (codes "adopt") }
     ensures local { result.global ≡ false }
 {
-    Arg::new(alloc, "adopt")
-        .long("adopt")
-        .action(ArgAction::SetTrue)
-        .help("Adopts the volumes of the drives' folders first, by their notes")
+    flag_argument(
+        alloc,
+        "adopt",
+        "Adopts the volumes of the drives' folders first, by their notes",
+    )
 }
 
 pub(crate) fn adopt_damaged_argument<'a>(alloc: Global) -> Arg<'a>

@@ -7,9 +7,11 @@ ghost use Rattle.sd_arguments.specs.Lines.{IsGiven, command_shape, flag_rule, re
 ghost use Rattle.sd_arguments.specs.Daemon.{AsksDaemon, FailsDaemon, IsServing, Misuses, daemon_line, misuse_kind, metrics_rule, serve_shape, talks_rule, until_rule, wait_rule};
 
 use crate::adopting::{adopt_argument, adopt_damaged_argument, names_of};
+use crate::arguments::{count_argument, file_argument, flag_argument, required};
+use crate::building::{command_with, program, with_commands};
 use crate::misuse::Misuse;
 use crate::status::lacks_memory;
-use clap::{Arg, ArgAction, ArgMatches, Command, Error};
+use clap::{Arg, ArgMatches, Command, Error};
 use sd_base::VolName;
 use std::alloc::{AllocError, Global};
 
@@ -77,23 +79,17 @@ fn parse(alloc: Global, words: &[String]) -> Result<DaemonTask<'_>, Error>
 fn misuse_error(alloc: Global, misuse: Misuse<'_>) -> Result<Error, AllocError>
     ensures { IfOk result (λ error. kind_of error ≡ misuse_kind misuse.entry) }
 {
-    let mut command = command(alloc)?;
     let message = misuse.message(alloc)?;
+    let mut command = command(alloc)?;
     command.error(misuse.kind(), message.as_str())
 }
 
 fn command<'a>(alloc: Global) -> Result<Command<'a>, AllocError>
     ensures { IfOk result (λ c. app_of c ≡ daemon_line) }
 {
-    let check = check_command(alloc);
-    let serve = serve_command(alloc)?;
-    Command::new(alloc, "sdd")
-        .version("0.1.0")
-        .about("The storage daemon")
-        .subcommand_required(true)
-        .arg_required_else_help(true)
-        .subcommand(check)?
-        .subcommand(serve)
+    let commands = vec![in alloc; Ok(check_command(alloc)), serve_command(alloc)]?;
+    let program = program(alloc, "sdd", "The storage daemon").version("1.0.0");
+    with_commands(program, commands)
 }
 
 fn check_command<'a>(alloc: Global) -> Command<'a>
@@ -109,91 +105,79 @@ fn serve_command<'a>(alloc: Global) -> Result<Command<'a>, AllocError>
     ensures shape { IfOk result (λ c. shape_of c ≡ serve_shape) }
     ensures local { IfOk result (λ c. (fields_of c).has_globals ≡ false) }
 {
-    let path = path_argument(alloc);
-    let talks = talks_argument(alloc);
-    let wait = wait_argument(alloc);
-    let metrics = metrics_argument(alloc);
-    let until = until_argument(alloc);
-    let log = log_argument(alloc);
-    let adopt = adopt_argument(alloc);
-    let adopt_damaged = adopt_damaged_argument(alloc);
-    Command::new(alloc, "serve")
-        .about("Serves clients on 127.0.0.1")
-        .arg(path)?
-        .arg(talks)?
-        .arg(wait)?
-        .arg(metrics)?
-        .arg(until)?
-        .arg(log)?
-        .arg(adopt)?
-        .arg(adopt_damaged)
+    let arguments = vec![in alloc;
+        path_argument(alloc),
+        talks_argument(alloc),
+        wait_argument(alloc),
+        metrics_argument(alloc),
+        until_argument(alloc),
+        log_argument(alloc),
+        adopt_argument(alloc),
+        adopt_damaged_argument(alloc),
+    ]?;
+    command_with(alloc, "serve", "Serves clients on 127.0.0.1", arguments)
 }
 
 fn path_argument<'a>(alloc: Global) -> Arg<'a>
     ensures rule { rule_of result ≡ required_rule (codes "CONF") }
     ensures local { result.global ≡ false }
 {
-    Arg::new(alloc, "CONF")
-        .required(true)
-        .help("The file of the configuration")
+    required(alloc, "CONF", "The file of the configuration")
 }
 
 fn talks_argument<'a>(alloc: Global) -> Arg<'a>
     ensures rule { rule_of result ≡ talks_rule }
     ensures local { result.global ≡ false }
 {
-    Arg::new(alloc, "talks")
-        .long("talks")
-        .value_name("N")
-        .action(ArgAction::Set)
-        .value_parser(clap::value_parser!(u32))
-        .default_value("0")
-        .help("Ends after so many talks; 0 for no end")
+    count_argument(
+        alloc,
+        "talks",
+        "N",
+        "Ends after so many talks; 0 for no end",
+    )
 }
 
 fn wait_argument<'a>(alloc: Global) -> Arg<'a>
     ensures rule { rule_of result ≡ wait_rule }
     ensures local { result.global ≡ false }
 {
-    Arg::new(alloc, "wait")
-        .long("wait")
-        .value_name("SECONDS")
-        .action(ArgAction::Set)
-        .value_parser(clap::value_parser!(u32))
-        .default_value("0")
-        .help("Lets a job wait so long for a volume that its drive needs; 0 for not at all")
+    count_argument(
+        alloc,
+        "wait",
+        "SECONDS",
+        "Lets a job wait so long for a volume that its drive needs; 0 for not at all",
+    )
 }
 
 fn metrics_argument<'a>(alloc: Global) -> Arg<'a>
     ensures rule { rule_of result ≡ metrics_rule }
     ensures local { result.global ≡ false }
 {
-    Arg::new(alloc, "metrics")
-        .long("metrics")
-        .value_name("FILE")
-        .action(ArgAction::Set)
-        .help("Writes figures to this file every ten seconds, in the text form of Prometheus")
+    file_argument(
+        alloc,
+        "metrics",
+        "FILE",
+        "Writes figures to this file every ten seconds, in the text form of Prometheus",
+    )
 }
 
 fn until_argument<'a>(alloc: Global) -> Arg<'a>
     ensures rule { rule_of result ≡ until_rule }
     ensures local { result.global ≡ false }
 {
-    Arg::new(alloc, "until")
-        .long("until")
-        .value_name("FILE")
-        .action(ArgAction::Set)
-        .help("Takes no client more once this file is there, and ends after those that it has")
+    file_argument(
+        alloc,
+        "until",
+        "FILE",
+        "Takes no client more once this file is there, and ends after those that it has",
+    )
 }
 
 fn log_argument<'a>(alloc: Global) -> Arg<'a>
     ensures rule { rule_of result ≡ flag_rule (codes "log") }
     ensures local { result.global ≡ false }
 {
-    Arg::new(alloc, "log")
-        .long("log")
-        .action(ArgAction::SetTrue)
-        .help("Writes a log to standard error")
+    flag_argument(alloc, "log", "Writes a log to standard error")
 }
 
 // What is asked of the daemon. The other values are there too, since the words were read so.

@@ -2,6 +2,8 @@
 #![tactic(auto)]
 
 mod adopting;
+mod arguments;
+mod building;
 mod daemon;
 mod misuse;
 mod status;

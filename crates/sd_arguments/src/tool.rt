@@ -2,10 +2,12 @@
 ghost use Rattle.std.specs.Prelude.{◌≡◌, IfErr, IfOk, Some, [], codes, false, map, option_map, string_bytes};
 ghost use Rattle.clap.specs.Words.{HasKind, app_of, fault_of, first_of, found_of, one_of, rows_of, rule_of, shape_of};
 ghost use Rattle.clap.specs.declared.builder.command.Command.TheViews.{out-Command as fields_of};
-ghost use Rattle.sd_arguments.specs.Lines.{IsFlagOf, IsGiven, command_shape, file_rule, flag_rule, required_rule, texts_at};
+ghost use Rattle.sd_arguments.specs.Lines.{IsFlagOf, IsGiven, command_shape, flag_rule, texts_at};
 ghost use Rattle.sd_arguments.specs.Tool.{AsksTool, HasItsWords, IsProgress, IsToolCommand, IsToolTask, list_shape};
-ghost use Rattle.sd_arguments.specs.Tool.{read_shape, salvage_shape, scan_shape, tool_line, verify_shape, volumes_rule};
+ghost use Rattle.sd_arguments.specs.Tool.{read_shape, salvage_shape, scan_shape, session_rules, tool_line, verify_shape, volumes_rule};
 
+use crate::arguments::{file_argument, flag_argument, required};
+use crate::building::{command_with, program, with_commands};
 use crate::status::lacks_memory;
 use clap::{Arg, ArgAction, ArgMatches, Command, Error};
 use std::alloc::{AllocError, Global};
@@ -177,25 +179,21 @@ fn is_given(given: &ArgMatches<'_>, flag: &str) -> bool
 fn command<'a>(alloc: Global) -> Result<Command<'a>, AllocError>
     ensures { IfOk result (λ c. app_of c ≡ tool_line) }
 {
-    let run = run_command(alloc);
-    let list = list_command(alloc)?;
-    let read = read_command(alloc)?;
-    let salvage = salvage_command(alloc)?;
-    let scan = scan_command(alloc)?;
-    let verify = verify_command(alloc)?;
-    Command::new(alloc, "sdtool")
-        .version("0.1.0")
-        .about(
-            "Runs scripts over the core of the storage daemon, lists, scans and verifies volumes, reads sessions back and salvages them",
-        )
-        .subcommand_required(true)
-        .arg_required_else_help(true)
-        .subcommand(run)?
-        .subcommand(list)?
-        .subcommand(read)?
-        .subcommand(salvage)?
-        .subcommand(scan)?
-        .subcommand(verify)
+    let commands = vec![in alloc;
+        Ok(run_command(alloc)),
+        list_command(alloc),
+        read_command(alloc),
+        salvage_command(alloc),
+        scan_command(alloc),
+        verify_command(alloc),
+    ]?;
+    let program = program(
+        alloc,
+        "sdtool",
+        "Runs scripts over the core of the storage daemon, lists, scans and verifies volumes, reads sessions back and salvages them",
+    )
+    .version("1.0.0");
+    with_commands(program, commands)
 }
 
 fn run_command<'a>(alloc: Global) -> Command<'a>
@@ -211,91 +209,100 @@ fn list_command<'a>(alloc: Global) -> Result<Command<'a>, AllocError>
     ensures shape { IfOk result (λ c. shape_of c ≡ list_shape) }
     ensures local { IfOk result (λ c. (fields_of c).has_globals ≡ false) }
 {
-    let volume = required(alloc, VOLUME, "The file of the volume");
-    let progress = progress(alloc);
-    Command::new(alloc, "ls")
-        .about("Lists a volume: its label, its blocks, and how many bytes stand behind them")
-        .arg(volume)?
-        .arg(progress)
+    let arguments = vec![in alloc;
+        required(alloc, VOLUME, "The file of the volume"),
+        progress(alloc),
+    ]?;
+    command_with(
+        alloc,
+        "ls",
+        "Lists a volume: its label, its blocks, and how many bytes stand behind them",
+        arguments,
+    )
 }
 
 fn read_command<'a>(alloc: Global) -> Result<Command<'a>, AllocError>
     ensures shape { IfOk result (λ c. shape_of c ≡ read_shape) }
     ensures local { IfOk result (λ c. (fields_of c).has_globals ≡ false) }
 {
-    let spans = required(alloc, SPANS, "The file of the session's JobMedia text");
-    let folder = required(alloc, FOLDER, "The folder of the volumes");
-    let progress = progress(alloc);
-    Command::new(alloc, "read")
-        .about("Reads a session back from its volumes, and writes its records")
-        .arg(spans)?
-        .arg(folder)?
-        .arg(progress)
+    session_command(
+        alloc,
+        "read",
+        "Reads a session back from its volumes, and writes its records",
+    )
 }
 
 fn salvage_command<'a>(alloc: Global) -> Result<Command<'a>, AllocError>
     ensures shape { IfOk result (λ c. shape_of c ≡ salvage_shape) }
     ensures local { IfOk result (λ c. (fields_of c).has_globals ≡ false) }
 {
-    let spans = required(alloc, SPANS, "The file of the session's JobMedia text");
-    let folder = required(alloc, FOLDER, "The folder of the volumes");
-    let progress = progress(alloc);
-    Command::new(alloc, "salvage")
-        .about("Reads a session back past damage, and writes all its records that are whole")
-        .arg(spans)?
-        .arg(folder)?
-        .arg(progress)
+    session_command(
+        alloc,
+        "salvage",
+        "Reads a session back past damage, and writes all its records that are whole",
+    )
+}
+
+/// A subcommand that reads a session.
+fn session_command<'a>(
+    alloc: Global,
+    name: &'a str,
+    about: &'a str,
+) -> Result<Command<'a>, AllocError>
+    ensures shape { IfOk result (λ c. shape_of c ≡ command_shape name.entry.now session_rules) }
+    ensures local { IfOk result (λ c. (fields_of c).has_globals ≡ false) }
+{
+    let arguments = vec![in alloc;
+        required(alloc, SPANS, "The file of the session's JobMedia text"),
+        required(alloc, FOLDER, "The folder of the volumes"),
+        progress(alloc),
+    ]?;
+    command_with(alloc, name, about, arguments)
 }
 
 fn scan_command<'a>(alloc: Global) -> Result<Command<'a>, AllocError>
     ensures shape { IfOk result (λ c. shape_of c ≡ scan_shape) }
     ensures local { IfOk result (λ c. (fields_of c).has_globals ≡ false) }
 {
-    let folder = required(alloc, FOLDER, "The folder of the volumes");
-    let volumes = volumes(alloc);
-    let texts = file_argument(
+    let arguments = vec![in alloc;
+        required(alloc, FOLDER, "The folder of the volumes"),
+        volumes(alloc),
+        file_argument(
+            alloc,
+            WRITE,
+            "TEXTS",
+            "Makes a file in this folder for each session, with its JobMedia text",
+        ),
+        progress(alloc),
+    ]?;
+    command_with(
         alloc,
-        WRITE,
-        "TEXTS",
-        "Makes a file in this folder for each session, with its JobMedia text",
-    );
-    let progress = progress(alloc);
-    Command::new(alloc, "scan")
-        .about(
-            "Finds the sessions on whole volumes, and writes the JobMedia texts that they are read by",
-        )
-        .arg(folder)?
-        .arg(volumes)?
-        .arg(texts)?
-        .arg(progress)
+        "scan",
+        "Finds the sessions on whole volumes, and writes the JobMedia texts that they are read by",
+        arguments,
+    )
 }
 
 fn verify_command<'a>(alloc: Global) -> Result<Command<'a>, AllocError>
     ensures shape { IfOk result (λ c. shape_of c ≡ verify_shape) }
     ensures local { IfOk result (λ c. (fields_of c).has_globals ≡ false) }
 {
-    let folder = required(alloc, FOLDER, "The folder of the volumes");
-    let expected = file_argument(
+    let arguments = vec![in alloc;
+        required(alloc, FOLDER, "The folder of the volumes"),
+        file_argument(
+            alloc,
+            EXPECT,
+            "FILE",
+            "Names the volumes that are to be there, one a line",
+        ),
+        flag_argument(alloc, JSON, "Prints each line as a JSON object"),
+    ]?;
+    command_with(
         alloc,
-        EXPECT,
-        "FILE",
-        "Names the volumes that are to be there, one a line",
-    );
-    let json = flag_argument(alloc, JSON, "Prints each line as a JSON object");
-    Command::new(alloc, "verify")
-        .about(
-            "Looks for damage on all volumes of a folder, and for sessions of which not all is there",
-        )
-        .arg(folder)?
-        .arg(expected)?
-        .arg(json)
-}
-
-fn required<'a>(alloc: Global, name: &'a str, help: &'a str) -> Arg<'a>
-    ensures rule { rule_of result ≡ required_rule name.entry.now }
-    ensures local { result.global ≡ false }
-{
-    Arg::new(alloc, name).required(true).help(help)
+        "verify",
+        "Looks for damage on all volumes of a folder, and for sessions of which not all is there",
+        arguments,
+    )
 }
 
 fn volumes<'a>(alloc: Global) -> Arg<'a>
@@ -318,25 +325,4 @@ fn progress<'a>(alloc: Global) -> Arg<'a>
         PROGRESS,
         "Writes a line to standard error every 256 MB that are read",
     )
-}
-
-fn flag_argument<'a>(alloc: Global, name: &'a str, help: &'a str) -> Arg<'a>
-    ensures rule { rule_of result ≡ flag_rule name.entry.now }
-    ensures local { result.global ≡ false }
-{
-    Arg::new(alloc, name)
-        .long(name)
-        .action(ArgAction::SetTrue)
-        .help(help)
-}
-
-fn file_argument<'a>(alloc: Global, name: &'a str, value: &'a str, help: &'a str) -> Arg<'a>
-    ensures rule { rule_of result ≡ file_rule name.entry.now }
-    ensures local { result.global ≡ false }
-{
-    Arg::new(alloc, name)
-        .long(name)
-        .value_name(value)
-        .action(ArgAction::Set)
-        .help(help)
 }

@@ -1,16 +1,37 @@
-use Rattle.std.proofs.Common.{codes}
+use Rattle.std.proofs.Common.{subst, [], ◌∷◌, Ok, codes}
 use Rattle.std.proofs.lemmas.Result.{IfOk-weaker}
-use Rattle.sd_arguments.specs.Tool.{tool_line}
-use Rattle.sd_arguments.proofs.BuildingLemmas.{program_is, with_command}
+use Rattle.clap.specs.Built.{AddsInTurn}
+use Rattle.sd_arguments.specs.Building.{AddsMade, program_alone}
+use Rattle.sd_arguments.specs.Lines.{command_shape}
+use Rattle.sd_arguments.specs.Tool.{list_shape, read_shape, salvage_shape, scan_shape, tool_line, verify_shape}
+use Rattle.sd_arguments.proofs.BuildingLemmas.{versioned, with_all, with_version}
 use Rattle.sd_arguments.proofs.tool.command.Goals as goal
 
 pub returns : goal.returns
 unfolding tool_line
-returns c = IfOk-weaker c.subcommand-6.result _ _ (λ r h.
-    with_command _ _ h c.in_ok-verify.ensures.local
-    (with_command _ _ c.in_ok-subcommand-5.ensures c.in_ok-scan.ensures.local
-    (with_command _ _ c.in_ok-subcommand-4.ensures c.in_ok-salvage.ensures.local
-    (with_command _ _ c.in_ok-subcommand-3.ensures c.in_ok-read.ensures.local
-    (with_command _ _ c.in_ok-subcommand-2.ensures c.in_ok-list.ensures.local
-    (with_command _ _ c.in_ok-subcommand.ensures c.run_command-run.ensures.local
-    (program_is c.new.result c.version.result c.about.result c.subcommand_required.result c.arg_required_else_help.result (codes "sdtool") _ _ c.new.ensures.app c.version.ensures c.about.ensures c.subcommand_required.ensures c.arg_required_else_help.ensures) c.run_command-run.ensures.shape) c.in_ok-list.ensures.shape) c.in_ok-read.ensures.shape) c.in_ok-salvage.ensures.shape) c.in_ok-scan.ensures.shape) c.in_ok-verify.ensures.shape) c.subcommand-6.ensures
+returns c = IfOk-weaker c.with_commands.result _ _ (λ r h.
+    with_all (with_version (program_alone (codes "sdtool"))) c.version-program.result r
+    (Ok c.run_command.result ∷ c.list_command.result ∷ c.read_command.result ∷ c.salvage_command.result ∷ c.scan_command.result ∷ c.verify_command.result ∷ [])
+    (command_shape (codes "run") [] ∷ list_shape ∷ read_shape ∷ salvage_shape ∷ scan_shape ∷ verify_shape ∷ [])
+    (subst (λ made. AddsInTurn AddsMade c.version-program.result made r) c.in_ok-commands.ensures.items h) (
+      c.run_command.ensures.shape,
+      c.run_command.ensures.local,
+      (
+        c.list_command.ensures.shape,
+        c.list_command.ensures.local,
+        (
+          c.read_command.ensures.shape,
+          c.read_command.ensures.local,
+          (
+            c.salvage_command.ensures.shape,
+            c.salvage_command.ensures.local,
+            (
+              c.scan_command.ensures.shape,
+              c.scan_command.ensures.local,
+              (c.verify_command.ensures.shape, c.verify_command.ensures.local, tt),
+            ),
+          ),
+        ),
+      ),
+    )
+    (versioned c.program.result c.version-program.result (program_alone (codes "sdtool")) _ c.program.ensures c.version-program.ensures)) c.with_commands.ensures
