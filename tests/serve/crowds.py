@@ -24,6 +24,8 @@ CLIENTS, JOBS = 8, 3
 SIZES = (1, 70_000, 300, 64_512, 0, 4096)
 # Drives that take so many sessions at once each, and jobs of so many records of a few KB.
 LANES, RECORDS = 8, 40
+# More sessions than a status shows at once.
+SHOWN = 9000
 # So many connections are served at once, and so many more are tried.
 MOST_TALKS, MORE = 8 * 32 + 64, 10
 # A daemon that may have so many descriptors has room for some connections.
@@ -447,5 +449,39 @@ def under_load(place, daemon, kept, run, end):
         thread.join(timeout=WAIT)
 
 
-GROUPS = (many, all_lanes, stops_within, reads_nothing, floods, closes_small, above_the_bound, few_descriptors, breaks_off,
-          others_sessions, stopped_again, killed_again)
+def many_sessions(checks, folder, _):
+    """Thousands of sessions are shown while others begin, in pieces: each of them once and in order, and none is missing that had
+    its number before."""
+    place, numbers = Two(folder / "many_sessions"), [0]
+
+    def opens(media):
+        with place.talk() as talk:
+            for _ in range(SHOWN // 2):
+                ticket = client.open_session(talk, 7, "Default", media)
+                numbers.append(ticket)
+                talk.console(f"cancel {ticket}")
+                # (only a command of the session tells the talk that it is over)
+                with contextlib.suppress(client.Refused):
+                    talk.ask(f"append end session {ticket}")
+            talk.terminate()
+
+    def looks():
+        seen, end = 0, time.monotonic() + 4 * WAIT
+        with place.talk() as talk:
+            while seen < SHOWN and time.monotonic() < end:
+                time.sleep(0.05)
+                least = max(numbers)
+                shown = [int(line.split()[1]) for line in talk.console("status") if line.startswith("session ")]
+                if shown != list(range(1, len(shown) + 1)) or len(shown) < least:
+                    raise ValueError(f"{len(shown)} sessions of {least}: {shown[:3]} to {shown[-3:]}")
+                seen = len(shown)
+        return seen
+
+    with place.daemon():
+        place.labels(checks)
+        *_, seen = comes_to(checks, "sessions", *(lambda media=media: opens(media) for media in MEDIA), looks) or [0]
+        checks.same("all are shown", seen, SHOWN)
+
+
+GROUPS = (many, all_lanes, many_sessions, stops_within, reads_nothing, floods, closes_small, above_the_bound, few_descriptors,
+          breaks_off, others_sessions, stopped_again, killed_again)

@@ -1,5 +1,5 @@
 // The numbers of sessions, and a line for each that was given.
-ghost use Rattle.std.specs.Prelude.{◌≡◌, ◌-◌, ◌+◌, ◌<◌, map, slice_get, [], IfOk, IfSome, IfNone, OnErr, OnOk};
+ghost use Rattle.std.specs.Prelude.{◌≡◌, ◌-◌, ◌+◌, ◌<◌, map, take, drop, slice_get, [], IfOk, IfSome, IfNone, OnErr, OnOk};
 ghost use Rattle.sd_base.specs.Limits.{most_number};
 ghost use Rattle.sd_board.specs.Lines.{GivesNumber, KeepsLines, count_of, next_number, posted_in, promised_more, promised_less, session_line};
 
@@ -149,12 +149,33 @@ impl Lines {
         }
     }
 
-    /// A line for each session, by rising ticket.
-    pub(crate) fn session_lines(&self, alloc: Global) -> Result<Items<SessionLine>, AllocError>
-        ensures { IfOk result (λ lines. lines ≡ map session_line self.now.sessions) }
+    /// How many sessions have a line.
+    pub(crate) fn session_count(&self) -> usize
+        ensures { result ≡ count_of self.now }
     {
-        show(alloc, &self.sessions)
+        self.sessions.len()
     }
+
+    /// A line for each session behind the first `from`, by rising ticket, for `most` of them at the most.
+    pub(crate) fn session_lines(
+        &self,
+        alloc: Global,
+        from: usize,
+        most: usize,
+    ) -> Result<Items<SessionLine>, AllocError>
+        ensures { IfOk result (λ lines. lines
+            ≡ map session_line (take most (drop from self.now.sessions))) }
+    {
+        show(alloc, piece(&self.sessions, from, most))
+    }
+}
+
+// Those behind the first `from`, `most` of them at the most.
+fn piece(sessions: &[Posted], from: usize, most: usize) -> &[Posted]
+    ensures { result.now ≡ take most (drop from sessions.now) }
+{
+    let rest = &sessions[from.min(sessions.len())..];
+    &rest[..most.min(rest.len())]
 }
 
 // A line of a status for each of these.

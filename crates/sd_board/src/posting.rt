@@ -1,6 +1,6 @@
 // The lines of the board.
-ghost use Rattle.std.specs.Prelude.{◌≡◌, ◌-◌, map, slice_get, IfOk};
-ghost use Rattle.sd_board.specs.Lines.{posted_in, session_line};
+ghost use Rattle.std.specs.Prelude.{◌≡◌, ◌-◌, map, take, drop, slice_get, IfOk};
+ghost use Rattle.sd_board.specs.Lines.{count_of, posted_in, session_line};
 
 use crate::board::Board;
 use crate::posted::Posted;
@@ -29,10 +29,18 @@ impl<N: Naming, S: SpoolStore + Drop> Board<N, S> {
         self.lines.session(ticket)
     }
 
-    /// A line for each session, by rising ticket.
-    pub fn session_lines(&self) -> Result<Items<SessionLine>, AllocError>
-        ensures { IfOk result (λ lines. lines ≡ map session_line self.now.lines.sessions) }
+    /// How many sessions have a line.
+    pub fn session_count(&self) -> usize
+        ensures { result ≡ count_of self.now.lines }
     {
-        self.lines.session_lines(self.alloc)
+        self.lines.session_count()
+    }
+
+    /// A line for each session behind the first `from`, by rising ticket, for `most` of them at the most.
+    pub fn session_lines(&self, from: usize, most: usize) -> Result<Items<SessionLine>, AllocError>
+        ensures { IfOk result (λ lines. lines
+            ≡ map session_line (take most (drop from self.now.lines.sessions))) }
+    {
+        self.lines.session_lines(self.alloc, from, most)
     }
 }

@@ -1,6 +1,9 @@
-use Rattle.std.proofs.Common.{rules}
+use Rattle.std.proofs.Common.{◌∙◌, rules}
 use Rattle.sd_line.proofs.SeatLemmas.{seats_new}
 use Rattle.sd_line.proofs.line.Line.new.Goals as goal
+
+pub name_seats-requires-clause-named : goal.name_seats-requires-clause-named
+name_seats-requires-clause-named g c = λ k seat is. (c.in-Ok-split.ensures.are_seats k seat is).0 ∙ c.requires.named.0
 
 pub returns-clause-new : goal.returns-clause-new
 returns-clause-new g c =
