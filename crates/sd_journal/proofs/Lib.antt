@@ -1,11 +1,5 @@
 pub mod EntryLemmas
 pub mod NameLemmas
-pub mod KeyLemmas
-pub mod StretchLemmas
-pub mod CountLemmas
-pub mod CellLemmas
-pub mod WalkLemmas
-pub mod MarkLemmas
-pub mod ShareLemmas
 pub mod NotedLemmas
-pub mod LyingLemmas
+pub mod KeyLemmas
+pub mod ShareLemmas
