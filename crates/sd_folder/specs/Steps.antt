@@ -1,5 +1,5 @@
 -- What the calls of an honest folder do.
-use Rattle.std.specs.Prelude.{◌≡◌, ◌≢◌, ℕ, ◌+◌, ◌-◌, ◌≤◌, ◌⊎◌, min, Bool, true, false, List, [], ◌++◌, length, take, drop, Option, Some, None}
+use Rattle.std.specs.Prelude.{◌≡◌, ◌≢◌, ℕ, ◌+◌, ◌-◌, ◌≤◌, ◌⊎◌, min, Bool, true, false, List, [], ◌++◌, length, take, drop, Some, None}
 use Rattle.sd_folder.specs.Meaning.{FileState, FolderMeaning}
 
 -- a new empty file of a name that the folder lacked
