@@ -48,4 +48,4 @@ def kept(bench):
         yield Figure(8, work, measured, f"at most {aim} MB", most <= aim)
     each, blocks = of_a_block(bench)
     measured = f"{each:.0f} bytes, by {blocks:,} blocks"
-    yield Figure(8, "memory: a block that was placed", measured, "at most 64 bytes", each <= 64)
+    yield Figure(8, "memory: a block that was placed", measured, "at most 16 bytes", each <= 16)

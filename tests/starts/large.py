@@ -12,7 +12,7 @@ from blocks import note_in
 from checks import Checks
 from clients import client
 from daemon import Daemon, later_second
-from site_of import Site
+from site_of import Site, settles
 from volumes import MOST_BLOCK, MOST_VOLUME, block, daemon_label, note, start
 
 SEED, VOLUMES, ROOM = 91, 200, "With-room"
@@ -91,10 +91,12 @@ def killed(checks: Checks, folder: pathlib.Path, _: pathlib.Path):
         with site.daemon() as daemon:
             site.ask("label 1 Vol-1 Default File")
             closed = site.job([b"closed"])
+            path, beside = site.place / "Vol-1", site.place / "Vol-1~"
             going = sent(site, JOB)
             next(going)
+            # (a fast machine sends it all between two looks of the notes' thread; the session goes on meanwhile)
+            settles(lambda: note_in(beside.read_bytes()).end > 2**28)
             daemon.kill()
-        path, beside = site.place / "Vol-1", site.place / "Vol-1~"
         content = beside.read_bytes()
         noted, size = note_in(content), path.stat().st_size
         checks.check("its note lags", size - noted.end < 512 * 2**20 + 2**28, noted, size)

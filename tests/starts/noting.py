@@ -74,7 +74,7 @@ def traced(program_words: list, to: pathlib.Path) -> list:
 
 def not_ahead(checks: Checks, folder: pathlib.Path, _: pathlib.Path):
     """No note says more than a sync had the disk have that began before it was written, by the system's calls as strace saw them: under
-    jobs of many sizes, cancelled ones, and several volumes that fill up."""
+    jobs of many sizes, and several volumes that fill up."""
     if not shutil.which("strace"):
         print("not run: the order of notes and syncs, for want of strace")
         return
@@ -87,9 +87,14 @@ def not_ahead(checks: Checks, folder: pathlib.Path, _: pathlib.Path):
     with site.daemon("--until", stop, program=program) as daemon:
         for number in range(6):
             site.ask(f"label 1 Vol-{number} Default File")
-        for _ in range(15):
-            site.job([draw.randbytes(draw.choice((10, 3000, 9000)))])
-            time.sleep(draw.choice((0, 0.2)))
+        for number in range(15):
+            lines = site.job([draw.randbytes(draw.choice((10, 3000, 9000)))])
+            if number % 3:
+                time.sleep(draw.choice((0, 0.2)))
+                continue
+            # (jobs that follow one another quickly share a note)
+            _, name, *_, end = lines[-1].split()
+            checks.check(f"the note of job {number}", settles(lambda: isinstance(one := read_note(site.place / name), Note) and one.end >= int(end)))
         site.ends(daemon, stop)
     notes, ahead = checked_order(calls.read_text(errors="replace").splitlines())
     checks.same("notes that were ahead of their volume", ahead, [])

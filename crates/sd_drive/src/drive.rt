@@ -152,6 +152,13 @@ impl<D: Driver> Drive<D> {
         let _ = &self.journal;
     }
 
+    /// The drive's device.
+    pub fn device(&self) -> &D
+        ensures { result.now ≡ self.now.device }
+    {
+        &self.driver
+    }
+
     pub fn media(&self) -> &MediaName
         ensures { result.now ≡ self.now.media }
     {

@@ -112,7 +112,7 @@ pub fn try_settle<N: Naming, R: Wait + Copy + Drop>(
         Err(back) => back,
     };
     let NotSettled {
-        line,
+        parts,
         ends,
         receipts,
         fault,
@@ -121,7 +121,7 @@ pub fn try_settle<N: Naming, R: Wait + Copy + Drop>(
     let all = ends.len() == many_ends && receipts.len().wrapping_add(foreign) == many_receipts;
     let fault = if all { Fault::of(&fault) } else { Fault::Lost };
     let left = Left {
-        line,
+        line: Line::of_parts(parts),
         ends,
         receipts,
         kept,

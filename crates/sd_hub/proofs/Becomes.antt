@@ -8,7 +8,7 @@ use Rattle.sd_drive.specs.Receipt.{ReceiptIs}
 use Rattle.sd_drive.specs.Shelf.{Kept}
 use Rattle.sd_drive.specs.View.{DriveIs}
 use Rattle.sd_lane.specs.Queue.{LanesView}
-use Rattle.sd_line.specs.Side.{LineIs}
+use Rattle.sd_line.specs.Side.{LineIs, SideIs}
 use Rattle.sd_line.specs.Ends.{EndIs, IsOfLane, ToldSession}
 use Rattle.sd_hub.specs.Settles.{CheckedIs, SettledIs, SettledLaneIs, Settles, SettlesNot, sessions_at, sessions_in, sessions_of, sessions_to}
 use Rattle.sd_hub.specs.declared.fault.SettleFault.{SettleFault}
@@ -123,13 +123,13 @@ from_line meaning table time l line es ends rs receipts w same same' same'' (fro
 )
 
 -- and what comes back is what was handed in, with the fault of that line
-pub comes_back : {D : Type 0} (meaning : D → Meaning) (table : ℕ → TableId) (time : ℕ → ℕ) (back l line : LineIs) (left es ends : List EndIs) (rs receipts others : List ReceiptIs) (fault : SettleFault)
-    → l ≡ line → es ≡ ends → rs ≡ receipts → back ≡ l → left ≡ es → SettlesNot meaning table time l es rs fault others
-    → (back ≡ line) × (left ≡ ends) × SettlesNot meaning table time line ends receipts fault others
-comes_back meaning table time back l line left es ends rs receipts others fault same same' same'' is is' why = (
+pub comes_back : {D : Type 0} (meaning : D → Meaning) (table : ℕ → TableId) (time : ℕ → ℕ) (back l line : LineIs) (side : SideIs D) (left es ends : List EndIs) (rs receipts others : List ReceiptIs)
+    (fault : SettleFault) → l ≡ line → es ≡ ends → rs ≡ receipts → back ≡ l → left ≡ es → SettlesNot meaning table time l side es rs fault others
+    → (back ≡ line) × (left ≡ ends) × SettlesNot meaning table time line side ends receipts fault others
+comes_back meaning table time back l line side left es ends rs receipts others fault same same' same'' is is' why = (
   is ∙ same,
   is' ∙ same',
-  subst (λ (x : LineIs). SettlesNot meaning table time x ends receipts fault others) same
-      (subst (λ (xs : List EndIs). SettlesNot meaning table time l xs receipts fault others) same'
-      (subst (λ (xs : List ReceiptIs). SettlesNot meaning table time l es xs fault others) same'' why)),
+  subst (λ (x : LineIs). SettlesNot meaning table time x side ends receipts fault others) same
+      (subst (λ (xs : List EndIs). SettlesNot meaning table time l side xs receipts fault others) same'
+      (subst (λ (xs : List ReceiptIs). SettlesNot meaning table time l side es xs fault others) same'' why)),
 )

@@ -21,12 +21,9 @@ use Rattle.sd_world.proofs.Bodies.{bodies_with-append}
 use Rattle.sd_world.proofs.Items.{length_before}
 use Rattle.sd_world.specs.Matches.{IsOnTheWay, IsUnsynced, bodies_with, body_of_piece, queued_bodies, sent_bodies, sent_to}
 use Rattle.sd_world.specs.World.{items_before, items_with}
-use Rattle.sd_hub.proofs.Pieces.{bodies-keyed, bodies_in, keyed, length_items, pieces_in}
-
--- what each piece in a queue becomes
-map_pieces : {B : Type 0} (f : Piece → B) (qs : List Queued) → map (λ (q : Queued). f q.piece) qs ≡ map f (pieces_in qs)
-map_pieces f [] = refl
-map_pieces f (q ∷ qs) = ap (λ l. f q.piece ∷ l) (map_pieces f qs)
+use Rattle.sd_closes.specs.Pieces.{bodies_in, keyed, pieces_in}
+use Rattle.sd_closes.proofs.Pieces.{length_items, map_pieces}
+use Rattle.sd_hub.proofs.Pieces.{bodies-keyed}
 
 -- of what was taken and then of what is held
 map_both : {B : Type 0} (f : Piece → B) (taken held : List Queued) → map (λ (q : Queued). f q.piece) taken ++ map (λ (q : Queued). f q.piece) held ≡ map f (pieces_in (taken ++ held))

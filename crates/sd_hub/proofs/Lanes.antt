@@ -10,10 +10,13 @@ use Rattle.sd_lane.specs.Queue.{AreOfLanes, pieces_of}
 use Rattle.sd_lane.specs.declared.piece.Piece.{Piece}
 use Rattle.sd_lane.specs.declared.piece.Queued.{Queued}
 use Rattle.sd_pack.specs.Body.{PackedBody}
-use Rattle.sd_line.specs.Ends.{SentBy, TellsAll, ToldSession, pieces_from}
+use Rattle.sd_line.specs.Ends.{RestsOn, SentBy, TellsAll, ToldSession, pieces_from}
 use Rattle.sd_hub.specs.Settles.{AreDistinct, SettledLaneIs, times_of}
 use Rattle.sd_hub.specs.Worlds.{lane_sessions}
-use Rattle.sd_hub.proofs.Pieces.{keyed, keyed-append, keyed-other, keyed-own, pieces_in}
+use Rattle.sd_closes.specs.Pieces.{keyed, pieces_in}
+use Rattle.sd_closes.proofs.Pieces.{keyed-append}
+use Rattle.sd_line.proofs.TellLemmas.{keyed-own}
+use Rattle.sd_hub.proofs.Pieces.{keyed-other}
 
 -- How often a key is a session's.
 
@@ -109,7 +112,7 @@ none_sent honest key (s ∷ ss) sent (bodies, rest, is, tells, more) none =
 -- The pieces of the session among these are those of bodies that go with the records that it took.
 pub record OwnSent (honest : Type 0) (s : ToldSession) (sent : List Piece) : Type 0 where
   pub bodies : List PackedBody
-  pub tells : TellsAll honest s bodies
+  pub tells : TellsAll (RestsOn s.spools honest) s bodies
   pub is : keyed s.session.key sent ≡ pieces_from s.session.key 1 bodies
 
 -- so it is of each session whose key no other has

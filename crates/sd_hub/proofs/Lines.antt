@@ -18,7 +18,8 @@ use Rattle.sd_spool.specs.Job.{StoreState}
 use Rattle.sd_world.specs.Honest.{StoreIsTrue}
 use Rattle.sd_hub.specs.Worlds.{lane_sessions}
 use Rattle.sd_hub.proofs.Lanes.{OwnSent, none_sent, own_sent, queued_all, sent_all, times_lane, times_least, times_two}
-use Rattle.sd_hub.proofs.Pieces.{keyed, keyed_lane, pieces_in}
+use Rattle.sd_closes.specs.Pieces.{keyed, pieces_in}
+use Rattle.sd_hub.proofs.Pieces.{keyed_lane}
 
 -- The sessions of all lanes.
 

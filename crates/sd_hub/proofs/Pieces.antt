@@ -3,45 +3,14 @@ use Rattle.std.proofs.Common.{◌≡◌, ◌≢◌, ℕ, suc, ◌+◌, ◌≤◌
 use Rattle.std.proofs.lemmas.Bool.{eq-eqb, ne_eqb}
 use Rattle.sd_base.specs.Key.{is_key}
 use Rattle.sd_base.specs.declared.number.SessionKey.{SessionKey}
-use Rattle.sd_drive.specs.View.{item_of_piece}
-use Rattle.sd_journal.proofs.KeyLemmas.{key_same_self}
+use Rattle.sd_closes.specs.Pieces.{keyed, pieces_in, bodies_in}
 use Rattle.sd_lane.specs.Queue.{AreOfLanes, pieces_of}
 use Rattle.sd_lane.specs.declared.piece.Piece.{Piece}
 use Rattle.sd_lane.specs.declared.piece.Queued.{Queued}
 use Rattle.sd_pack.specs.Body.{PackedBody}
 use Rattle.sd_line.specs.Ends.{pieces_from}
 use Rattle.sd_world.specs.Matches.{bodies_with, body_of_piece}
-use Rattle.sd_world.specs.World.{items_with}
 use Rattle.sd_world.proofs.Lookups.{one_or_two}
-
--- the pieces of one session
-abbrev pub keyed : SessionKey → List Piece → List Piece
-keyed key [] = []
-keyed key (p ∷ ps) = if is_key key p.key then p ∷ keyed key ps else keyed key ps
-
--- the pieces, without the lanes that they came by
-abbrev pub pieces_in : List Queued → List Piece
-pieces_in qs = map (λ (q : Queued). q.piece) qs
-
--- Pieces of a session.
-
--- over two lists, one after the other
-pub keyed-append : (key : SessionKey) (ps rest : List Piece) → keyed key (ps ++ rest) ≡ keyed key ps ++ keyed key rest
-keyed-append key [] rest = refl
-keyed-append key (p ∷ ps) rest = by (is_key key p.key) (keyed-append key ps rest)
-  where
-    by : (own : Bool) → keyed key (ps ++ rest) ≡ keyed key ps ++ keyed key rest
-        → (if own then p ∷ keyed key (ps ++ rest) else keyed key (ps ++ rest)) ≡ (if own then p ∷ keyed key ps else keyed key ps) ++ keyed key rest
-    by true e = ap (λ l. p ∷ l) e
-    by false e = e
-
--- all of its own bodies are its pieces
-pub keyed-own : (key : SessionKey) (n : ℕ) (bs : List PackedBody) → keyed key (pieces_from key n bs) ≡ pieces_from key n bs
-keyed-own key n [] = refl
-keyed-own key n (b ∷ bs) =
-    let p : Piece = record { key = key; seq = n; body = b } in
-    ap (λ c. if c then p ∷ keyed key (pieces_from key (n + 1) bs) else keyed key (pieces_from key (n + 1) bs)) (key_same_self key)
-    ∙ ap (λ l. p ∷ l) (keyed-own key (n + 1) bs)
 
 -- none of another's are
 pub keyed-other : (key other : SessionKey) (n : ℕ) (bs : List PackedBody) → is_key key other ≡ false → keyed key (pieces_from other n bs) ≡ []
@@ -51,19 +20,10 @@ keyed-other key other n (b ∷ bs) apart =
     ap (λ c. if c then p ∷ keyed key (pieces_from other (n + 1) bs) else keyed key (pieces_from other (n + 1) bs)) apart
     ∙ keyed-other key other (n + 1) bs apart
 
--- the bodies of a session's pieces
-abbrev pub bodies_in : List Piece → List PackedBody
-bodies_in ps = map (λ (p : Piece). p.body) ps
-
 -- they are those that the pieces were made of
 pub bodies_from : (key : SessionKey) (n : ℕ) (bs : List PackedBody) → bodies_in (pieces_from key n bs) ≡ bs
 bodies_from key n [] = refl
 bodies_from key n (b ∷ bs) = ap (λ l. b ∷ l) (bodies_from key (n + 1) bs)
-
--- there are as many
-pub length_from : (key : SessionKey) (n : ℕ) (bs : List PackedBody) → length (pieces_from key n bs) ≡ length bs
-length_from key n [] = refl
-length_from key n (b ∷ bs) = ap suc (length_from key (n + 1) bs)
 
 -- As bodies and as items.
 
@@ -75,16 +35,6 @@ bodies-keyed key (p ∷ ps) = by (is_key key p.key) (bodies-keyed key ps)
     by : (own : Bool) → bodies_with key (map body_of_piece ps) ≡ bodies_in (keyed key ps)
         → (if own then p.body ∷ bodies_with key (map body_of_piece ps) else bodies_with key (map body_of_piece ps)) ≡ bodies_in (if own then p ∷ keyed key ps else keyed key ps)
     by true e = ap (λ l. p.body ∷ l) e
-    by false e = e
-
--- there are as many items of a session as pieces
-pub length_items : (key : SessionKey) (ps : List Piece) → length (items_with key (map item_of_piece ps)) ≡ length (keyed key ps)
-length_items key [] = refl
-length_items key (p ∷ ps) = by (is_key key p.key) (length_items key ps)
-  where
-    by : (own : Bool) → length (items_with key (map item_of_piece ps)) ≡ length (keyed key ps)
-        → length (if own then item_of_piece p ∷ items_with key (map item_of_piece ps) else items_with key (map item_of_piece ps)) ≡ length (if own then p ∷ keyed key ps else keyed key ps)
-    by true e = ap suc e
     by false e = e
 
 -- Of one lane.

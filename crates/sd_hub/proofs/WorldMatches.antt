@@ -18,7 +18,8 @@ use Rattle.sd_hub.proofs.Drives.{none_on_the_way, none_unsynced, sent_are}
 use Rattle.sd_hub.proofs.Entries.{IsAsTold, stays_of, told_or_failed}
 use Rattle.sd_hub.proofs.Holders.{either_true, last_of}
 use Rattle.sd_hub.proofs.Lines.{in_all, store_in}
-use Rattle.sd_hub.proofs.Pieces.{bodies-keyed, bodies_from, bodies_in, pieces_in}
+use Rattle.sd_closes.specs.Pieces.{bodies_in, pieces_in}
+use Rattle.sd_hub.proofs.Pieces.{bodies-keyed, bodies_from}
 use Rattle.sd_hub.proofs.SettledLemmas.{IsSettledWorld, lane_found, told_settled, told_stands}
 use Rattle.sd_hub.proofs.WorldRules.{lane_there, only_bay, sent_here}
 
@@ -59,7 +60,7 @@ module _ {D : Type 0} (meaning : D → Meaning) (settled : SettledIs D) (told : 
       ap (bodies_with key) (sent_are shelf settled.drive (queue_view settled.queue) settled.queue.taken h.follows (h.holds honest.device))
       ∙ bodies-keyed key ps ∙ ap bodies_in st.own.is ∙ bodies_from key 1 st.own.bodies in
       subst (λ (bs : List PackedBody). HasBodies s.session.packer.room bs (bs ++ parts_of s.session) s.session.status s.told) (sym same)
-      (st.own.tells.bodies_are (store_true st.in_lane.at st.in_lane.lane st.in_lane.there honest))
+      (st.own.tells.bodies_are (λ spools. store_true st.in_lane.at st.in_lane.lane st.in_lane.there honest))
 
   -- so they relate to its records in the world
   bodies_here : (k : ℕ) (s : ToldSession) (e : WorldSession) → slice_get told k ≡ Some s → SettlesOne settled.drive.journal s e → IsHonestAt meaning w 0 (bay_of settled) settled.drive

@@ -27,7 +27,9 @@ use Rattle.sd_hub.proofs.Entries.{IsAsTold, moved, stays_of, told_or_failed}
 use Rattle.sd_hub.proofs.Holders.{LastIs, else_there, last_of, lies_here, running_last}
 use Rattle.sd_hub.proofs.Lines.{all_at, all_pieces, in_all}
 use Rattle.sd_hub.proofs.NumberLemmas.{IsOfRun, next_most, number_below}
-use Rattle.sd_hub.proofs.Pieces.{length_from, length_items, pieces_in}
+use Rattle.sd_closes.specs.Pieces.{pieces_in}
+use Rattle.sd_closes.proofs.Pieces.{length_items}
+use Rattle.sd_line.proofs.TellLemmas.{length_from}
 use Rattle.sd_hub.proofs.SettledLemmas.{IsSettledWorld, all_from, entry_of, lane_found, numbers, told_of_run, told_settled, told_stands}
 
 -- one that failed goes on no more, and is neither closed nor purged

@@ -170,10 +170,10 @@ FaultOf c (Unsynced key) left = (left ≡ c.receipts) × HasKeys c × HasUnsettl
 FaultOf c (Foreign r) left = HasSynced c × (IsGiven c.side.drive.journal r → ⊥) × IsOutOf r c.receipts left
 FaultOf c Memory left = (left ≡ c.receipts) × HasSynced c
 
--- Why a line is not settled. Its lock had some value, which keeps what each lock's value keeps; of that and of what was handed in
--- this fault is found.
-abbrev pub SettlesNot : {D : Type 0} → (D → Meaning) → (ℕ → TableId) → (ℕ → ℕ) → LineIs → List EndIs → List ReceiptIs → SettleFault → List ReceiptIs → Type 0
-SettlesNot {D} meaning table time line ends receipts fault left = (side : SideIs D) × KeepsSide meaning table time side
+-- Why a line is not settled: of what its lock has, which keeps what each lock's value keeps, and of what was handed in this fault is
+-- found.
+abbrev pub SettlesNot : {D : Type 0} → (D → Meaning) → (ℕ → TableId) → (ℕ → ℕ) → LineIs → SideIs D → List EndIs → List ReceiptIs → SettleFault → List ReceiptIs → Type 0
+SettlesNot meaning table time line side ends receipts fault left = KeepsSide meaning table time side
     × FaultOf (checked_of line side ends receipts) fault left
 
 -- The seat and the lane at one place are those of the lane's end among these. The seat is of the queue that is named for the drive.

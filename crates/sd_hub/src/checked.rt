@@ -1,6 +1,6 @@
 // A line that may be settled.
 ghost use Rattle.std.specs.Prelude.{◌≡◌, length};
-ghost use Rattle.sd_hub.specs.Settles.{Settles, SettlesNot, sessions_of};
+ghost use Rattle.sd_hub.specs.Settles.{Settles, SettlesNot, line_of, sessions_of};
 
 use crate::checks::count_all;
 use crate::fault::{NotSettled, SettleFault};
@@ -8,7 +8,7 @@ use crate::gather::{Gathered, gather};
 use crate::settled::Settled;
 use sd_drive::{Drive, Receipt};
 use sd_driver::Driver;
-use sd_line::{LaneEnd, Line, LineParts, Naming};
+use sd_line::{LaneEnd, LineParts, Naming};
 use sd_ruled::{RuledLanes, Split};
 use sd_spool::SpoolStore;
 use std::marker::Model;
@@ -27,7 +27,6 @@ pub struct Checked<D: Driver, N: Naming, R: Wait + Drop, S: SpoolStore> {
 impl<D: Driver, N: Naming, R: Wait + Drop, S: SpoolStore> Model for Checked<D, N, R, S> {
     ghost use Rattle.std.specs.Prelude.{◌≡◌, ◌≤◌, []};
     ghost use Rattle.std.specs.Vec.{vec_capacity};
-    ghost use Rattle.sd_drive.specs.Limits.{AreLimits};
     ghost use Rattle.sd_hub.specs.Settles.{CheckedIs, Passes, checked_of, line_of};
 
     ghost Value = { CheckedIs D };
@@ -36,9 +35,6 @@ impl<D: Driver, N: Naming, R: Wait + Drop, S: SpoolStore> Model for Checked<D, N
         c.parts.side c.ends.items c.receipts.items };
 
     ghost invariant = { λ c. record {
-      here : c.parts.queue.table ≡ N.table c.parts.no;
-      run : c.parts.limits.time ≡ N.time c.parts.no;
-      limits : AreLimits c.parts.limits;
       passes : Passes (checked_of (line_of c.parts.no c.parts.media c.parts.limits c.parts.queue)
           c.parts.side c.ends.items c.receipts.items);
       none : (c.room.seats.items ≡ []) × (c.room.lanes.items ≡ []);
@@ -71,10 +67,11 @@ impl<D: Driver, N: Naming, R: Wait + Drop, S: SpoolStore + Drop> Checked<D, N, R
 
     /// What was handed in, as it was; the fault is out of memory.
     pub fn give_back(self) -> NotSettled<D, N, R, S>
-        ensures line { result.line ≡ self.line }
+        ensures line { line_of result.parts.no result.parts.media result.parts.limits result.parts.queue
+            ≡ self.line }
         ensures ends { result.ends.items ≡ self.ends }
-        ensures why { SettlesNot (λ d. D.meaning d) N.table N.time self.line self.ends self.receipts
-            result.fault result.receipts.items }
+        ensures why { SettlesNot (λ d. D.meaning d) N.table N.time self.line result.parts.side self.ends
+            self.receipts result.fault result.receipts.items }
     {
         let Checked {
             parts,
@@ -84,7 +81,7 @@ impl<D: Driver, N: Naming, R: Wait + Drop, S: SpoolStore + Drop> Checked<D, N, R
         } = self;
         parts.side.know();
         NotSettled {
-            line: Line::of_parts(parts),
+            parts,
             ends,
             receipts,
             fault: SettleFault::Memory,

@@ -3,7 +3,7 @@ ghost use Rattle.std.specs.Prelude.{◌≡◌, ◌≤◌, [], List, IfErr, IfNon
 ghost use Rattle.std.specs.Vec.{vec_capacity};
 ghost use Rattle.sd_drive.specs.Receipt.{ReceiptIs};
 ghost use Rattle.sd_line.specs.Side.{LineIs};
-ghost use Rattle.sd_hub.specs.Settles.{FaultOf, HasSynced, Passes, SettlesNot, checked_of};
+ghost use Rattle.sd_hub.specs.Settles.{FaultOf, HasSynced, Passes, SettlesNot, checked_of, line_of};
 
 use crate::checked::Checked;
 use crate::checks::{double_key, unsynced};
@@ -31,9 +31,9 @@ pub fn check<D: Driver, N: Naming, R: Wait + Drop, S: SpoolStore + Drop>(
 ) -> Result<Checked<D, N, R, S>, NotSettled<D, N, R, S>>
     ensures ok { IfOk result (λ c. (c.line ≡ line) × (c.ends ≡ ends.items)
         × (c.receipts ≡ receipts.items)) }
-    ensures err { IfErr result (λ back. (back.line ≡ line) × (back.ends.items ≡ ends.items)
-        × SettlesNot (λ d. D.meaning d) N.table N.time line ends.items receipts.items back.fault
-        back.receipts.items) }
+    ensures err { IfErr result (λ back. (line_of back.parts.no back.parts.media back.parts.limits back.parts.queue ≡ line)
+        × (back.ends.items ≡ ends.items) × SettlesNot (λ d. D.meaning d) N.table N.time line back.parts.side
+        ends.items receipts.items back.fault back.receipts.items) }
 {
     let parts = line.into_parts();
     parts.side.know();
@@ -45,7 +45,7 @@ pub fn check<D: Driver, N: Naming, R: Wait + Drop, S: SpoolStore + Drop>(
             room,
         }),
         Err(fault) => Err(NotSettled {
-            line: Line::of_parts(parts),
+            parts,
             ends,
             receipts,
             fault,

@@ -2,7 +2,7 @@
 use sd_base::SessionKey;
 use sd_drive::Receipt;
 use sd_driver::Driver;
-use sd_line::{LaneEnd, Line, Naming};
+use sd_line::{LaneEnd, LineParts, Naming};
 use sd_spool::SpoolStore;
 use std::sync::Wait;
 
@@ -21,10 +21,11 @@ pub enum SettleFault {
     Memory,
 }
 
-/// A line that is not settled, with all that was handed in, and why. A receipt that is foreign is in the fault.
+/// A line that is not settled, taken apart, with all else that was handed in, and why: of just these parts the fault was
+/// found. `Line::of_parts` makes the line of them again. A receipt that is foreign is in the fault.
 #[derive(Drop)]
 pub struct NotSettled<D: Driver, N: Naming, R: Wait + Drop, S: SpoolStore> {
-    pub line: Line<D, N, R>,
+    pub parts: LineParts<D, N, R>,
     pub ends: Vec<LaneEnd<N, S>>,
     pub receipts: Vec<Receipt>,
     pub fault: SettleFault,

@@ -4,7 +4,7 @@ ghost use Rattle.std.specs.Vec.{vec_capacity};
 ghost use Rattle.sd_base.specs.Limits.{most_lanes};
 ghost use Rattle.sd_hub.specs.Claimed.{AreClaimed, ClaimsOwn};
 ghost use Rattle.sd_hub.specs.Machines.{MatchesTold};
-ghost use Rattle.sd_hub.specs.Settles.{SettlesNot, sessions_of};
+ghost use Rattle.sd_hub.specs.Settles.{SettlesNot, line_of, sessions_of};
 ghost use Rattle.sd_hub.specs.Worlds.{IsSettledFrom};
 ghost use Rattle.sd_world.specs.Steps.{IsSound};
 
@@ -42,9 +42,9 @@ pub fn settle<D: Driver + Drop, N: Naming, R: Wait + Copy + Drop, S: SpoolStore 
         ends.items receipts.items w) }
     ensures claimed { IfOk result (λ w. ClaimsOwn w) }
     ensures sound { IfOk result (λ w. IsSound (λ d. D.meaning d) w) }
-    ensures err { IfErr result (λ back. (back.line ≡ line) × (back.ends.items ≡ ends.items)
-        × SettlesNot (λ d. D.meaning d) N.table N.time line ends.items receipts.items back.fault
-        back.receipts.items) }
+    ensures err { IfErr result (λ back. (line_of back.parts.no back.parts.media back.parts.limits back.parts.queue ≡ line)
+        × (back.ends.items ≡ ends.items) × SettlesNot (λ d. D.meaning d) N.table N.time line back.parts.side
+        ends.items receipts.items back.fault back.receipts.items) }
 {
     match check(alloc, line, ends, receipts) {
         Ok(checked) => match Room::with_desk(alloc, &checked) {

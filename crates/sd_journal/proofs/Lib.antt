@@ -1,5 +1,11 @@
 pub mod EntryLemmas
 pub mod NameLemmas
-pub mod NotedLemmas
 pub mod KeyLemmas
+pub mod StretchLemmas
+pub mod CountLemmas
+pub mod CellLemmas
+pub mod WalkLemmas
+pub mod MarkLemmas
 pub mod ShareLemmas
+pub mod NotedLemmas
+pub mod LyingLemmas

@@ -2,5 +2,9 @@ pub mod Journal
 pub mod Laws
 pub mod Names
 pub mod Noted
+pub mod Cells
+pub mod Walk
+pub mod Stretch
 pub mod ShareView
 pub mod Share
+pub mod Kept

@@ -1,16 +1,22 @@
--- What a journal keeps of each session, so that no question about a session looks at other sessions' entries.
-use Rattle.std.specs.Prelude.{◌≡◌, ℕ, ◌+◌, ◌-◌, ◌<◌, ◌≤◌, ◌^◌, List, [], Bool, true, false, if◌then◌else◌, Option, None, Some, IsTrue}
+-- What a journal keeps of each session, so that no question about a session looks at other sessions' blocks.
+use Rattle.std.specs.Prelude.{◌≡◌, ℕ, ◌+◌, List, [], map, All, Bool, true, false, ◌&&◌, ◌==◌, if◌then◌else◌, Option, None, Some, IsTrue}
 use Rattle.std.specs.HashMap.{get_by}
-use Rattle.std.specs.List.{count_by}
+use Rattle.std.specs.List.{list_any, sum_by, count_by}
 use Rattle.std.specs.Option.{MatchOption, IsSomeAnd}
+use Rattle.sd_base.specs.FileIndex.{first_nonzero}
 use Rattle.sd_base.specs.Key.{is_key}
 use Rattle.sd_base.specs.declared.number.SessionKey.{SessionKey}
-use Rattle.sd_span.specs.Spans.{placements_of, stretches, grown}
-use Rattle.sd_span.specs.declared.placement.Placement.{Placement}
+use Rattle.sd_span.specs.Spans.{placements_of, stretches}
+use Rattle.sd_journal.specs.declared.lying.Lying.{Lying}
 use Rattle.sd_journal.specs.declared.mark.Mark.{Mark}
+use Rattle.sd_journal.specs.declared.noted.Noted.{Noted}
 use Rattle.sd_journal.specs.declared.shares.Shares.{Shares}
-use Rattle.sd_journal.specs.Journal.{Entry, placements, is_synced, is_lost, is_lost_of, placed_of, counts_of}
+use Rattle.sd_journal.specs.declared.stretch.Stretch.{Stretch}
+use Rattle.sd_journal.specs.Journal.{Entry, placements, is_unsynced, is_synced, is_lost, placed_of}
+use Rattle.sd_journal.specs.Names.{name_at}
+use Rattle.sd_journal.specs.Noted.{last_index}
 use Rattle.sd_journal.specs.ShareView.{ShareView}
+use Rattle.sd_journal.specs.Stretch.{HasName, span_of, grown_by, marked_at}
 
 -- what is kept of the session, if anything is
 abbrev pub share_of : Shares → SessionKey → Option ShareView
@@ -27,57 +33,54 @@ SameShares old new = (key : SessionKey) → share_of new key ≡ share_of old ke
 
 -- with room for one stretch more
 abbrev pub readied : Option ShareView → Option ShareView
-readied None = Some (record { stretches = []; counts = record { placed = 0; synced = 0 }; lost = 0; ready = true })
+readied None = Some (record { stretches = []; placed = 0; last = 0; ready = true })
 readied (Some s) = Some (record s { ready = true })
 
--- with one placement more
-abbrev pub with_placement : Placement → Option ShareView → Option ShareView
-with_placement p None = None
-with_placement p (Some s) = Some (record {
-  stretches = grown s.stretches p;
-  counts = record { placed = s.counts.placed + 1; synced = s.counts.synced };
-  lost = s.lost;
+-- with one block more
+abbrev pub with_noted : Noted → Option ShareView → Option ShareView
+with_noted n None = None
+with_noted n (Some s) = Some (record {
+  stretches = grown_by s.stretches n;
+  placed = s.placed + 1;
+  last = first_nonzero n.last s.last;
   ready = false;
 })
 
--- a count to which one came, and from which one went
-abbrev pub recounted : (came went : Bool) → ℕ → ℕ
-recounted came went count = count + (if came then 1 else 0) - (if went then 1 else 0)
-
--- with one entry that has this mark now and had that one before
-abbrev pub with_mark : (was mark : Mark) → Option ShareView → Option ShareView
-with_mark was mark None = None
-with_mark was mark (Some s) = Some (record {
-  stretches = s.stretches;
-  counts = record {
-    placed = s.counts.placed;
-    synced = recounted (is_synced mark) (is_synced was) s.counts.synced;
-  };
-  lost = recounted (is_lost mark) (is_lost was) s.lost;
-  ready = s.ready;
-})
-
--- the counts can be taken anew if one entry that had the one mark gets the other
-pub record CanRemark (was mark : Mark) (s : ShareView) : Type 0 where
-  pub synced : s.counts.synced + 1 < 2 ^ 64
-  pub some_synced : (if is_synced was then 1 else 0) ≤ s.counts.synced + (if is_synced mark then 1 else 0)
-  pub lost : s.lost + 1 < 2 ^ 64
-  pub some_lost : (if is_lost was then 1 else 0) ≤ s.lost + (if is_lost mark then 1 else 0)
+-- after a call on the volume at this place, by which blocks there get that mark
+abbrev pub with_marks : Mark → ℕ → Option ShareView → Option ShareView
+with_marks mark volume None = None
+with_marks mark volume (Some s) = Some (record s { stretches = map (marked_at mark volume) s.stretches })
 
 -- there is room for one stretch more of the session
 abbrev pub HasRoom : Option ShareView → Type 0
 HasRoom share = IsSomeAnd share (λ s. IsTrue s.ready)
 
--- how many entries of the session are lost
-abbrev pub lost_of : SessionKey → List Entry → ℕ
-lost_of key entries = count_by (is_lost_of key) entries
+-- among these, which lie on volumes, is the session on the volume at this place
+abbrev pub lies : SessionKey → ℕ → List Lying → Bool
+lies key volume ls = list_any (λ l. (volume == l.volume) && is_key key l.key) ls
+
+-- What is kept of a session, beside what the entries say of it.
+
+-- how many of its entries have a mark of a kind, on the volumes for which a test holds
+abbrev pub marks_on : SessionKey → (List ℕ → Bool) → (Mark → Bool) → List Entry → ℕ
+marks_on key test kind entries =
+    count_by (λ e. is_key key e.placement.key && (test e.placement.volume && kind e.mark)) entries
+
+-- how many that are by its stretches there
+abbrev pub count_on : List (List ℕ) → (List ℕ → Bool) → (Stretch → ℕ) → List Stretch → ℕ
+count_on names test count ss = sum_by (λ s. if test (name_at names s.volume) then count s else 0) ss
 
 -- what is kept of a session is what the entries say of it
-pub record IsShareOf (key : SessionKey) (entries : List Entry) (s : ShareView) : Type 0 where
-  pub stretches : s.stretches ≡ stretches (placements_of key (placements entries))
-  pub counts : s.counts ≡ counts_of key entries
-  pub lost : s.lost ≡ lost_of key entries
+pub record IsShareOf (names : List (List ℕ)) (ns : List Noted) (entries : List Entry) (key : SessionKey) (s : ShareView) : Type 0 where
+  pub named : All (HasName names) s.stretches
+  pub spans : map (span_of names) s.stretches ≡ stretches (placements_of key (placements entries))
+  pub placed : s.placed ≡ placed_of key entries
+  pub last : s.last ≡ last_index key ns
+  pub unsynced : (test : List ℕ → Bool) → count_on names test (λ s. s.unsynced) s.stretches ≡ marks_on key test is_unsynced entries
+  pub synced : (test : List ℕ → Bool) → count_on names test (λ s. s.synced) s.stretches ≡ marks_on key test is_synced entries
+  pub lost : (test : List ℕ → Bool) → count_on names test (λ s. s.lost) s.stretches ≡ marks_on key test is_lost entries
 
 -- so it is of every session; of one that has no entry nothing need be kept
-abbrev pub AreSharesOf : List Entry → Shares → Type 0
-AreSharesOf entries shares = (key : SessionKey) → MatchOption (share_of shares key) (placed_of key entries ≡ 0) (IsShareOf key entries)
+abbrev pub AreSharesOf : List (List ℕ) → List Noted → List Entry → Shares → Type 0
+AreSharesOf names ns entries shares =
+    (key : SessionKey) → MatchOption (share_of shares key) (placed_of key entries ≡ 0) (IsShareOf names ns entries key)

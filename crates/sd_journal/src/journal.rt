@@ -1,16 +1,20 @@
 // The journal of a drive.
-ghost use Rattle.std.specs.Prelude.{◌≡◌, ◌++◌, ◌∷◌, [], if◌then◌else◌, IfOk, OnOk, OnErr};
+ghost use Rattle.std.specs.Prelude.{◌≡◌, ◌++◌, ◌∷◌, [], false, IfOk, OnOk, OnErr};
 ghost use Rattle.std.specs.List.{list_any};
 ghost use Rattle.sd_base.specs.Key.{is_key};
 ghost use Rattle.sd_span.specs.Spans.{EndFits, spans_of, placements_of};
-ghost use Rattle.sd_journal.specs.Noted.{marked};
-ghost use Rattle.sd_journal.specs.Journal.{placements, noted, is_purged, IsReady, with_key, without_key, any_awaits_sync, settled, purged, counts_of, fails, has_on, progress_of};
+ghost use Rattle.sd_journal.specs.Kept.{marked};
+ghost use Rattle.sd_journal.specs.Journal.{placements, noted, is_unsynced, IsReady, with_key, without_key, any_awaits_sync, settled, purged, counts_of, fails, has_on, progress_of};
 
+use crate::cells::Cells;
 use crate::counts::Counts;
+use crate::lying::{Lying, add_if, add_unless, any_lies, mark_those};
 use crate::mark::Mark;
 use crate::names::Names;
-use crate::noted::{Noted, any_awaits, first_unsynced, last_volume, placements_in, remark};
+use crate::noted::Noted;
 use crate::shares::Shares;
+use crate::told::Told;
+use http_server::Log;
 use sd_base::{Items, SessionKey, VolName};
 use sd_span::{Placement, Progress, Span};
 use std::alloc::{AllocError, Global};
@@ -19,40 +23,46 @@ use std::marker::Model;
 /// Where a drive's blocks lie, in the order in which that was noted, and which of them are synced. In a
 /// contract it is its entries and the sessions that are ready.
 ///
-/// A session is found by its key's hash. What is asked of it looks at its own stretches and counts alone,
-/// but for `placements`; `note` costs the same however many entries there are. A sync that is over looks at what
-/// was noted since the oldest entry that may still be synced, and at no session besides: lost entries cost
-/// later syncs nothing. A purge looks at all entries.
+/// A session is found by its key's hash. What is asked of it looks at its own stretches alone, but for `placements`; `note`
+/// costs the same however many entries there are. A sync that is over looks at the sessions that awaited one, and at their
+/// stretches. A purge looks at those that have blocks on the volume; to find these it goes through one item of 12 bytes for each
+/// stretch.
 ///
-/// An entry takes 40 bytes, however long its volume's name is: each name is in the journal once, and the entry has
-/// its place there. To note a block, to settle or purge a volume and to tell whether it awaits a sync, the name is
-/// looked for once: the last entry's first, then all of them in turn.
+/// An entry takes 12 bytes, one that isn't behind the one before it 52, a stretch 68, and a session 56; none of them more if
+/// the volume's name is long: each name is in the journal once. What the entries are, with the mark of each, contracts see by
+/// what was done, of which nothing is held. To note a block, to settle or purge a volume and to tell whether it awaits a sync, the
+/// name is looked for once: the last entry's first, then all of them in turn.
 #[derive(Drop)]
 pub struct Journal {
     alloc: Global,
-    // The entries, each with the session that placed it.
-    noted: Vec<Noted>,
+    // All that was done, as contracts see it.
+    told: Log<Told, ()>,
+    // The blocks of the entries.
+    cells: Cells,
     // The names of the volumes that they are on.
     names: Names,
-    // The entries before this place are synced, lost or gone.
-    settled: usize,
     // Of each session its stretches and counts.
     shares: Shares,
+    // The sessions that await a sync, each with the volume.
+    awaiting: Vec<Lying>,
+    // Those that began a stretch, each with the volume.
+    on: Vec<Lying>,
     // The sessions for whose next placement there is room.
     ready: Vec<SessionKey>,
 }
 
 impl Model for Journal {
     ghost use Rattle.sd_journal.specs.Journal.{JournalView};
-    ghost use Rattle.sd_journal.specs.Noted.{entries_of, IsKept};
+    ghost use Rattle.sd_journal.specs.Kept.{replay, IsKept};
     ghost use Rattle.std.specs.Vec.{vec_len, vec_capacity};
 
     ghost Value = { JournalView };
 
-    ghost view = { λ j. record { entries = entries_of j.names.names j.noted.items; ready = j.ready.items } };
+    ghost view = { λ j. record { entries = replay j.told.items; ready = j.ready.items } };
 
-    ghost invariant = { λ j. IsKept j.names j.noted.items (vec_len j.noted)
-        (vec_capacity j.noted) j.settled j.ready.items j.shares };
+    ghost invariant = { λ j. IsKept (replay j.told.items) j.names j.cells j.ready.items
+        j.awaiting.items (vec_len j.awaiting) (vec_capacity j.awaiting)
+        j.on.items (vec_len j.on) (vec_capacity j.on) j.shares };
 }
 
 impl Journal {
@@ -63,17 +73,19 @@ impl Journal {
     {
         Journal {
             alloc,
-            noted: Vec::new(alloc),
+            told: Log::new(),
+            cells: Cells::new(alloc),
             names: Names::new(alloc),
-            settled: 0,
             shares: Shares::new(alloc),
+            awaiting: Vec::new(alloc),
+            on: Vec::new(alloc),
             ready: Vec::new(alloc),
         }
     }
 
     /// Makes room for the next placement of the session `key`. The entries stay, and what was ready is so
     /// still. After an Err all is as before; it is returned if out of memory, or if the journal would
-    /// have more names of volumes than 32 bits can number.
+    /// have more names of volumes than 32 bits can number, or more entries that aren't behind the one before.
     pub fn ready(&mut self, key: SessionKey) -> Result<(), AllocError>
         ensures ok { OnOk result (self.new ≡ record self.old {
           ready = with_key key self.old.ready;
@@ -86,7 +98,9 @@ impl Journal {
         }
         let ready = self.ready.as_slice().len();
         self.names.reserve(ready + 1)?;
-        self.noted.reserve(ready + 1)?;
+        self.cells.reserve(ready + 1)?;
+        self.awaiting.reserve(ready + 1)?;
+        self.on.reserve(ready + 1)?;
         self.ready.reserve(1)?;
         self.shares.ready(self.alloc, key)?;
         self.ready.push_reserved(key);
@@ -105,19 +119,23 @@ impl Journal {
     {
         let key = placement.key;
         self.ready.retain(|ready| !(key == *ready));
-        self.shares.note(&placement);
         let volume = self
             .names
-            .index_of(&placement.volume, last_volume(&self.noted));
-        self.noted.push_reserved(Noted {
+            .index_of(&placement.volume, self.cells.last_volume());
+        let noted = Noted {
             key,
             start: placement.start,
             length: placement.length,
             volume,
             first: placement.first,
             last: placement.last,
-            mark: Mark::Unsynced,
-        });
+        };
+        let (was, begins) = self.shares.note(&noted);
+        self.cells.push(noted, was);
+        let lying = Lying { volume, key };
+        add_if(&mut self.on, begins, lying);
+        add_unless(&mut self.awaiting, lying);
+        self.told = self.told.and(&Told::Noted(placement), &());
     }
 
     /// A sync of the volume succeeded: each entry on it that awaited it is synced. Takes no memory.
@@ -149,27 +167,27 @@ impl Journal {
         self.remark(volume, Mark::Purged);
     }
 
-    // Each entry that takes it by a call on the volume gets this mark. Looks at what was noted since the oldest entry
-    // that may still be synced; if the volume was purged, at all entries.
+    // Each entry that takes it by a call on the volume gets this mark.
     fn remark(&mut self, volume: &VolName, mark: Mark)
+        requires { is_unsynced mark ≡ false }
         ensures { self.new ≡ record self.old {
           entries = marked mark volume.now self.old.entries;
         } }
     {
-        let Some(place) = self.names.find(volume, last_volume(&self.noted)) else {
+        let Some(place) = self.names.find(volume, self.cells.last_volume()) else {
             return;
         };
-        let from = first_marked(mark, self.settled);
-        remark(&mut self.noted, &mut self.shares, from, place, mark);
-        self.settled = first_unsynced(&self.noted, from);
+        mark_those(&self.on, &self.awaiting, &mut self.shares, place, mark);
+        self.awaiting.retain(|one| !(place == one.volume));
+        self.told = self.told.and(&Told::Marked(mark, volume.copy()), &());
     }
 
     /// Whether an entry awaits a sync of the volume.
     pub fn has_unsynced(&self, volume: &VolName) -> bool
         ensures { result ≡ any_awaits_sync volume.now self.now.entries }
     {
-        match self.names.find(volume, last_volume(&self.noted)) {
-            Some(place) => any_awaits(&self.noted, self.settled, place),
+        match self.names.find(volume, self.cells.last_volume()) {
+            Some(place) => any_lies(&self.awaiting, place),
             None => false,
         }
     }
@@ -201,8 +219,11 @@ impl Journal {
     pub fn has_on(&self, key: SessionKey, volume: &VolName) -> bool
         ensures { result ≡ has_on key volume.now self.now.entries }
     {
-        match self.shares.get(key) {
-            Some(share) => share.is_on(volume),
+        let Some(share) = self.shares.get(key) else {
+            return false;
+        };
+        match self.names.find(volume, self.cells.last_volume()) {
+            Some(place) => share.is_on(place),
             None => false,
         }
     }
@@ -225,7 +246,7 @@ impl Journal {
         ensures { IfOk result (λ spans. spans ≡ spans_of key (placements self.now.entries)) }
     {
         match self.shares.get(key) {
-            Some(share) => share.spans(self.alloc),
+            Some(share) => share.spans(self.alloc, &self.names),
             None => Ok(Items::new(self.alloc)),
         }
     }
@@ -234,15 +255,8 @@ impl Journal {
     pub fn placements(&self, key: SessionKey) -> Result<Items<Placement>, AllocError>
         ensures { IfOk result (λ own. own ≡ placements_of key (placements self.now.entries)) }
     {
-        placements_in(self.alloc, &self.names, &self.noted, key)
+        self.cells.placements(self.alloc, &self.names, key)
     }
-}
-
-// The place of the first entry that a call may mark so, if those before `settled` await no sync.
-fn first_marked(mark: Mark, settled: usize) -> usize
-    ensures { result ≡ (if is_purged mark then 0 else settled) }
-{
-    if mark.is_purged() { 0 } else { settled }
 }
 
 fn is_among(ready: &[SessionKey], key: SessionKey) -> bool

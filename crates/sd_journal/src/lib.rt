@@ -2,14 +2,18 @@
 //! which they were noted, and counted for each session.
 #![tactic(auto)]
 
+mod cells;
 mod counts;
 mod journal;
 mod laws;
+mod lying;
 mod mark;
 mod names;
 mod noted;
 mod share;
 mod shares;
+mod stretch;
+mod told;
 
 pub use counts::Counts;
 pub use journal::Journal;

@@ -1,5 +1,5 @@
 // The names of the volumes that a journal's entries lie on.
-ghost use Rattle.std.specs.Prelude.{◌≡◌, ◌↔◌, ◌+◌, ◌<◌, ◌≤◌, [], length, IsTrue, OnOk, OnErr};
+ghost use Rattle.std.specs.Prelude.{◌≡◌, ◌≢◌, ◌↔◌, AllPairs, ◌+◌, ◌<◌, ◌≤◌, [], length, IsTrue, OnOk, OnErr};
 ghost use Rattle.sd_journal.specs.Names.{name_at, with_name, IsPlaceOf};
 
 use sd_base::VolName;
@@ -99,6 +99,7 @@ impl Names {
         ensures room { self.old.room ≤ self.new.room + 1 }
         ensures within { result < length self.new.names }
         ensures named { name_at self.new.names result ≡ name.now }
+        ensures different { AllPairs (λ a b. a ≢ b) self.new.names }
     {
         if let Some(place) = self.find(name, likely) {
             return place;

@@ -1,13 +1,14 @@
 // What a journal keeps of each session.
-ghost use Rattle.std.specs.Prelude.{◌≡◌, ◌+◌, ◌<◌, ◌^◌, None, OnOk, OnErr};
+ghost use Rattle.std.specs.Prelude.{◌≡◌, ◌+◌, ◌<◌, ◌^◌, None, true, false, OnOk, OnErr};
+ghost use Rattle.std.specs.List.{list_any};
 ghost use Rattle.std.specs.Option.{option_copied, ForSome};
-ghost use Rattle.sd_span.specs.Spans.{EndFits};
-ghost use Rattle.sd_journal.specs.Share.{share_of, ChangesAt, SameShares, readied, with_placement, with_mark, CanRemark, HasRoom};
+ghost use Rattle.sd_journal.specs.Share.{share_of, ChangesAt, SameShares, readied, with_noted, with_marks, HasRoom};
+ghost use Rattle.sd_journal.specs.Stretch.{is_on};
 
 use crate::mark::Mark;
+use crate::noted::Noted;
 use crate::share::Share;
 use sd_base::SessionKey;
-use sd_span::Placement;
 use std::alloc::{AllocError, Global};
 use std::collections::HashMap;
 
@@ -48,26 +49,31 @@ impl Shares {
         Ok(())
     }
 
-    /// Adds one placement more of its session, which has room for it.
-    pub(crate) fn note(&mut self, placement: &Placement)
-        requires end { EndFits placement.now }
-        requires room { HasRoom (share_of self.old placement.now.key) }
-        requires fits { ForSome (share_of self.old placement.now.key)
-            (λ s. s.counts.placed + 1 < 2 ^ 64) }
-        ensures { ChangesAt placement.now.key (with_placement placement.now) self.old self.new }
+    /// Adds one block more of its session, which has room for it. Returns the session's last FileIndex before, and whether a
+    /// stretch began.
+    pub(crate) fn note(&mut self, noted: &Noted) -> (u32, bool)
+        requires end { noted.now.start + noted.now.length < 2 ^ 64 }
+        requires room { HasRoom (share_of self.old noted.now.key) }
+        requires fits { ForSome (share_of self.old noted.now.key)
+            (λ s. s.placed + 1 < 2 ^ 64) }
+        ensures share { ChangesAt noted.now.key (with_noted noted.now) self.old self.new }
+        ensures last { ForSome (share_of self.old noted.now.key)
+            (λ s. result.0 ≡ s.last) }
+        ensures on { ForSome (share_of self.old noted.now.key) (λ s. result.1 ≡ false
+            → list_any (is_on noted.now.volume) s.stretches ≡ true) }
     {
-        if let Some(share) = self.sessions.get_mut(&placement.key) {
-            share.note(placement);
+        match self.sessions.get_mut(&noted.key) {
+            Some(share) => share.note(noted),
+            None => (0, true),
         }
     }
 
-    /// One entry of the session that had the one mark has the other now.
-    pub(crate) fn remark(&mut self, key: SessionKey, was: Mark, mark: Mark)
-        requires { ForSome (share_of self.old key) (CanRemark was mark) }
-        ensures { ChangesAt key (with_mark was mark) self.old self.new }
+    /// After a call on the volume at this place, by which blocks of the session there get that mark.
+    pub(crate) fn mark(&mut self, key: SessionKey, volume: u32, mark: Mark)
+        ensures { ChangesAt key (with_marks mark volume) self.old self.new }
     {
         if let Some(share) = self.sessions.get_mut(&key) {
-            share.remark(was, mark);
+            share.mark(volume, mark);
         }
     }
 }

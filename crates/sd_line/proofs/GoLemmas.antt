@@ -103,12 +103,12 @@ fails_key : (s v : SessionView) → FailsSession s v → v.key ≡ s.key
 fails_key s v (inl t) = ap (λ (x : SessionView). x.key) t.1.is
 fails_key s v (inr t) = key_of s v t.1
 
-closes_key : (journal : List Entry) (result : Result Closing Refusal) (s v : SessionView) → Closes journal s result v → v.key ≡ s.key
-closes_key journal (Ok (Closed receipt)) s v c = ap (λ (x : SessionView). x.key) c.0.is
-closes_key journal (Ok NotYet) s v c = key_of s v c.3
-closes_key journal (Err why) s v (inl c) = key_of s v c.2
-closes_key journal (Err why) s v (inr (inl c)) = fails_key s v c.3
-closes_key journal (Err why) s v (inr (inr c)) = key_of s v c.3
+closes_key : (apart : Type 0) (journal : List Entry) (result : Result Closing Refusal) (s v : SessionView) → Closes apart journal s result v → v.key ≡ s.key
+closes_key apart journal (Ok (Closed receipt)) s v c = ap (λ (x : SessionView). x.key) c.0.is
+closes_key apart journal (Ok NotYet) s v c = key_of s v c.3
+closes_key apart journal (Err why) s v (inl c) = key_of s v c.2
+closes_key apart journal (Err why) s v (inr (inl c)) = fails_key s v c.3
+closes_key apart journal (Err why) s v (inr (inr c)) = key_of s v c.3
 
 -- The steps.
 
@@ -131,8 +131,8 @@ sends_on p q capacity (Ok answer) is ok err seat = sends_by p q answer capacity 
 sends_on p q capacity (Err why) is ok err seat = sends p q [] is (seat ∙ sends_none p.seat) (not_sent_key why p.session q.session err)
 
 pub closes_on : (p q : PartIs) (result : Result Closing Refusal) → q ≡ with_session p q.session
-    → ((journal : List Entry) × Closes journal p.session result q.session) → GoesOn p [] q
-closes_on p q result is c = steps p q is (closes_key c.0 result p.session q.session c.1)
+    → (apart : Type 0) (journal : List Entry) → Closes apart journal p.session result q.session → GoesOn p [] q
+closes_on p q result is apart journal c = steps p q is (closes_key apart journal result p.session q.session c)
 
 -- by a session that is given up, if it went on
 pub gives_up : {T : Type 0} (p q : PartIs) (result : Result T Refusal) → q ≡ with_session p q.session → OnOk result (CancelsSession p.session q.session)

@@ -1,5 +1,5 @@
 -- What ends and parts keep, through each step.
-use Rattle.std.proofs.Common.{◌≡◌, ℕ, zero, suc, ◌+◌, ◌≤◌, refl, sym, ap, subst, ◌∙◌, inl, inr, arith, Option, Some, None, List, [], ◌∷◌, ◌++◌, length, append_assoc, append-nil, IsSome}
+use Rattle.std.proofs.Common.{◌≡◌, ℕ, zero, suc, ◌+◌, ◌≤◌, ◌==◌, not, Bool, false, true≢false, ne_eqb, refl, sym, ap, subst, ◌∙◌, inl, inr, arith, Option, Some, None, List, [], ◌∷◌, ◌++◌, length, append_assoc, append-nil, IsSome}
 use Rattle.std.specs.List.{AllByRecursion}
 use Rattle.std.specs.Option.{option_or, option_to_list}
 use Rattle.std.proofs.lemmas.List.{length_push}
@@ -18,12 +18,12 @@ use Rattle.sd_session.specs.declared.status.Status.TheVariants.{Active, Ended, C
 use Rattle.sd_spool.specs.Job.{StoreState}
 use Rattle.sd_world.specs.Honest.{StoreIsTrue}
 use Rattle.sd_world.specs.Matches.{HasBodies}
-use Rattle.sd_world.proofs.Changes.{running_bodies, spool_is_honest}
-use Rattle.sd_line.specs.Ends.{ToldSession, EndIs, KeepsEnd, IsOfLane, IsOver, LastIsOver, TellsAll, SentBy, BringsStore, LastGivesBack, pieces_from, last_store, lane_store}
+use Rattle.sd_world.proofs.Changes.{running_bodies}
+use Rattle.sd_line.specs.Ends.{ToldSession, EndIs, KeepsEnd, IsOfLane, IsOver, LastIsOver, TellsAll, SentBy, BringsStore, LastGivesBack, RestsOn, pieces_from, last_store, lane_store}
 use Rattle.sd_line.specs.Parts.{PartIs, KeepsPart, told_of, end_of, next_piece}
 use Rattle.sd_line.proofs.Sequences.{all_push, all_front, all_last, pieces_push, earlier_over, all_over, last_over, over_earlier, last_store_push, tells_weaker, sent_weaker, sent_push, sent_last}
 use Rattle.sd_world.proofs.Despool.{next_store, next_room}
-use Rattle.sd_line.proofs.ToldLemmas.{StepsOn, told, not_closed, not_purged}
+use Rattle.sd_line.proofs.ToldLemmas.{StepsOn, told, Rests, spool_rests, next_unspooled, not_closed, not_purged}
 
 -- A step that sends nothing.
 
@@ -42,17 +42,18 @@ steps_keep time p v records c h = record {
   sent = h.sent;
   sent_are = h.sent_are ∙ ap (λ k. h.sent_before ++ pieces_from k 1 h.sent) (sym c.key_is);
   before_tell = sent_weaker (StoreIsTrue (store_of p.session)) (StoreIsTrue (store_of v)) p.before h.sent_before c.store_back h.before_tell;
-  tells = c.tells h.sent h.tells;
+  tells = c.tells p.spools h.sent h.unspooled h.tells;
+  unspooled = λ off. c.unspooled (h.unspooled off);
   stored = c.store_there h.stored;
 }
 
 -- A step that sends a body.
 
 -- what is told of a session that sent a body
-sent_tells : (s v : SessionView) (records : List Record) (queue queue' : QueueView) (sends : SendsBody s queue v queue') (sent : List PackedBody)
-    → TellsAll (StoreIsTrue (store_of s)) (told s records) sent
-    → TellsAll (StoreIsTrue (store_of s)) (told v records) (sent ++ sends.body ∷ [])
-sent_tells s v records queue queue' sends sent h =
+sent_tells : (spools : Bool) (s v : SessionView) (records : List Record) (queue queue' : QueueView) (sends : SendsBody s queue v queue') (sent : List PackedBody)
+    → (spools ≡ false → s.spool ≡ None) → TellsAll (Rests spools s) (told spools s records) sent
+    → TellsAll (Rests spools s) (told spools v records) (sent ++ sends.body ∷ [])
+sent_tells spools s v records queue queue' sends sent none h =
     let status : v.status ≡ s.status = ap (λ (x : SessionView). x.status) sends.is in
     let runs : IsRunning v.status = subst IsRunning (sym status) sends.running in
     record {
@@ -63,7 +64,7 @@ sent_tells s v records queue queue' sends sent h =
       bodies_are = λ honest. subst (λ x. HasBodies v.packer.room (sent ++ sends.body ∷ []) ((sent ++ sends.body ∷ []) ++ parts_of v) x records) (sym status)
           (running_bodies s.packer.room v.packer.room sent (sent ++ sends.body ∷ []) (sent ++ parts_of s) ((sent ++ sends.body ∷ []) ++ parts_of v) s.status records sends.running
           (ap (λ (x : SessionView). x.packer.room) sends.is ∙ next_room sends.body (stations_of s) sends.between sends.takes)
-          (append_assoc sent (sends.body ∷ []) (parts_of v) ∙ ap (λ l. sent ++ l) (sym (sends.bodies (spool_is_honest s honest))))
+          (append_assoc sent (sends.body ∷ []) (parts_of v) ∙ ap (λ l. sent ++ l) (sym (sends.bodies (spool_rests spools s none honest))))
           (h.bodies_are honest));
       closed = λ c. absurd (not_closed v.status runs c);
       not_purged = not_purged v.status runs;
@@ -94,8 +95,9 @@ sends_keep time p v queue queue' sends h =
           ∙ ap (λ l. h.sent_before ++ l) (sym (pieces_push s.key 1 h.sent sends.body))
           ∙ ap (λ k. h.sent_before ++ pieces_from k 1 (h.sent ++ sends.body ∷ [])) (sym key);
       before_tell = sent_weaker (StoreIsTrue (store_of s)) (StoreIsTrue (store_of v)) p.before h.sent_before back h.before_tell;
-      tells = tells_weaker (StoreIsTrue (store_of s)) (StoreIsTrue (store_of v)) (told v p.told) (h.sent ++ sends.body ∷ []) back
-          (sent_tells s v p.told queue queue' sends h.sent h.tells);
+      tells = tells_weaker (Rests p.spools s) (Rests p.spools v) (told p.spools v p.told) (h.sent ++ sends.body ∷ []) (λ rests spools. back (rests spools))
+          (sent_tells p.spools s v p.told queue queue' sends h.sent h.unspooled h.tells);
+      unspooled = λ off. ap (λ (x : SessionView). x.spool) sends.is ∙ next_unspooled sends.body (stations_of s) sends.between sends.takes (h.unspooled off);
       stored = subst IsSome (sym store) h.stored;
     }
 
@@ -132,9 +134,9 @@ over_bodies Failed room sent parts parts' records over same h = tt
 over_bodies Purged room sent parts parts' records over same h = tt
 
 -- a session that is over tells the same if it has given its store back
-without_store : (honest : Type 0) (s : SessionView) (records : List Record) (sent : List PackedBody) → (IsRunning s.status → ⊥)
-    → TellsAll honest (told s records) sent → TellsAll honest (told (record s { store = None; spool = None }) records) sent
-without_store honest s records sent over h =
+without_store : (honest : Type 0) (spools : Bool) (s : SessionView) (records : List Record) (sent : List PackedBody) → (IsRunning s.status → ⊥)
+    → TellsAll honest (told spools s records) sent → TellsAll honest (told spools (record s { store = None; spool = None }) records) sent
+without_store honest spools s records sent over h =
     let v : SessionView = record s { store = None; spool = None } in
     let none : s.status ≡ Closed → parts_of v ≡ [] = λ c. middle_out (option_to_list s.ready) (spooled_in s.spool) (bodies_of s.packer) (h.closed c).0 in
     record {
@@ -159,16 +161,17 @@ given time e store sessions h over none g =
     let l = sent_last H g.earlier g.last e.seat.seat.sent (subst (λ ss. SentBy H ss e.seat.seat.sent) g.old_is h.sent_are) in
     let home : lane_store e ≡ Some store = ap (λ s. option_or s (last_store e.sessions)) none ∙ ap last_store g.old_is ∙ last_store_push g.earlier g.last ∙ g.gives_back.store_is in
     let before = g.last.session in
-    let made : SessionView → List ToldSession = λ s. g.earlier ++ told s g.last.told ∷ [] in
+    let made : SessionView → List ToldSession = λ s. g.earlier ++ told g.last.spools s g.last.told ∷ [] in
     let v : SessionView = record before { store = None; spool = None } in
     let mine = all_last P g.earlier g.last of_lane in
-    let over_now : AllByRecursion IsOver (made v) = all_push IsOver g.earlier (told v g.last.told) (all_front IsOver g.earlier g.last all) g.gives_back.over in
+    let over_now : AllByRecursion IsOver (made v) = all_push IsOver g.earlier (told g.last.spools v g.last.told) (all_front IsOver g.earlier g.last all) g.gives_back.over in
     let kept : KeepsEnd time (record e { store = Some store; sessions = made v }) = record {
-      of_lane = all_push P g.earlier (told v g.last.told) (all_front P g.earlier g.last of_lane)
+      of_lane = all_push P g.earlier (told g.last.spools v g.last.told) (all_front P g.earlier g.last of_lane)
           (record { time_is = mine.time_is; id_least = mine.id_least; id_most = mine.id_most; lane_is = mine.lane_is });
       sent_are = sent_weaker H (StoreIsTrue (Some store)) (made v) e.seat.seat.sent (subst StoreIsTrue (sym home))
           (subst (SentBy H (made v)) (sym l.sent_is)
-          (sent_push H g.earlier (told v g.last.told) l.before l.bodies l.earlier (without_store H before g.last.told l.bodies g.gives_back.over l.tells)));
+          (sent_push H g.earlier (told g.last.spools v g.last.told) l.before l.bodies l.earlier
+          (without_store (RestsOn g.last.spools H) g.last.spools before g.last.told l.bodies g.gives_back.over l.tells)));
       earlier = over_earlier (made v) over_now;
       stored = refl;
     } in
@@ -190,12 +193,17 @@ store_begun : (limit : ℕ) (store : StoreState) → home_of (unused_store limit
 store_begun zero store = refl
 store_begun (suc n) store = refl
 
+-- without a limit it has no spool
+none_begun : (limit : ℕ) (store : StoreState) → not (limit == 0) ≡ false → new_spool limit store ≡ None
+none_begun zero store off = refl
+none_begun (suc n) store off = absurd (true≢false (sym (ap not (ne_eqb (suc n) 0 (λ e. absurd (omega (arith, e))))) ∙ off))
+
 pub starts_stored : (opening : Opening) (room limit : ℕ) (store : StoreState) (s : SessionView) → StartsSession opening room limit store s → store_of s ≡ Some store
 starts_stored opening room limit store s t = ap store_of t.is ∙ store_begun limit store
 
 pub begins : (time : ℕ → ℕ) (e : EndIs) (store : StoreState) (opening : Opening) (room limit : ℕ) (s : SessionView) → KeepsEnd time e → LastIsOver e.sessions
     → e.store ≡ Some store → opening.key.time ≡ time e.seat.no → 1 ≤ opening.key.id → opening.key.id ≤ most_number → opening.lane ≡ e.seat.seat.lane
-    → StartsSession opening room limit store s → KeepsPart time (record { seat = e.seat; before = e.sessions; session = s; told = [] })
+    → StartsSession opening room limit store s → KeepsPart time (record { seat = e.seat; before = e.sessions; session = s; told = []; spools = not (limit == 0) })
 begins time e store opening room limit s h over stored run least most lane t =
     let key : s.key ≡ opening.key = ap (λ (x : SessionView). x.key) t.is in
     let status : s.status ≡ Active = ap (λ (x : SessionView). x.status) t.is in
@@ -222,5 +230,6 @@ begins time e store opening room limit s h over stored run least most lane t =
         closed = λ c. absurd (not_closed s.status (inl status) c);
         not_purged = not_purged s.status (inl status);
       };
+      unspooled = λ off. ap (λ (x : SessionView). x.spool) t.is ∙ none_begun limit store off;
       stored = subst IsSome (sym (home ∙ ap (λ x. option_or x (last_store e.sessions)) stored)) refl;
     }

@@ -1,6 +1,7 @@
 pub mod AnswerLemmas
 pub mod ClaimLemmas
 pub mod CloseLemmas
+pub mod CountLemmas
 pub mod GoLemmas
 pub mod Keeps
 pub mod OpenLemmas
@@ -14,5 +15,6 @@ pub mod SeekLemmas
 pub mod Sequences
 pub mod SideLemmas
 pub mod Steps
+pub mod TellLemmas
 pub mod ToldLemmas
 pub mod TurnLemmas

@@ -10,7 +10,7 @@ use Rattle.sd_session.specs.declared.opening.Opening.{Opening}
 use Rattle.sd_spool.specs.Job.{StoreState, state_of}
 use Rattle.sd_spool.specs.Meaning.{Meaning}
 use Rattle.sd_line.specs.Ends.{ToldSession, EndIs, LastIsOver, LastGivesBack, BringsStore, last_store}
-use Rattle.sd_line.specs.Parts.{PartIs, PreparedIs, Prepares, OpensAt, OpensNotAt, OpensPart, opening_at}
+use Rattle.sd_line.specs.Parts.{PartIs, PreparedIs, Prepares, OpensAt, OpensNotAt, OpensPart, opening_at, spools_at}
 use Rattle.sd_line.specs.Side.{LineIs}
 use Rattle.sd_session.proofs.PartLemmas.{cleared_fails}
 use Rattle.sd_line.proofs.Keeps.{starts_stored}
@@ -30,14 +30,14 @@ mapped_some f (Some x) h = h
 
 pub opened : (limits : Limits) (e f : EndIs) (before : List ToldSession) (m : Meaning) (opening : Opening) (s : SessionView)
     → f ≡ e → before ≡ f.sessions → f.store ≡ Some (state_of m) → StartsSession opening (limits.block - block_header) limits.spool (state_of m) s
-    → OpensAt limits opening e (record { seat = f.seat; before = before; session = s; told = [] })
+    → OpensAt limits opening e (record { seat = f.seat; before = before; session = s; told = []; spools = spools_at limits })
 opened limits e f before m opening s is same stored starts =
-    subst (λ x. OpensAt limits opening x (record { seat = f.seat; before = before; session = s; told = [] })) is
+    subst (λ x. OpensAt limits opening x (record { seat = f.seat; before = before; session = s; told = []; spools = spools_at limits })) is
     (record {
       store = state_of m;
       store_is = stored;
       starts = starts;
-      is = ap (λ ss. let p : PartIs = record { seat = f.seat; before = ss; session = s; told = [] } in p) same;
+      is = ap (λ ss. let p : PartIs = record { seat = f.seat; before = ss; session = s; told = []; spools = spools_at limits } in p) same;
     })
 
 -- the end, put together again with its store in this state

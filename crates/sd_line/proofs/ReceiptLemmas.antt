@@ -9,9 +9,9 @@ use Rattle.sd_line.specs.declared.closing.Closing.TheVariants.{Closed}
 use Rattle.sd_session.specs.Session.{SessionView, parts_of}
 use Rattle.sd_span.specs.Spans.{spans_of}
 
-pub receipt_of : (journal : List Entry) (r : ReceiptIs) (s v : SessionView) → Closes journal s (Ok (Closed r)) v
+pub receipt_of : (apart : Type 0) (journal : List Entry) (r : ReceiptIs) (s v : SessionView) → Closes apart journal s (Ok (Closed r)) v
     → IsReceiptOf v r × (r.spans ≡ spans_of s.key (placements journal))
-receipt_of journal r s v c =
+receipt_of apart journal r s v c =
     let key = ap (λ (x : SessionView). x.key) c.0.is in
     let sent = ap (λ (x : SessionView). x.sent) c.0.is in
     let spans = ap (λ (x : ReceiptIs). x.spans) c.2 in (

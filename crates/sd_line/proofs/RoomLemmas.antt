@@ -1,12 +1,10 @@
 -- What a drive answers if there is no memory for a volume that a label or an adoption brings.
-use Rattle.std.proofs.Common.{◌≡◌, ◌≢◌, ℕ, ℤ, Bool, true, false, None, Some, Option, List, refl, sym, ap, ◌∙◌, inl, inr}
+use Rattle.std.proofs.Common.{◌≡◌, ◌≢◌, ℕ, ℤ, true, false, None, Some, Option, List, refl, inl, inr}
 use Rattle.std.specs.Prelude.{is_some}
 use Rattle.sd_base.specs.declared.refusal.Refusal.TheVariants.{OtherPoolOrMedia, InUse, AlreadyLabelled, Memory}
-use Rattle.sd_desk.specs.declared.request.Request.{Request}
 use Rattle.sd_drive.specs.Moves.{index_of}
 use Rattle.sd_drive.specs.View.{DriveIs}
 use Rattle.sd_driver.specs.Meaning.{Meaning}
-use Rattle.sd_lane.specs.Queue.{LanesView}
 use Rattle.sd_line.specs.Operates.{AnswersAlone, desk_of}
 use Rattle.sd_line.proofs.ClaimLemmas.{is_claimed, same_desk, unclaimed}
 use Rattle.sd_machine.specs.declared.event.Event.TheVariants.{Label, Adopt}

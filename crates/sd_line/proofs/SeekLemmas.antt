@@ -1,5 +1,5 @@
 -- A drive that seeks a volume.
-use Rattle.std.proofs.Common.{◌≡◌, ℕ, None, List, refl, sym, subst, inl, inr}
+use Rattle.std.proofs.Common.{◌≡◌, ℕ, None, List, sym, subst, inl, inr}
 use Rattle.sd_drive.specs.Moves.{mount_due}
 use Rattle.sd_driver.specs.Meaning.{Meaning}
 use Rattle.sd_machine.specs.declared.event.Event.TheVariants.{Mount, Seek}

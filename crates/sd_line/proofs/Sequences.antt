@@ -5,7 +5,7 @@ use Rattle.sd_base.specs.declared.number.SessionKey.{SessionKey}
 use Rattle.sd_lane.specs.declared.piece.Piece.{Piece}
 use Rattle.sd_pack.specs.Body.{PackedBody}
 use Rattle.sd_session.specs.Session.{store_of}
-use Rattle.sd_line.specs.Ends.{ToldSession, IsOver, LastIsOver, EarlierAreOver, SentBy, TellsAll, pieces_from, last_store}
+use Rattle.sd_line.specs.Ends.{ToldSession, IsOver, LastIsOver, EarlierAreOver, SentBy, TellsAll, RestsOn, pieces_from, last_store}
 
 pub all_push : {A : Type 0} (P : A → Type 0) (xs : List A) (x : A) → AllByRecursion P xs → P x → AllByRecursion P (xs ++ x ∷ [])
 all_push P [] x h p = (p, tt)
@@ -71,10 +71,10 @@ tells_weaker honest honest' s sent back h = record {
 pub sent_weaker : (honest honest' : Type 0) (ss : List ToldSession) (sent : List Piece) → (honest' → honest) → SentBy honest ss sent → SentBy honest' ss sent
 sent_weaker honest honest' [] sent back h = h
 sent_weaker honest honest' (s ∷ ss) sent back (bodies, rest, is, tells, more) =
-    (bodies, rest, is, tells_weaker honest honest' s bodies back tells, sent_weaker honest honest' ss rest back more)
+    (bodies, rest, is, tells_weaker (RestsOn s.spools honest) (RestsOn s.spools honest') s bodies (λ rests spools. back (rests spools)) tells, sent_weaker honest honest' ss rest back more)
 
 pub sent_push : (honest : Type 0) (ss : List ToldSession) (s : ToldSession) (before : List Piece) (bodies : List PackedBody)
-    → SentBy honest ss before → TellsAll honest s bodies → SentBy honest (ss ++ s ∷ []) (before ++ pieces_from s.session.key 1 bodies)
+    → SentBy honest ss before → TellsAll (RestsOn s.spools honest) s bodies → SentBy honest (ss ++ s ∷ []) (before ++ pieces_from s.session.key 1 bodies)
 sent_push honest [] s before bodies none tells =
     let mine = pieces_from s.session.key 1 bodies in
     (bodies, [], ap (λ l. l ++ mine) none ∙ sym (append-nil mine), tells, refl)
@@ -88,7 +88,7 @@ pub record LastSent (honest : Type 0) (ss : List ToldSession) (s : ToldSession) 
   pub bodies : List PackedBody
   pub sent_is : sent ≡ before ++ pieces_from s.session.key 1 bodies
   pub earlier : SentBy honest ss before
-  pub tells : TellsAll honest s bodies
+  pub tells : TellsAll (RestsOn s.spools honest) s bodies
 
 pub sent_last : (honest : Type 0) (ss : List ToldSession) (s : ToldSession) (sent : List Piece) → SentBy honest (ss ++ s ∷ []) sent → LastSent honest ss s sent
 sent_last honest [] s sent (bodies, rest, is, tells, none) = record {

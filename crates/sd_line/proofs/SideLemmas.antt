@@ -4,6 +4,8 @@ use Rattle.std.proofs.lemmas.List.{append-nil, map-append}
 use Rattle.std.specs.Prelude.{IsTrue}
 use Rattle.atomic_table.specs.Seated.{TableId}
 use Rattle.sd_base.specs.declared.number.SessionKey.{SessionKey}
+use Rattle.sd_closes.proofs.Told.{told_stays}
+use Rattle.sd_closes.specs.Stands.{StandsTold}
 use Rattle.sd_driver.specs.Meaning.{Meaning, IsHonest}
 use Rattle.sd_drive.specs.Limits.{AreLimits}
 use Rattle.sd_driver.specs.Shelf.{Shelf}
@@ -14,16 +16,39 @@ use Rattle.sd_journal.specs.Journal.{Entry, items_of, placements}
 use Rattle.sd_lane.specs.Queue.{queued}
 use Rattle.sd_lane.specs.declared.piece.Piece.{Piece}
 use Rattle.sd_lane.specs.declared.piece.Queued.{Queued}
-use Rattle.sd_line.specs.Side.{SideIs, KeepsSide, items_taken, blocks_taken}
+use Rattle.sd_line.specs.Side.{CloseIs, SideIs, KeepsSide, TellsStand, items_taken, blocks_taken, told_close}
 use Rattle.sd_line.specs.Turns.{Takes, Turns, is_sync_due}
 use Rattle.sd_line.specs.declared.turning.Turned.{Turned}
-use Rattle.sd_line.proofs.TurnLemmas.{places_limits, places_gone, syncs_stay}
+use Rattle.sd_line.proofs.TurnLemmas.{lasts_on, places_limits, places_gone, syncs_stay}
 use Rattle.sd_ruled.specs.Seats.{DriveSeatIs}
+use Rattle.sd_volume.specs.Device.{OnlyReads}
 use Rattle.sd_world.proofs.Seats.{GoneStays}
+use Rattle.sd_world.specs.Devices.{GoesOn}
 
--- the side of a drive and of its seat
+-- the side of a drive and of its seat, at which nothing was told
 abbrev pub side_of : {D : Type 0} → ℕ → DriveIs D → DriveSeatIs → SideIs D
-side_of own d seat = record { no = own; drive = d; seat = seat }
+side_of own d seat = record { no = own; drive = d; seat = seat; told = [] }
+
+-- the same at which all this was told
+abbrev pub side_told : {D : Type 0} → ℕ → DriveIs D → DriveSeatIs → List (CloseIs D) → SideIs D
+side_told own d seat told = record { no = own; drive = d; seat = seat; told = told }
+
+-- what was told stands after what goes on
+pub stand_on : {D : Type 0} (meaning : D → Meaning) (old new : D) (told : List (CloseIs D)) → GoesOn (λ _. Unit {0}) (meaning old) (meaning new)
+    → TellsStand meaning old told → TellsStand meaning new told
+stand_on meaning old new [] on stand = tt
+stand_on meaning old new (c ∷ cs) on stand =
+    (told_stays (meaning old) (meaning new) (told_close meaning c) on stand.0, stand_on meaning old new cs on stand.1)
+
+-- and so does one close more
+pub stand_more : {D : Type 0} (meaning : D → Meaning) (device : D) (told : List (CloseIs D)) (c : CloseIs D) → TellsStand meaning device told
+    → StandsTold (meaning device) (told_close meaning c) → TellsStand meaning device (told ++ c ∷ [])
+stand_more meaning device [] c stand one = (one, tt)
+stand_more meaning device (x ∷ xs) c stand one = (stand.0, stand_more meaning device xs c stand.1 one)
+
+-- a device that is only read goes on
+pub only_read : (fault : Type 0) (old new : Meaning) → OnlyReads fault old new → GoesOn (λ _. Unit {0}) old new
+only_read fault old new r = lasts_on (λ _. Unit {0}) old new (record { honest = r.counted.honest; moment = r.counted.moment; lasts = r.lasts })
 
 module _ {D : Type 0} (meaning : D → Meaning) (table : ℕ → TableId) (time : ℕ → ℕ) (own : ℕ) where
   -- a call of the drive that keeps its pieces, of which no block is gone by it, keeps what the lock keeps
@@ -38,6 +63,7 @@ module _ {D : Type 0} (meaning : D → Meaning) (table : ℕ → TableId) (time 
     follows = keeps.items ∙ h.follows;
     none_gone = λ key. gone key (h.none_gone key);
     holds = λ honest. let was : IsHonest (meaning d.device) = subst IsTrue keeps.honest honest in keeps.blocks was ∙ h.holds was;
+    stands = tt;
   }
 
   -- the piece that was taken is the last of the items and of the blocks
@@ -70,6 +96,7 @@ module _ {D : Type 0} (meaning : D → Meaning) (table : ℕ → TableId) (time 
             let before : blocks shelf d.journal None ≡ blocks_taken seat.taken = ap (blocks shelf d.journal) (sym none) ∙ h.holds honest in
             hand_blocks shelf d.journal piece ∙ ap (λ l. l ++ Some (block_of_piece piece) ∷ []) before
             ∙ sym (map-append (λ (x : Queued). Some (block_of_piece x.piece)) seat.taken (q ∷ []));
+        stands = tt;
       }))
 
   -- and a turn
@@ -82,3 +109,38 @@ module _ {D : Type 0} (meaning : D → Meaning) (table : ℕ → TableId) (time 
       (places_gone did.place t.held t.after t.places.places calls.keeps.items) taken in
       let synced = syncs_stay meaning (is_sync_due did.place) did.sync t.after new t.syncs in
       calls_keep t.after new seat' synced.limits synced.keeps synced.gone placed
+
+  -- What was told is kept beside the rest.
+
+  pub with_told : (d : DriveIs D) (seat : DriveSeatIs) (told : List (CloseIs D)) → TellsStand meaning d.device told
+      → KeepsSide meaning table time (side_of own d seat) → KeepsSide meaning table time (side_told own d seat told)
+  with_told d seat told stand h = record {
+    here = h.here;
+    lanes = h.lanes;
+    run = h.run;
+    limits = h.limits;
+    follows = h.follows;
+    none_gone = h.none_gone;
+    holds = h.holds;
+    stands = stand;
+  }
+
+  pub without_told : (d : DriveIs D) (seat : DriveSeatIs) (told : List (CloseIs D)) → KeepsSide meaning table time (side_told own d seat told)
+      → KeepsSide meaning table time (side_of own d seat)
+  without_told d seat told h = record {
+    here = h.here;
+    lanes = h.lanes;
+    run = h.run;
+    limits = h.limits;
+    follows = h.follows;
+    none_gone = h.none_gone;
+    holds = h.holds;
+    stands = tt;
+  }
+
+  -- through what the drive and its seat keep, while the device goes on
+  pub told_keep : (old new : DriveIs D) (seat seat' : DriveSeatIs) (told : List (CloseIs D)) → GoesOn (λ _. Unit {0}) (meaning old.device) (meaning new.device)
+      → (KeepsSide meaning table time (side_of own old seat) → KeepsSide meaning table time (side_of own new seat'))
+      → KeepsSide meaning table time (side_told own old seat told) → KeepsSide meaning table time (side_told own new seat' told)
+  told_keep old new seat seat' told on keep h =
+      with_told new seat' told (stand_on meaning old.device new.device told on h.stands) (keep (without_told old seat told h))

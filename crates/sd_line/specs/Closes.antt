@@ -16,20 +16,22 @@ abbrev pub progress_in : List Entry → SessionView → Progress
 progress_in journal s = progress_of s.key journal
 
 -- something of the session is on its way: a body that it has itself, or one that it sent and that isn't synced; or the drive placed
--- another number of blocks with its key than it sent, which only a second session of that key can bring about
-abbrev pub IsOnItsWay : List Entry → SessionView → Type 0
-IsOnItsWay journal s = (parts_of s ≢ []) ⊎ ((progress_in journal s).synced ≢ s.sent) ⊎ (placed_of s.key journal ≢ s.sent)
+-- another number of blocks with its key than it sent, which only a second session of that key can bring about; or the drive and the
+-- seat of its lane are apart
+abbrev pub IsOnItsWay : Type 0 → List Entry → SessionView → Type 0
+IsOnItsWay apart journal s =
+    (parts_of s ≢ []) ⊎ ((progress_in journal s).synced ≢ s.sent) ⊎ (placed_of s.key journal ≢ s.sent) ⊎ apart
 
 -- What a close comes to, by the drive's journal. Closed, with a receipt for all that was sent: if the session is ended
 -- and didn't fail, and nothing of it is on its way. Not yet: if something is. Else it is refused, for its status, or
 -- since the drive lost a block of it, by which it fails; or, if it would be closed, because it was out of memory.
-abbrev pub Closes : List Entry → SessionView → Result Closing Refusal → SessionView → Type 0
-Closes journal s (Ok (Closed receipt)) new =
+abbrev pub Closes : Type 0 → List Entry → SessionView → Result Closing Refusal → SessionView → Type 0
+Closes apart journal s (Ok (Closed receipt)) new =
     ClosesSession s (progress_in journal s) new × (placed_of s.key journal ≡ s.sent)
     × (receipt ≡ record { key = s.key; spans = spans_of s.key (placements journal); blocks = s.sent })
-Closes journal s (Ok NotYet) new =
-    (s.status ≡ IsEnded) × (fails s.key journal ≡ false) × IsOnItsWay journal s × (new ≡ s)
-Closes journal s (Err why) new =
+Closes apart journal s (Ok NotYet) new =
+    (s.status ≡ IsEnded) × (fails s.key journal ≡ false) × IsOnItsWay apart journal s × (new ≡ s)
+Closes apart journal s (Err why) new =
     ((s.status ≢ IsEnded) × (why ≡ status_refusal s.status) × (new ≡ s))
     ⊎ ((s.status ≡ IsEnded) × IsTrue (fails s.key journal) × (why ≡ SessionFailed) × FailsSession s new)
     ⊎ (MayClose s (progress_in journal s) × (placed_of s.key journal ≡ s.sent) × (why ≡ Memory) × (new ≡ s))
@@ -42,7 +44,7 @@ pub record MayCloseBy (journal : List Entry) (s : SessionView) (receipt : Receip
 
 -- What is answered to who asks for the receipt by which a session may be closed: as a close would be, but that it isn't
 -- closed yet.
-abbrev pub IsDue : List Entry → SessionView → Result (Option ReceiptIs) Refusal → SessionView → Type 0
-IsDue journal s (Ok (Some receipt)) new = MayCloseBy journal s receipt × (new ≡ s)
-IsDue journal s (Ok None) new = Closes journal s (Ok NotYet) new
-IsDue journal s (Err why) new = Closes journal s (Err why) new
+abbrev pub IsDue : Type 0 → List Entry → SessionView → Result (Option ReceiptIs) Refusal → SessionView → Type 0
+IsDue apart journal s (Ok (Some receipt)) new = MayCloseBy journal s receipt × (new ≡ s)
+IsDue apart journal s (Ok None) new = Closes apart journal s (Ok NotYet) new
+IsDue apart journal s (Err why) new = Closes apart journal s (Err why) new

@@ -1,5 +1,5 @@
 -- What contracts see of a lane's end, and what it keeps: that its sessions were told what its seat sent.
-use Rattle.std.specs.Prelude.{◌≡◌, ◌≢◌, ◌⊎◌, ℕ, ◌+◌, ◌≤◌, List, [], ◌∷◌, ◌++◌, length, Option, Some, None, IsSome}
+use Rattle.std.specs.Prelude.{◌≡◌, ◌≢◌, ◌⊎◌, ℕ, ◌+◌, ◌≤◌, Bool, IsTrue, List, [], ◌∷◌, ◌++◌, length, Option, Some, None, IsSome}
 use Rattle.std.specs.List.{AllByRecursion}
 use Rattle.std.specs.Option.{option_or}
 use Rattle.sd_base.specs.Limits.{most_number}
@@ -16,10 +16,11 @@ use Rattle.sd_spool.specs.Job.{StoreState}
 use Rattle.sd_world.specs.Honest.{StoreIsTrue}
 use Rattle.sd_world.specs.Matches.{HasBodies}
 
--- a session that used a lane, and the records that it took, in order
+-- a session that used a lane, the records that it took, in order, and whether it spools
 pub record ToldSession : Type 0 where
   pub session : SessionView
   pub told : List Record
+  pub spools : Bool
 
 -- A lane's end: its seat; the store of its spools, unless the session that used the lane last has it; and the sessions that
 -- used the lane, in order.
@@ -87,7 +88,7 @@ pub record IsOfLane (time lane : ℕ) (s : ToldSession) : Type 0 where
   pub id_most : s.session.key.id ≤ most_number
   pub lane_is : s.session.lane ≡ lane
 
--- A session took just these records, and these bodies of it were sent. If the lane's store is honest, then those bodies
+-- A session took just these records, and these bodies of it were sent. If what it rests on is honest, then those bodies
 -- and after them the ones that the session still has are a packed cutting of the records, with their end label or
 -- without; and of a session that was cancelled those that were sent begin one. A closed session has sent all.
 pub record TellsAll (honest : Type 0) (s : ToldSession) (sent : List PackedBody) : Type 0 where
@@ -100,12 +101,16 @@ pub record TellsAll (honest : Type 0) (s : ToldSession) (sent : List PackedBody)
   pub closed : s.session.status ≡ Closed → (parts_of s.session ≡ []) × (1 ≤ s.session.sent)
   pub not_purged : s.session.status ≢ Purged
 
+-- a session that doesn't spool rests on no store; one that does rests on the lane's
+abbrev pub RestsOn : Bool → Type 0 → Type 0
+RestsOn spools honest = IsTrue spools → honest
+
 -- These pieces are what the sessions sent, one session after the other, each piece with its session's key and its place
 -- in it; and what was sent of each goes with the records that it took.
 abbrev pub SentBy : Type 0 → List ToldSession → List Piece → Type 0
 SentBy honest [] sent = sent ≡ []
 SentBy honest (s ∷ ss) sent = (bodies : List PackedBody) × (rest : List Piece)
-    × (sent ≡ pieces_from s.session.key 1 bodies ++ rest) × TellsAll honest s bodies × SentBy honest ss rest
+    × (sent ≡ pieces_from s.session.key 1 bodies ++ rest) × TellsAll (RestsOn s.spools honest) s bodies × SentBy honest ss rest
 
 -- What a lane's end keeps. Its sessions are of its drive's run and of its lane; what its seat sent is what they sent, one
 -- after the other; only the last of them may still go on; and the lane's store is there.

@@ -1,7 +1,9 @@
 pub mod Closes
+pub mod Counts
 pub mod Ends
 pub mod Goes
 pub mod Operates
 pub mod Parts
 pub mod Side
+pub mod Tells
 pub mod Turns

@@ -1,5 +1,5 @@
 -- What contracts see of a session's part, what it keeps, and what its calls do.
-use Rattle.std.specs.Prelude.{◌≡◌, ◌≢◌, ◌⊎◌, ℕ, ◌+◌, ◌-◌, ℤ, List, [], ◌∷◌, ◌++◌, ◌==◌, if◌then◌else◌, Some, None, IsSome, false}
+use Rattle.std.specs.Prelude.{◌≡◌, ◌≢◌, ◌⊎◌, ℕ, ◌+◌, ◌-◌, ℤ, List, [], ◌∷◌, ◌++◌, ◌==◌, not, Bool, if◌then◌else◌, Some, None, IsSome, false}
 use Rattle.std.specs.List.{AllByRecursion}
 use Rattle.sd_base.specs.Limits.{block_header}
 use Rattle.sd_base.specs.Record.{Record}
@@ -10,7 +10,7 @@ use Rattle.sd_lane.specs.declared.piece.Queued.{Queued}
 use Rattle.sd_lane.specs.Queue.{queued}
 use Rattle.sd_line.specs.Side.{LineIs, SideIs, SeatIs, MayReady, sends_one}
 use Rattle.sd_pack.specs.Body.{PackedBody, empty_body}
-use Rattle.sd_line.specs.Ends.{ToldSession, EndIs, IsOfLane, IsOver, TellsAll, SentBy, BringsStore, pieces_from}
+use Rattle.sd_line.specs.Ends.{ToldSession, EndIs, IsOfLane, IsOver, TellsAll, SentBy, BringsStore, RestsOn, pieces_from}
 use Rattle.sd_drive.specs.declared.limits.Limits.{Limits}
 use Rattle.sd_session.specs.Session.{SessionView, StartsSession, store_of}
 use Rattle.sd_session.specs.Sending.{QueueView, queue_view, SendsBody, Despools}
@@ -21,16 +21,18 @@ use Rattle.sd_spool.specs.Job.{StoreState}
 use Rattle.sd_world.specs.Honest.{StoreIsTrue}
 use Rattle.sd_session.specs.Spooling.{HasFailed}
 
--- A session's part: the seat of its lane, the sessions that used the lane before, the session, and the records that it took.
+-- A session's part: the seat of its lane, the sessions that used the lane before, the session, the records that it took, and
+-- whether it spools.
 pub record PartIs : Type 0 where
   pub seat : SeatIs
   pub before : List ToldSession
   pub session : SessionView
   pub told : List Record
+  pub spools : Bool
 
 -- the session of a part, and what it took
 abbrev pub told_of : PartIs → ToldSession
-told_of p = record { session = p.session; told = p.told }
+told_of p = record { session = p.session; told = p.told; spools = p.spools }
 
 -- the lane's end that a part leaves
 abbrev pub end_of : PartIs → EndIs
@@ -41,7 +43,8 @@ abbrev pub with_session : PartIs → SessionView → PartIs
 with_session p s = record p { session = s }
 
 -- What a part keeps. The seat sent what the sessions before sent, and after that these bodies of the part's own
--- session; if the lane's store is honest, what that session took is the whole of those bodies and of what it still has.
+-- session. What that session took is the whole of those bodies and of what it still has; if it spools, while the lane's
+-- store is honest.
 pub record KeepsPart (time : ℕ → ℕ) (p : PartIs) : Type 0 where
   pub of_lane : IsOfLane (time p.seat.no) p.seat.seat.lane (told_of p)
   pub before_of_lane : AllByRecursion (IsOfLane (time p.seat.no) p.seat.seat.lane) p.before
@@ -50,7 +53,8 @@ pub record KeepsPart (time : ℕ → ℕ) (p : PartIs) : Type 0 where
   pub sent : List PackedBody
   pub sent_are : p.seat.seat.sent ≡ sent_before ++ pieces_from p.session.key 1 sent
   pub before_tell : SentBy (StoreIsTrue (store_of p.session)) p.before sent_before
-  pub tells : TellsAll (StoreIsTrue (store_of p.session)) (told_of p) sent
+  pub tells : TellsAll (RestsOn p.spools (StoreIsTrue (store_of p.session))) (told_of p) sent
+  pub unspooled : p.spools ≡ false → p.session.spool ≡ None
   pub stored : IsSome (store_of p.session)
 
 -- Opening.
@@ -66,12 +70,16 @@ opening_at line lane id job pool moment = record {
   moment = moment;
 }
 
+-- with a limit of 0 a session doesn't spool
+abbrev pub spools_at : Limits → Bool
+spools_at limits = not (limits.spool == 0)
+
 -- A session begins so at the end of a lane, on the store that lies there. It took no record yet.
 pub record OpensAt (limits : Limits) (opening : Opening) (e : EndIs) (p : PartIs) : Type 0 where
   pub store : StoreState
   pub store_is : e.store ≡ Some store
   pub starts : StartsSession opening (limits.block - block_header) limits.spool store p.session
-  pub is : p ≡ record { seat = e.seat; before = e.sessions; session = p.session; told = [] }
+  pub is : p ≡ record { seat = e.seat; before = e.sessions; session = p.session; told = []; spools = spools_at limits }
 
 -- none begins: it was out of memory, or the store could not be cleared, which lies in the end still
 pub record OpensNotAt (limits : Limits) (e : EndIs) (why : Refusal) (e' : EndIs) : Type 0 where

@@ -21,31 +21,13 @@ pub enum Closing {
     NotYet,
 }
 
-/// Closes the session, exactly if it may be closed and the drive gives a receipt for all that it sent. A session of
-/// which the drive lost a block fails.
-pub(crate) fn close<D: Driver, S: SpoolStore + Drop>(
-    drive: &Drive<D>,
-    session: &mut Session<S>,
-) -> Result<Closing, Refusal>
-    ensures { Closes drive.now.journal session.old result session.new }
-{
-    match receipt(drive, session) {
-        Ok(Some(receipt)) => {
-            close_by(session, &receipt);
-            Ok(Closing::Closed(receipt))
-        }
-        Ok(None) => Ok(Closing::NotYet),
-        Err(why) => Err(why),
-    }
-}
-
 /// The receipt by which the session may be closed; none if something of it is outstanding. A session of which the drive
 /// lost a block fails.
 pub(crate) fn receipt<D: Driver, S: SpoolStore + Drop>(
     drive: &Drive<D>,
     session: &mut Session<S>,
 ) -> Result<Option<Receipt>, Refusal>
-    ensures { IsDue drive.now.journal session.old result session.new }
+    ensures { IsDue ⊥ drive.now.journal session.old result session.new }
 {
     let key = session.key();
     let progress = drive.progress(key);
@@ -62,7 +44,7 @@ pub(crate) fn receipt<D: Driver, S: SpoolStore + Drop>(
 pub(crate) fn close_by<S: SpoolStore + Drop>(session: &mut Session<S>, receipt: &Receipt)
     requires { (journal : List Entry) × MayCloseBy journal session.old receipt.now }
     ensures { (journal : List Entry) → MayCloseBy journal session.old receipt.now
-        → Closes journal session.old (Ok (Closing.Closed receipt.now)) session.new }
+        → Closes ⊥ journal session.old (Ok (Closing.Closed receipt.now)) session.new }
 {
     // All that it sent is synced.
     let progress = Progress {

@@ -1,9 +1,11 @@
 //! A line: a drive under a lock, the queue before it, its worker, and what a thread has of it without the lock. The worker
-//! places what the lanes push; an operator's events come to the drive too. A thread has the end of a lane, and the part
+//! places what the lanes push; an operator's events come to the drive too. What was told of a closed session stands under
+//! the lock from then on. A thread has the end of a lane, and the part
 //! of the session that uses it; the end has the sessions that used it before.
 #![tactic(auto)]
 
 mod closing;
+mod counts;
 mod gate;
 mod lane_end;
 mod line;
@@ -17,6 +19,7 @@ mod seat;
 mod seat_at;
 mod side;
 mod stop;
+mod tells;
 mod told;
 mod turning;
 mod worker;

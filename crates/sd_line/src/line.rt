@@ -69,7 +69,7 @@ pub struct NotLined<D: Driver, R: Wait + Drop> {
     pub lanes: RuledLanes<R>,
 }
 
-/// What a line is made of, with the value of its lock, for who has the line alone.
+/// What a line is made of, with the value of its lock, for who has the line alone. A line is made of it again.
 #[derive(Drop)]
 pub struct LineParts<D: Driver, N: Naming, R: Wait + Drop> {
     rt: R,
@@ -78,6 +78,9 @@ pub struct LineParts<D: Driver, N: Naming, R: Wait + Drop> {
     pub limits: Limits,
     pub queue: LaneQueue<R>,
     pub side: DriveSide<D, N>,
+    ghost here: { queue.table ≡ N.table no },
+    ghost run: { limits.time ≡ N.time no },
+    ghost within: { AreLimits limits },
 }
 
 impl<D: Driver, N: Naming, R: Wait + Drop> Line<D, N, R> {
@@ -141,9 +144,6 @@ impl<D: Driver, N: Naming, R: Wait + Drop> Line<D, N, R> {
           limits = result.limits;
           queue = result.queue;
         } }
-        ensures here { result.queue.table ≡ N.table result.no }
-        ensures run { result.limits.time ≡ N.time result.no }
-        ensures limits { AreLimits result.limits }
     {
         let Line {
             rt,
@@ -165,9 +165,6 @@ impl<D: Driver, N: Naming, R: Wait + Drop> Line<D, N, R> {
 
     /// The line that is made of these.
     pub fn of_parts(parts: LineParts<D, N, R>) -> Self
-        requires here { parts.queue.table ≡ N.table parts.no }
-        requires run { parts.limits.time ≡ N.time parts.no }
-        requires limits { AreLimits parts.limits }
         ensures { result ≡ record {
           no = parts.no;
           media = parts.media;
@@ -222,18 +219,6 @@ impl<D: Driver, N: Naming, R: Wait + Drop> Line<D, N, R> {
         ensures here { self.now.queue.table ≡ N.table self.now.no }
     {
         &self.queue
-    }
-
-    // Pushes a piece by a lane's seat.
-    pub(crate) fn push(&self, seat: &mut LaneSeat, piece: Piece) -> Result<(), Piece>
-        requires { seat.old.table ≡ N.table self.now.no }
-        ensures ok { OnOk result (seat.new ≡ record seat.old { sent = seat.old.sent ++ piece ∷ [] }) }
-        ensures given_back { IfErr result (λ back. back ≡ piece) }
-        ensures err { OnErr result (seat.new ≡ seat.old) }
-        ensures was_full { OnErr result (WasFull seat.old.lanes self.now.queue.capacity
-            seat.old.lane seat.old.sent) }
-    {
-        seat.push(&self.queue, piece)
     }
 
     /// Takes the drive's lock. What lies under it has the line's number: no clause can say which lock a line has, so it
@@ -308,6 +293,8 @@ impl<D: Driver, N: Naming, R: Wait + Drop> Line<D, N, R> {
 fn name_seats<N: Naming>(no: DriveNo, lanes: Vec<LaneSeat>, seats: &mut Vec<Seat<N>>)
     requires named { (k : ℕ) (seat : LaneSeatIs) → slice_get lanes.items k ≡ Some seat
         → seat.table ≡ N.table no }
+    requires unused { (k : ℕ) (seat : LaneSeatIs) → slice_get lanes.items k ≡ Some seat
+        → seat.sent ≡ [] }
     requires room { length lanes.items ≤ vec_capacity seats.old }
     requires none { seats.old.items ≡ [] }
     ensures { seats.new.items ≡ seats_at no lanes.items }

@@ -1,5 +1,5 @@
 // The part of a session: what its thread has of it.
-ghost use Rattle.std.specs.Prelude.{◌≡◌, ◌++◌, ◌∷◌, List, [], Ok, IfOk, IfErr, OnOk, OnErr};
+ghost use Rattle.std.specs.Prelude.{◌≡◌, ◌++◌, ◌∷◌, List, [], Ok, IfOk, IfErr, IfSome, OnOk, OnErr};
 ghost use Rattle.sd_journal.specs.Journal.{Entry};
 ghost use Rattle.sd_lane.specs.Queue.{WasFull};
 ghost use Rattle.sd_session.specs.Session.{TakesRecord, AppendRefused, EndsSession, EndRefused, CancelsSession, NotRunning};
@@ -7,6 +7,7 @@ ghost use Rattle.sd_session.specs.Sending.{DespoolRefused};
 ghost use Rattle.sd_session.specs.Spooling.{Spools, SpoolRefused};
 ghost use Rattle.sd_line.specs.Closes.{Closes, IsDue, MayCloseBy};
 ghost use Rattle.sd_line.specs.Parts.{KeepsPart, SendsBy, with_session, end_of};
+ghost use Rattle.sd_line.specs.Tells.{AreApart, ClosesUnder, HasOwn, IsOfOwn, told_closed, told_due};
 
 use crate::closing::{self, Closing};
 use crate::lane_end::LaneEnd;
@@ -19,6 +20,7 @@ use crate::told::Told;
 use sd_base::{DriveNo, Rec, Refusal, Seen};
 use sd_drive::Receipt;
 use sd_driver::Driver;
+use sd_ruled::LaneQueue;
 use sd_session::{Despooled, Session, Spooling};
 use sd_spool::SpoolStore;
 use std::marker::Model;
@@ -26,8 +28,8 @@ use std::sync::Wait;
 
 /// A session, with its spool and the seat of its lane: what one thread has to itself. In a contract it is a `PartIs`.
 ///
-/// Its type keeps what `KeepsPart` says: while the lane's store is honest, the records that the session took are the whole
-/// of what the seat sent for it and of what it still has.
+/// Its type keeps what `KeepsPart` says: the records that the session took are the whole of what the seat sent for it and of
+/// what it still has; if it spools, while the lane's store is honest.
 #[derive(Drop)]
 pub struct SessionPart<N: Naming, S: SpoolStore> {
     pub(crate) seat: Seat<N>,
@@ -36,6 +38,7 @@ pub struct SessionPart<N: Naming, S: SpoolStore> {
     pub(crate) session: Session<S>,
     // The records that the session took, of which nothing is held.
     pub(crate) told: Option<Seen<Rec>>,
+    pub(crate) spools: bool,
 }
 
 impl<N: Naming, S: SpoolStore> Model for SessionPart<N, S> {
@@ -51,6 +54,7 @@ impl<N: Naming, S: SpoolStore> Model for SessionPart<N, S> {
       before = p.before.items;
       session = p.session;
       told = seen_of p.told;
+      spools = p.spools;
     } };
 
     ghost invariant = { λ p. record {
@@ -59,6 +63,7 @@ impl<N: Naming, S: SpoolStore> Model for SessionPart<N, S> {
         before = p.before.items;
         session = p.session;
         told = seen_of p.told;
+        spools = p.spools;
       });
       room : length p.before.items < vec_capacity p.before;
     } };
@@ -153,13 +158,29 @@ impl<N: Naming, S: SpoolStore + Drop> SessionPart<N, S> {
 
     /// Closes the session, by what lies under the lock of its line: exactly if it is ended, its drive lost no block of
     /// it, it has sent all that it has, and each block that it sent is placed and synced. If one was lost, it fails.
-    /// A receipt takes memory; if out of memory, all stays as it was.
-    pub fn close_on<D: Driver>(&mut self, side: &DriveSide<D, N>) -> Result<Closing, Refusal>
-        requires { self.old.seat.no ≡ side.now.no }
-        ensures closes { Closes side.now.drive.journal self.old.session result self.new.session }
+    /// What is told by the receipt stands at the drive from then on. A receipt takes memory; if out of memory, all stays
+    /// as it was.
+    pub fn close_on<D: Driver, R: Wait + Drop>(
+        &mut self,
+        side: &mut DriveSide<D, N>,
+        queue: &LaneQueue<R>,
+    ) -> Result<Closing, Refusal>
+        requires no { self.old.seat.no ≡ side.old.no }
+        requires queue { queue.now.table ≡ N.table side.old.no }
+        ensures closes { Closes (AreApart side.old self.old.seat self.old.session.key)
+            side.old.drive.journal self.old.session result self.new.session }
         ensures same { self.new ≡ with_session self.old self.new.session }
+        ensures told { side.new ≡ told_closed side.old self.old.seat.seat.sent result }
+        ensures own { IfOk result (λ closing. HasOwn closing self.old.seat.seat.sent) }
     {
-        closing::close(side.drive(), &mut self.session)
+        match self.receipt_on(side, queue) {
+            Ok(Some(receipt)) => {
+                closing::close_by(&mut self.session, &receipt);
+                Ok(Closing::Closed(receipt))
+            }
+            Ok(None) => Ok(Closing::NotYet),
+            Err(why) => Err(why),
+        }
     }
 
     /// Closes the session as `close_on` does, with the line's lock held.
@@ -168,27 +189,45 @@ impl<N: Naming, S: SpoolStore + Drop> SessionPart<N, S> {
         line: &Line<D, N, R>,
     ) -> Result<Closing, Refusal>
         requires { self.old.seat.no ≡ line.now.no }
-        ensures closes { (journal : List Entry)
-            × Closes journal self.old.session result self.new.session }
+        ensures closes { ClosesUnder (λ d. D.meaning d) N.table N.time self.old result
+            self.new.session }
         ensures same { self.new ≡ with_session self.old self.new.session }
     {
-        let side = line.lock();
-        let side: &DriveSide<D, N> = &side;
-        self.close_on(side)
+        let mut side = line.lock();
+        let side: &mut DriveSide<D, N> = &mut side;
+        side.know();
+        let closing = self.close_on(side, line.queue());
+        side.know();
+        closing
     }
 
     /// The receipt by which a close of the session is due, by what lies under the lock of its line; none if something of it
     /// is outstanding. It is refused as by `close_on`, and fails as there. It isn't closed yet: for that the lock need not
-    /// be held, since what was synced stays so.
-    pub fn receipt_on<D: Driver>(
+    /// be held, since what was synced stays so. What is told by the receipt stands at the drive from then on.
+    pub fn receipt_on<D: Driver, R: Wait + Drop>(
         &mut self,
-        side: &DriveSide<D, N>,
+        side: &mut DriveSide<D, N>,
+        queue: &LaneQueue<R>,
     ) -> Result<Option<Receipt>, Refusal>
-        requires { self.old.seat.no ≡ side.now.no }
-        ensures due { IsDue side.now.drive.journal self.old.session result self.new.session }
+        requires no { self.old.seat.no ≡ side.old.no }
+        requires queue { queue.now.table ≡ N.table side.old.no }
+        ensures due { IsDue (AreApart side.old self.old.seat self.old.session.key)
+            side.old.drive.journal self.old.session result self.new.session }
         ensures same { self.new ≡ with_session self.old self.new.session }
+        ensures told { side.new ≡ told_due side.old self.old.seat.seat.sent result }
+        ensures own { IfOk result (λ due. IfSome due (λ r. IsOfOwn r self.old.seat.seat.sent)) }
     {
-        closing::receipt(side.drive(), &mut self.session)
+        match closing::receipt(side.drive(), &mut self.session) {
+            Ok(Some(receipt)) => {
+                if !side.tell(queue, &mut self.seat, &receipt) {
+                    // This never happens: the drive took all that the lane sent, and no other lane sends for the session.
+                    return Ok(None);
+                }
+                Ok(Some(receipt))
+            }
+            Ok(None) => Ok(None),
+            Err(why) => Err(why),
+        }
     }
 
     /// Closes the session by the receipt that is due. Takes no memory.
@@ -196,7 +235,7 @@ impl<N: Naming, S: SpoolStore + Drop> SessionPart<N, S> {
         requires { (journal : List Entry)
             × MayCloseBy journal self.old.session receipt.now }
         ensures closes { (journal : List Entry) → MayCloseBy journal self.old.session receipt.now
-            → Closes journal self.old.session (Ok (Closing.Closed receipt.now)) self.new.session }
+            → Closes ⊥ journal self.old.session (Ok (Closing.Closed receipt.now)) self.new.session }
         ensures same { self.new ≡ with_session self.old self.new.session }
     {
         closing::close_by(&mut self.session, receipt)
@@ -211,9 +250,14 @@ impl<N: Naming, S: SpoolStore + Drop> SessionPart<N, S> {
             before,
             session,
             told,
+            spools,
         } = self;
         let mut sessions = before;
-        sessions.push_reserved(Told { session, told });
+        sessions.push_reserved(Told {
+            session,
+            told,
+            spools,
+        });
         LaneEnd {
             seat,
             store: None,

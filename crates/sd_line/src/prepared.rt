@@ -43,7 +43,7 @@ impl<N: Naming, S: SpoolStore> Model for Prepared<N, S> {
     ghost use Rattle.sd_drive.specs.Limits.{AreLimits};
     ghost use Rattle.sd_session.specs.Session.{store_of};
     ghost use Rattle.sd_line.specs.Ends.{KeepsEnd, LastIsOver};
-    ghost use Rattle.sd_line.specs.Parts.{PreparedIs, OpensAt};
+    ghost use Rattle.sd_line.specs.Parts.{PreparedIs, OpensAt, spools_at};
 
     ghost Value = { PreparedIs };
 
@@ -59,7 +59,13 @@ impl<N: Naming, S: SpoolStore> Model for Prepared<N, S> {
       over : LastIsOver p.before.items;
       opens : OpensAt p.limits p.opening
           (record { seat = p.seat; store = store_of p.session; sessions = p.before.items })
-          (record { seat = p.seat; before = p.before.items; session = p.session; told = [] });
+          (record {
+            seat = p.seat;
+            before = p.before.items;
+            session = p.session;
+            told = [];
+            spools = spools_at p.limits;
+          });
       time : p.opening.key.time ≡ N.time p.seat.no;
       id : (1 ≤ p.opening.key.id) × (p.opening.key.id ≤ most_number);
       lane : p.opening.lane ≡ p.seat.seat.lane;
@@ -140,7 +146,7 @@ impl<N: Naming, S: SpoolStore + Drop> Prepared<N, S> {
             before,
             session,
             opening,
-            limits: _,
+            limits,
         } = self;
         side.serve(opening.key, &opening.pool);
         SessionPart {
@@ -148,6 +154,7 @@ impl<N: Naming, S: SpoolStore + Drop> Prepared<N, S> {
             before,
             session,
             told: None,
+            spools: limits.spool != 0,
         }
     }
 }

@@ -1,20 +1,26 @@
 // What lies under the lock of a line.
-ghost use Rattle.std.specs.Prelude.{◌≡◌, ◌≤◌, Some, IfSome};
+ghost use Rattle.std.specs.Prelude.{◌≡◌, ◌≢◌, ◌≤◌, [], false, length, IsTrue, Some, IfSome, option_to_list};
 ghost use Rattle.sd_base.specs.Limits.{most_lanes};
+ghost use Rattle.sd_closes.specs.Pieces.{keyed};
 ghost use Rattle.sd_driver.specs.Shelf.{StillLasts};
 ghost use Rattle.sd_drive.specs.Shelf.{Kept};
+ghost use Rattle.sd_journal.specs.Journal.{placed_of};
 ghost use Rattle.sd_line.specs.Operates.{Operates, OwnLast};
 ghost use Rattle.sd_line.specs.Side.{KeepsSide, MayReady};
+ghost use Rattle.sd_line.specs.Tells.{AreApart, IsOfSent, tells_close};
 ghost use Rattle.sd_line.specs.Turns.{Turns};
 ghost use Rattle.sd_world.specs.Devices.{GoesOn};
 ghost use Rattle.sd_world.specs.Reading.{ReadsDrive};
 
+use crate::counts::LaneCounts;
 use crate::gate::Gate;
 use crate::naming::Naming;
 use crate::operating;
+use crate::seat::Seat;
+use crate::tells::ToldCloses;
 use crate::turning::{self, Turned};
 use sd_base::{DriveNo, PoolName, Refusal, SessionKey};
-use sd_drive::Drive;
+use sd_drive::{Drive, Receipt};
 use sd_driver::Driver;
 use sd_machine::{Event, Reply};
 use sd_readback::{ReadEnd, Sink};
@@ -28,36 +34,46 @@ use std::sync::Wait;
 /// A drive with its seat at the queue before it. In a contract it is a `SideIs`.
 ///
 /// Its type keeps what `KeepsSide` says: the drive's journal and hand follow the pieces that the
-/// seat took.
+/// seat took; and what was told at closes stands.
 #[derive(Drop)]
 pub struct DriveSide<D: Driver, N: Naming> {
     no: DriveNo,
     drive: Drive<D>,
     seat: DriveSeat,
+    // How many pieces the seat took of each lane.
+    counts: LaneCounts,
+    told: ToldCloses<D>,
     of: PhantomData<N>,
 }
 
 impl<D: Driver, N: Naming> Model for DriveSide<D, N> {
+    ghost use Rattle.std.specs.Prelude.{◌≡◌};
     ghost use Rattle.sd_line.specs.Side.{SideIs, KeepsSide};
 
     ghost Value = { SideIs D };
 
-    ghost view = { λ s. record { no = s.no; drive = s.drive; seat = s.seat } };
+    ghost view = { λ s. record { no = s.no; drive = s.drive; seat = s.seat; told = s.told } };
 
-    ghost invariant = { λ s. KeepsSide (λ d. D.meaning d) N.table N.time
-        (record { no = s.no; drive = s.drive; seat = s.seat }) };
+    ghost invariant = { λ s. record {
+      keeps : KeepsSide (λ d. D.meaning d) N.table N.time
+          (record { no = s.no; drive = s.drive; seat = s.seat; told = s.told });
+      counted : s.counts ≡ s.seat.taken;
+    } };
 }
 
 impl<D: Driver, N: Naming> DriveSide<D, N> {
     pub(crate) fn new(no: DriveNo, drive: Drive<D>, seat: DriveSeat) -> Self
-        requires { KeepsSide (λ d. D.meaning d) N.table N.time
-            (record { no = no; drive = drive; seat = seat }) }
-        ensures { result ≡ record { no = no; drive = drive; seat = seat } }
+        requires keeps { KeepsSide (λ d. D.meaning d) N.table N.time
+            (record { no = no; drive = drive; seat = seat; told = [] }) }
+        requires unused { seat.taken ≡ [] }
+        ensures { result ≡ record { no = no; drive = drive; seat = seat; told = [] } }
     {
         DriveSide {
             no,
             drive,
             seat,
+            counts: LaneCounts::new(),
+            told: ToldCloses::new(),
             of: PhantomData,
         }
     }
@@ -93,13 +109,15 @@ impl<D: Driver, N: Naming> DriveSide<D, N> {
             no: _,
             drive,
             seat,
+            counts: _,
+            told: _,
             of: _,
         } = self;
         (drive, seat)
     }
 
-    /// What holds whenever the lock is taken; and so, with an honest device, each synced block ends
-    /// at or below the stable length of its volume. Does nothing.
+    /// What holds whenever the lock is taken: also that what was told at closes stands; and so, with an honest device, each
+    /// synced block ends at or below the stable length of its volume. Does nothing.
     pub fn know(&self)
         ensures side { KeepsSide (λ d. D.meaning d) N.table N.time self.now }
         ensures drive { Kept (D.meaning self.now.drive.device) self.now.drive.volumes
@@ -114,12 +132,13 @@ impl<D: Driver, N: Naming> DriveSide<D, N> {
     pub fn turn_on<R: Wait + Drop, G: Gate>(&mut self, queue: &LaneQueue<R>, gate: &G) -> Turned
         requires { queue.now.table ≡ N.table self.old.no }
         ensures turns { Turns (λ d. D.meaning d) result self.old self.new }
+        ensures told { self.new.told ≡ self.old.told }
         ensures lasts { StillLasts (D.meaning self.old.drive.device).shelf
             (D.meaning self.new.drive.device).shelf }
         ensures goes_on { GoesOn (λ _. Unit {0}) (D.meaning self.old.drive.device)
             (D.meaning self.new.drive.device) }
     {
-        let took = turning::take(&mut self.drive, &mut self.seat, queue);
+        let took = turning::take(&mut self.drive, &mut self.seat, &mut self.counts, queue);
         let place = turning::place(&mut self.drive, gate);
         let sync = turning::sync(&mut self.drive, turning::is_sync_due(&place));
         Turned { took, place, sync }
@@ -132,6 +151,7 @@ impl<D: Driver, N: Naming> DriveSide<D, N> {
     /// volumes what lasted lasts, and so do whole blocks of an adopted one.
     pub fn operate_on(&mut self, event: Event) -> Reply
         ensures same { (self.new.no ≡ self.old.no) × (self.new.seat ≡ self.old.seat) }
+        ensures told { self.new.told ≡ self.old.told }
         ensures operates { Operates (λ d. D.meaning d) self.old.no event result
             self.old.drive self.new.drive }
         ensures own_last { OwnLast self.old.drive (D.meaning self.old.drive.device).shelf
@@ -174,10 +194,50 @@ impl<D: Driver, N: Naming> DriveSide<D, N> {
         sink: &mut S,
     ) -> Result<ReadEnd, Refusal>
         ensures same { (self.new.no ≡ self.old.no) × (self.new.seat ≡ self.old.seat) }
+        ensures told { self.new.told ≡ self.old.told }
         ensures reads { ReadsDrive (λ d. D.meaning d) key spans.now (S.got sink.old) (S.got sink.new)
             result self.old.drive self.new.drive }
     {
         read_drive(&mut self.drive, key, spans, sink)
+    }
+
+    // Tells a close by this receipt, unless the drive and the lane's seat are apart.
+    pub(crate) fn tell<R: Wait + Drop>(
+        &mut self,
+        queue: &LaneQueue<R>,
+        seat: &mut Seat<N>,
+        receipt: &Receipt,
+    ) -> bool
+        requires queue { queue.now.table ≡ N.table self.old.no }
+        requires no { seat.old.no ≡ self.old.no }
+        requires own { IsOfSent self.old.drive.journal seat.old.seat.sent receipt.now }
+        ensures seat { seat.new ≡ seat.old }
+        ensures told { IsTrue result
+            → self.new ≡ tells_close self.old seat.old.seat.sent receipt.now }
+        ensures own { IsTrue result → length (keyed receipt.now.key seat.old.seat.sent)
+            ≡ placed_of receipt.now.key self.old.drive.journal }
+        ensures same { result ≡ false → self.new ≡ self.old }
+        ensures apart { result ≡ false → AreApart self.old seat.old receipt.now.key }
+    {
+        self.drive.know();
+        if !seat.is_taken(queue, &mut self.seat, &self.counts)
+            || is_in_hand(&self.drive, receipt.key())
+        {
+            return false;
+        }
+        self.told.add(&self.drive, seat.lane_seat(), receipt);
+        true
+    }
+}
+
+// Whether the drive has a piece of the session in its hand.
+fn is_in_hand<D: Driver>(drive: &Drive<D>, key: SessionKey) -> bool
+    ensures some { IsTrue result → keyed key (option_to_list drive.now.hand) ≢ [] }
+    ensures none { result ≡ false → keyed key (option_to_list drive.now.hand) ≡ [] }
+{
+    match drive.hand() {
+        Some(piece) => key == piece.key,
+        None => false,
     }
 }
 

@@ -4,12 +4,13 @@ use sd_session::Session;
 use sd_spool::SpoolStore;
 use std::marker::Model;
 
-/// A session that used a lane, and the records that it took, of which nothing is held. In a contract it is a
-/// `ToldSession`.
+/// A session that used a lane, the records that it took, of which nothing is held, and whether it spools. In a contract it
+/// is a `ToldSession`.
 #[derive(Drop)]
 pub struct Told<S: SpoolStore> {
     pub session: Session<S>,
     pub told: Option<Seen<Rec>>,
+    pub spools: bool,
 }
 
 impl<S: SpoolStore> Model for Told<S> {
@@ -18,5 +19,5 @@ impl<S: SpoolStore> Model for Told<S> {
 
     ghost Value = { ToldSession };
 
-    ghost view = { λ s. record { session = s.session; told = seen_of s.told } };
+    ghost view = { λ s. record { session = s.session; told = seen_of s.told; spools = s.spools } };
 }

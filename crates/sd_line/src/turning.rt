@@ -2,6 +2,7 @@
 ghost use Rattle.sd_line.specs.Turns.{Takes, PlacesBy, SyncsBy, is_sync_due};
 ghost use Rattle.std.specs.Prelude.{◌≡◌, IfSome, Some};
 
+use crate::counts::LaneCounts;
 use crate::gate::{Gate, Point};
 use sd_base::{Refusal, SessionKey};
 use sd_drive::{Drive, Placed};
@@ -21,22 +22,26 @@ pub struct Turned {
     pub sync: Option<Result<(), Refusal>>,
 }
 
-// Takes a piece from the queue, if the hand is empty.
+// Takes a piece from the queue, if the hand is empty, and counts it.
 pub(crate) fn take<D: Driver, R: Wait + Drop>(
     drive: &mut Drive<D>,
     seat: &mut DriveSeat,
+    counts: &mut LaneCounts,
     queue: &LaneQueue<R>,
 ) -> bool
-    requires { seat.old.table ≡ queue.now.table }
-    ensures { Takes result drive.old seat.old drive.new seat.new }
+    requires queue { seat.old.table ≡ queue.now.table }
+    requires counts { counts.old ≡ seat.old.taken }
+    ensures takes { Takes result drive.old seat.old drive.new seat.new }
+    ensures counts { counts.new ≡ seat.new.taken }
 {
     if drive.hand().is_some() {
         return false;
     }
-    let Some(piece) = seat.take(queue) else {
+    let Some(queued) = seat.take_queued(queue) else {
         return false;
     };
-    drive.give(piece);
+    counts.add(&queued);
+    drive.give(queued.piece);
     true
 }
 

@@ -89,6 +89,15 @@ none_left taken (q ∷ qs) h =
     let f = ap length (of_here q q.lane qs refl) in
     absurd (omega (arith, e, f, length-append (pieces_of q.lane taken) (pieces_of q.lane (q ∷ qs))))
 
-pub no_items : (xs : List Queued) → length xs ≡ 0 → xs ≡ []
+pub no_items : {T : Type 0} (xs : List T) → length xs ≡ 0 → xs ≡ []
 no_items [] e = refl
 no_items (x ∷ xs) e = absurd (omega arith)
+
+-- of what a lane sent the first part was taken; if that is as long, it is all
+pub all_taken : (lane : ℕ) (taken held : List Queued) (sent : List Piece) → pieces_of lane (taken ++ held) ≡ sent → length (pieces_of lane taken) ≡ length sent → pieces_of lane taken ≡ sent
+all_taken lane taken held sent e long =
+    let xs = pieces_of lane taken in
+    let ys = pieces_of lane held in
+    let whole : xs ++ ys ≡ sent = sym (pieces_of-append lane taken held) ∙ e in
+    let none = no_items ys (omega (arith, long, length-append xs ys, ap length whole)) in
+    sym (append-nil xs) ∙ (ap (λ l. xs ++ l) (sym none) ∙ whole)

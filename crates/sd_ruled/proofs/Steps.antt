@@ -1,8 +1,8 @@
 -- Each step on the queue keeps its rule.
-use Rattle.std.proofs.Common.{◌≡◌, ◌≢◌, ◌⊎◌, ◌≤◌, ◌<◌, ℕ, zero, suc, ◌==◌, ◌-◌, eq-eqb, ne_eqb, true, false, true≢false, List, [], ◌∷◌, ◌++◌, length, set, sym, refl, ap, ◌∙◌, subst, ⊎_elim, inl, inr, append_assoc, arith}
+use Rattle.std.proofs.Common.{◌≡◌, ◌≢◌, ◌⊎◌, ◌≤◌, ◌<◌, ℕ, zero, suc, ◌==◌, ◌-◌, eq-eqb, ne_eqb, true, false, true≢false, List, [], ◌∷◌, ◌++◌, length, set, sym, refl, ap, ◌∙◌, subst, ⊎_elim, inl, inr, append_assoc, lt_of_not-le, arith}
 use Rattle.std.proofs.lemmas.List.{append-nil}
 use Rattle.std.specs.Prelude.{if◌then◌else◌}
-use native.Mathlib.Decide.{ℕ_discrete}
+use native.Mathlib.Decide.{ℕ_discrete, dec_le}
 use mathlib.Core.Option.{some, some-ne-none, some-injective}
 use lib.ListN.{get_elem?}
 use Rattle.crossbeam_queue.specs.Fifo.{Pushes, Pops, Forks, Merges, Learns}
@@ -11,7 +11,7 @@ use Rattle.sd_lane.specs.declared.piece.Piece.{Piece}
 use Rattle.sd_lane.specs.declared.piece.Queued.{Queued}
 use Rattle.sd_lane.specs.Queue.{queued, pieces_of, LanesFollow, AreOfLanes}
 use Rattle.sd_lane.proofs.QueueLemmas.{pieces_of-append}
-use Rattle.sd_ruled.specs.Passes.{PassView, of_nobody, of_lane, of_drive, of_owner, one_lane_more, without_lane, only_lane, with_lane, at_rest}
+use Rattle.sd_ruled.specs.Passes.{PassView, of_nobody, of_lane, of_drive, of_owner, one_lane_more, without_lane, only_lane, with_lane, at_rest, with_guest, without_guest, guest_alone}
 use Rattle.sd_ruled.specs.Rule.{Fits, Keeps}
 use Rattle.sd_ruled.specs.Seats.{StartsWith}
 use Rattle.sd_ruled.specs.Steps.{Tells, Sent, Took, Put, Got, Lifted}
@@ -43,7 +43,7 @@ suc_of zero least = absurd (omega (arith, least))
 suc_of (suc j) least = (j, refl)
 
 knows_nothing : (lanes : ℕ) (owner : ℕ → ℕ) (sent : ℕ → List Piece) (drive : ℕ) (taken held : List Queued) (pass : ℕ) → Fits lanes owner sent drive taken held pass of_nobody
-knows_nothing lanes owner sent drive taken held pass = record { lane = off; drives = off; mine = off; knows = off; sees = off }
+knows_nothing lanes owner sent drive taken held pass = record { lane = off; drives = off; mine = off; knows = off; sees = off; hosts = off }
 
 pub begins : Keeps [] (of_owner 0 [] [] ∷ [])
 begins = record {
@@ -59,7 +59,7 @@ begins = record {
   where
     one : (by : ℕ) (v : PassView) → get_elem? (of_owner 0 [] [] ∷ []) by ≡ some v → Fits 0 (λ _. 0) (λ _. []) 0 [] [] by v
     one zero v e = subst (Fits 0 (λ _. 0) (λ _. []) 0 [] [] 0) (some-injective _ _ e)
-        (record { lane = off; drives = λ _. (refl, refl, refl); mine = λ _ j _. (refl, refl); knows = λ _ k. ([], refl); sees = λ _. (refl, refl, refl) })
+        (record { lane = off; drives = λ _. (refl, refl, refl); mine = λ _ j _. (refl, refl); knows = λ _ k. ([], refl); sees = λ _. (refl, refl, refl); hosts = off })
     one (suc by) v e = absurd (some-ne-none v (sym e))
 
 -- ---- a push
@@ -82,6 +82,7 @@ others_push lanes owner sent drive taken held pass q j u apart least own f =
       mine = λ t k m. let r = f.mine t k m in (r.0, r.1 ∙ same (suc k) r.0);
       knows = λ t k. starts_more (sent k) (pieces_of k u.before) (pieces_of k (q ∷ [])) (f.knows t k);
       sees = λ s. let r = f.sees s in absurd (apart (sym (f.mine r.1 i.0 (omega (arith, r.2))).0 ∙ (ap owner (sym i.1) ∙ own)));
+      hosts = λ s. let r = f.hosts s in (r.0, r.1, r.2, r.3, r.4, r.5 ∙ same u.guest_lane r.1, r.6);
     }
 
 follows_push : (sent : ℕ → List Piece) (taken held : List Queued) (q : Queued) → LanesFollow sent taken held → LanesFollow (λ k. sent k ++ pieces_of k (q ∷ [])) taken (held ++ q ∷ [])
@@ -112,6 +113,7 @@ sends_at n pass lanes l s x held views _ h at =
               mine = off;
               knows = off;
               sees = off;
+              hosts = off;
             })
             (λ j u apart e. others_push h.lanes h.owner h.sent h.drive h.taken held pass q j u apart mine.1 mine.3 (h.fits j u e));
       },
@@ -147,6 +149,7 @@ puts_at n pass lanes taken held q least most items views _ h at =
               mine = λ t j m. let r = f.mine t j m in (r.0, all (suc j) (h.sent (suc j)) r.1);
               knows = λ t k. starts_self (h.sent k ++ pieces_of k (q ∷ [])) (pieces_of k (taken ++ (held ++ q ∷ []))) (sym (all k (h.sent k) (sym (sent_is k))));
               sees = λ s. (ap (λ l. l ++ q ∷ []) (f.sees s).0, refl, refl);
+              hosts = off;
             })
             (λ j u apart e. others_push h.lanes h.owner h.sent h.drive h.taken items pass q j u apart least own (h.fits j u e));
       },
@@ -163,7 +166,7 @@ others_pop : (lanes : ℕ) (owner : ℕ → ℕ) (sent : ℕ → List Piece) (dr
     → Fits lanes owner sent drive taken held j u → Fits lanes owner sent drive now rest j u
 others_pop lanes owner sent drive taken now held rest pass j u apart own f =
     let no = λ (t : u.takes ≡ true). apart (sym (f.drives t).1 ∙ own) in
-    record { lane = f.lane; drives = λ t. absurd (no t); mine = λ t. absurd (no t); knows = λ t. absurd (no t); sees = λ s. absurd (no (f.sees s).1) }
+    record { lane = f.lane; drives = λ t. absurd (no t); mine = λ t. absurd (no t); knows = λ t. absurd (no t); sees = λ s. absurd (no (f.sees s).1); hosts = λ s. absurd (no (f.hosts s).0) }
 
 follows_pop : (sent : ℕ → List Piece) (taken held : List Queued) (q : Queued) → LanesFollow sent taken (q ∷ held) → LanesFollow sent (taken ++ q ∷ []) held
 follows_pop sent taken held q h k = h k ∙ ap (pieces_of k) (sym (append_assoc taken (q ∷ []) held))
@@ -188,7 +191,7 @@ takes pass v drives q held views h at =
         follows = follows_pop h.sent h.taken held q h.follows;
         of_lanes = lanes_pop h.lanes h.taken held q h.of_lanes;
         fits = all_set F views pass w
-            (record { lane = off; drives = λ _. (mine.0, mine.1, ap (λ y. y ++ q ∷ []) mine.2); mine = λ _. f.mine drives; knows = λ _. f.knows drives; sees = off })
+            (record { lane = off; drives = λ _. (mine.0, mine.1, ap (λ y. y ++ q ∷ []) mine.2); mine = λ _. f.mine drives; knows = λ _. f.knows drives; sees = off; hosts = off })
             (λ j u apart e. others_pop h.lanes h.owner h.sent h.drive h.taken (h.taken ++ q ∷ []) (q ∷ held) held pass j u apart mine.1 (h.fits j u e));
       },
       (refl, within.0, subst (λ n. q.lane ≤ n) (sym mine.0) within.1),
@@ -218,6 +221,7 @@ gets_at pass lanes taken held q items views h at =
               mine = λ t j m. let r = f.mine t j m in (r.0, as_was (suc j) ∙ r.1);
               knows = λ t k. let r = f.knows t k in (r.0, r.1 ∙ ap (λ l. l ++ r.0) (sym (as_was k)));
               sees = λ _. (refl, refl, refl);
+              hosts = off;
             })
             (λ j u apart e. others_pop h.lanes h.owner h.sent h.drive h.taken (h.taken ++ q ∷ []) (q ∷ items) items pass j u apart mine.1 (h.fits j u e));
       },
@@ -237,7 +241,7 @@ others_none : (lanes more : ℕ) (owner : ℕ → ℕ) (sent now : ℕ → List 
 others_none lanes more owner sent now drive taken later held rest pass j u apart own all f =
     let no = λ (t : u.takes ≡ true). apart (sym (f.drives t).1 ∙ own) in
     let not = λ (s : u.sends ≡ true). let r = f.lane s in let i = suc_of u.lane r.1 in apart (sym r.3 ∙ (ap owner i.1 ∙ all i.0)) in
-    record { lane = λ s. absurd (not s); drives = λ t. absurd (no t); mine = λ t. absurd (no t); knows = λ t. absurd (no t); sees = λ s. absurd (no (f.sees s).1) }
+    record { lane = λ s. absurd (not s); drives = λ t. absurd (no t); mine = λ t. absurd (no t); knows = λ t. absurd (no t); sees = λ s. absurd (no (f.sees s).1); hosts = λ s. absurd (no (f.hosts s).0) }
 
 pub lifts : (pass : ℕ) (v : PassView) → v.takes ≡ true → v.away ≡ 0 → Pops Keeps pass v (Lifted v)
 lifts pass v takes none_away q held views h at =
@@ -258,7 +262,7 @@ lifts pass v takes none_away q held views h at =
         follows = λ k. ap (λ l. pieces_of k (l ++ held)) mine.2;
         of_lanes = lanes_less h.lanes h.taken q held h.of_lanes;
         fits = all_set F views pass w
-            (record { lane = off; drives = λ _. mine; mine = λ t j m. ((all j).0, refl); knows = λ t k. starts_self (now k) (now k) refl; sees = λ _. (refl, refl, refl) })
+            (record { lane = off; drives = λ _. mine; mine = λ t j m. ((all j).0, refl); knows = λ t k. starts_self (now k) (now k) refl; sees = λ _. (refl, refl, refl); hosts = off })
             (λ j u apart e. others_none h.lanes h.lanes h.owner h.sent now h.drive h.taken h.taken (q ∷ held) held pass j u apart mine.1 (λ i. (all i).0) (h.fits j u e));
       },
       record {
@@ -285,6 +289,7 @@ learns pass v held views h at =
       of_lanes = λ t. let r = f.drives t in subst (λ (x : ℕ × List Queued). AreOfLanes x.0 (x.1 ++ held)) (λ i. (sym r.0 i, sym r.2 i)) h.of_lanes;
       after = λ t k. let r = f.knows t k in (r.0, ap (λ l. pieces_of k (l ++ held)) (f.drives t).2 ∙ (sym (h.follows k) ∙ r.1));
       total = λ t j m. ap (λ l. pieces_of (suc j) (l ++ held)) (f.drives t).2 ∙ (sym (h.follows (suc j)) ∙ sym (f.mine t j m).1);
+      hosts = λ s. let r = f.hosts s in ap (λ l. pieces_of v.guest_lane (l ++ held)) (f.drives r.0).2 ∙ (sym (h.follows v.guest_lane) ∙ sym r.5);
     }
 
 -- ---- splits and joins
@@ -317,6 +322,7 @@ opens pass v is held views h at =
             mine = λ t j m. ((all j).0, sym (sent_is (suc j)));
             knows = λ t k. starts_self (h.sent k) (pieces_of k (v.taken ++ v.held)) (sent_is k);
             sees = λ _. (sees.0, refl, refl);
+            hosts = off;
           })
           (λ j u apart e. others_none h.lanes (suc h.lanes) h.owner h.sent h.sent h.drive h.taken h.taken held held pass j u apart mine.1 (λ i. (all i).0) (h.fits j u e)));
     }
@@ -348,6 +354,7 @@ rests pass v takes none_away are done held views h at =
             mine = λ t j m. ((all j).0, sym (sent_is (suc j)));
             knows = λ t k. starts_self (h.sent k) (pieces_of k (v.taken ++ [])) (sent_is k);
             sees = λ _. (sym empty, refl, refl);
+            hosts = off;
           })
           (λ j u apart e. h.fits j u e));
     }
@@ -373,6 +380,7 @@ others_given lanes owner sent drive taken held lane new j u apart drive_apart f 
       mine = λ t. absurd (no t);
       knows = λ t. absurd (no t);
       sees = λ s. absurd (no (f.sees s).1);
+      hosts = λ s. absurd (no (f.hosts s).0);
     }
 
 pub cuts : (pass : ℕ) (v : PassView) → v.takes ≡ true → v.away < v.lanes → Forks Keeps pass v (without_lane v) (only_lane v)
@@ -400,6 +408,7 @@ cuts pass v takes some_left held views h at =
             mine = off;
             knows = off;
             sees = off;
+            hosts = off;
           })
           (all_set F views pass w
           (record {
@@ -408,6 +417,7 @@ cuts pass v takes some_left held views h at =
             mine = λ t j m. let r = f.mine takes j (omega (arith, m)) in (given_else h.owner l n (suc j) (λ e. absurd (omega (arith, e, m))) ∙ r.0, r.1);
             knows = λ _. f.knows takes;
             sees = off;
+            hosts = off;
           })
           (λ j u apart e. others_given h.lanes h.owner h.sent h.drive h.taken held l n j u (λ x. apart (sym x ∙ turn.0)) (λ x. apart (sym x ∙ mine.1)) (h.fits j u e)));
     }
@@ -446,10 +456,108 @@ meets pass v other u takes speaks last held views h at two at' =
       of_lanes = h.of_lanes;
       fits = all_set F vs other of_nobody (knows_nothing h.lanes owner h.sent h.drive h.taken held other)
           (λ j x apart e. ⊎_elim
-          (λ (t : (j ≡ pass) × (w ≡ x)). subst (λ (y : ℕ × PassView). F y.0 y.1) (λ i. (sym t.0 i, t.1 i)) (record { lane = off; drives = λ _. mine; mine = λ _. here; knows = λ _. known; sees = off }))
+          (λ (t : (j ≡ pass) × (w ≡ x)). subst (λ (y : ℕ × PassView). F y.0 y.1) (λ i. (sym t.0 i, t.1 i)) (record { lane = off; drives = λ _. mine; mine = λ _. here; knows = λ _. known; sees = off; hosts = off }))
           (λ (t : (j ≢ pass) × (get_elem? views j ≡ some x)). others_given h.lanes h.owner h.sent h.drive h.taken held l pass j x (λ y. apart (sym y ∙ theirs.3)) (λ y. t.0 (sym y ∙ mine.1)) (h.fits j x t.1))
           (at_set views pass j w x e));
     }
   where
     behind : (away l j : ℕ) → away ≡ l → away - 1 ≤ j → l ≢ suc j → away ≤ j
     behind away l j e m n = omega (arith, e, m, n)
+
+-- ---- a visit
+
+pub visits : (pass : ℕ) (v : PassView) (other : ℕ) (u : PassView) → v.takes ≡ true → u.sends ≡ true → Merges Keeps pass v other u (with_guest v u) of_nobody
+visits pass v other u takes speaks held views h at two at' =
+    let w = with_guest v u in
+    let l = u.lane in
+    let f = h.fits pass v at in
+    let mine = f.drives takes in
+    let vs = set views pass w in
+    let was : get_elem? views other ≡ some u = ⊎_elim (λ x. absurd (two x.0)) (λ x. x.1) (at_set views pass other w u at') in
+    let theirs = (h.fits other u was).lane speaks in
+    let owner = given h.owner l pass in
+    let F = Fits h.lanes owner h.sent h.drive h.taken held in
+    let i = suc_of l theirs.1 in
+    let within = elim (dec_le l v.away) as (λ _. l ≤ v.away) [
+      | yes y ↦ y
+      | no n ↦ absurd (two (sym theirs.3 ∙ (ap h.owner i.1 ∙ (f.mine takes i.0 (omega (arith, lt_of_not-le n, i.1))).0)))
+    ] in
+    let own = λ (k : ℕ) (e : h.owner k ≡ pass). elim (ℕ_discrete l k) as (λ _. owner k ≡ pass) [
+      | yes y ↦ given_here h.owner l pass k y
+      | no n ↦ given_else h.owner l pass k n ∙ e
+    ] in
+    record {
+      lanes = h.lanes;
+      owner = owner;
+      sent = h.sent;
+      drive = h.drive;
+      taken = h.taken;
+      follows = h.follows;
+      of_lanes = h.of_lanes;
+      fits = all_set F vs other of_nobody (knows_nothing h.lanes owner h.sent h.drive h.taken held other)
+          (λ j x apart e. ⊎_elim
+          (λ (t : (j ≡ pass) × (w ≡ x)). subst (λ (y : ℕ × PassView). F y.0 y.1) (λ i. (sym t.0 i, t.1 i)) (record {
+            lane = off;
+            drives = λ _. mine;
+            mine = λ _ k m. let r = f.mine takes k m in (own (suc k) r.0, r.1);
+            knows = λ _. f.knows takes;
+            sees = off;
+            hosts = λ _. (refl, given_here h.owner l pass l refl, theirs.1, within, theirs.2, theirs.4, theirs.0);
+          }))
+          (λ (t : (j ≢ pass) × (get_elem? views j ≡ some x)). others_given h.lanes h.owner h.sent h.drive h.taken held l pass j x (λ y. apart (sym y ∙ theirs.3)) (λ y. t.0 (sym y ∙ mine.1)) (h.fits j x t.1))
+          (at_set views pass j w x e));
+    }
+
+pub goes : (pass : ℕ) (v : PassView) → v.takes ≡ true → v.guest ≡ true → Forks Keeps pass v (without_guest v) (guest_alone v)
+goes pass v takes guest held views h at =
+    let f = h.fits pass v at in
+    let mine = f.drives takes in
+    let r = f.hosts guest in
+    let l = v.guest_lane in
+    let w = without_guest v in
+    let n = length (set views pass w) in
+    let owner = given h.owner l n in
+    let F = Fits h.lanes owner h.sent h.drive h.taken held in
+    record {
+      lanes = h.lanes;
+      owner = owner;
+      sent = h.sent;
+      drive = h.drive;
+      taken = h.taken;
+      follows = h.follows;
+      of_lanes = h.of_lanes;
+      fits = all_new F (set views pass w) (guest_alone v)
+          (record {
+            lane = λ _. (r.6, r.2, r.4, given_here h.owner l n l refl, r.5);
+            drives = off;
+            mine = off;
+            knows = off;
+            sees = off;
+            hosts = off;
+          })
+          (all_set F views pass w
+          (record {
+            lane = off;
+            drives = λ _. mine;
+            mine = λ _ j m. let q = f.mine takes j m in (given_else h.owner l n (suc j) (λ e. absurd (omega (arith, e, m, r.3))) ∙ q.0, q.1);
+            knows = λ _. f.knows takes;
+            sees = off;
+            hosts = off;
+          })
+          (λ j u apart e. others_given h.lanes h.owner h.sent h.drive h.taken held l n j u (λ x. apart (sym x ∙ r.1)) (λ x. apart (sym x ∙ mine.1)) (h.fits j u e)));
+    }
+
+pub blanks : (pass : ℕ) (v : PassView) → Forks Keeps pass v v of_nobody
+blanks pass v held views h at =
+    let F = Fits h.lanes h.owner h.sent h.drive h.taken held in
+    record {
+      lanes = h.lanes;
+      owner = h.owner;
+      sent = h.sent;
+      drive = h.drive;
+      taken = h.taken;
+      follows = h.follows;
+      of_lanes = h.of_lanes;
+      fits = all_new F (set views pass v) of_nobody (knows_nothing h.lanes h.owner h.sent h.drive h.taken held (length (set views pass v)))
+          (all_set F views pass v (h.fits pass v at) (λ j u apart e. h.fits j u e));
+    }

@@ -9,12 +9,14 @@ use Rattle.sd_ruled.specs.Seats.{StartsWith}
 -- What a pass learns of what the queue holds at a moment. Who is sure knew it. A lane's pass: each came by one of the
 -- lanes, and those of its own lane are the last that it sent. The drive's: each piece came by one of the lanes; of
 -- each lane, what was taken and then what is held begins with what it knew, and is that, if the lane isn't away.
+-- With a guest: of its lane, what was taken and then what is held is all that it sent.
 pub record Tells (v : PassView) (held : List Queued) : Type 0 where
   pub exact : v.sure ≡ true → v.held ≡ held
   pub last : v.sends ≡ true → AreOfLanes v.lanes held × (before : List Piece) × (v.sent ≡ before ++ pieces_of v.lane held)
   pub of_lanes : v.takes ≡ true → AreOfLanes v.lanes (v.taken ++ held)
   pub after : v.takes ≡ true → (lane : ℕ) → StartsWith (pieces_of lane (v.taken ++ held)) (pieces_of lane v.before)
   pub total : v.takes ≡ true → (j : ℕ) → v.away ≤ j → pieces_of (suc j) (v.taken ++ held) ≡ pieces_of (suc j) v.before
+  pub hosts : v.guest ≡ true → pieces_of v.guest_lane (v.taken ++ held) ≡ v.guest_sent
 
 -- a lane's push
 abbrev pub Sent : PassView → Queued → PassView → Type 0

@@ -154,3 +154,36 @@ impl Split<Knows> for Rests {
 
     ghost right = { λ v. of_nobody };
 }
+
+/// A lane's pass comes to the drive's as a guest.
+pub struct Visits;
+
+impl Join<Knows> for Visits {
+    ghost use Rattle.sd_ruled.specs.Passes.{with_guest, of_nobody};
+
+    ghost both = { with_guest };
+
+    ghost spent = { of_nobody };
+}
+
+/// The guest goes.
+pub struct Goes;
+
+impl Split<Knows> for Goes {
+    ghost use Rattle.sd_ruled.specs.Passes.{without_guest, guest_alone};
+
+    ghost left = { without_guest };
+
+    ghost right = { guest_alone };
+}
+
+/// A pass that is nobody's, to stand in a seat for a moment.
+pub struct Blanks;
+
+impl Split<Knows> for Blanks {
+    ghost use Rattle.sd_ruled.specs.Passes.{of_nobody};
+
+    ghost left = { λ v. v };
+
+    ghost right = { λ v. of_nobody };
+}

@@ -1,12 +1,13 @@
 // A queue whose seats are split, and the seats: one for each lane, and the drive's.
-ghost use Rattle.std.specs.Prelude.{◌≡◌, ◌≤◌, ℕ, [], ◌∷◌, ◌++◌, OnOk, OnErr, IfErr, IfSome, IfNone};
-ghost use Rattle.sd_lane.specs.Queue.{queued, WasFull};
+ghost use Rattle.std.specs.Prelude.{◌≡◌, ◌≤◌, ℕ, [], ◌∷◌, ◌++◌, length, OnOk, OnErr, IfErr, IfSome, IfNone};
+ghost use Rattle.sd_lane.specs.Queue.{queued, pieces_of, WasFull};
 ghost use Rattle.sd_ruled.specs.Seats.{WasEmpty};
 
-use crate::rule::{Pass, Ring, Sends, Takes};
+use crate::rule::{Blanks, Goes, Pass, Ring, Sends, Takes, Visits};
 use sd_base::LaneNo;
 use sd_lane::{Piece, Queued};
 use std::marker::Model;
+use std::mem;
 use std::sync::Wait;
 
 /// The queue itself, which threads share. In a contract it is a `QueueIs`.
@@ -124,7 +125,35 @@ impl DriveSeat {
         ensures none { IfNone result (self.new ≡ self.old) }
         ensures was_empty { IfNone result (WasEmpty self.old.before self.old.taken) }
     {
-        let Queued { lane: _, piece } = queue.ring.pop_as::<Takes, R>(&queue.rt, &mut self.pass)?;
+        let Queued { lane: _, piece } = self.take_queued(queue)?;
         Some(piece)
+    }
+
+    /// Takes the piece that came first, with the lane that it came by; or none, as `take`. Takes no memory.
+    pub fn take_queued<R: Wait + Drop>(&mut self, queue: &LaneQueue<R>) -> Option<Queued>
+        requires { self.old.table ≡ queue.now.table }
+        ensures first { IfSome result (λ q. (1 ≤ q.lane) × (q.lane ≤ self.old.lanes)
+            × (self.new ≡ record self.old { taken = self.old.taken ++ q ∷ [] })) }
+        ensures none { IfNone result (self.new ≡ self.old) }
+        ensures was_empty { IfNone result (WasEmpty self.old.before self.old.taken) }
+    {
+        queue.ring.pop_as::<Takes, R>(&queue.rt, &mut self.pass)
+    }
+
+    /// Compares what was taken of a lane with what its seat sent: if they are as many, they are the same. Takes no
+    /// memory.
+    pub fn compare<R: Wait + Drop>(&mut self, queue: &LaneQueue<R>, seat: &mut LaneSeat)
+        requires drive { self.old.table ≡ queue.now.table }
+        requires lane { seat.old.table ≡ queue.now.table }
+        ensures same { (self.new ≡ self.old) × (seat.new ≡ seat.old) }
+        ensures all { length (pieces_of seat.old.lane self.old.taken) ≡ length seat.old.sent
+            → pieces_of seat.old.lane self.old.taken ≡ seat.old.sent }
+    {
+        // For a moment the lane's pass is in the drive's, which learns what the queue holds of that lane.
+        let blank = queue.ring.another::<Blanks>(&mut seat.pass);
+        let guest = mem::replace(&mut seat.pass, blank);
+        queue.ring.absorb::<Visits>(&mut self.pass, guest);
+        let _held = queue.ring.len_as::<Takes, R>(&queue.rt, &mut self.pass);
+        seat.pass = queue.ring.another::<Goes>(&mut self.pass);
     }
 }

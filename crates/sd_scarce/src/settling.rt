@@ -157,7 +157,7 @@ fn settle_again<N: Naming, R: Wait + Copy + Drop>(
         Err(back) => back,
     };
     let NotSettled {
-        line,
+        parts,
         ends,
         receipts,
         fault,
@@ -165,6 +165,7 @@ fn settle_again<N: Naming, R: Wait + Copy + Drop>(
     let SettleFault::Memory = fault else {
         return None;
     };
+    let line = Line::of_parts(parts);
     let world = settle(alloc, line, ends, receipts).ok()?;
     Some((world, true))
 }

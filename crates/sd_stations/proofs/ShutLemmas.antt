@@ -18,9 +18,9 @@ MayBy p q r = (q ≡ p) × (j : List Entry) × MayCloseBy j p.session r
 pub closes_by : (p q z : PartIs) (due : Option ReceiptIs) (r : ReceiptIs) → due ≡ Some r
     → IfSome due (λ (x : ReceiptIs). (q ≡ p) × (j : List Entry) × MayCloseBy j p.session x)
     → z ≡ with_session q z.session
-    → ((j : List Entry) → MayCloseBy j q.session r → Closes j q.session (Ok (Closed r)) z.session)
+    → ((j : List Entry) → MayCloseBy j q.session r → Closes ⊥ j q.session (Ok (Closed r)) z.session)
     → GoesOn p [] q → GoesOn p [] z × IsReceiptOf z.session r
 closes_by p q z due r is may same by goes =
     let own : MayBy p q r = subst (λ (x : Option ReceiptIs). IfSome x (MayBy p q)) is may in
-    let closes : Closes own.1 q.session (Ok (Closed r)) z.session = by own.1 (subst (λ (x : PartIs). MayCloseBy own.1 x.session r) (sym own.0) own.2) in
-    (goes_first p q z [] goes (closes_on q z (Ok (Closed r)) same (own.1, closes)), (receipt_of own.1 r q.session z.session closes).0)
+    let closes : Closes ⊥ own.1 q.session (Ok (Closed r)) z.session = by own.1 (subst (λ (x : PartIs). MayCloseBy own.1 x.session r) (sym own.0) own.2) in
+    (goes_first p q z [] goes (closes_on q z (Ok (Closed r)) same ⊥ own.1 closes), (receipt_of ⊥ own.1 r q.session z.session closes).0)

@@ -627,7 +627,7 @@ impl<D: Driver, N: Naming, R: Wait + Clock + Drop> Station<D, N, R> {
             let mut side = self.line.lock();
             let side: &mut DriveSide<D, N> = &mut side;
             let synced = self.sync_for(rt, side, part.session());
-            (part.receipt_on(side), synced)
+            (part.receipt_on(side, self.line.queue()), synced)
         };
         if let Some(operated) = synced {
             if operated.is_change {

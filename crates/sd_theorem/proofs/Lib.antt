@@ -17,5 +17,6 @@ pub mod Stood
 pub mod Stops
 pub mod ThreadStops
 pub mod Threads
+mod ToldCloses
 mod ToldLemmas
 pub mod Unpurged

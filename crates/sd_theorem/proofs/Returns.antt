@@ -1,16 +1,22 @@
 -- What was closed comes back, in whatever world it was closed.
-use Rattle.std.proofs.Common.{◌≡◌, ◌≤◌, ◌+◌, ℕ, sym, ap, subst, ◌∙◌, inl, inr, arith, true, None, Some, List, get_or, slice_get}
+use Rattle.std.proofs.Common.{◌≡◌, ◌≤◌, ◌+◌, ℕ, All, sym, ap, subst, ◌∙◌, inl, inr, arith, true, None, Some, List, get_or, slice_get}
+use Rattle.std.specs.Prelude.{IfSome}
 use Rattle.std.specs.Option.{option_map}
+use Rattle.sd_base.specs.Record.{Record}
 use Rattle.sd_base.specs.declared.number.SessionKey.{SessionKey}
 use Rattle.sd_desk.specs.Desk.{claimed_by}
 use Rattle.sd_desk.specs.declared.claim.Claim.{Claim}
 use Rattle.sd_driver.specs.Meaning.{Meaning}
-use Rattle.sd_driver.specs.Shelf.{Shelf, AfterStop}
+use Rattle.sd_driver.specs.Shelf.{Shelf, AfterStop, low_mark}
 use Rattle.sd_drive.specs.View.{DriveIs}
+use Rattle.sd_label.specs.Cutting.{Standing, Between, Within, AtEnd, Behind, is_ended}
+use Rattle.sd_label.specs.Label.{AreTotals}
 use Rattle.sd_machine.specs.Machine.{Machine}
 use Rattle.sd_machine.specs.declared.event.Event.TheVariants.{Adopt}
 use Rattle.sd_machine.specs.declared.reply.Reply.TheVariants.{Adopted}
-use Rattle.sd_readback.specs.Reading.{Reads, volumes_on}
+use Rattle.sd_readback.specs.Faults.{AreCountable}
+use Rattle.sd_readback.specs.Reading.{Reads, Volumes, volumes_on}
+use Rattle.sd_record.specs.Fragment.{Fragment}
 use Rattle.sd_readback.proofs.ReadingLemmas.{kept_read, reads_one}
 use Rattle.sd_world.specs.Lasting.{SpansLast}
 use Rattle.sd_world.proofs.LastLemmas.{lasting_spans_stay, lasting_spans_mark, lasting_spans_kept}
@@ -29,7 +35,7 @@ use Rattle.sd_world.specs.Steps.{IsSound}
 use Rattle.sd_world.specs.World.{WorldView, WorldSession, BayView, IsOnline, session_at}
 use Rattle.sd_world.proofs.ClaimLemmas.{closed_is_found}
 use Rattle.sd_world.proofs.DeedLemmas.{leads_keep}
-use Rattle.sd_world.proofs.ReadLemmas.{closed_is_countable, closed_reads, closed_spans_last}
+use Rattle.sd_world.proofs.ReadLemmas.{closed_reads, closed_spans_last}
 use Rattle.sd_world.proofs.SpanLemmas.{closed_has_span}
 use Rattle.sd_theorem.specs.Headline.{HasStatus}
 use Rattle.sd_theorem.specs.Returns.{Returns}
@@ -67,6 +73,45 @@ adopted_claimed {D} Z is found w r drive spans adopted at s within =
     let g = given_at is.device r.first w (Adopt drive name) (Adopted a.0 a.1) r.deeds r.leads a.2 in
     let now : claimed_by g.now.desk name ≡ Some drive = adopted_by is.device g.asked g.now drive name a.0 a.1 g.step.moves in
     (leads_keep is.device g.now w g.after g.step.sound g.goes_on).1.claims name drive now
+
+-- What returns.
+
+-- what comes before an end label is countable
+ended_is_countable : (records : List Record) (standing : Standing) (fs : List Fragment) → Behind records standing fs → true ≡ is_ended standing → AreCountable records
+ended_is_countable records Between fs b is = absurd (cc is)
+ended_is_countable records Within fs b is = absurd (cc is)
+ended_is_countable records AtEnd fs b is =
+    let totals = subst (λ o. IfSome o AreTotals) b.1.totals_are b.1.label_is.totals in
+    (totals.records, totals.bytes)
+
+-- so is what spans read to, if the session ended
+reads_countable : (volumes : Volumes) (key : SessionKey) (spans : List Span) (records : List Record) → Reads volumes key spans records true → AreCountable records
+reads_countable volumes key spans records reads =
+    let session = reads.whole.1.holds_by.session_is in
+    ended_is_countable records reads.whole.0 session.behind session.behind_is reads.whole.2
+
+-- What was read of spans when the shelf was the one returns: the spans last since on the shelf that it is now.
+pub returns_of : {D Q S : Type 0} (Z : Type 0) (is : Meanings D Q S) (key : SessionKey) (spans : List Span) (records : List Record) (then now : Shelf) (volumes : Volumes)
+    → All (λ (s : Span). s.end ≤ low_mark now then.moment s.volume) spans → SpansLast then.moment volumes now spans → Reads volumes key spans records true
+    → Returns Z is key spans records then now
+returns_of Z is key spans records then now volumes mark lasts reads =
+    let survive : (left last : Shelf) (others : List Shelf) → AfterStop then.moment now left → RunsStop Z is spans left others last → Survive volumes spans last =
+    λ left last others stop runs. survive_runs Z is volumes spans left last others runs (survive_stop then.moment volumes spans now left lasts stop) in
+    record {
+      mark = mark;
+      survives = λ left last others stop runs. kept_read volumes (volumes_on last) key spans records true (survive left last others stop runs).kept reads;
+      comes_back = λ left last others again after got got' result stop runs r adopted later none read.
+          let shelf = (is.device r.d.device).shelf in
+          let last_on = run_keeps Z is volumes spans last again r none ((survive left last others stop runs).last (found_stable Z is last again r)) in
+          let kept = lasting_spans_kept last.moment volumes shelf shelf spans last_on (λ name bytes here. here.now) in
+          let again_reads = kept_read volumes (volumes_on shelf) key spans records true kept reads in
+          let world = leads_keep is.device r.first again r.deeds r.begins.sound r.leads in
+          let kept_here = foreign_gone again key spans world.0.rules (λ same. absurd (omega (arith, later, same)))
+          (none_noted is.device r.first again r.deeds spans r.begins.sound r.leads r.begins.fresh.no_claim none) in
+          let countable = reads_countable volumes key spans records reads in
+          (world_gives is.device again after key spans records true got got' result (r.at + 1) r.at r.bay r.d r.online
+          (adopted_claimed Z is last again r (r.at + 1) spans adopted) (run_honest Z is last again r) kept_here again_reads countable.0 countable.1 read.reads).gives;
+    }
 
 -- Closed sessions.
 
@@ -179,36 +224,16 @@ module _ {D Q S : Type 0} (Z : Type 0) (is : Meanings D Q S) (key : SessionKey) 
             (kept_read (volumes_on (is.device t.d.device).shelf) (volumes_on shelf) key spans t.all.s.records true kept_now t.all.reads) all.reads).0;
       }
 
-  -- over stops
-  survive : (left last : Shelf) (others : List Shelf) → AfterStop (is.device stood.d.device).shelf.moment (is.device c.d.device).shelf left → RunsStop Z is spans left others last
-      → Survive (volumes_on (is.device stood.d.device).shelf) spans last
-  survive left last others stop runs =
-      let then = (is.device stood.d.device).shelf in
-      survive_runs Z is (volumes_on then) spans left last others runs (survive_stop then.moment (volumes_on then) spans (is.device c.d.device).shelf left stood.last stop)
-
   pub returns : StillReturns Z is key spans w c m
-  returns = record {
-    has = record { s = now.all.s; there = now.all.there; key_is = now.all.key_is; status_is = now.all.closed };
-    bay_then = stood.bay;
-    d_then = stood.d;
-    online_then = stood.online;
-    returns = record {
-      mark = lasting_spans_mark (is.device stood.d.device).shelf.moment (volumes_on (is.device stood.d.device).shelf) (is.device c.d.device).shelf spans stood.moment stood.last;
-      survives = λ left last others stop runs.
-          kept_read (volumes_on (is.device stood.d.device).shelf) (volumes_on last) key spans now.all.s.records true (survive left last others stop runs).kept
-          (subst (λ l. Reads (volumes_on (is.device stood.d.device).shelf) key spans l true) now.same stood.all.reads);
-      comes_back = λ left last others again after got got' result stop runs r adopted later none read.
-          let then = (is.device stood.d.device).shelf in
-          let shelf = (is.device r.d.device).shelf in
-          let lasts = run_keeps Z is (volumes_on then) spans last again r none ((survive left last others stop runs).last (found_stable Z is last again r)) in
-          let kept = lasting_spans_kept last.moment (volumes_on then) shelf shelf spans lasts (λ name bytes here. here.now) in
-          let reads = kept_read (volumes_on then) (volumes_on shelf) key spans now.all.s.records true kept
-          (subst (λ l. Reads (volumes_on then) key spans l true) now.same stood.all.reads) in
-          let world = leads_keep is.device r.first again r.deeds r.begins.sound r.leads in
-          let kept_here = foreign_gone again key spans world.0.rules (λ same. absurd (omega (arith, later, same)))
-          (none_noted is.device r.first again r.deeds spans r.begins.sound r.leads r.begins.fresh.no_claim none) in
-          let countable = closed_is_countable (volumes_on (is.device c.d.device).shelf) m key spans now.all in
-          (world_gives is.device again after key spans now.all.s.records true got got' result (r.at + 1) r.at r.bay r.d r.online
-          (adopted_claimed Z is last again r (r.at + 1) spans adopted) (run_honest Z is last again r) kept_here reads countable.0 countable.1 read.reads).gives;
-    };
-  }
+  returns =
+      let then = (is.device stood.d.device).shelf in
+      let shelf = (is.device c.d.device).shelf in
+      record {
+        has = record { s = now.all.s; there = now.all.there; key_is = now.all.key_is; status_is = now.all.closed };
+        bay_then = stood.bay;
+        d_then = stood.d;
+        online_then = stood.online;
+        returns = returns_of Z is key spans now.all.s.records then shelf (volumes_on then)
+            (lasting_spans_mark then.moment (volumes_on then) shelf spans stood.moment stood.last) stood.last
+            (subst (λ l. Reads (volumes_on then) key spans l true) now.same stood.all.reads);
+      }

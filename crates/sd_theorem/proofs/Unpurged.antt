@@ -11,10 +11,8 @@ use Rattle.sd_desk.specs.Desk.{claim_of, claimed_by, is_purged_at, tells_purged}
 use Rattle.sd_desk.specs.declared.claim.Claim.{Claim}
 use Rattle.sd_driver.specs.Meaning.{Meaning}
 use Rattle.sd_drive.specs.View.{DriveIs}
-use Rattle.sd_journal.specs.Journal.{Entry, placements, counts_of, has_on}
-use Rattle.sd_journal.specs.Share.{lost_of}
-use Rattle.sd_journal.specs.ShareView.{ShareView}
-use Rattle.sd_journal.proofs.ShareLemmas.{share_on}
+use Rattle.sd_journal.specs.Journal.{Entry, placements, has_on}
+use Rattle.sd_journal.proofs.ShareLemmas.{stretches_on}
 use Rattle.sd_machine.specs.declared.event.Event.{Event}
 use Rattle.sd_machine.specs.declared.event.Event.TheVariants.{Purge}
 use Rattle.sd_machine.specs.declared.reply.Reply.{Reply}
@@ -44,8 +42,7 @@ numbered_on name index (s ∷ ss) = ap (λ b. bytes_eq s.volume name || b) (numb
 -- a session has a block on a volume if one of its spans is on it
 spans_on : (key : SessionKey) (name : List ℕ) (es : List Entry) → list_any (λ (s : Span). bytes_eq s.volume name) (spans_of key (placements es)) ≡ has_on key name es
 spans_on key name es =
-    let share : ShareView = record { stretches = stretches (placements_of key (placements es)); counts = counts_of key es; lost = lost_of key es; ready = false } in
-    numbered_on name 1 (stretches (placements_of key (placements es))) ∙ share_on key name es share (record { stretches = refl; counts = refl; lost = refl })
+    numbered_on name 1 (stretches (placements_of key (placements es))) ∙ stretches_on name (placements_of key (placements es))
 
 either_none : (a b : Bool) → a ≡ false → b ≡ false → (a || b) ≡ false
 either_none true b one other = one

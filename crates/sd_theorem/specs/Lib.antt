@@ -1,4 +1,5 @@
 pub mod Closed
+pub mod Folders
 pub mod Gives
 pub mod Headline
 pub mod Lists
@@ -14,3 +15,4 @@ pub mod Stops
 pub mod ThreadStops
 pub mod Threads
 pub mod Told
+pub mod ToldCloses

@@ -1,4 +1,4 @@
--- What a caller has of the theorems, with queues and stores in memory.
+-- What a caller has of the theorems, with queues in memory.
 use Rattle.std.specs.Prelude.{◌≡◌, ◌⊎◌, ℕ, ◌≤◌, true, Some, Result, Err, List}
 use Rattle.std.specs.Global.{Global}
 use Rattle.sd_base.specs.Record.{Record}
@@ -17,6 +17,7 @@ use Rattle.sd_world.specs.World.{WorldView, BayView, IsOnline}
 use Rattle.sd_readback.specs.declared.read.ReadEnd.{ReadEnd}
 use Rattle.sd_session.specs.declared.status.Status.TheVariants.{Closed, Purged}
 use Rattle.sd_span.specs.declared.span.Span.{Span}
+use Rattle.sd_spool.specs.Meaning.{Meaning as StoreMeaning}
 use Rattle.sd_spool.specs.MemSpool.{meaning_of as store_of}
 use Rattle.sd_spool.specs.declared.memory.MemSpool.{MemSpool}
 use Rattle.sd_world.specs.Deeds.{events_in, replies_in}
@@ -25,13 +26,13 @@ use Rattle.sd_theorem.specs.Headline.{HasStatus}
 use Rattle.sd_theorem.specs.Start.{Meanings, Start}
 use Rattle.sd_theorem.specs.Stops.{WasClosed, deeds_of}
 
--- devices of this kind, with queues and stores in memory
-abbrev pub over : {D : Type 0} → (D → Meaning) → Meanings D PlainView MemSpool
-over meaning = record { device = meaning; queue = λ q. lanes_view q; store = λ s. store_of s }
+-- devices and stores of these kinds, with queues in memory
+abbrev pub over : {D S : Type 0} → (D → Meaning) → (S → StoreMeaning) → Meanings D PlainView S
+over device store = record { device = device; queue = λ q. lanes_view q; store = store }
 
 -- devices, queues and stores in memory
 abbrev pub in_memory : Meanings MemDrive PlainView MemSpool
-in_memory = over (λ d. meaning_of d)
+in_memory = over (λ d. meaning_of d) (λ s. store_of s)
 
 -- what a world over them is made of
 abbrev pub MemoryStart : Type 0

@@ -1,5 +1,5 @@
 -- What comes back of a session that was closed, whatever stops and runs follow.
-use Rattle.std.specs.Prelude.{◌≡◌, ℕ, ◌+◌, ◌<◌, ◌≤◌, All, true, Result, List}
+use Rattle.std.specs.Prelude.{◌+◌, ◌<◌, ◌≤◌, All, true, Result, List}
 use Rattle.sd_base.specs.Record.{Record}
 use Rattle.sd_base.specs.declared.number.SessionKey.{SessionKey}
 use Rattle.sd_base.specs.declared.refusal.Refusal.{Refusal}

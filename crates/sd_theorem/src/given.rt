@@ -1,11 +1,13 @@
-// A list of events is given to a new world over devices that are honest, and a session is read back.
-ghost use Rattle.std.specs.Prelude.{◌≡◌, ◌≤◌, length, All, IfSome};
+// A list of events is given to a new world over devices and spools that are honest, and a session is read back.
+ghost use Rattle.std.specs.Prelude.{◌≡◌, ◌≤◌, length, All, IfSome, Vec};
+ghost use Rattle.std.specs.Global.{Global as TheGlobal};
 ghost use Rattle.sd_lane.specs.Queue.{lanes_view};
 ghost use Rattle.sd_base.specs.Limits.{most_number};
 ghost use Rattle.sd_core.specs.Conf.{IsConf, AreQueues, AreStores};
 ghost use Rattle.sd_driver.specs.Meaning.{IsHonest};
 ghost use Rattle.sd_machine.specs.Machine.{Machine, empty_machine};
 ghost use Rattle.sd_machine.specs.Step.{Run};
+ghost use Rattle.sd_spool.specs.Meaning.{IsHonest as IsHonestStore};
 ghost use Rattle.sd_world.specs.Deeds.{answered};
 ghost use Rattle.sd_theorem.specs.Told.{WereToldClosed};
 ghost use Rattle.sd_theorem.specs.Lists.{GivesList};
@@ -16,7 +18,7 @@ use sd_core::{Event, ReadEnd, Reply, Sink, Span, World, WorldConf};
 use sd_driver::Driver;
 use sd_lane::PlainLanes;
 use sd_memdrive::MemDrive;
-use sd_spool::MemSpool;
+use sd_spool::{MemSpool, SpoolStore};
 use sd_world::steps_lead;
 use std::alloc::Global;
 
@@ -59,15 +61,15 @@ pub fn run_and_read<K: Sink>(
     )
 }
 
-/// `run_and_read` over any devices that are honest.
+/// `run_and_read` over any devices and any spools that are honest.
 #[allow(clippy::too_many_arguments)]
-pub fn run_and_read_over<D: Driver + Drop, K: Sink>(
+pub fn run_and_read_over<D: Driver + Drop, S: SpoolStore + Drop, K: Sink>(
     alloc: Global,
     conf: WorldConf,
     time: u32,
     devices: Vec<D>,
     queues: Vec<PlainLanes>,
-    stores: Vec<Vec<MemSpool>>,
+    stores: Vec<Vec<S>>,
     events: Vec<Event>,
     key: SessionKey,
     spans: &[Span],
@@ -78,6 +80,8 @@ pub fn run_and_read_over<D: Driver + Drop, K: Sink>(
     requires time_most { time ≤ most_number }
     requires devices { length devices.items ≡ length conf.drives.items }
     requires honest { All (λ device. IsHonest (D.meaning device)) devices.items }
+    requires honest_stores { All (λ (lanes : Vec S TheGlobal).
+        All (λ store. IsHonestStore (S.meaning store)) lanes.items) stores.items }
     requires queues { AreQueues (λ q. lanes_view q) conf.queue conf.drives.items queues.items }
     requires stores { AreStores conf.drives.items stores.items }
     ensures lists { IfSome result (λ told. (m : Machine)
@@ -93,6 +97,6 @@ pub fn run_and_read_over<D: Driver + Drop, K: Sink>(
     };
     let end = world.read(key, spans, sink);
     steps_lead::<D>();
-    headline::<D, PlainLanes, MemSpool, Global>();
+    headline::<D, PlainLanes, S, Global>();
     Some(Told { replies, end })
 }

@@ -1,7 +1,10 @@
-// The theorem of the daemon, in two laws; and that it stands for starts by notes.
+// The theorem of the daemon, in two laws; what it asks of folders; and that it stands for starts by notes.
+ghost use Rattle.sd_theorem.specs.Folders.{OverFolders};
 ghost use Rattle.sd_theorem.specs.Headline.{Headline};
 ghost use Rattle.sd_theorem.specs.Noted.{NotedStarts};
 ghost use Rattle.sd_theorem.specs.Stops.{StopTheorem};
+
+use sd_folder::Folder;
 
 /// The session theorem: whatever a world was asked, its replies and its sessions are those of a list machine; and while
 /// devices return what was written, what it acknowledged is read back, once and in order.
@@ -12,6 +15,15 @@ pub fn headline<D, Q, S, Z>()
 /// The stop theorem: what was told to be closed comes back after any stop, also one inside a call.
 pub fn stop_theorem<D, Q, S, Z>()
     ensures { StopTheorem D Q S Z }
+{}
+
+/// Over folders of files both theorems rest on these folders: if each one is honest that a world's devices and spools are over,
+/// all is that the world was made of.
+pub fn over_folders<F: Folder, Q, Z>()
+    ensures { OverFolders (record {
+      meaning = λ f. F.meaning f;
+      name_of = λ h. F.name_of h;
+    }) Q Z }
 {}
 
 /// Starts by notes: what a note of bytes that last says is true in each later run, whatever stops and runs come between; and

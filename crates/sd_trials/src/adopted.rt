@@ -5,7 +5,7 @@ ghost use Rattle.sd_base.specs.Limits.{most_number};
 use crate::events::{deeds_of, drive, events_of, volume};
 use crate::listed::TIME;
 use crate::rows::Row;
-use crate::worlds::{CAPACITY, world_over};
+use crate::worlds::{CAPACITY, stores, world_over};
 use sd_base::Refusal;
 use sd_core::Reply;
 use sd_machine::Event;
@@ -38,7 +38,7 @@ fn adopted(alloc: Global, row: &Row, time: u32) -> io::Result<Reply>
     requires most { time ≤ most_number }
 {
     let device = MemDrive::new(alloc, CAPACITY, &[])?;
-    let mut world = world_over(alloc, row, TIME, device, Vec::new(alloc))?;
+    let mut world = world_over(alloc, row, TIME, device, stores(alloc, Vec::new(alloc))?)?;
     let deeds = deeds_of(alloc, row)?;
     world.run(events_of(alloc, &deeds)?)?;
     let Ok(mut devices) = world.into_drivers() else {
@@ -47,7 +47,7 @@ fn adopted(alloc: Global, row: &Row, time: u32) -> io::Result<Reply>
     let Some(device) = devices.pop() else {
         return Err(io::Error::other("no device"));
     };
-    let mut later = world_over(alloc, row, time, device, Vec::new(alloc))?;
+    let mut later = world_over(alloc, row, time, device, stores(alloc, Vec::new(alloc))?)?;
     let (drive, name) = (drive()?, volume(1));
     Ok(later.step(Event::Adopt { drive, name }))
 }

@@ -1,15 +1,17 @@
 // An example in which one call of its device or of its spool fails: each of every kind in turn, in each way.
+ghost use Rattle.std.specs.Prelude.{◌∷◌, [], codes};
+ghost use Rattle.sd_core.specs.Conf.{AreStores};
 
 use crate::events::{are_records_of, deeds_of, event_of, ticket};
 use crate::listed::{Closed, TIME};
 use crate::rows::{Deed, Row};
-use crate::worlds::{CAPACITY, WorldOver, world_over};
+use crate::worlds::{CAPACITY, WorldOver, stores, world_over};
 use sd_base::{Rec, Refusal};
 use sd_core::{Reply, Status};
 use sd_driver::Driver;
 use sd_machine::Event;
 use sd_memdrive::{Call, Fail, MemDrive, When};
-use sd_spool::{SpoolCall, SpoolFail};
+use sd_spool::{SpoolCall, SpoolFail, SpoolStore};
 use std::alloc::Global;
 use std::io;
 
@@ -130,7 +132,8 @@ fn of_device(alloc: Global, row: &Row, call: Call, when: When) -> io::Result<Tal
     let mut all = NONE;
     for nth in 1..MOST_CALLS {
         let device = MemDrive::new(alloc, CAPACITY, &[Fail { call, nth, when }])?;
-        let (came, unread, _) = play(alloc, row, device, Vec::new(alloc))?;
+        let stores = stores(alloc, Vec::new(alloc))?;
+        let (came, unread, _) = play(alloc, row, device, stores)?;
         all = all.and(came.tally).and(all_wrong(&unread));
         if !came.has_fault {
             return Ok(all);
@@ -145,7 +148,7 @@ fn of_spool(alloc: Global, row: &Row, call: SpoolCall, when: When) -> io::Result
     for nth in 1..MOST_CALLS {
         let device = MemDrive::new(alloc, CAPACITY, &[])?;
         let plan = vec![in alloc; SpoolFail { call, nth, when }]?;
-        let (came, unread, _) = play(alloc, row, device, plan)?;
+        let (came, unread, _) = play(alloc, row, device, stores(alloc, plan)?)?;
         all = all.and(came.tally).and(all_wrong(&unread));
         if !came.has_fault {
             return Ok(all);
@@ -165,13 +168,15 @@ fn all_wrong(unread: &[Closed]) -> Tally {
 
 /// Plays the example, one event after another, and then looks at each session. Gives what it came to, the closed sessions that
 /// the device can't read any more, and the world.
-pub fn play<D: Driver + Drop>(
+pub fn play<D: Driver + Drop, S: SpoolStore + Drop>(
     alloc: Global,
     row: &Row,
     device: D,
-    plan: Vec<SpoolFail>,
-) -> io::Result<(Came, Vec<Closed>, WorldOver<D>)> {
-    let mut world = world_over(alloc, row, TIME, device, plan)?;
+    stores: Vec<Vec<S>>,
+) -> io::Result<(Came, Vec<Closed>, WorldOver<D, S>)>
+    requires { AreStores ((codes "File", 4) ∷ []) stores.items }
+{
+    let mut world = world_over(alloc, row, TIME, device, stores)?;
     let mut unread = Vec::with_capacity(alloc, row.closes.len())?;
     let mut came = Came {
         has_fault: false,
@@ -190,10 +195,10 @@ pub fn play<D: Driver + Drop>(
 }
 
 // Gives the world the event of a deed. A session that is closed by it is read.
-fn step<D: Driver + Drop>(
+fn step<D: Driver + Drop, S: SpoolStore + Drop>(
     alloc: Global,
     row: &Row,
-    world: &mut WorldOver<D>,
+    world: &mut WorldOver<D, S>,
     deed: Deed,
     unread: &mut Vec<Closed>,
 ) -> io::Result<Came> {
@@ -212,10 +217,10 @@ fn step<D: Driver + Drop>(
 }
 
 // Reads a closed session, a second time if the first met a fault. If that meets one too, it is unread.
-fn read<D: Driver + Drop>(
+fn read<D: Driver + Drop, S: SpoolStore + Drop>(
     alloc: Global,
     row: &Row,
-    world: &mut WorldOver<D>,
+    world: &mut WorldOver<D, S>,
     closed: Closed,
     unread: &mut Vec<Closed>,
 ) -> io::Result<Came> {
@@ -239,7 +244,10 @@ fn read<D: Driver + Drop>(
 }
 
 // How far the session of a record or of an end label is.
-fn status_for<D: Driver + Drop>(world: &WorldOver<D>, deed: Deed) -> io::Result<Option<Status>> {
+fn status_for<D: Driver + Drop, S: SpoolStore + Drop>(
+    world: &WorldOver<D, S>,
+    deed: Deed,
+) -> io::Result<Option<Status>> {
     match deed {
         Deed::Record(of, _, _) | Deed::End(of) => Ok(world.status(ticket(of)?)),
         _ => Ok(None),
@@ -262,7 +270,10 @@ fn is_right(deed: Deed, status: Option<Status>, reply: &Reply) -> bool {
 }
 
 // Cancels a session at the end, and tells whether that is answered as its status asks.
-fn leave<D: Driver + Drop>(world: &mut WorldOver<D>, of: u32) -> io::Result<Tally> {
+fn leave<D: Driver + Drop, S: SpoolStore + Drop>(
+    world: &mut WorldOver<D, S>,
+    of: u32,
+) -> io::Result<Tally> {
     let ticket = ticket(of)?;
     let status = world.status(ticket);
     let reply = world.step(Event::Cancel { ticket });

@@ -1,4 +1,4 @@
-// The examples over folders in memory, by the device that the daemon has over folders of the system.
+// The examples over folders in memory, by the device and the spools that the daemon has over folders of the system.
 ghost use Rattle.std.specs.Prelude.{◌≤◌, IfOk};
 ghost use Rattle.sd_driver.specs.Meaning.{IsHonest};
 ghost use Rattle.sd_filedrive.specs.Drive.{meaning_of};
@@ -8,7 +8,9 @@ use crate::failing::{Came, NONE, Tally, WAYS, WRONG, play as play_failing};
 use crate::listed::{Closed, TIME};
 use crate::rows::Row;
 use crate::stops::{LATER, TAIL, Told, adopts, device_of, play};
-use crate::worlds::{CAPACITY, drives, queues, settings, stores, world_over};
+use crate::worlds::{
+    CAPACITY, MemoryFolderSpool, drives, folder_stores, queues, settings, world_over,
+};
 use sd_base::Rec;
 use sd_filedrive::FolderDrive;
 use sd_memfolder::{Call, Fail, MemoryFolder};
@@ -30,11 +32,18 @@ static CALLS: [Call; 7] = [
 /// No example makes so many calls of one kind.
 const MOST_CALLS: u64 = 400;
 
+// Whose folder has a call that fails.
+#[derive(Clone, Copy)]
+enum Of {
+    Device,
+    Spool,
+}
+
 /// Gives a world all events of an example at once. Then each closed session is read by `run_and_read_over`, in a world of its
 /// own that is given the same list.
 pub fn list(rt: HostRuntime, row: &Row) -> io::Result<()> {
     let alloc = rt.alloc();
-    let (_, closed) = play(alloc, row, device(alloc, &[])?, row.closes.len())?;
+    let (_, closed) = play_all(alloc, row, row.closes.len())?;
     let (name, count, read) = (row.name, closed.len(), read_alone(alloc, row, &closed)?);
     println!(rt;
         "{name} over a folder: a list of events closes {count} sessions, of which {read} read to their records"
@@ -56,7 +65,7 @@ fn read_alone(alloc: Global, row: &Row, closed: &[Closed]) -> io::Result<u32> {
 /// took over the volumes.
 pub fn stop(rt: HostRuntime, row: &Row) -> io::Result<()> {
     let alloc = rt.alloc();
-    let (device, closed) = play(alloc, row, device(alloc, &[])?, row.closes.len())?;
+    let (device, closed) = play_all(alloc, row, row.closes.len())?;
     let told = told_by(alloc, row, closed)?;
     let (due, read) = read_after_stops(alloc, row, &device, &told)?;
     let (name, stops) = (row.name, device.folder().calls().saturating_add(1));
@@ -84,16 +93,19 @@ fn read_after_stops(
     Ok((due, read))
 }
 
-/// Plays the example with each call of the folder failing, in each way. After a sync that failed the device reads no volume past
-/// the place that its last sync reached: a closed session that it can't read for that is read in a later run.
+/// Plays the example with each call of the device's folder failing, and with each call of the first lane's spool's, in each way.
+/// After a sync that failed the device reads no volume past the place that its last sync reached: a closed session that it can't
+/// read for that is read in a later run.
 pub fn fail(rt: HostRuntime, row: &Row) -> io::Result<()> {
     let alloc = rt.alloc();
     let (mut all, mut later) = (NONE, 0u32);
-    for call in &CALLS {
-        for when in &WAYS {
-            let (tally, more) = failing(alloc, row, *call, *when)?;
-            all = all.and(tally);
-            later = later.saturating_add(more);
+    for folder in &[Of::Device, Of::Spool] {
+        for call in &CALLS {
+            for when in &WAYS {
+                let (tally, more) = failing(alloc, row, *folder, *call, *when)?;
+                all = all.and(tally);
+                later = later.saturating_add(more);
+            }
         }
     }
     let name = row.name;
@@ -106,6 +118,16 @@ pub fn fail(rt: HostRuntime, row: &Row) -> io::Result<()> {
     println!(rt;
         "{name} over a folder: {faults} runs met a fault; {read} sessions closed and read to their records, {later} in a later run, {failed} failed, {wrong} wrong"
     )
+}
+
+// Plays an example of which so many sessions are closed, with no call that fails.
+fn play_all(
+    alloc: Global,
+    row: &Row,
+    closes: usize,
+) -> io::Result<(FolderDrive<MemoryFolder>, Vec<Closed>)> {
+    let stores = folder_stores(alloc, &[])?;
+    play(alloc, row, device(alloc, &[])?, stores, closes)
 }
 
 // A device over a folder in memory with this plan.
@@ -122,7 +144,7 @@ fn reads_alone(alloc: Global, row: &Row, closed: &Closed) -> io::Result<bool> {
     let events = events_of(alloc, &deeds)?;
     let conf = settings(row, drives(alloc)?);
     let devices = vec![in alloc; device(alloc, &[])?]?;
-    let stores = stores(alloc, Vec::new(alloc))?;
+    let stores = folder_stores(alloc, &[])?;
     let mut recs: Vec<Rec> = Vec::new(alloc);
     let told = run_and_read_over(
         alloc,
@@ -150,7 +172,7 @@ fn told_by(alloc: Global, row: &Row, closed: Vec<Closed>) -> io::Result<Vec<Told
     let mut told = Vec::with_capacity(alloc, closed.len())?;
     let mut closes = closed.len();
     for one in closed {
-        let (device, _) = play(alloc, row, device(alloc, &[])?, closes)?;
+        let (device, _) = play_all(alloc, row, closes)?;
         let calls = device.folder().calls();
         told.push(Told { closed: one, calls })?;
         closes = closes.saturating_sub(1);
@@ -168,8 +190,8 @@ fn is_read_after(
 ) -> io::Result<bool>
     requires { calls ≤ (meaning_of device.now).shelf.moment }
 {
-    let left = leave_folder(alloc, device, calls, &TAIL)?;
-    let mut world = world_over(alloc, row, LATER, left, Vec::new(alloc))?;
+    let left = leave_folder::<MemoryFolderSpool>(alloc, device, calls, &TAIL)?;
+    let mut world = world_over(alloc, row, LATER, left, folder_stores(alloc, &[])?)?;
     if !adopts(&mut world, closed)? {
         return Ok(false);
     }
@@ -180,11 +202,17 @@ fn is_read_after(
     }
 }
 
-// The runs in which a call of the folder fails, up to the one that meets no fault; and how many sessions were read in a later run.
-fn failing(alloc: Global, row: &Row, call: Call, when: When) -> io::Result<(Tally, u32)> {
+// The runs in which a call of that folder fails, up to the one that meets no fault; and how many sessions were read in a later run.
+fn failing(
+    alloc: Global,
+    row: &Row,
+    folder: Of,
+    call: Call,
+    when: When,
+) -> io::Result<(Tally, u32)> {
     let (mut all, mut later) = (NONE, 0u32);
     for nth in 1..MOST_CALLS {
-        let (came, more) = failing_at(alloc, row, Fail { call, nth, when })?;
+        let (came, more) = failing_at(alloc, row, folder, Fail { call, nth, when })?;
         all = all.and(came.tally);
         later = later.saturating_add(more);
         if !came.has_fault {
@@ -195,9 +223,12 @@ fn failing(alloc: Global, row: &Row, call: Call, when: When) -> io::Result<(Tall
 }
 
 // The run in which this call fails; and how many of the sessions that its device can't read are read in a later run.
-fn failing_at(alloc: Global, row: &Row, fail: Fail) -> io::Result<(Came, u32)> {
-    let device = device(alloc, &[fail])?;
-    let (came, unread, world) = play_failing(alloc, row, device, Vec::new(alloc))?;
+fn failing_at(alloc: Global, row: &Row, folder: Of, fail: Fail) -> io::Result<(Came, u32)> {
+    let (device, stores) = match folder {
+        Of::Device => (device(alloc, &[fail])?, folder_stores(alloc, &[])?),
+        Of::Spool => (device(alloc, &[])?, folder_stores(alloc, &[fail])?),
+    };
+    let (came, unread, world) = play_failing(alloc, row, device, stores)?;
     let device = device_of(world)?;
     let (wrong, later) = read_later(alloc, row, &device, &unread)?;
     let tally = came.tally.and(wrong);

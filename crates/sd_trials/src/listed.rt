@@ -27,7 +27,7 @@ pub fn run(rt: HostRuntime, row: &Row) -> io::Result<()> {
     let alloc = rt.alloc();
     let deeds = deeds_of(alloc, row)?;
     let device = MemDrive::new(alloc, CAPACITY, &[])?;
-    let mut world = world_over(alloc, row, TIME, device, Vec::new(alloc))?;
+    let mut world = world_over(alloc, row, TIME, device, stores(alloc, Vec::new(alloc))?)?;
     let replies = world.run(events_of(alloc, &deeds)?)?;
     let closed = closed_in(alloc, row, replies)?;
     let mut read = 0u32;

@@ -1,10 +1,11 @@
-//! A program for tests: worked examples as lists of events, given to worlds whose devices and spools are in memory.
+//! A program for tests: worked examples as lists of events, given to worlds whose devices and spools are in memory, or
+//! over folders in memory.
 //!
 //! - each as one list, and its closed sessions read by `run_and_read` in a world of their own;
 //! - devices that stop after each of their changes, and a later run that reads what was told to be closed;
 //! - a volume that a later run takes over, and one of the same time, which is refused;
 //! - each call of a device and of a spool failing, in each way;
-//! - all but the spools' again over folders in memory, by the device that the daemon has over folders of the system.
+//! - all again over folders in memory, by the device and the spools that the daemon has over folders of the system.
 //!
 //! With the word `scarce` each is played by lists of one event each, an event that is refused for want of memory is given once
 //! more, and a later run reads its sessions again: `tests/memory/run` refuses each allocation of that in turn.

@@ -3,7 +3,7 @@
 use crate::events::{are_records_of, deeds_of, drive, event_of};
 use crate::listed::TIME;
 use crate::rows::{Deed, Row};
-use crate::worlds::{CAPACITY, MemWorld, world_over};
+use crate::worlds::{CAPACITY, MemWorld, stores, world_over};
 use sd_base::{Items, Rec, Refusal, SessionKey};
 use sd_core::{ReadEnd, Reply, Span};
 use sd_machine::Event;
@@ -19,7 +19,7 @@ const LATER: u32 = 2000;
 pub fn run(rt: HostRuntime, row: &Row) -> io::Result<()> {
     let alloc = rt.alloc();
     let device = MemDrive::new(alloc, CAPACITY, &[])?;
-    let mut world = world_over(alloc, row, TIME, device, Vec::new(alloc))?;
+    let mut world = world_over(alloc, row, TIME, device, stores(alloc, Vec::new(alloc))?)?;
     let mut closed = Vec::with_capacity(alloc, row.closes.len())?;
     for deed in &deeds_of(alloc, row)? {
         let reply = give(alloc, &mut world, *deed)?;
@@ -71,7 +71,7 @@ fn later_world(alloc: Global, row: &Row, world: MemWorld) -> io::Result<MemWorld
         return Err(AllocError.into());
     };
     match devices.pop() {
-        Some(device) => Ok(world_over(alloc, row, LATER, device, Vec::new(alloc))?),
+        Some(device) => Ok(world_over(alloc, row, LATER, device, stores(alloc, Vec::new(alloc))?)?),
         None => Err(io::Error::other("no device")),
     }
 }

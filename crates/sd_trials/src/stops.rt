@@ -1,18 +1,20 @@
 // An example whose device stops after each of its changes, with bytes behind what lasted.
-ghost use Rattle.std.specs.Prelude.{◌≤◌};
+ghost use Rattle.std.specs.Prelude.{◌≤◌, ◌∷◌, [], codes};
+ghost use Rattle.sd_core.specs.Conf.{AreStores};
 ghost use Rattle.sd_memdrive.specs.Drive.{meaning_of};
 
 use crate::events::{are_records_of, deeds_of, drive, events_of};
 use crate::listed::{Closed, TIME, closed_in};
 use crate::rows::{Deed, Row};
-use crate::worlds::{CAPACITY, WorldOver, world_over};
+use crate::worlds::{CAPACITY, WorldOver, stores, world_over};
 use sd_base::Rec;
 use sd_core::Reply;
 use sd_driver::Driver;
 use sd_machine::Event;
 use sd_memdrive::MemDrive;
+use sd_spool::SpoolStore;
 use sd_theorem::{leave, read_again};
-use std::alloc::{AllocError, Global};
+use std::alloc::Global;
 use std::io;
 
 /// What lies behind what lasted of each volume.
@@ -33,7 +35,7 @@ pub struct Told {
 pub fn run(rt: HostRuntime, row: &Row) -> io::Result<()> {
     let alloc = rt.alloc();
     let told = told_by(alloc, row)?;
-    let (device, _) = play(alloc, row, new(alloc)?, row.closes.len())?;
+    let (device, _) = play_in_memory(alloc, row, row.closes.len())?;
     let (mut due, mut read) = (0u32, 0u32);
     for calls in 0..=device.calls() {
         for one in told.iter().filter(|one| one.calls <= calls) {
@@ -49,23 +51,29 @@ pub fn run(rt: HostRuntime, row: &Row) -> io::Result<()> {
     )
 }
 
-fn new(alloc: Global) -> Result<MemDrive, AllocError> {
-    MemDrive::new(alloc, CAPACITY, &[])
+// Plays it in memory.
+fn play_in_memory(alloc: Global, row: &Row, closes: usize) -> io::Result<(MemDrive, Vec<Closed>)> {
+    let device = MemDrive::new(alloc, CAPACITY, &[])?;
+    let stores = stores(alloc, Vec::new(alloc))?;
+    play(alloc, row, device, stores, closes)
 }
 
 /// Plays an example of which so many sessions are closed. Gives its device, and what these closes told.
-pub fn play<D: Driver + Drop>(
+pub fn play<D: Driver + Drop, S: SpoolStore + Drop>(
     alloc: Global,
     row: &Row,
     device: D,
+    stores: Vec<Vec<S>>,
     closes: usize,
-) -> io::Result<(D, Vec<Closed>)> {
+) -> io::Result<(D, Vec<Closed>)>
+    requires { AreStores ((codes "File", 4) ∷ []) stores.items }
+{
     let mut deeds = deeds_of(alloc, row)?;
     let left = row.closes.len().saturating_sub(closes);
     for _ in 0..left {
         let _: Option<Deed> = deeds.pop();
     }
-    let mut world = world_over(alloc, row, TIME, device, Vec::new(alloc))?;
+    let mut world = world_over(alloc, row, TIME, device, stores)?;
     let replies = world.run(events_of(alloc, &deeds)?)?;
     let closed = if left == 0 {
         closed_in(alloc, row, replies)?
@@ -76,7 +84,7 @@ pub fn play<D: Driver + Drop>(
 }
 
 /// The device of a world that has one drive.
-pub fn device_of<D: Driver + Drop>(world: WorldOver<D>) -> io::Result<D> {
+pub fn device_of<D: Driver + Drop, S: SpoolStore + Drop>(world: WorldOver<D, S>) -> io::Result<D> {
     match world.into_drivers() {
         Ok(mut devices) => match devices.pop() {
             Some(device) => Ok(device),
@@ -88,11 +96,11 @@ pub fn device_of<D: Driver + Drop>(world: WorldOver<D>) -> io::Result<D> {
 
 // The sessions, each with how many changes the device had made when it was told to be closed.
 fn told_by(alloc: Global, row: &Row) -> io::Result<Vec<Told>> {
-    let (_, closed) = play(alloc, row, new(alloc)?, row.closes.len())?;
+    let (_, closed) = play_in_memory(alloc, row, row.closes.len())?;
     let mut told = Vec::with_capacity(alloc, closed.len())?;
     let mut closes = closed.len();
     for one in closed {
-        let (device, _) = play(alloc, row, new(alloc)?, closes)?;
+        let (device, _) = play_in_memory(alloc, row, closes)?;
         let calls = device.calls();
         told.push(Told { closed: one, calls })?;
         closes = closes.saturating_sub(1);
@@ -111,7 +119,7 @@ fn is_read_after(
     requires { calls ≤ (meaning_of device.now).shelf.moment }
 {
     let left = leave(alloc, device, calls, &TAIL)?;
-    let mut world = world_over(alloc, row, LATER, left, Vec::new(alloc))?;
+    let mut world = world_over(alloc, row, LATER, left, stores(alloc, Vec::new(alloc))?)?;
     if !adopts(&mut world, closed)? {
         return Ok(false);
     }
@@ -123,7 +131,10 @@ fn is_read_after(
 }
 
 /// Whether a world takes over the volumes of a closed session.
-pub fn adopts<D: Driver + Drop>(world: &mut WorldOver<D>, closed: &Closed) -> io::Result<bool> {
+pub fn adopts<D: Driver + Drop, S: SpoolStore + Drop>(
+    world: &mut WorldOver<D, S>,
+    closed: &Closed,
+) -> io::Result<bool> {
     for span in closed.spans.as_slice() {
         let name = span.volume.copy();
         let drive = drive()?;

@@ -35,7 +35,15 @@ entry_with e v = record e { session = v }
 abbrev pub session_world : {D : Type 0} → WorldView D → WorldSession → SessionView → WorldView D
 session_world w e v = record w { sessions = with_session (entry_with e v) w.sessions }
 
--- What changes of a session, in the world and in the machine. Its own store may be taken for honest.
+-- if the store is honest, so is the spool
+spool_in : (store : Option StoreState) (spool : Option JobView) → StoreIsTrue (home_of store spool) → SpoolIsHonest spool
+spool_in store None h = tt
+spool_in store (Some j) h = h
+
+pub spool_is_honest : (s : SessionView) → StoreIsTrue (store_of s) → SpoolIsHonest s.spool
+spool_is_honest s h = spool_in s.store s.spool h
+
+-- What changes of a session, in the world and in the machine. Its own spool, if it has one, may be taken for honest.
 pub record OwnChange (e : WorldSession) (v : SessionView) (s s' : MachineSession) : Type 0 where
   pub key_is : v.key ≡ e.session.key
   pub key_same : s'.key ≡ s.key
@@ -43,7 +51,7 @@ pub record OwnChange (e : WorldSession) (v : SessionView) (s s' : MachineSession
   pub count_is : length s'.records ≡ v.count
   pub bytes_are : total_bytes s'.records ≡ v.bytes
   pub last_is : last_index s'.records ≡ v.last
-  pub bodies : StoreIsTrue (store_of e.session) → (sent : List PackedBody)
+  pub bodies : SpoolIsHonest e.session.spool → (sent : List PackedBody)
       → HasBodies e.session.packer.room sent (sent ++ parts_of e.session) s.status s.records
       → HasBodies v.packer.room sent (sent ++ parts_of v) s'.status s'.records
 
@@ -63,7 +71,7 @@ own_changed {D} meaning old ticket e v s s' there back c closed h = record {
       let was = back at bay d honest in
       let sent = λ (k : SessionKey). bodies_with k (sent_to (meaning d.device).shelf d bay.queue) in
       subst (λ k. HasBodies v.packer.room (sent k) (sent k ++ parts_of v) s'.status s'.records) (sym c.key_is)
-      (c.bodies (was.sessions ticket e there on.number) (sent e.session.key) (h.bodies_are at bay d on was));
+      (c.bodies (spool_is_honest e.session (was.sessions ticket e there on.number)) (sent e.session.key) (h.bodies_are at bay d on was));
   closed = closed;
 }
 
@@ -186,7 +194,7 @@ running_bodies room room' sent sent' all all' status records (inr is) rooms alls
     (subst₂ (λ n bodies. Packs n bodies records AtEnd) (sym rooms) (sym alls) (subst (λ x. HasBodies room sent all x records) is h))
 
 pub parts_moved : {D : Type 0} (meaning : D → Meaning) (w : WorldView D) (e : WorldSession) (v : SessionView) (s : MachineSession) → MovesBodies e.session v → IsRunning e.session.status
-    → (StoreIsTrue (store_of e.session) → parts_of v ≡ parts_of e.session) → SessionMatches meaning w e s → OwnChange e v s s
+    → (SpoolIsHonest e.session.spool → parts_of v ≡ parts_of e.session) → SessionMatches meaning w e s → OwnChange e v s s
 parts_moved meaning w e v s moves running parts h = record {
   key_is = moves.key_is;
   key_same = refl;
@@ -197,14 +205,6 @@ parts_moved meaning w e v s moves running parts h = record {
   bodies = λ honest sent b. running_bodies e.session.packer.room v.packer.room sent sent (sent ++ parts_of e.session) (sent ++ parts_of v) s.status s.records
       (subst IsRunning (sym h.status_is) running) moves.room_is (ap (λ l. sent ++ l) (parts honest)) b;
 }
-
--- if the store is honest, so is the spool
-spool_in : (store : Option StoreState) (spool : Option JobView) → StoreIsTrue (home_of store spool) → SpoolIsHonest spool
-spool_in store None h = tt
-spool_in store (Some j) h = h
-
-pub spool_is_honest : (s : SessionView) → StoreIsTrue (store_of s) → SpoolIsHonest s.spool
-spool_is_honest s h = spool_in s.store s.spool h
 
 pub running_unstruck : (status : Status) → IsRunning status → IsUnstruck status
 running_unstruck status (inl is) = subst IsUnstruck (sym is) (refl, refl)

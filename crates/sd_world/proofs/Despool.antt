@@ -68,7 +68,7 @@ despool_full meaning old new m ticket rules h moves =
     (moves_bodies e.session v e.session.sent (Some finds.body) finds.between.spool e.session.despooling finds.between.packer finds.is
     (next_room finds.body (stations_of e.session) finds.between finds.takes)) finds.running
     (subst StoreIsTrue (ap store_of finds.is ∙ next_store e.session.store finds.body (stations_of e.session) finds.between finds.takes))
-    (λ honest. finds.bodies (spool_is_honest e.session honest))
+    finds.bodies
     (λ s there runs. ((s, there, runs, refl), inr (inl refl))) refl
 
 despool_nothing : {D : Type 0} (meaning : D → Meaning) (old new : WorldView D) (m : Machine) (ticket : ℕ) → IsWorld old → Matches meaning old m

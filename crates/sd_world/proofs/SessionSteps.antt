@@ -13,7 +13,7 @@ use Rattle.sd_machine.specs.declared.event.Event.{Event}
 use Rattle.sd_machine.specs.declared.event.Event.TheVariants.{Append, End, Cancel, Spool, Media}
 use Rattle.sd_machine.specs.declared.reply.Reply.{Reply}
 use Rattle.sd_machine.specs.declared.reply.Reply.TheVariants.{Refused, Taken, Ended, Cancelled, Spooled, SpoolFull, Nothing, NoSpool, Media as Spans}
-use Rattle.sd_session.specs.Session.{SessionView, IsRunning, NotRunning, AppendRefused, TakesRecord, EndsSession, EndRefused, CancelsSession, status_refusal, parts_of, store_of, home_of}
+use Rattle.sd_session.specs.Session.{SessionView, SpoolIsHonest, IsRunning, NotRunning, AppendRefused, TakesRecord, EndsSession, EndRefused, CancelsSession, status_refusal, parts_of, store_of, home_of}
 use Rattle.sd_session.specs.Spooling.{Spools, SpoolRefused, FailsBySpool}
 use Rattle.sd_session.specs.declared.answer.Spooling.TheVariants as spooling
 use Rattle.sd_session.specs.declared.answer.Spooling.{Spooling}
@@ -27,7 +27,7 @@ use Rattle.sd_world.specs.World.{WorldView, WorldSession, HasTicket, session_at,
 use Rattle.sd_world.specs.Honest.{StoreIsTrue}
 use Rattle.sd_world.specs.Matches.{SessionMatches, Matches}
 use Rattle.sd_world.specs.MachineSteps.{StepsTo, failure, newly_struck}
-use Rattle.sd_world.proofs.Changes.{entry_with, session_world, session_step, machine_may_take, world_may_take, takes_record, ends_session, cancels_session, MovesBodies, parts_moved, spool_is_honest, running_unstruck}
+use Rattle.sd_world.proofs.Changes.{entry_with, session_world, session_step, machine_may_take, world_may_take, takes_record, ends_session, cancels_session, MovesBodies, parts_moved, running_unstruck}
 use Rattle.sd_world.proofs.Striking.{IsUnstruck, IsFailure, Struck, StruckOrStay, drops_struck, stays, struck_step, fails_strike, strikes_with, all_stay}
 use Rattle.sd_world.proofs.Frames.{Framed, HonestBack, frame_unmoved}
 use Rattle.sd_world.proofs.Honesty.{honest_back, with_stores}
@@ -187,7 +187,7 @@ media_steps meaning old new ticket reply m rules moves h = absurd moves
 -- a session that goes on, of which bodies move in it: the machine stays
 pub parts_step : {D : Type 0} (meaning : D → Meaning) (old new : WorldView D) (m : Machine) (ticket : ℕ) (e : WorldSession) (v : SessionView) (event : Event) (reply : Reply)
     → IsWorld old → Matches meaning old m → HasTicket old ticket e → new ≡ session_world old e v → MovesBodies e.session v → IsRunning e.session.status
-    → (StoreIsTrue (store_of v) → StoreIsTrue (store_of e.session)) → (StoreIsTrue (store_of e.session) → parts_of v ≡ parts_of e.session)
+    → (StoreIsTrue (store_of v) → StoreIsTrue (store_of e.session)) → (SpoolIsHonest e.session.spool → parts_of v ≡ parts_of e.session)
     → ((s : MachineSession) → HasSession m ticket s → IsRunning s.status → Turns m event reply m) → MayStrike m event reply [] → StepsTo meaning m old event reply new
 parts_step meaning old new m ticket e v event reply rules h there is moves running store parts turns fail =
     let f = found meaning old m ticket e h there in
@@ -243,7 +243,7 @@ spool_moves meaning old new m ticket spooling.Spooled event reply rules h moves 
     parts_step meaning old new m ticket e v event reply rules h moves.2 moves.4
     (moves_bodies e.session v e.session.sent e.session.ready (Some spools.job') e.session.despooling v.packer spools.is spools.moves.room_is) spools.running
     (subst StoreIsTrue (spool_store e.session v spools.job spools.job' spools.spool_is (ap (λ (x : SessionView). x.spool) spools.is) spools.moves.store_is))
-    (λ honest. spools.bodies (spool_is_honest e.session honest)) turns fail
+    spools.bodies turns fail
 spool_moves meaning old new m ticket spooling.SpoolFull event reply rules h moves turns fail =
     let e = moves.0 in
     let v = moves.1 in

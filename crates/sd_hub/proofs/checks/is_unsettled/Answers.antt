@@ -12,7 +12,7 @@ use Rattle.sd_hub.proofs.checks.is_unsettled.Goals as goal
 pub returns-in-Closed : goal.returns-in-Closed
 returns-in-Closed g c =
     let journal = c.args.drive.now.journal in
-    let own : ToldSession = record { session = c.told.inside.session; told = seen_of c.told.inside.told } in
+    let own : ToldSession = record { session = c.told.inside.session; told = seen_of c.told.inside.told; spools = c.told.inside.spools } in
     let far = c.progress.ensures ∙ ap (λ (k : SessionKey). progress_of k journal) c.key.ensures in
     subst (λ (s : ToldSession). IsTrue (not c.has_all.result) ↔ IsUnsettled journal s) c.told.view_is
     (closed_unsettled journal own c.progress.result.placed c.progress.result.synced c.sent.result c.has_all.result c.in-Closed.ensures

@@ -9,5 +9,5 @@ returns-clause-some g c =
     let all = c.args.sessions.now.items in
     let rest = c.pop.new.self.items in
     let is : all ≡ rest ++ c.in_ok-last.last ∷ [] = search rules in
-    gave c.give_back-store.result all rest (told c.last.inside.session (seen_of c.last.inside.told)) c.give_back-store.new.self
+    gave c.give_back-store.result all rest (told c.last.inside.spools c.last.inside.session (seen_of c.last.inside.told)) c.give_back-store.new.self
     (is ∙ ap (λ l. rest ++ l ∷ []) (sym c.last.view_is)) c.requires.over c.requires.stored c.give_back-store.ensures.none

@@ -1,4 +1,4 @@
-use Rattle.std.proofs.Common.{◌≡◌, true, false, ap, sym, ◌∙◌}
+use Rattle.std.proofs.Common.{ap, sym, ◌∙◌}
 use Rattle.std.specs.Prelude.{is_some}
 use Rattle.sd_drive.specs.Moves.{index_of}
 use Rattle.sd_line.proofs.RoomLemmas.{adopt_there, adopt_loaded, adopt_memory}

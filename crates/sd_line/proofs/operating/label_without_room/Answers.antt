@@ -1,5 +1,5 @@
-use Rattle.std.proofs.Common.{◌≡◌, true, false, ap, sym, subst, ◌∙◌}
-use Rattle.std.specs.Prelude.{is_some, IsTrue}
+use Rattle.std.proofs.Common.{ap, sym, ◌∙◌}
+use Rattle.std.specs.Prelude.{is_some}
 use Rattle.sd_drive.specs.Moves.{index_of}
 use Rattle.sd_line.proofs.RoomLemmas.{label_other, label_loaded, label_there, label_memory}
 use Rattle.sd_line.proofs.operating.label_without_room.Goals as goal

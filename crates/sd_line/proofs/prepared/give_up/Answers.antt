@@ -1,7 +1,6 @@
-use Rattle.std.proofs.Common.{refl, ap, sym, subst, inl, Some}
+use Rattle.std.proofs.Common.{refl, ap, sym, subst, inl}
 use Rattle.std.specs.Prelude.{IsSome}
 use Rattle.sd_session.specs.Session.{SessionView}
-use Rattle.sd_line.specs.Ends.{EndIs, KeepsEnd}
 use Rattle.sd_line.proofs.prepared.give_up.Goals as goal
 
 pub store_back-requires-clause-running : goal.store_back-requires-clause-running

@@ -4,7 +4,7 @@ use Rattle.sd_theorem.proofs.stopped.read_again_over.Goals as goal
 
 pub returns : goal.returns
 returns g c = λ start w was left since runs adopted later none.
-    let t = c.stop_theorem.ensures (over g.D.Driver.meaning) start c.args.key c.args.spans.now w was in (
+    let t = c.stop_theorem.ensures (over g.D.Driver.meaning g.S.SpoolStore.meaning) start c.args.key c.args.spans.now w was in (
       t.m,
       t.run,
       t.has,

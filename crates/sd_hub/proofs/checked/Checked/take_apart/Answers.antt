@@ -12,7 +12,7 @@ pub join-queue-requires-clause-drive : goal.join-queue-requires-clause-drive
 join-queue-requires-clause-drive g c =
     let i = c.self.invariant in
     let parts = c.into_parts-drive.ensures in
-    ap (λ (s : DriveSeatIs). s.table) parts.seat ∙ (parts.keeps.here ∙ (ap g.N.Naming.table i.passes.synced.keys.lanes.no_is ∙ sym i.here))
+    ap (λ (s : DriveSeatIs). s.table) parts.seat ∙ (parts.keeps.here ∙ (ap g.N.Naming.table i.passes.synced.keys.lanes.no_is ∙ sym c.self.inside.parts.here))
 
 pub join-queue-requires-clause-count : goal.join-queue-requires-clause-count
 join-queue-requires-clause-count g c =
@@ -22,7 +22,7 @@ pub join-queue-requires-clause-seats : goal.join-queue-requires-clause-seats
 join-queue-requires-clause-seats g c =
     let p = c.self.inside.parts in
     taken_seats g.N.Naming.table g.N.Naming.time p.no c.self.inside.ends.items c.lanes-lanes.result c.gather-seats.result.seats.items c.gather-seats.result.lanes.items p.queue.table c.gather-seats.ensures
-    (sym c.self.invariant.here)
+    (sym c.self.inside.parts.here)
 
 pub returns : goal.returns
 returns g c =
@@ -31,7 +31,7 @@ returns g c =
     let own = checked_of (line_of p.no p.media p.limits p.queue) p.side c.self.inside.ends.items c.self.inside.receipts.items in
     let j = c.join-queue.ensures in
     let parts = c.into_parts-drive.ensures in
-    let seats = taken_seats g.N.Naming.table g.N.Naming.time p.no c.self.inside.ends.items c.lanes-lanes.result c.gather-seats.result.seats.items c.gather-seats.result.lanes.items p.queue.table c.gather-seats.ensures (sym i.here) in
+    let seats = taken_seats g.N.Naming.table g.N.Naming.time p.no c.self.inside.ends.items c.lanes-lanes.result c.gather-seats.result.seats.items c.gather-seats.result.lanes.items p.queue.table c.gather-seats.ensures (sym c.self.inside.parts.here) in
     let out : SettledIs _ = record { drive = c.into_parts-drive.result.0; queue = c.join-queue.result; lanes = c.gather-seats.result.lanes.items } in
     subst (λ (x : CheckedIs _). Settles (λ d. g.D.Driver.meaning d) g.N.Naming.table g.N.Naming.time x out) c.self.view_is
     (settles (λ d. g.D.Driver.meaning d) g.N.Naming.table g.N.Naming.time own c.lanes-lanes.result c.gather-seats.result.seats.items out i.passes parts.keeps parts.drive

@@ -29,3 +29,8 @@ pub returns-clause-names : goal.returns-clause-names
 returns-clause-names c =
     c.push_reserved.ensures.items ∙ ap₂ (λ l n. l ++ n ∷ []) (ap (λ v. v.names) c.self.view_is) c.copy.ensures
     ∙ sym (with_new c.args.self.now.names c.args.name.now c.in_default.ensures)
+
+pub returns-clause-different : goal.returns-clause-different
+returns-clause-different c =
+    let none : IsPlaceOf c.self.inside.names.items c.args.name.now None = subst (λ l. IsPlaceOf l c.args.name.now None) (sym (ap (λ v. v.names) c.self.view_is)) c.in_default.ensures in
+    rw (c.push_reserved.ensures.items, c.copy.ensures) (different_with c.self.inside.names.items c.args.name.now c.self.invariant.different none)

@@ -14,7 +14,7 @@ invariant_of-self g c =
     let journal = c.requires.0 in
     let may = subst (λ (x : PartIs). MayCloseBy journal x.session r) (sym c.self.view_is) c.requires.1 in
     record {
-      keeps = closes_keep g.N.Naming.time p.seat p.before.items p.session c.close_by.new.session (seen_of p.told) journal (Ok (Closed r)) (c.close_by.ensures journal may)
+      keeps = closes_keep g.N.Naming.time p.seat p.before.items p.session c.close_by.new.session (seen_of p.told) p.spools ⊥ journal (Ok (Closed r)) (c.close_by.ensures journal may)
           c.self.invariant.keeps;
       room = c.self.invariant.room;
     }
@@ -22,5 +22,5 @@ invariant_of-self g c =
 pub returns-clause-closes : goal.returns-clause-closes
 returns-clause-closes g c = λ journal may.
     let r = c.args.receipt.now in
-    subst (λ (x : PartIs). Closes journal x.session (Ok (Closed r)) c.close_by.new.session) c.self.view_is
+    subst (λ (x : PartIs). Closes ⊥ journal x.session (Ok (Closed r)) c.close_by.new.session) c.self.view_is
     (c.close_by.ensures journal (subst (λ (x : PartIs). MayCloseBy journal x.session r) (sym c.self.view_is) may))

@@ -9,4 +9,4 @@ pub invariant_of-result : goal.invariant_of-result
 invariant_of-result g c =
     let p = c.self.inside in
     subst (λ ss. KeepsEnd g.N.Naming.time (record { seat = p.seat; store = None; sessions = ss })) (sym c.push_reserved.ensures.items)
-    (leaves g.N.Naming.time (part_of p.seat p.before.items p.session (seen_of p.told)) c.self.invariant.keeps)
+    (leaves g.N.Naming.time (part_of p.seat p.before.items p.session (seen_of p.told) p.spools) c.self.invariant.keeps)

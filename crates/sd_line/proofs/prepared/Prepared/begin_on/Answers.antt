@@ -2,7 +2,7 @@ use Rattle.std.proofs.Common.{◌-◌, [], subst}
 use Rattle.sd_base.specs.Limits.{block_header}
 use Rattle.sd_session.specs.Session.{store_of}
 use Rattle.sd_line.specs.Ends.{EndIs}
-use Rattle.sd_line.specs.Parts.{PreparedIs, OpensAt, Notes}
+use Rattle.sd_line.specs.Parts.{PreparedIs, OpensAt, Notes, spools_at}
 use Rattle.sd_line.proofs.Keeps.{begins}
 use Rattle.sd_line.proofs.prepared.Prepared.begin_on.Goals as goal
 
@@ -20,7 +20,7 @@ invariant_of-result g c =
 pub returns-clause-opens : goal.returns-clause-opens
 returns-clause-opens g c =
     let p = c.self.inside in
-    subst (λ (x : PreparedIs). OpensAt x.limits x.opening x.end (record { seat = p.seat; before = p.before.items; session = p.session; told = [] })) c.self.view_is
+    subst (λ (x : PreparedIs). OpensAt x.limits x.opening x.end (record { seat = p.seat; before = p.before.items; session = p.session; told = []; spools = spools_at p.limits })) c.self.view_is
     c.self.invariant.opens
 
 pub returns-clause-notes : goal.returns-clause-notes

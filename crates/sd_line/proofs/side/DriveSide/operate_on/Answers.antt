@@ -1,13 +1,19 @@
 use Rattle.sd_driver.specs.Meaning.{Meaning}
 use Rattle.sd_line.proofs.OperateLemmas.{operated, operated_goes_on, own_last}
-use Rattle.sd_line.proofs.SideLemmas.{calls_keep}
+use Rattle.sd_line.proofs.SideLemmas.{calls_keep, told_keep}
 use Rattle.sd_line.proofs.side.DriveSide.operate_on.Goals as goal
 
 pub invariant_of-self : goal.invariant_of-self
 invariant_of-self g c =
     let meaning : g.row.D.Denot → Meaning = λ d. g.D.Driver.meaning d in
+    let p = c.self.inside in
     let l = operated meaning _ _ _ _ _ c.operate.ensures in
-    calls_keep meaning _ _ _ _ _ _ l.stays.limits l.stays.keeps l.stays.gone c.self.invariant
+    record {
+      keeps = told_keep meaning g.N.Naming.table g.N.Naming.time p.no p.drive c.operate.new.drive p.seat p.seat p.told
+          (operated_goes_on _ meaning _ _ l)
+          (calls_keep meaning _ _ _ _ _ _ l.stays.limits l.stays.keeps l.stays.gone) c.self.invariant.keeps;
+      counted = c.self.invariant.counted;
+    }
 
 pub returns-clause-operates : goal.returns-clause-operates
 returns-clause-operates g c = rw (← c.self.view_is) c.operate.ensures

@@ -1,6 +1,8 @@
 use Rattle.std.proofs.Common.{Bool, refl, subst}
-use Rattle.sd_line.specs.Turns.{SyncsBy}
-use Rattle.sd_line.proofs.SideLemmas.{turn_keeps}
+use Rattle.sd_driver.specs.Meaning.{Meaning}
+use Rattle.sd_line.specs.Turns.{SyncsBy, Turns}
+use Rattle.sd_line.specs.declared.turning.Turned.{Turned}
+use Rattle.sd_line.proofs.SideLemmas.{side_of, told_keep, turn_keeps}
 use Rattle.sd_line.proofs.TurnLemmas.{turn_lasts, lasts_on}
 use Rattle.sd_line.proofs.side.DriveSide.turn_on.Goals as goal
 
@@ -11,7 +13,7 @@ returns-clause-turns g c =
       held = c.take-took.new.drive;
       after = c.place-place.new.drive;
       no_is = refl;
-      takes = c.take-took.ensures;
+      takes = c.take-took.ensures.takes;
       places = c.place-place.ensures;
       syncs = subst P c.is_sync_due.ensures c.sync-sync.ensures;
     })
@@ -24,16 +26,21 @@ returns-clause-goes_on g c = lasts_on _ _ _ (turn_lasts (λ d. g.D.Driver.meanin
 
 pub invariant_of-self : goal.invariant_of-self
 invariant_of-self g c =
-    let P : Bool → Type 0 = λ b. SyncsBy (λ d. g.D.Driver.meaning d) b c.sync-sync.result c.place-place.new.drive c.sync-sync.new.drive in
-    turn_keeps (λ d. g.D.Driver.meaning d) g.N.Naming.table g.N.Naming.time c.self.inside.no
-    (record { took = c.take-took.result; place = c.place-place.result; sync = c.sync-sync.result })
-    c.self.inside.drive c.sync-sync.new.drive c.self.inside.seat c.take-took.new.seat
-    (record {
+    let meaning : g.row.D.Denot → Meaning = λ d. g.D.Driver.meaning d in
+    let P : Bool → Type 0 = λ b. SyncsBy meaning b c.sync-sync.result c.place-place.new.drive c.sync-sync.new.drive in
+    let p = c.self.inside in
+    let did : Turned = record { took = c.take-took.result; place = c.place-place.result; sync = c.sync-sync.result } in
+    let turns : Turns meaning did (side_of p.no p.drive p.seat) (side_of p.no c.sync-sync.new.drive c.take-took.new.seat) = record {
       held = c.take-took.new.drive;
       after = c.place-place.new.drive;
       no_is = refl;
-      takes = c.take-took.ensures;
+      takes = c.take-took.ensures.takes;
       places = c.place-place.ensures;
       syncs = subst P c.is_sync_due.ensures c.sync-sync.ensures;
-    })
-    c.self.invariant
+    } in
+    record {
+      keeps = told_keep meaning g.N.Naming.table g.N.Naming.time p.no p.drive c.sync-sync.new.drive p.seat c.take-took.new.seat p.told
+          (lasts_on _ _ _ (turn_lasts meaning did _ _ turns))
+          (turn_keeps meaning g.N.Naming.table g.N.Naming.time p.no did p.drive c.sync-sync.new.drive p.seat c.take-took.new.seat turns) c.self.invariant.keeps;
+      counted = c.take-took.ensures.counts;
+    }

@@ -1,0 +1,3 @@
+pub mod Pieces
+pub mod Taken
+pub mod Told

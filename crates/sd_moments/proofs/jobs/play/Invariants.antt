@@ -1,0 +1,5 @@
+use Rattle.sd_moments.proofs.jobs.play.Given as goal
+
+-- the queue that was just made, and the time of the run, for each number
+abbrev pub ghosts-play_with : goal.ghosts-play_with
+ghosts-play_with g a = record { table = λ no. a.made; time = λ no. 1000 }
