@@ -28,6 +28,10 @@ class StoppedAtStart(Exception):
     """The daemon was stopped before it listened."""
 
 
+class NotReached(Exception):
+    """The run came to its end with fewer calls than the one that it was to be stopped at."""
+
+
 class Talk(client.Talk):
     """A connection that doesn't wait for ever. If the daemon goes away, that is reported."""
 
@@ -132,6 +136,8 @@ class Site:
                 yield self.port
             except (Stopped, client.Lost):
                 is_stopped = daemon.process.wait(timeout=WAIT) == -signal.SIGKILL
+        if stops and not is_stopped and len(self.calls()) < max(stop.get("stop_before", 0), stop.get("stop_after", 0)):
+            raise NotReached
         if is_stopped != stops:
             raise RuntimeError(f"the daemon is stopped otherwise than by {stop}: {daemon.process.returncode}")
 

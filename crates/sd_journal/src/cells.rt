@@ -53,7 +53,8 @@ pub(crate) struct Tail {
     pub(crate) end: u64,
 }
 
-// So many cells are a chunk, or more if more than that are to be pushed before the next room is made.
+// So many cells are a chunk, or twice as many as are to be pushed before the next room is made, if that is more: so it takes as many
+// more before there is no room for one more of these.
 const CHUNK: usize = 4096;
 
 /// The blocks that were noted, in order. A block of a session that goes on takes 12 bytes, whatever the sessions beside it; one
@@ -214,7 +215,7 @@ fn seal(
         return Ok(());
     }
     full.reserve(1)?;
-    let next = Vec::with_capacity(alloc, more.max(CHUNK))?;
+    let next = Vec::with_capacity(alloc, more.saturating_mul(2).max(CHUNK))?;
     full.push_reserved(replace(cells, next));
     Ok(())
 }
