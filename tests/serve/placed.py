@@ -1,12 +1,14 @@
 #!/usr/bin/env python3
 """What the daemon keeps in memory of the blocks that it placed: 12 bytes of each, whatever the files are. Clients at once have
 jobs of drawn files on two drives, in blocks of the least size; the daemon's memory is read while nothing goes on, after a third of
-the blocks and after all of them. tests/serve/run runs it, by itself it takes another number of blocks:
+the blocks and after all of them. And what it keeps of sessions that were cancelled before a block of theirs was placed, for each of
+which it has made room. tests/serve/run runs it, by itself it takes another number of blocks:
 
     tests/serve/placed.py --blocks 10000000
 """
 import argparse
 import concurrent.futures
+import contextlib
 import pathlib
 import random
 import sys
@@ -27,6 +29,8 @@ CLIENTS, JOBS, MEDIA = 4, 4, ("File", "Other")
 # A file has so many records at the most. A record is an empty one, a few bytes, a part of a block, or many blocks.
 RECORDS, SIZES = 6, ((0, 0), (1, 40), (200, 1500), (20_000, 400_000))
 DATA = bytes(SIZES[-1][1])
+# So many sessions are cancelled, and then so many more, of which each adds so many bytes at the most, with those that it only sets aside.
+CANCELLED, MORE, EACH = 4500, 1500, 4000
 
 
 def file(numbers):
@@ -82,7 +86,32 @@ def placed(checks, folder, _, blocks=BLOCKS):
         return more, added
 
 
-GROUPS = (placed,)
+def cancel(talk, sessions):
+    """Opens so many sessions, one after another, and cancels each before it has a record."""
+    for _ in range(sessions):
+        ticket = client.open_session(talk, 1, "Default", "File")
+        talk.console(f"cancel {ticket}")
+        # (only a command of the session tells the talk that it is over)
+        with contextlib.suppress(client.Refused):
+            talk.ask(f"append end session {ticket}")
+
+
+def cancelled(checks, folder, _):
+    """Each session that is cancelled adds little to the memory that the daemon sets aside, however many there are."""
+    place = folder / "cancelled"
+    place.mkdir()
+    with Serving(folder / "cancelled.conf", drive("File", place)) as daemon:
+        checks.same("label", tell(daemon.port, "label 1 Vol-0001 Default File"), ["ok labelled"])
+        with client.Talk(daemon.port, timeout=600) as talk:
+            cancel(talk, CANCELLED)
+            before = daemon.memory("VmData")
+            cancel(talk, MORE)
+            added = daemon.memory("VmData") - before
+            talk.terminate()
+        checks.check("memory of a cancelled session", added <= EACH * MORE, f"{added} bytes for {MORE} sessions")
+
+
+GROUPS = (placed, cancelled)
 
 
 def main():
