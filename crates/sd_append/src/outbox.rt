@@ -1,5 +1,5 @@
-// What goes out to a client: packets one after another. Small ones are gathered and written together; bytes that would
-// fill the buffer go to the writer from where they lie.
+// What goes out to a client: packets one after another. They are gathered and written together; bytes that would fill
+// the buffer several times go to the writer from where they lie.
 ghost use Rattle.std.specs.Prelude.{◌≡◌, ◌<◌, ◌≤◌, ◌++◌, ℕ, pos, negsuc, List, [], length, None, IfSome, is_some};
 ghost use Rattle.sd_base.specs.Field.{i32_bytes};
 ghost use Rattle.sd_base.specs.Limits.{most_data};
@@ -14,8 +14,12 @@ use sd_text::{WriteFault, line_of, write_all};
 use std::fmt::{Display, Write as _};
 use std::io::Write;
 
-/// For how many bytes there is room before they are written out. So many at once are not copied into it.
+/// For how many bytes there is room before they are written out.
 pub(crate) const OUT_BYTES: usize = 64 * 1024;
+
+/// So many bytes at once are not copied into that room, but written from where they lie. What waits is written before
+/// them by a call of its own, which costs more than to copy a record of 64 KB.
+const DIRECT_BYTES: usize = 4 * OUT_BYTES;
 
 /// For how many bytes of a line there is room: the longest says a span.
 const LINE_BYTES: usize = 256;
@@ -140,7 +144,7 @@ impl<W: Write> Outbox<W> {
     fn put(&mut self, bytes: &[u8])
         ensures { PutsOut (out_view W.contents self.old) (out_view W.contents self.new) bytes.now }
     {
-        if bytes.len() < OUT_BYTES {
+        if bytes.len() < DIRECT_BYTES {
             self.gather(bytes);
         } else {
             self.write_out();

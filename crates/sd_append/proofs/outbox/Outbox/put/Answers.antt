@@ -2,8 +2,8 @@ use Rattle.std.specs.Prelude.{is_some}
 use Rattle.sd_append.proofs.OutLemmas.{puts_straight}
 use Rattle.sd_append.proofs.outbox.Outbox.put.Goals as goal
 
-pub returns-else-bytes-lt-OUT_BYTES : goal.returns-else-bytes-lt-OUT_BYTES
-returns-else-bytes-lt-OUT_BYTES g c =
+pub returns-else-bytes-lt-DIRECT_BYTES : goal.returns-else-bytes-lt-DIRECT_BYTES
+returns-else-bytes-lt-DIRECT_BYTES g c =
     let old = c.args.self.now in
     let out = c.write_out.new.self in
     let contents = g.W.Write.contents in
