@@ -1,8 +1,9 @@
 #!/usr/bin/env python3
 """What the daemon keeps in memory of the blocks that it placed: 12 bytes of each, whatever the files are. Clients at once have
 jobs of drawn files on two drives, in blocks of the least size; the daemon's memory is read while nothing goes on, after a third of
-the blocks and after all of them. And what it keeps of sessions that were cancelled before a block of theirs was placed, for each of
-which it has made room. tests/serve/run runs it, by itself it takes another number of blocks:
+the blocks and after all of them. And what it keeps of sessions: of those that were cancelled before a block of theirs was placed,
+for each of which it has made room, and of those that were closed. tests/serve/run runs it, by itself it takes another number of
+blocks:
 
     tests/serve/placed.py --blocks 10000000
 """
@@ -29,8 +30,10 @@ CLIENTS, JOBS, MEDIA = 4, 4, ("File", "Other")
 # A file has so many records at the most. A record is an empty one, a few bytes, a part of a block, or many blocks.
 RECORDS, SIZES = 6, ((0, 0), (1, 40), (200, 1500), (20_000, 400_000))
 DATA = bytes(SIZES[-1][1])
-# So many sessions are cancelled, and then so many more, of which each adds so many bytes at the most, with those that it only sets aside.
+# So many sessions are cancelled, and then so many more, of which each adds so many bytes at the most, with those that it only sets
+# aside. Of closed ones with a block that is in use, besides what lists that grow take at once.
 CANCELLED, MORE, EACH = 4500, 1500, 4000
+CLOSED, MORE_CLOSED, EACH_CLOSED, AT_ONCE = 1000, 4000, 300, 200_000
 
 
 def file(numbers):
@@ -111,7 +114,31 @@ def cancelled(checks, folder, _):
         checks.check("memory of a cancelled session", added <= EACH * MORE, f"{added} bytes for {MORE} sessions")
 
 
-GROUPS = (placed, cancelled)
+def close(talk, count):
+    """So many sessions of one small record are closed."""
+    packets = [client.packet(b"small")]
+    for _ in range(count):
+        ticket = client.open_session(talk, 1, "Default", "File")
+        client.append_packets(talk, ticket, packets)
+        client.close_session(talk, ticket)
+
+
+def closed(checks, folder, _):
+    """Each session that is closed keeps little: its line at the desk, and the block's cell."""
+    place = folder / "closed"
+    place.mkdir()
+    with Serving(folder / "closed.conf", drive("File", place)) as daemon:
+        checks.same("label", tell(daemon.port, "label 1 Vol-0001 Default File"), ["ok labelled"])
+        with client.Talk(daemon.port, timeout=600) as talk:
+            close(talk, CLOSED)
+            before = daemon.memory("VmRSS")
+            close(talk, MORE_CLOSED)
+            added = daemon.memory("VmRSS") - before
+            talk.terminate()
+        checks.check("memory of a closed session", added <= EACH_CLOSED * MORE_CLOSED + AT_ONCE, f"{added} bytes for {MORE_CLOSED} sessions")
+
+
+GROUPS = (placed, cancelled, closed)
 
 
 def main():

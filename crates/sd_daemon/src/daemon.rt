@@ -48,8 +48,8 @@ pub enum ServeFault {
 
 /// Serves clients on the port of the configuration and on 127.0.0.1 alone, each in a thread of its own, over drives of files
 /// that are new: their run's time is the clock's. Meanwhile it has the folders of the drives and of the spools locked. Ends
-/// after so many talks, or after those that began before a file was there, and then settles the line of each drive; answers
-/// which of them can't be settled.
+/// after so many talks, or after those that began before a file was there. If a number of talks was given, it then settles the
+/// line of each drive, and answers which of them can't be settled.
 pub fn serve<W: Threads + Wait + Clock + Send + Sync + Copy + Drop, L: Write + Send + Drop>(
     rt: &HostRuntime,
     wait: W,
@@ -102,9 +102,9 @@ fn serve_drives<
     ensures fault { IfErr result (IsFaultIn run.now.conf.now) }
 {
     let conf = run.conf;
-    let keeps_receipts = run.bounds.talks > 0;
-    let Ok(mut hub) = hub_of::<N, W>(run.rt, run.wait, conf, run.time, drives, keeps_receipts)
-    else {
+    // One that ends after so many talks is settled. Any other may run for months, and would keep each session for it.
+    let settles = run.bounds.talks > 0;
+    let Ok(mut hub) = hub_of::<N, W>(run.rt, run.wait, conf, run.time, drives, settles) else {
         return Err(ServeFault::Memory);
     };
     let Ok(()) = claim_names(&mut hub, start) else {
@@ -112,6 +112,9 @@ fn serve_drives<
     };
     if !hold_all(run, listening, &hub, start) {
         return Err(ServeFault::Memory);
+    }
+    if !settles {
+        return Ok(Vec::new(run.rt.alloc()));
     }
     match settle_drives(hub, run.log) {
         Ok(unsettled) => Ok(unsettled),

@@ -22,18 +22,18 @@ pub(crate) type FileHub<N, W> = Hub<FileDrive<HostRuntime>, N, W, FileSpool<Host
 const HERE: &str = ".";
 
 /// What the talks and workers of a daemon share: these drives of its configuration, which are the drives 1, 2 and on, each lane
-/// with a spool of its own. No file is looked at. Whether the receipts of closed sessions are kept.
+/// with a spool of its own. No file is looked at. Whether the lines are settled at the end.
 pub(crate) fn hub_of<N: Naming, W: Wait + Clock + Copy + Drop>(
     rt: &HostRuntime,
     wait: W,
     conf: &Conf,
     time: u32,
     drives: Vec<UnusedFiles<W>>,
-    keeps_receipts: bool,
+    settles: bool,
 ) -> Result<FileHub<N, W>, AllocError>
     requires { AreNamed N.table N.time drives.items }
 {
-    let mut hub = Hub::new(wait, rt.alloc(), time, keeps_receipts);
+    let mut hub = Hub::new(wait, rt.alloc(), time, settles);
     add_drives(rt, conf, conf.drives.as_slice(), drives, &mut hub)?;
     Ok(hub)
 }

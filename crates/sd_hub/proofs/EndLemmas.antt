@@ -1,6 +1,6 @@
 -- Which end of a lane is found among the ends of a line.
 use Rattle.std.proofs.Common.{◌≡◌, ◌≢◌, ℕ, zero, suc, ◌+◌, ◌<◌, ◌≤◌, Bool, true, false, if◌then◌else◌, refl, sym, ap, ◌∙◌, arith, Option, Some, None, List, [], ◌∷◌, ◌==◌, slice_get}
-use Rattle.std.specs.Prelude.{IfNone, IfSome, IsSome, is_some}
+use Rattle.std.specs.Prelude.{◌&&◌, IfNone, IfSome, IsSome, IsTrue, is_some}
 use Rattle.std.specs.List.{remove}
 use Rattle.std.proofs.lemmas.Bool.{and_parts, and_right, eqb-true, false_from_ne_true, ne_eqb}
 use Rattle.sd_base.specs.Choice.{NoneOf}
@@ -66,15 +66,21 @@ pub found_is : (own lane : ℕ) (es : List EndIs) (e : EndIs) → end_at own lan
 found_is own lane [] e found = absurd (cc found)
 found_is own lane (x ∷ es) e found = found_by own lane x e (end_at own lane es) (is_end own lane x) refl (found_is own lane es e) found
 
+both_are : (own lane : ℕ) (e : EndIs) → IsOf own lane e → (((e.seat.no == own) && (e.seat.seat.lane == lane)) ≡ true) × (e.whole ≡ true)
+both_are own lane e is = and_parts ((e.seat.no == own) && (e.seat.seat.lane == lane)) e.whole is
+
 pub no_is : (own lane : ℕ) (e : EndIs) → IsOf own lane e → e.seat.no ≡ own
-no_is own lane e is = eqb-true e.seat.no own (and_parts (e.seat.no == own) (e.seat.seat.lane == lane) is).0
+no_is own lane e is = eqb-true e.seat.no own (and_parts (e.seat.no == own) (e.seat.seat.lane == lane) (both_are own lane e is).0).0
 
 pub lane_is : (own lane : ℕ) (e : EndIs) → IsOf own lane e → e.seat.seat.lane ≡ lane
-lane_is own lane e is = eqb-true e.seat.seat.lane lane (and_parts (e.seat.no == own) (e.seat.seat.lane == lane) is).1
+lane_is own lane e is = eqb-true e.seat.seat.lane lane (and_parts (e.seat.no == own) (e.seat.seat.lane == lane) (both_are own lane e is).0).1
+
+pub whole_is : (own lane : ℕ) (e : EndIs) → IsOf own lane e → IsTrue e.whole
+whole_is own lane e is = (both_are own lane e is).1
 
 not_other : (own lane other : ℕ) (e : EndIs) → IsOf own lane e → other ≢ lane → is_end own other e ≡ false
 not_other own lane other e is apart =
-    and_right (e.seat.no == own) (e.seat.seat.lane == other) (ne_eqb e.seat.seat.lane other (λ same. apart (sym same ∙ lane_is own lane e is)))
+    ap (λ (b : Bool). b && e.whole) (and_right (e.seat.no == own) (e.seat.seat.lane == other) (ne_eqb e.seat.seat.lane other (λ same. apart (sym same ∙ lane_is own lane e is))))
 
 -- One end less.
 

@@ -1,5 +1,5 @@
 -- What a settled line says of its lanes, without the ends that were handed in.
-use Rattle.std.proofs.Common.{◌≡◌, ◌≢◌, ◌⊎◌, ℕ, zero, suc, ◌+◌, ◌≤◌, refl, sym, ap, subst, ◌∙◌, inl, inr, arith, Option, Some, IsSome, List, [], ◌∷◌, ◌++◌, length, append_assoc, append-nil, slice_get}
+use Rattle.std.proofs.Common.{◌≡◌, ◌≢◌, ◌⊎◌, ℕ, zero, suc, ◌+◌, ◌≤◌, refl, sym, ap, subst, ◌∙◌, inl, inr, arith, Option, Some, IsSome, IsTrue, List, [], ◌∷◌, ◌++◌, length, append_assoc, append-nil, slice_get}
 use Rattle.std.specs.List.{AllByRecursion}
 use Rattle.std.specs.Option.{option_or}
 use Rattle.atomic_table.specs.Seated.{TableId}
@@ -12,7 +12,7 @@ use Rattle.sd_lane.specs.Queue.{AreOfLanes, pieces_of}
 use Rattle.sd_lane.specs.declared.piece.Piece.{Piece}
 use Rattle.sd_lane.specs.declared.piece.Queued.{Queued}
 use Rattle.sd_line.specs.Ends.{EarlierAreOver, EndIs, IsOfLane, SentBy, ToldSession, last_store}
-use Rattle.sd_hub.proofs.EndLemmas.{found_is, lane_is, no_is}
+use Rattle.sd_hub.proofs.EndLemmas.{found_is, lane_is, no_is, whole_is}
 use Rattle.sd_hub.specs.Settles.{AreDistinct, AreSettled, CheckedIs, SettledIs, SettledLaneIs, Settles, end_at, lane_of, sessions_at, sessions_in as in_end, sessions_to, times_of}
 use Rattle.sd_spool.specs.Job.{StoreState}
 use Rattle.sd_world.specs.Honest.{StoreIsTrue}
@@ -62,7 +62,7 @@ pub record KeepsLanes (run : ℕ) (journal : List Entry) (qs : List Queued) (ls 
 -- what a lane's end keeps, its lane keeps
 keeps_lane : (time : ℕ → ℕ) (own run : ℕ) (ends : List EndIs) (qs : List Queued) (at : ℕ) (l : SettledLaneIs) (e : EndIs)
     → end_at own (suc at) ends ≡ Some e → l ≡ lane_of e → pieces_of (suc at) qs ≡ e.seat.seat.sent → time own ≡ run
-    → AllByRecursion (IsOfLane (time e.seat.no) e.seat.seat.lane) e.sessions → SentBy (StoreIsTrue (store_in (lane_of e))) e.sessions e.seat.seat.sent
+    → AllByRecursion (IsOfLane (time e.seat.no) e.seat.seat.lane) e.sessions → (IsTrue e.whole → SentBy (StoreIsTrue (store_in (lane_of e))) e.sessions e.seat.seat.sent)
     → EarlierAreOver e.sessions → IsSome (store_in (lane_of e)) → KeepsLane run qs at l
 keeps_lane time own run ends qs at l e found is sent same of_lane sent_are earlier stored =
     let of = found_is own (suc at) ends e found in
@@ -70,7 +70,7 @@ keeps_lane time own run ends qs at l e found is sent same of_lane sent_are earli
     (record {
       of_lane = subst (λ (lane : ℕ). AllByRecursion (IsOfLane run lane) e.sessions) (lane_is own (suc at) e of)
           (subst (λ (t : ℕ). AllByRecursion (IsOfLane t e.seat.seat.lane) e.sessions) (ap time (no_is own (suc at) e of) ∙ same) of_lane);
-      sent_are = subst (SentBy (StoreIsTrue (store_in (lane_of e))) e.sessions) (sym sent) sent_are;
+      sent_are = subst (SentBy (StoreIsTrue (store_in (lane_of e))) e.sessions) (sym sent) (sent_are (whole_is own (suc at) e of));
       earlier = earlier;
       stored = stored;
     })

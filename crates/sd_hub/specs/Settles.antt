@@ -37,11 +37,11 @@ pub record SettledIs (D : Type 0) : Type 0 where
 
 -- The ends of the lanes.
 
--- whether the end is of this drive and of this lane
+-- whether the end is of this drive and of this lane, and has all sessions that used the lane
 abbrev pub is_end : ℕ → ℕ → EndIs → Bool
-is_end own lane e = (e.seat.no == own) && (e.seat.seat.lane == lane)
+is_end own lane e = ((e.seat.no == own) && (e.seat.seat.lane == lane)) && e.whole
 
--- the first of these ends that is of this drive and of this lane
+-- the first of these ends that is such
 abbrev pub end_at : ℕ → ℕ → List EndIs → Option EndIs
 end_at own lane [] = None
 end_at own lane (e ∷ es) = if is_end own lane e then Some e else end_at own lane es

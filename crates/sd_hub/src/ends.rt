@@ -6,7 +6,7 @@ use sd_base::DriveNo;
 use sd_line::{LaneEnd, Naming, Told};
 use sd_spool::SpoolStore;
 
-/// The place of the first end that is of this drive and of this lane.
+/// The place of the first end that is of this drive and of this lane, and whole.
 pub(crate) fn index_of<N: Naming, S: SpoolStore>(
     no: DriveNo,
     lane: u32,
@@ -24,11 +24,11 @@ pub(crate) fn index_of<N: Naming, S: SpoolStore>(
     None
 }
 
-// Whether the end is of this drive and of this lane.
+// Whether the end is of this drive and of this lane, and whole.
 fn is_end<N: Naming, S: SpoolStore>(no: DriveNo, lane: u32, end: &LaneEnd<N, S>) -> bool
     ensures { result ≡ is_end no lane end.now }
 {
-    end.no().get() == no.get() && end.lane().get() == lane
+    end.no().get() == no.get() && end.lane().get() == lane && end.is_whole()
 }
 
 // Whether the end of this lane is there.
@@ -56,7 +56,7 @@ pub(crate) fn missing_lane<N: Naming, S: SpoolStore>(
     None
 }
 
-/// The sessions of the end that is of this drive and of this lane; none if there is no such end.
+/// The sessions of the end that is of this drive and of this lane, and whole; none if there is no such end.
 pub(crate) fn sessions_at<N: Naming, S: SpoolStore>(
     no: DriveNo,
     lane: u32,

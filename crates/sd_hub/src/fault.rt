@@ -9,7 +9,8 @@ use std::sync::Wait;
 /// Why a line is not settled.
 #[derive(Drop)]
 pub enum SettleFault {
-    /// The end of this lane is not there; those of the lanes before it are. It is one of the lanes that the queue has.
+    /// The end of this lane is not there, or forgot sessions; those of the lanes before it are there. It is one of the lanes that
+    /// the queue has.
     MissingLane(u32),
     /// Two sessions of the lanes have this key.
     DoubleKey(SessionKey),

@@ -53,6 +53,7 @@ pub(crate) fn gather<N: Naming, S: SpoolStore + Drop>(
             seat,
             store,
             sessions,
+            whole: _,
         } = take_end(no, at + 1, &mut ends).into_parts();
         seats.push_reserved(seat.into_seat());
         settled.push_reserved(SettledLane { store, sessions });

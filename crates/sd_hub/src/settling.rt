@@ -29,7 +29,7 @@ use std::sync::Wait;
 /// The end of each lane has to be there, no two sessions may have one key, of a closed session all that it sent has to be
 /// placed and synced, and each receipt has to be one that the drive gives; the first of these faults, in this order, is
 /// answered, and all that was handed in comes back with it. Out of memory comes after the first three. Ends of other
-/// drives, and a second one of a lane, count as absent; if the line is settled, they are dropped.
+/// drives, a second one of a lane, and ones that forgot sessions count as absent; if the line is settled, they are dropped.
 pub fn settle<D: Driver + Drop, N: Naming, R: Wait + Copy + Drop, S: SpoolStore + Drop>(
     alloc: Global,
     line: Line<D, N, R>,

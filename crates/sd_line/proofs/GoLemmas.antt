@@ -36,6 +36,7 @@ stays p q is = subst (GoesOn p []) (sym is) (record {
   more = [];
   seat_is = sends_none p.seat;
   before_is = refl;
+  whole_is = refl;
   told_is = sym (append-nil p.told);
   key_is = refl;
 })
@@ -46,6 +47,7 @@ goes_then p q r a b g h = record {
   more = g.more ++ h.more;
   seat_is = h.seat_is ∙ ap (sends_more h.more) g.seat_is ∙ sends_both p.seat g.more h.more;
   before_is = h.before_is ∙ g.before_is;
+  whole_is = h.whole_is ∙ g.whole_is;
   told_is = h.told_is ∙ ap (λ l. l ++ b) g.told_is ∙ append_assoc p.told a b;
   key_is = h.key_is ∙ g.key_is;
 }
@@ -63,6 +65,7 @@ steps p q is key = record {
   more = [];
   seat_is = ap (λ (x : PartIs). x.seat) is ∙ sends_none p.seat;
   before_is = ap (λ (x : PartIs). x.before) is;
+  whole_is = ap (λ (x : PartIs). x.whole) is;
   told_is = ap (λ (x : PartIs). x.told) is ∙ sym (append-nil p.told);
   key_is = key;
 }
@@ -74,6 +77,7 @@ sends p q more is seat key = record {
   more = more;
   seat_is = seat;
   before_is = ap (λ (x : PartIs). x.before) is;
+  whole_is = ap (λ (x : PartIs). x.whole) is;
   told_is = ap (λ (x : PartIs). x.told) is ∙ sym (append-nil p.told);
   key_is = key;
 }

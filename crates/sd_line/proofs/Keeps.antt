@@ -19,7 +19,7 @@ use Rattle.sd_spool.specs.Job.{StoreState}
 use Rattle.sd_world.specs.Honest.{StoreIsTrue}
 use Rattle.sd_world.specs.Matches.{HasBodies}
 use Rattle.sd_world.proofs.Changes.{running_bodies}
-use Rattle.sd_line.specs.Ends.{ToldSession, EndIs, KeepsEnd, IsOfLane, IsOver, LastIsOver, TellsAll, SentBy, BringsStore, LastGivesBack, RestsOn, pieces_from, last_store, lane_store}
+use Rattle.sd_line.specs.Ends.{ToldSession, EndIs, KeepsEnd, IsOfLane, IsOver, LastIsOver, EarlierAreOver, TellsAll, SentBy, BringsStore, LastGivesBack, RestsOn, forgot, pieces_from, last_alone, last_store, lane_store}
 use Rattle.sd_line.specs.Parts.{PartIs, KeepsPart, told_of, end_of, next_piece}
 use Rattle.sd_line.proofs.Sequences.{all_push, all_front, all_last, pieces_push, earlier_over, all_over, last_over, over_earlier, last_store_push, tells_weaker, sent_weaker, sent_push, sent_last}
 use Rattle.sd_world.proofs.Despool.{next_store, next_room}
@@ -41,7 +41,7 @@ steps_keep time p v records c h = record {
   sent_before = h.sent_before;
   sent = h.sent;
   sent_are = h.sent_are ∙ ap (λ k. h.sent_before ++ pieces_from k 1 h.sent) (sym c.key_is);
-  before_tell = sent_weaker (StoreIsTrue (store_of p.session)) (StoreIsTrue (store_of v)) p.before h.sent_before c.store_back h.before_tell;
+  before_tell = λ whole. sent_weaker (StoreIsTrue (store_of p.session)) (StoreIsTrue (store_of v)) p.before h.sent_before c.store_back (h.before_tell whole);
   tells = c.tells p.spools h.sent h.unspooled h.tells;
   unspooled = λ off. c.unspooled (h.unspooled off);
   stored = c.store_there h.stored;
@@ -94,7 +94,7 @@ sends_keep time p v queue queue' sends h =
           ∙ ap (λ n. h.sent_before ++ (pieces_from s.key 1 h.sent ++ record { key = s.key; seq = n; body = sends.body } ∷ [])) (sym seq)
           ∙ ap (λ l. h.sent_before ++ l) (sym (pieces_push s.key 1 h.sent sends.body))
           ∙ ap (λ k. h.sent_before ++ pieces_from k 1 (h.sent ++ sends.body ∷ [])) (sym key);
-      before_tell = sent_weaker (StoreIsTrue (store_of s)) (StoreIsTrue (store_of v)) p.before h.sent_before back h.before_tell;
+      before_tell = λ whole. sent_weaker (StoreIsTrue (store_of s)) (StoreIsTrue (store_of v)) p.before h.sent_before back (h.before_tell whole);
       tells = tells_weaker (Rests p.spools s) (Rests p.spools v) (told p.spools v p.told) (h.sent ++ sends.body ∷ []) (λ rests spools. back (rests spools))
           (sent_tells p.spools s v p.told queue queue' sends h.sent h.unspooled h.tells);
       unspooled = λ off. ap (λ (x : SessionView). x.spool) sends.is ∙ next_unspooled sends.body (stations_of s) sends.between sends.takes (h.unspooled off);
@@ -108,9 +108,9 @@ leaves time p h =
     let store : lane_store (end_of p) ≡ store_of p.session = last_store_push p.before (told_of p) in
     record {
       of_lane = all_push (IsOfLane (time p.seat.no) p.seat.seat.lane) p.before (told_of p) h.before_of_lane h.of_lane;
-      sent_are = let H = StoreIsTrue (store_of p.session) in
+      sent_are = λ whole. let H = StoreIsTrue (store_of p.session) in
           sent_weaker H (StoreIsTrue (lane_store (end_of p))) (p.before ++ told_of p ∷ []) p.seat.seat.sent (subst StoreIsTrue store)
-          (subst (SentBy H (p.before ++ told_of p ∷ [])) (sym h.sent_are) (sent_push H p.before (told_of p) h.sent_before h.sent h.before_tell h.tells));
+          (subst (SentBy H (p.before ++ told_of p ∷ [])) (sym h.sent_are) (sent_push H p.before (told_of p) h.sent_before h.sent (h.before_tell whole) h.tells));
       earlier = earlier_over p.before (told_of p) h.before_over;
       stored = subst IsSome (sym store) h.stored;
     }
@@ -158,7 +158,6 @@ given time e store sessions h over none g =
     let all : AllByRecursion IsOver (g.earlier ++ g.last ∷ []) = subst (AllByRecursion IsOver) g.old_is (all_over e.sessions h.earlier over) in
     let of_lane : AllByRecursion P (g.earlier ++ g.last ∷ []) = subst (AllByRecursion P) g.old_is h.of_lane in
     let H = StoreIsTrue (lane_store e) in
-    let l = sent_last H g.earlier g.last e.seat.seat.sent (subst (λ ss. SentBy H ss e.seat.seat.sent) g.old_is h.sent_are) in
     let home : lane_store e ≡ Some store = ap (λ s. option_or s (last_store e.sessions)) none ∙ ap last_store g.old_is ∙ last_store_push g.earlier g.last ∙ g.gives_back.store_is in
     let before = g.last.session in
     let made : SessionView → List ToldSession = λ s. g.earlier ++ told g.last.spools s g.last.told ∷ [] in
@@ -168,7 +167,8 @@ given time e store sessions h over none g =
     let kept : KeepsEnd time (record e { store = Some store; sessions = made v }) = record {
       of_lane = all_push P g.earlier (told g.last.spools v g.last.told) (all_front P g.earlier g.last of_lane)
           (record { time_is = mine.time_is; id_least = mine.id_least; id_most = mine.id_most; lane_is = mine.lane_is });
-      sent_are = sent_weaker H (StoreIsTrue (Some store)) (made v) e.seat.seat.sent (subst StoreIsTrue (sym home))
+      sent_are = λ whole. let l = sent_last H g.earlier g.last e.seat.seat.sent (subst (λ ss. SentBy H ss e.seat.seat.sent) g.old_is (h.sent_are whole)) in
+          sent_weaker H (StoreIsTrue (Some store)) (made v) e.seat.seat.sent (subst StoreIsTrue (sym home))
           (subst (SentBy H (made v)) (sym l.sent_is)
           (sent_push H g.earlier (told g.last.spools v g.last.told) l.before l.bodies l.earlier
           (without_store (RestsOn g.last.spools H) g.last.spools before g.last.told l.bodies g.gives_back.over l.tells)));
@@ -185,6 +185,33 @@ brings time e e' h over b =
       | inl t ↦ subst (λ (x : EndIs). KeepsEnd time x × LastIsOver x.sessions) (sym (b.is ∙ ap (made (Some b.store)) t.1 ∙ ap (λ s. made s e.sessions) (sym t.0))) (h, over)
       | inr t ↦ subst (λ (x : EndIs). KeepsEnd time x × LastIsOver x.sessions) (sym b.is) (given time e b.store b.sessions h over t.0 t.1)
     ]
+
+-- Forgetting.
+
+-- the last one is among them
+last_all : (P : ToldSession → Type 0) (ss : List ToldSession) → AllByRecursion P ss → AllByRecursion P (last_alone ss)
+last_all P [] all = all
+last_all P (s ∷ []) all = all
+last_all P (s ∷ t ∷ ss) all = last_all P (t ∷ ss) all.1
+
+none_earlier : (ss : List ToldSession) → EarlierAreOver (last_alone ss)
+none_earlier [] = tt
+none_earlier (s ∷ []) = tt
+none_earlier (s ∷ t ∷ ss) = none_earlier (t ∷ ss)
+
+-- it has the store that it had
+same_store : (ss : List ToldSession) → last_store (last_alone ss) ≡ last_store ss
+same_store [] = refl
+same_store (s ∷ []) = refl
+same_store (s ∷ t ∷ ss) = same_store (t ∷ ss)
+
+pub forgets : (time : ℕ → ℕ) (e : EndIs) → KeepsEnd time e → KeepsEnd time (forgot e)
+forgets time e h = record {
+  of_lane = last_all (IsOfLane (time e.seat.no) e.seat.seat.lane) e.sessions h.of_lane;
+  sent_are = λ whole. absurd (true≢false (sym whole));
+  earlier = none_earlier e.sessions;
+  stored = subst (λ o. IsSome (option_or e.store o)) (sym (same_store e.sessions)) h.stored;
+}
 
 -- Beginning.
 
@@ -203,7 +230,7 @@ starts_stored opening room limit store s t = ap store_of t.is ∙ store_begun li
 
 pub begins : (time : ℕ → ℕ) (e : EndIs) (store : StoreState) (opening : Opening) (room limit : ℕ) (s : SessionView) → KeepsEnd time e → LastIsOver e.sessions
     → e.store ≡ Some store → opening.key.time ≡ time e.seat.no → 1 ≤ opening.key.id → opening.key.id ≤ most_number → opening.lane ≡ e.seat.seat.lane
-    → StartsSession opening room limit store s → KeepsPart time (record { seat = e.seat; before = e.sessions; session = s; told = []; spools = not (limit == 0) })
+    → StartsSession opening room limit store s → KeepsPart time (record { seat = e.seat; before = e.sessions; session = s; told = []; spools = not (limit == 0); whole = e.whole })
 begins time e store opening room limit s h over stored run least most lane t =
     let key : s.key ≡ opening.key = ap (λ (x : SessionView). x.key) t.is in
     let status : s.status ≡ Active = ap (λ (x : SessionView). x.status) t.is in
@@ -220,7 +247,7 @@ begins time e store opening room limit s h over stored run least most lane t =
       sent_before = e.seat.seat.sent;
       sent = [];
       sent_are = sym (append-nil e.seat.seat.sent);
-      before_tell = sent_weaker (StoreIsTrue (lane_store e)) (StoreIsTrue (store_of s)) e.sessions e.seat.seat.sent (subst StoreIsTrue home) h.sent_are;
+      before_tell = λ whole. sent_weaker (StoreIsTrue (lane_store e)) (StoreIsTrue (store_of s)) e.sessions e.seat.seat.sent (subst StoreIsTrue home) (h.sent_are whole);
       tells = record {
         count_is = sym (ap (λ (x : SessionView). x.count) t.is);
         bytes_are = sym (ap (λ (x : SessionView). x.bytes) t.is);

@@ -5,7 +5,7 @@ use Rattle.sd_base.specs.declared.number.SessionKey.{SessionKey}
 use Rattle.sd_lane.specs.declared.piece.Piece.{Piece}
 use Rattle.sd_pack.specs.Body.{PackedBody}
 use Rattle.sd_session.specs.Session.{store_of}
-use Rattle.sd_line.specs.Ends.{ToldSession, IsOver, LastIsOver, EarlierAreOver, SentBy, TellsAll, RestsOn, pieces_from, last_store}
+use Rattle.sd_line.specs.Ends.{ToldSession, IsOver, LastIsOver, EarlierAreOver, SentBy, TellsAll, RestsOn, pieces_from, last_alone, last_store}
 
 pub all_push : {A : Type 0} (P : A → Type 0) (xs : List A) (x : A) → AllByRecursion P xs → P x → AllByRecursion P (xs ++ x ∷ [])
 all_push P [] x h p = (p, tt)
@@ -54,6 +54,11 @@ pub last_store_push : (ss : List ToldSession) (s : ToldSession) → last_store (
 last_store_push [] s = refl
 last_store_push (x ∷ []) s = refl
 last_store_push (x ∷ y ∷ ss) s = last_store_push (y ∷ ss) s
+
+pub last_alone_push : (ss : List ToldSession) (s : ToldSession) → last_alone (ss ++ s ∷ []) ≡ s ∷ []
+last_alone_push [] s = refl
+last_alone_push (x ∷ []) s = refl
+last_alone_push (x ∷ y ∷ ss) s = last_alone_push (y ∷ ss) s
 
 -- What they sent.
 

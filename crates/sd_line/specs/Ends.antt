@@ -1,5 +1,5 @@
 -- What contracts see of a lane's end, and what it keeps: that its sessions were told what its seat sent.
-use Rattle.std.specs.Prelude.{◌≡◌, ◌≢◌, ◌⊎◌, ℕ, ◌+◌, ◌≤◌, Bool, IsTrue, List, [], ◌∷◌, ◌++◌, length, Option, Some, None, IsSome}
+use Rattle.std.specs.Prelude.{◌≡◌, ◌≢◌, ◌⊎◌, ℕ, ◌+◌, ◌≤◌, Bool, false, IsTrue, List, [], ◌∷◌, ◌++◌, length, Option, Some, None, IsSome}
 use Rattle.std.specs.List.{AllByRecursion}
 use Rattle.std.specs.Option.{option_or}
 use Rattle.sd_base.specs.Limits.{most_number}
@@ -22,12 +22,13 @@ pub record ToldSession : Type 0 where
   pub told : List Record
   pub spools : Bool
 
--- A lane's end: its seat; the store of its spools, unless the session that used the lane last has it; and the sessions that
--- used the lane, in order.
+-- A lane's end: its seat; the store of its spools, unless the session that used the lane last has it; the sessions that used the
+-- lane, in order; and whether these are all of them, since an end may forget those before the last one.
 pub record EndIs : Type 0 where
   pub seat : SeatIs
   pub store : Option StoreState
   pub sessions : List ToldSession
+  pub whole : Bool
 
 -- the store that the last of these sessions has
 abbrev pub last_store : List ToldSession → Option StoreState
@@ -52,6 +53,16 @@ pub record LastGivesBack (old : List ToldSession) (store : StoreState) (new : Li
 abbrev pub TakesStore : EndIs → StoreState → List ToldSession → Type 0
 TakesStore e store sessions =
     ((e.store ≡ Some store) × (sessions ≡ e.sessions)) ⊎ ((e.store ≡ None) × LastGivesBack e.sessions store sessions)
+
+-- the last of these sessions, if there is one
+abbrev pub last_alone : List ToldSession → List ToldSession
+last_alone [] = []
+last_alone (s ∷ []) = s ∷ []
+last_alone (s ∷ t ∷ ss) = last_alone (t ∷ ss)
+
+-- the end once it forgot the sessions before the last one
+abbrev pub forgot : EndIs → EndIs
+forgot e = record e { sessions = last_alone e.sessions; whole = false }
 
 -- the lane's store lies in the end now, and nothing else changes
 pub record BringsStore (old new : EndIs) : Type 0 where
@@ -112,10 +123,10 @@ SentBy honest [] sent = sent ≡ []
 SentBy honest (s ∷ ss) sent = (bodies : List PackedBody) × (rest : List Piece)
     × (sent ≡ pieces_from s.session.key 1 bodies ++ rest) × TellsAll (RestsOn s.spools honest) s bodies × SentBy honest ss rest
 
--- What a lane's end keeps. Its sessions are of its drive's run and of its lane; what its seat sent is what they sent, one
--- after the other; only the last of them may still go on; and the lane's store is there.
+-- What a lane's end keeps. Its sessions are of its drive's run and of its lane; if they are all that used the lane, what its seat
+-- sent is what they sent, one after the other; only the last of them may still go on; and the lane's store is there.
 pub record KeepsEnd (time : ℕ → ℕ) (e : EndIs) : Type 0 where
   pub of_lane : AllByRecursion (IsOfLane (time e.seat.no) e.seat.seat.lane) e.sessions
-  pub sent_are : SentBy (StoreIsTrue (lane_store e)) e.sessions e.seat.seat.sent
+  pub sent_are : IsTrue e.whole → SentBy (StoreIsTrue (lane_store e)) e.sessions e.seat.seat.sent
   pub earlier : EarlierAreOver e.sessions
   pub stored : IsSome (lane_store e)

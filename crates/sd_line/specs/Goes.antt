@@ -25,6 +25,7 @@ pub record GoesOn (old : PartIs) (taken : List Record) (new : PartIs) : Type 0 w
   pub more : List Piece
   pub seat_is : new.seat ≡ sends_more more old.seat
   pub before_is : new.before ≡ old.before
+  pub whole_is : new.whole ≡ old.whole
   pub told_is : new.told ≡ old.told ++ taken
   pub key_is : new.session.key ≡ old.session.key
 

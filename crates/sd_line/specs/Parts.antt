@@ -1,5 +1,5 @@
 -- What contracts see of a session's part, what it keeps, and what its calls do.
-use Rattle.std.specs.Prelude.{◌≡◌, ◌≢◌, ◌⊎◌, ℕ, ◌+◌, ◌-◌, ℤ, List, [], ◌∷◌, ◌++◌, ◌==◌, not, Bool, if◌then◌else◌, Some, None, IsSome, false}
+use Rattle.std.specs.Prelude.{◌≡◌, ◌≢◌, ◌⊎◌, ℕ, ◌+◌, ◌-◌, ℤ, List, [], ◌∷◌, ◌++◌, ◌==◌, not, Bool, if◌then◌else◌, Some, None, IsSome, IsTrue, false}
 use Rattle.std.specs.List.{AllByRecursion}
 use Rattle.sd_base.specs.Limits.{block_header}
 use Rattle.sd_base.specs.Record.{Record}
@@ -21,14 +21,15 @@ use Rattle.sd_spool.specs.Job.{StoreState}
 use Rattle.sd_world.specs.Honest.{StoreIsTrue}
 use Rattle.sd_session.specs.Spooling.{HasFailed}
 
--- A session's part: the seat of its lane, the sessions that used the lane before, the session, the records that it took, and
--- whether it spools.
+-- A session's part: the seat of its lane, the sessions that used the lane before, the session, the records that it took, whether
+-- it spools, and whether the sessions before are all that used the lane.
 pub record PartIs : Type 0 where
   pub seat : SeatIs
   pub before : List ToldSession
   pub session : SessionView
   pub told : List Record
   pub spools : Bool
+  pub whole : Bool
 
 -- the session of a part, and what it took
 abbrev pub told_of : PartIs → ToldSession
@@ -36,15 +37,15 @@ told_of p = record { session = p.session; told = p.told; spools = p.spools }
 
 -- the lane's end that a part leaves
 abbrev pub end_of : PartIs → EndIs
-end_of p = record { seat = p.seat; store = None; sessions = p.before ++ told_of p ∷ [] }
+end_of p = record { seat = p.seat; store = None; sessions = p.before ++ told_of p ∷ []; whole = p.whole }
 
 -- the part with another session in the place of its own, which took the same records
 abbrev pub with_session : PartIs → SessionView → PartIs
 with_session p s = record p { session = s }
 
--- What a part keeps. The seat sent what the sessions before sent, and after that these bodies of the part's own
--- session. What that session took is the whole of those bodies and of what it still has; if it spools, while the lane's
--- store is honest.
+-- What a part keeps. The seat sent other pieces first, which are those of the sessions before if these are all that used the lane,
+-- and after them these bodies of the part's own session. What that session took is the whole of those bodies and of what it still
+-- has; if it spools, while the lane's store is honest.
 pub record KeepsPart (time : ℕ → ℕ) (p : PartIs) : Type 0 where
   pub of_lane : IsOfLane (time p.seat.no) p.seat.seat.lane (told_of p)
   pub before_of_lane : AllByRecursion (IsOfLane (time p.seat.no) p.seat.seat.lane) p.before
@@ -52,7 +53,7 @@ pub record KeepsPart (time : ℕ → ℕ) (p : PartIs) : Type 0 where
   pub sent_before : List Piece
   pub sent : List PackedBody
   pub sent_are : p.seat.seat.sent ≡ sent_before ++ pieces_from p.session.key 1 sent
-  pub before_tell : SentBy (StoreIsTrue (store_of p.session)) p.before sent_before
+  pub before_tell : IsTrue p.whole → SentBy (StoreIsTrue (store_of p.session)) p.before sent_before
   pub tells : TellsAll (RestsOn p.spools (StoreIsTrue (store_of p.session))) (told_of p) sent
   pub unspooled : p.spools ≡ false → p.session.spool ≡ None
   pub stored : IsSome (store_of p.session)
@@ -79,7 +80,7 @@ pub record OpensAt (limits : Limits) (opening : Opening) (e : EndIs) (p : PartIs
   pub store : StoreState
   pub store_is : e.store ≡ Some store
   pub starts : StartsSession opening (limits.block - block_header) limits.spool store p.session
-  pub is : p ≡ record { seat = e.seat; before = e.sessions; session = p.session; told = []; spools = spools_at limits }
+  pub is : p ≡ record { seat = e.seat; before = e.sessions; session = p.session; told = []; spools = spools_at limits; whole = e.whole }
 
 -- none begins: it was out of memory, or the store could not be cleared, which lies in the end still
 pub record OpensNotAt (limits : Limits) (e : EndIs) (why : Refusal) (e' : EndIs) : Type 0 where

@@ -1,8 +1,8 @@
 // The end of a lane, while no session uses it.
-ghost use Rattle.std.specs.Prelude.{◌≡◌, ◌↔◌, [], Some, IsTrue, IsSome, IfSome};
+ghost use Rattle.std.specs.Prelude.{◌≡◌, ◌↔◌, [], Some, IsTrue, IsSome, IfSome, true};
 ghost use Rattle.std.specs.Option.{option_map};
 ghost use Rattle.sd_spool.specs.Job.{state_of};
-ghost use Rattle.sd_line.specs.Ends.{KeepsEnd, LastIsOver, LastGivesBack, BringsStore, last_store};
+ghost use Rattle.sd_line.specs.Ends.{KeepsEnd, LastIsOver, LastGivesBack, BringsStore, forgot, last_alone, last_store};
 
 use crate::naming::Naming;
 use crate::seat::Seat;
@@ -14,13 +14,16 @@ use std::marker::Model;
 
 /// The end of a lane: its seat, the store of its spools, and the sessions that used it. In a contract it is an `EndIs`.
 ///
-/// Its type keeps what `KeepsEnd` says: what the seat sent is what those sessions sent, one after the other.
+/// Its type keeps what `KeepsEnd` says: what the seat sent is what those sessions sent, one after the other, unless some were
+/// forgotten.
 #[derive(Drop)]
 pub struct LaneEnd<N: Naming, S: SpoolStore> {
     pub(crate) seat: Seat<N>,
     // None while the session has it that used the lane last.
     pub(crate) store: Option<S>,
     pub(crate) sessions: Vec<Told<S>>,
+    // Whether none of them was forgotten.
+    pub(crate) whole: bool,
 }
 
 impl<N: Naming, S: SpoolStore> Model for LaneEnd<N, S> {
@@ -34,12 +37,14 @@ impl<N: Naming, S: SpoolStore> Model for LaneEnd<N, S> {
       seat = e.seat;
       store = option_map (λ s. state_of (S.meaning s)) e.store;
       sessions = e.sessions.items;
+      whole = e.whole;
     } };
 
     ghost invariant = { λ e. KeepsEnd N.time (record {
       seat = e.seat;
       store = option_map (λ s. state_of (S.meaning s)) e.store;
       sessions = e.sessions.items;
+      whole = e.whole;
     }) };
 }
 
@@ -51,6 +56,8 @@ pub struct EndParts<N: Naming, S: SpoolStore> {
     pub store: Option<S>,
     /// Those that used the lane, in order.
     pub sessions: Vec<Told<S>>,
+    /// Whether these are all that used it.
+    pub whole: bool,
 }
 
 impl<N: Naming, S: SpoolStore> LaneEnd<N, S> {
@@ -61,12 +68,14 @@ impl<N: Naming, S: SpoolStore> LaneEnd<N, S> {
           seat = seat;
           store = Some (state_of (S.meaning store));
           sessions = [];
+          whole = true;
         } }
     {
         LaneEnd {
             seat,
             store: Some(store),
             sessions: Vec::new(alloc),
+            whole: true,
         }
     }
 
@@ -77,7 +86,7 @@ impl<N: Naming, S: SpoolStore> LaneEnd<N, S> {
         let _ = &self.store;
     }
 
-    /// The sessions that used the lane, in order.
+    /// The sessions that used the lane, in order; of an end that isn't whole, the last one alone.
     pub fn sessions(&self) -> &[Told<S>]
         ensures { result.now ≡ self.now.sessions }
     {
@@ -99,12 +108,31 @@ impl<N: Naming, S: SpoolStore> LaneEnd<N, S> {
         }
     }
 
+    /// Whether its sessions are all that used the lane.
+    pub fn is_whole(&self) -> bool
+        ensures { result ≡ self.now.whole }
+    {
+        self.whole
+    }
+
+    /// Forgets the sessions that used the lane before the last one, and what they held: the end is whole no more, and its line
+    /// can't be settled.
+    pub fn forget(&mut self)
+    where
+        S: Drop,
+        ensures { self.new ≡ forgot self.old }
+    {
+        self.whole = false;
+        keep_last(&mut self.sessions);
+    }
+
     /// What it is made of.
     pub fn into_parts(self) -> EndParts<N, S>
         ensures parts { self ≡ record {
           seat = result.seat;
           store = option_map (λ s. state_of (S.meaning s)) result.store;
           sessions = result.sessions.items;
+          whole = result.whole;
         } }
         ensures keeps { KeepsEnd N.time self }
     {
@@ -112,11 +140,13 @@ impl<N: Naming, S: SpoolStore> LaneEnd<N, S> {
             seat,
             store,
             sessions,
+            whole,
         } = self;
         EndParts {
             seat,
             store,
             sessions,
+            whole,
         }
     }
 
@@ -148,6 +178,17 @@ impl<N: Naming, S: SpoolStore> LaneEnd<N, S> {
     {
         self.seat.lane()
     }
+}
+
+// Drops these sessions but for the last one.
+fn keep_last<S: SpoolStore + Drop>(sessions: &mut Vec<Told<S>>)
+    ensures { sessions.new.items ≡ last_alone sessions.old.items }
+{
+    let Some(last) = sessions.pop() else {
+        return;
+    };
+    sessions.clear();
+    sessions.push_reserved(last);
 }
 
 // The store of the last of these sessions.

@@ -39,6 +39,8 @@ pub struct SessionPart<N: Naming, S: SpoolStore> {
     // The records that the session took, of which nothing is held.
     pub(crate) told: Option<Seen<Rec>>,
     pub(crate) spools: bool,
+    // Whether the sessions before are all that used the lane.
+    pub(crate) whole: bool,
 }
 
 impl<N: Naming, S: SpoolStore> Model for SessionPart<N, S> {
@@ -55,6 +57,7 @@ impl<N: Naming, S: SpoolStore> Model for SessionPart<N, S> {
       session = p.session;
       told = seen_of p.told;
       spools = p.spools;
+      whole = p.whole;
     } };
 
     ghost invariant = { λ p. record {
@@ -64,6 +67,7 @@ impl<N: Naming, S: SpoolStore> Model for SessionPart<N, S> {
         session = p.session;
         told = seen_of p.told;
         spools = p.spools;
+        whole = p.whole;
       });
       room : length p.before.items < vec_capacity p.before;
     } };
@@ -251,6 +255,7 @@ impl<N: Naming, S: SpoolStore + Drop> SessionPart<N, S> {
             session,
             told,
             spools,
+            whole,
         } = self;
         let mut sessions = before;
         sessions.push_reserved(Told {
@@ -262,6 +267,7 @@ impl<N: Naming, S: SpoolStore + Drop> SessionPart<N, S> {
             seat,
             store: None,
             sessions,
+            whole,
         }
     }
 }

@@ -31,6 +31,8 @@ pub struct Prepared<N: Naming, S: SpoolStore> {
     seat: Seat<N>,
     // The sessions that used the lane before; with room for one more.
     before: Vec<Told<S>>,
+    // Whether these are all that did.
+    whole: bool,
     session: Session<S>,
     opening: Opening,
     limits: Limits,
@@ -50,21 +52,22 @@ impl<N: Naming, S: SpoolStore> Model for Prepared<N, S> {
     ghost view = { λ p. record {
       limits = p.limits;
       opening = p.opening;
-      end = record { seat = p.seat; store = store_of p.session; sessions = p.before.items };
+      end = record { seat = p.seat; store = store_of p.session; sessions = p.before.items; whole = p.whole };
     } };
 
     ghost invariant = { λ p. record {
       keeps : KeepsEnd N.time
-          (record { seat = p.seat; store = store_of p.session; sessions = p.before.items });
+          (record { seat = p.seat; store = store_of p.session; sessions = p.before.items; whole = p.whole });
       over : LastIsOver p.before.items;
       opens : OpensAt p.limits p.opening
-          (record { seat = p.seat; store = store_of p.session; sessions = p.before.items })
+          (record { seat = p.seat; store = store_of p.session; sessions = p.before.items; whole = p.whole })
           (record {
             seat = p.seat;
             before = p.before.items;
             session = p.session;
             told = [];
             spools = spools_at p.limits;
+            whole = p.whole;
           });
       time : p.opening.key.time ≡ N.time p.seat.no;
       id : (1 ≤ p.opening.key.id) × (p.opening.key.id ≤ most_number);
@@ -144,6 +147,7 @@ impl<N: Naming, S: SpoolStore + Drop> Prepared<N, S> {
         let Prepared {
             seat,
             before,
+            whole,
             session,
             opening,
             limits,
@@ -155,6 +159,7 @@ impl<N: Naming, S: SpoolStore + Drop> Prepared<N, S> {
             session,
             told: None,
             spools: limits.spool != 0,
+            whole,
         }
     }
 }
@@ -180,6 +185,7 @@ fn give_up<N: Naming, S: SpoolStore + Drop>(prepared: Prepared<N, S>) -> GivenUp
     let Prepared {
         seat,
         before,
+        whole,
         session,
         opening,
         limits,
@@ -188,6 +194,7 @@ fn give_up<N: Naming, S: SpoolStore + Drop>(prepared: Prepared<N, S>) -> GivenUp
         seat,
         store: Some(store_back(session)),
         sessions: before,
+        whole,
     };
     GivenUp {
         limits,
@@ -217,20 +224,22 @@ pub(crate) fn prepare_at<N: Naming, S: SpoolStore + Drop>(
         seat,
         store,
         mut sessions,
+        whole,
     } = end;
     let store = store.unwrap();
     if let Err(AllocError) = sessions.reserve(1) {
-        return Err(not_parted(seat, store, sessions, Refusal::Memory));
+        return Err(not_parted(seat, store, sessions, whole, Refusal::Memory));
     }
     match Session::open(alloc, copy_of(&opening), store, limits.block, limits.spool) {
         Ok(session) => Ok(Prepared {
             seat,
             before: sessions,
+            whole,
             session,
             opening,
             limits,
         }),
-        Err(NotOpened { store, why }) => Err(not_parted(seat, store, sessions, why)),
+        Err(NotOpened { store, why }) => Err(not_parted(seat, store, sessions, whole, why)),
     }
 }
 
@@ -253,17 +262,20 @@ fn not_parted<N: Naming, S: SpoolStore>(
     seat: Seat<N>,
     store: S,
     sessions: Vec<Told<S>>,
+    whole: bool,
     why: Refusal,
 ) -> NotParted<N, S>
     requires { KeepsEnd N.time (record {
       seat = seat;
       store = Some (state_of (S.meaning store));
       sessions = sessions.items;
+      whole = whole;
     }) }
     ensures end { result.end ≡ record {
       seat = seat;
       store = Some (state_of (S.meaning store));
       sessions = sessions.items;
+      whole = whole;
     } }
     ensures why { result.why ≡ why }
 {
@@ -272,6 +284,7 @@ fn not_parted<N: Naming, S: SpoolStore>(
             seat,
             store: Some(store),
             sessions,
+            whole,
         },
         why,
     }

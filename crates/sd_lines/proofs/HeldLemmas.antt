@@ -132,7 +132,7 @@ shuts_by {q = q} key_is goes_on of spans_are =
 
 pub shuts_not : (p : PartIs) → Shuts (Refused Memory) p p
 shuts_not p = (
-  record { more = []; seat_is = ap (λ (l : List Piece). record p.seat { seat = record p.seat.seat { sent = l } }) (sym (append-nil p.seat.seat.sent)); before_is = refl; told_is = sym (append-nil p.told); key_is = refl },
+  record { more = []; seat_is = ap (λ (l : List Piece). record p.seat { seat = record p.seat.seat { sent = l } }) (sym (append-nil p.seat.seat.sent)); before_is = refl; whole_is = refl; told_is = sym (append-nil p.told); key_is = refl },
   λ spool. elim spool [
     | inl is ↦ absurd (cc is)
     | inr is ↦ absurd (cc is)

@@ -30,7 +30,7 @@ pub enum AddFault {
 
 impl<D: Driver + Drop, N: Naming, R: Wait + Clock + Drop, S: SpoolStore + Drop> Hub<D, N, R, S> {
     /// A hub without drives, in the run of this time.
-    pub fn new(rt: R, alloc: Global, time: u32, keeps_receipts: bool) -> Self {
+    pub fn new(rt: R, alloc: Global, time: u32, settles: bool) -> Self {
         Hub {
             rt,
             alloc,
@@ -41,7 +41,7 @@ impl<D: Driver + Drop, N: Naming, R: Wait + Clock + Drop, S: SpoolStore + Drop> 
             given: AmountCounter::new(),
             answers: AnswerCounter::new(),
             time,
-            keeps_receipts,
+            settles,
         }
     }
 

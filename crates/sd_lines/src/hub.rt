@@ -65,8 +65,9 @@ pub struct Hub<D: Driver, N: Naming, R: Wait + Drop, S: SpoolStore> {
     pub answers: AnswerCounter,
     /// The time of the run.
     pub time: u32,
-    /// Whether the receipts of closed sessions are kept.
-    pub keeps_receipts: bool,
+    /// Whether somebody settles the lines at the end: for him the receipts of closed sessions are kept, and lanes keep the sessions
+    /// that used them.
+    pub settles: bool,
 }
 
 impl<D: Driver, N: Naming, R: Wait + Clock + Drop, S: SpoolStore + Drop> Hub<D, N, R, S> {
@@ -82,7 +83,8 @@ impl<D: Driver, N: Naming, R: Wait + Clock + Drop, S: SpoolStore + Drop> Hub<D, 
         }
     }
 
-    /// The end of a lane lies at the desk from now on, and the line of its last session says that it has this status.
+    /// The end of a lane lies at the desk from now on, and the line of its last session says that it has this status. If nobody
+    /// settles the lines, the end forgets the sessions before.
     pub(crate) fn come_back(
         &self,
         end: LaneEnd<N, S>,
@@ -91,6 +93,10 @@ impl<D: Driver, N: Naming, R: Wait + Clock + Drop, S: SpoolStore + Drop> Hub<D, 
         status: Status,
         records: u64,
     ) {
+        let mut end = end;
+        if !self.settles {
+            end.forget();
+        }
         {
             let mut front = self.front.lock(&self.rt);
             let front: &mut Front<N, S> = &mut front;
@@ -124,9 +130,9 @@ impl<D: Driver, N: Naming, R: Wait + Clock + Drop, S: SpoolStore + Drop> Hub<D, 
         }
     }
 
-    /// Makes room for the receipt of a session that is to be closed at a drive, if receipts are kept.
+    /// Makes room for the receipt of a session that is to be closed at a drive, if somebody settles.
     pub(crate) fn promise_receipt(&self, drive: DriveNo) -> Result<(), AllocError> {
-        if !self.keeps_receipts {
+        if !self.settles {
             return Ok(());
         }
         match self.posts.get(drive.get() as usize - 1) {
@@ -135,9 +141,9 @@ impl<D: Driver, N: Naming, R: Wait + Clock + Drop, S: SpoolStore + Drop> Hub<D, 
         }
     }
 
-    /// Keeps the receipt of a session that was closed at a drive, if receipts are kept, in the room that was made for it.
+    /// Keeps the receipt of a session that was closed at a drive, if somebody settles, in the room that was made for it.
     pub(crate) fn keep(&self, drive: DriveNo, receipt: Receipt) {
-        if !self.keeps_receipts {
+        if !self.settles {
             return;
         }
         if let Some(post) = self.posts.get(drive.get() as usize - 1) {
@@ -147,7 +153,7 @@ impl<D: Driver, N: Naming, R: Wait + Clock + Drop, S: SpoolStore + Drop> Hub<D, 
 
     /// Gives the room back that was made for a receipt, of a session that isn't closed.
     pub(crate) fn keep_none(&self, drive: DriveNo) {
-        if !self.keeps_receipts {
+        if !self.settles {
             return;
         }
         if let Some(post) = self.posts.get(drive.get() as usize - 1) {

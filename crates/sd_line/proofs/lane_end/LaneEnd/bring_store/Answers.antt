@@ -22,7 +22,7 @@ take_from_last-requires-clause-stored g c κs within =
 
 pub invariant_of-self : goal.invariant_of-self
 invariant_of-self g c =
-    let f : EndIs = record { seat = c.self.inside.seat; store = option_map (λ s. state_of (g.S.SpoolStore.meaning s)) c.self.inside.store; sessions = c.self.inside.sessions.items } in
+    let f : EndIs = record { seat = c.self.inside.seat; store = option_map (λ s. state_of (g.S.SpoolStore.meaning s)) c.self.inside.store; sessions = c.self.inside.sessions.items; whole = c.self.inside.whole } in
     let took = c.take_from_last in
     let not : false ≡ is_some c.self.inside.store = sym c.if-is_some.false ∙ c.is_some.ensures in
     let b = brought (λ s. state_of (g.S.SpoolStore.meaning s)) took.result f took.new.sessions.items
@@ -31,16 +31,16 @@ invariant_of-self g c =
 
 pub returns-clause-brings : goal.returns-clause-brings
 returns-clause-brings g c =
-    let f : EndIs = record { seat = c.self.inside.seat; store = option_map (λ s. state_of (g.S.SpoolStore.meaning s)) c.self.inside.store; sessions = c.self.inside.sessions.items } in
+    let f : EndIs = record { seat = c.self.inside.seat; store = option_map (λ s. state_of (g.S.SpoolStore.meaning s)) c.self.inside.store; sessions = c.self.inside.sessions.items; whole = c.self.inside.whole } in
     let took = c.take_from_last in
     let not : false ≡ is_some c.self.inside.store = sym c.if-is_some.false ∙ c.is_some.ensures in
     let b = brought (λ s. state_of (g.S.SpoolStore.meaning s)) took.result f took.new.sessions.items
     (none_mapped (λ s. state_of (g.S.SpoolStore.meaning s)) c.self.inside.store not) took.ensures.some took.ensures.gives_back in
-    subst (λ (e : EndIs). BringsStore e (record { seat = f.seat; store = option_map (λ s. state_of (g.S.SpoolStore.meaning s)) took.result; sessions = took.new.sessions.items })) c.self.view_is b
+    subst (λ (e : EndIs). BringsStore e (record { seat = f.seat; store = option_map (λ s. state_of (g.S.SpoolStore.meaning s)) took.result; sessions = took.new.sessions.items; whole = f.whole })) c.self.view_is b
 
 pub returns-clause-over : goal.returns-clause-over
 returns-clause-over g c =
-    let f : EndIs = record { seat = c.self.inside.seat; store = option_map (λ s. state_of (g.S.SpoolStore.meaning s)) c.self.inside.store; sessions = c.self.inside.sessions.items } in
+    let f : EndIs = record { seat = c.self.inside.seat; store = option_map (λ s. state_of (g.S.SpoolStore.meaning s)) c.self.inside.store; sessions = c.self.inside.sessions.items; whole = c.self.inside.whole } in
     let took = c.take_from_last in
     let not : false ≡ is_some c.self.inside.store = sym c.if-is_some.false ∙ c.is_some.ensures in
     let b = brought (λ s. state_of (g.S.SpoolStore.meaning s)) took.result f took.new.sessions.items

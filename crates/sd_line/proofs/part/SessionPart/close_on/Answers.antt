@@ -28,7 +28,7 @@ invariant_of-self g c =
     let same : p.session ≡ c.args.self.now.session = ap (λ (x : PartIs). x.session) c.self.view_is ∙ due.1 in
     let may = subst (λ (s : SessionView). MayCloseBy journal s r) (sym same) due.0 in
     record {
-      keeps = closes_keep g.N.Naming.time p.seat p.before.items p.session c.close_by.new.session (seen_of p.told) p.spools ⊥ journal (Ok (Closed r)) (c.close_by.ensures journal may)
+      keeps = closes_keep g.N.Naming.time p.seat p.before.items p.session c.close_by.new.session (seen_of p.told) p.spools p.whole ⊥ journal (Ok (Closed r)) (c.close_by.ensures journal may)
           c.self.invariant.keeps;
       room = c.self.invariant.room;
     }

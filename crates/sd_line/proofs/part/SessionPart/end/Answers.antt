@@ -8,11 +8,11 @@ pub invariant_of-self : goal.invariant_of-self
 invariant_of-self g c =
     let p = c.self.inside in
     record {
-      keeps = ends_keep g.N.Naming.time p.seat p.before.items p.session c.end.new.self (seen_of p.told) p.spools _ c.end.result c.end.ensures.ok c.end.ensures.err c.self.invariant.keeps;
+      keeps = ends_keep g.N.Naming.time p.seat p.before.items p.session c.end.new.self (seen_of p.told) p.spools p.whole _ c.end.result c.end.ensures.ok c.end.ensures.err c.self.invariant.keeps;
       room = c.self.invariant.room;
     }
 
 pub returns-clause-err : goal.returns-clause-err
 returns-clause-err g c =
     let p = c.self.inside in
-    on_err_weaker c.end.result (λ e. ap (λ s. part_of p.seat p.before.items s (seen_of p.told) p.spools) e ∙ c.self.view_is) c.end.ensures.err
+    on_err_weaker c.end.result (λ e. ap (λ s. part_of p.seat p.before.items s (seen_of p.told) p.spools p.whole) e ∙ c.self.view_is) c.end.ensures.err

@@ -8,5 +8,5 @@ use Rattle.sd_line.proofs.part.SessionPart.leave.Goals as goal
 pub invariant_of-result : goal.invariant_of-result
 invariant_of-result g c =
     let p = c.self.inside in
-    subst (λ ss. KeepsEnd g.N.Naming.time (record { seat = p.seat; store = None; sessions = ss })) (sym c.push_reserved.ensures.items)
-    (leaves g.N.Naming.time (part_of p.seat p.before.items p.session (seen_of p.told) p.spools) c.self.invariant.keeps)
+    subst (λ ss. KeepsEnd g.N.Naming.time (record { seat = p.seat; store = None; sessions = ss; whole = p.whole })) (sym c.push_reserved.ensures.items)
+    (leaves g.N.Naming.time (part_of p.seat p.before.items p.session (seen_of p.told) p.spools p.whole) c.self.invariant.keeps)

@@ -11,7 +11,7 @@ invariant_of-self g c =
     let p = c.self.inside in
     let step = c.push in
     record {
-      keeps = pushes_keep g.N.Naming.time p.seat p.before.items p.session step.new.session (seen_of p.told) p.spools _ step.new.seat step.result step.ensures.ok step.ensures.err step.ensures.refused c.self.invariant.keeps;
+      keeps = pushes_keep g.N.Naming.time p.seat p.before.items p.session step.new.session (seen_of p.told) p.spools p.whole _ step.new.seat step.result step.ensures.ok step.ensures.err step.ensures.refused c.self.invariant.keeps;
       room = c.self.invariant.room;
     }
 

@@ -23,7 +23,7 @@ pub invariant_of-self-in-Err : goal.invariant_of-self-in-Err
 invariant_of-self-in-Err g c =
     let p = c.self.inside in
     record {
-      keeps = due_keep g.N.Naming.time p.seat p.before.items p.session c.receipt.new.session (seen_of p.told) p.spools ⊥ _ c.receipt.result c.receipt.ensures c.self.invariant.keeps;
+      keeps = due_keep g.N.Naming.time p.seat p.before.items p.session c.receipt.new.session (seen_of p.told) p.spools p.whole ⊥ _ c.receipt.result c.receipt.ensures c.self.invariant.keeps;
       room = c.self.invariant.room;
     }
 

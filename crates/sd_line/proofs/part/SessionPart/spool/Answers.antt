@@ -11,7 +11,7 @@ invariant_of-self g c =
     let p = c.self.inside in
     let step = c.spool_step in
     record {
-      keeps = spools_keep g.N.Naming.time p.seat p.before.items p.session step.new.self (seen_of p.told) p.spools step.result step.ensures.ok step.ensures.err c.self.invariant.keeps;
+      keeps = spools_keep g.N.Naming.time p.seat p.before.items p.session step.new.self (seen_of p.told) p.spools p.whole step.result step.ensures.ok step.ensures.err c.self.invariant.keeps;
       room = c.self.invariant.room;
     }
 

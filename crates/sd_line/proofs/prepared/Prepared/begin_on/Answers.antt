@@ -10,7 +10,7 @@ pub invariant_of-result : goal.invariant_of-result
 invariant_of-result g c =
     let p = c.self.inside in
     let h = c.self.invariant in
-    let e : EndIs = record { seat = p.seat; store = store_of p.session; sessions = p.before.items } in
+    let e : EndIs = record { seat = p.seat; store = store_of p.session; sessions = p.before.items; whole = p.whole } in
     record {
       keeps = begins g.N.Naming.time e h.opens.store p.opening (p.limits.block - block_header) p.limits.spool p.session h.keeps h.over h.opens.store_is
           h.time h.id.0 h.id.1 h.lane h.opens.starts;
@@ -20,7 +20,7 @@ invariant_of-result g c =
 pub returns-clause-opens : goal.returns-clause-opens
 returns-clause-opens g c =
     let p = c.self.inside in
-    subst (λ (x : PreparedIs). OpensAt x.limits x.opening x.end (record { seat = p.seat; before = p.before.items; session = p.session; told = []; spools = spools_at p.limits })) c.self.view_is
+    subst (λ (x : PreparedIs). OpensAt x.limits x.opening x.end (record { seat = p.seat; before = p.before.items; session = p.session; told = []; spools = spools_at p.limits; whole = p.whole })) c.self.view_is
     c.self.invariant.opens
 
 pub returns-clause-notes : goal.returns-clause-notes
