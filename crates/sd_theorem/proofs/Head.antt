@@ -15,28 +15,39 @@ use Rattle.sd_readback.proofs.FaultLemmas.{total_bytes-append}
 use Rattle.sd_session.specs.declared.status.Status.TheVariants.{Cancelled}
 use Rattle.sd_span.specs.declared.span.Span.{Span}
 use Rattle.sd_world.specs.Drives.{was_purged}
-use Rattle.sd_world.specs.Honest.{AreHonest}
 use Rattle.sd_world.specs.World.{WorldView, WorldSession, BayView, IsOnline, session_at}
 use Rattle.sd_world.specs.Matches.{Matches, SessionsMatch}
 use Rattle.sd_world.proofs.Sessions.{found_session}
 use Rattle.sd_world.specs.Stands.{StandsClosed}
 use Rattle.sd_world.specs.Deeds.{Deed, IsRead, LeadsTo, StaysFrom}
 use Rattle.sd_world.specs.Reading.{is_gone}
-use Rattle.sd_world.specs.Reads.{HasCancelled, ReadsToFront}
+use Rattle.sd_world.specs.Reads.{HasCancelled, HasHonestDrive, ReadsToFront}
 use Rattle.sd_world.specs.Stays.{AreClaimed}
 use Rattle.sd_world.specs.Steps.{IsSound}
 use Rattle.sd_world.proofs.DeedLemmas.{leads_keep, leads_run}
+use Rattle.sd_world.proofs.FailSteps.{fail_by_cause}
+use Rattle.sd_world.proofs.PurgedByCause.{purged_by_cause}
 use Rattle.sd_world.proofs.ReadLemmas.{closed_reads, told_spans_read}
+use Rattle.sd_theorem.specs.ByDrive.{HeadlineByDrive, IsHonestFor, StrikesByCause}
 use Rattle.sd_theorem.specs.Headline.{HasStatus, ReadsClosed, ReadsCancelled, Headline}
-use Rattle.sd_theorem.specs.Start.{Meanings, Start, IsMadeOf}
+use Rattle.sd_theorem.specs.Start.{Meanings, Start, StartsHonest, IsMadeOf}
 use Rattle.sd_theorem.specs.Told.{WereAsked}
 use Rattle.sd_theorem.proofs.Deeds.{given_at}
 use Rattle.sd_theorem.proofs.Fresh.{made_honest}
 use Rattle.sd_theorem.proofs.Read.{world_gives, world_refuses, world_purged, own_gone, counts_small}
-use Rattle.sd_theorem.proofs.Stood.{ToldOf, honest_drive, is_then, told_of, told_stood}
+use Rattle.sd_theorem.proofs.Stood.{ToldOf, all_for, is_then, told_of, told_stood}
 
-module _ {D : Type 0} (meaning : D → Meaning) (w : WorldView D) (m : Machine) (sound : IsSound meaning w) (honest : AreHonest meaning w) (pairs : Matches meaning w m)
-    (key : SessionKey) (spans : List Span) (after : WorldView D) (got got' : List Record) (result : Result ReadEnd Refusal) (read : IsRead meaning key spans got got' result w after) where
+module _ {D : Type 0} (meaning : D → Meaning) (w : WorldView D) (m : Machine) (sound : IsSound meaning w) (pairs : Matches meaning w m)
+    (key : SessionKey) (honest : IsHonestFor meaning w key) (spans : List Span) (after : WorldView D) (got got' : List Record) (result : Result ReadEnd Refusal) (read : IsRead meaning key spans got got' result w after) where
+  -- the drive of the session is honest, whatever number says it
+  own_drive : (e : WorldSession) → session_at key.id w.sessions ≡ Some e → (drive at : ℕ) (bay : BayView D) (d : DriveIs D) → IsOnline w e.drive at bay d
+      → IsOnline w drive at bay d → HasHonestDrive meaning w drive at bay d
+  own_drive e there drive at bay d own online = record {
+    online = online;
+    kept = sound.drives at bay d online.there online.online;
+    honest = honest e there at bay d own;
+  }
+
   -- Closed sessions.
 
   pub reads_closed : StandsClosed w key spans → ReadsClosed meaning w m key spans got got' result
@@ -44,7 +55,7 @@ module _ {D : Type 0} (meaning : D → Meaning) (w : WorldView D) (m : Machine) 
       elim s.holds.3 [
         | inl p ↦ elim s.holds.0 [
           | inl closed ↦
-              let here = honest_drive meaning w s.e.drive p.0 p.1 p.2 sound honest p.3 in
+              let here = own_drive s.e s.there s.e.drive p.0 p.1 p.2 p.3 p.3 in
               let t = closed_reads meaning w m key spans p.0 p.1 p.2 pairs (record { e = s.e; there = s.there; key_is = s.key_is; holds = (closed, p) }) here in
               let small = counts_small meaning w m key s.e t.s pairs s.there t.there read.fit in
               let kept = own_gone w key spans s.e sound.rules s.there s.key_is ∙ ap was_purged closed in
@@ -103,7 +114,7 @@ module _ {D : Type 0} (meaning : D → Meaning) (w : WorldView D) (m : Machine) 
           others = t.others;
           ended = t.ended;
           begin = t.records_begin;
-          reads = world_gives meaning w after key spans t.records t.ended got got' result e.drive at bay d online claimed (honest.devices e.drive at bay d online) kept t.reads
+          reads = world_gives meaning w after key spans t.records t.ended got got' result e.drive at bay d online claimed (honest e there at bay d online).device kept t.reads
               (omega (arith, long, few)) (omega (arith, wide, light)) read.reads;
         });
       }
@@ -139,19 +150,19 @@ module _ {D : Type 0} (meaning : D → Meaning) (w : WorldView D) (m : Machine) 
             let F : SessionKey → Type 0 = λ k. (bodies : List (List ℕ)) × ReadsToFront (volumes_on (meaning d.device).shelf) m k bodies spans in
             let front = subst F was
             (told_spans_read meaning then w m told.e spans place.at place.bay d (subst At (sym was) told.there) told.spans_are some stays.seats stays.grow sound.rules pairs (subst C (sym was) gone)
-            (honest_drive meaning w told.e.drive place.at place.bay d sound honest there)) in
+            (own_drive e seat.1 told.e.drive place.at place.bay d online there)) in
             reads_front e front.0 place.at place.bay d seat.1 (own_gone w key spans e sound.rules seat.1 own ∙ ap was_purged cancelled) online claimed front.1
       ] in
       whether place.bay.drive refl
 
   -- by those that were asked for in deeds since
-  pub reads_cancelled : {first : WorldView D} (m0 : Machine) (deeds : List Deed) → IsSound meaning first → AreHonest meaning first → Matches meaning first m0 → LeadsTo meaning first deeds w
+  pub reads_cancelled : {first : WorldView D} (deeds : List Deed) → IsSound meaning first → LeadsTo meaning first deeds w
       → WereAsked key spans deeds → spans ≢ [] → HasStatus m key Cancelled → ReadsCancelled meaning w m key spans got got' result
-  reads_cancelled {first} m0 deeds sound0 honest0 pairs0 leads given some has =
+  reads_cancelled {first} deeds sound0 leads given some has =
       let event = Media key.id in
       let reply = Spans spans in
       let g = given_at meaning first w event reply deeds leads given in
-      let t = is_then meaning first w event reply m0 sound0 honest0 pairs0 g in
+      let t = is_then meaning first w event reply sound0 g in
       reads_told g.now g.after t.stays (told_of meaning g.asked g.now key spans t.sound g.step) some has
 
 -- a world that was just made matches the empty machine
@@ -162,21 +173,40 @@ made_matches is start w made = record {
   sessions = subst (λ es. SessionsMatch is.device w es []) (sym made.fresh.no_session) tt;
 }
 
-pub headline : {D Q S Z : Type 0} → Headline D Q S Z
-headline is start first w deeds made leads =
-    let pairs0 = made_matches is start first made in
+-- Drive by drive.
+
+strikes : {D : Type 0} (meaning : D → Meaning) (first : WorldView D) (deeds : List Deed) → IsSound meaning first → StrikesByCause meaning first deeds
+strikes meaning first deeds sound before after event reply old new split leads step =
+    let rules = (leads_keep meaning first old before sound leads).0.rules in
+    (fail_by_cause meaning old new event reply rules step.moves, purged_by_cause meaning old new event reply rules step.moves)
+
+pub by_drive : {D Q S Z : Type 0} → HeadlineByDrive D Q S Z
+by_drive is start first w deeds made leads =
     let kept = leads_keep is.device first w deeds made.sound leads in
-    let run = leads_run is.device first w deeds (empty_machine start.time) made.sound leads pairs0 in
+    let run = leads_run is.device first w deeds (empty_machine start.time) made.sound leads (made_matches is start first made) in
     record {
       m = run.0;
       run = run.1;
       matches = run.2;
-      closed = λ honest key spans told after got got' result read.
-          let h = made_honest is start first made honest in
-          reads_closed is.device w run.0 kept.0 (kept.1.honest h) run.2 key spans after got got' result read
-          (told_stood is.device first w (empty_machine start.time) key spans deeds made.sound h pairs0 leads told);
-      cancelled = λ honest key spans asked some has after got got' result read.
-          let h = made_honest is start first made honest in
-          reads_cancelled is.device w run.0 kept.0 (kept.1.honest h) run.2 key spans after got got' result read
-          (empty_machine start.time) deeds made.sound h pairs0 leads asked some has;
+      strikes = strikes is.device first deeds made.sound;
+      closed = λ key spans told honest after got got' result read.
+          reads_closed is.device w run.0 kept.0 run.2 key honest spans after got got' result read
+          (told_stood is.device first w key spans deeds made.sound leads told);
+      cancelled = λ key spans asked some has honest after got got' result read.
+          reads_cancelled is.device w run.0 kept.0 run.2 key honest spans after got got' result read deeds made.sound leads asked some has;
+    }
+
+-- With all devices and stores honest.
+
+pub headline : {D Q S Z : Type 0} → Headline D Q S Z
+headline is start first w deeds made leads =
+    let lists = by_drive is start first w deeds made leads in
+    let kept = leads_keep is.device first w deeds made.sound leads in
+    let own : StartsHonest is start → (key : SessionKey) → IsHonestFor is.device w key = λ honest key. all_for is.device w (kept.1.honest (made_honest is start first made honest)) key in
+    record {
+      m = lists.m;
+      run = lists.run;
+      matches = lists.matches;
+      closed = λ honest key spans told after got got' result read. lists.closed key spans told (own honest key) after got got' result read;
+      cancelled = λ honest key spans asked some has after got got' result read. lists.cancelled key spans asked some has (own honest key) after got got' result read;
     }

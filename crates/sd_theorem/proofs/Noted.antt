@@ -11,7 +11,7 @@ use Rattle.sd_world.specs.Deeds.{Deed, NonePurges}
 use Rattle.sd_world.specs.Lasting.{SpanLasts, SpansLast}
 use Rattle.sd_world.specs.World.{WorldView}
 use Rattle.sd_world.proofs.ClaimLemmas.{one_drive}
-use Rattle.sd_theorem.specs.Noted.{NoteLasts, NotedStarts}
+use Rattle.sd_theorem.specs.Noted.{NoteLasts, NotedShelf, NotedStarts}
 use Rattle.sd_theorem.specs.Runs.{RunsOn, RunsStop, NonePurgesOf}
 use Rattle.sd_theorem.specs.Start.{Meanings}
 use Rattle.sd_theorem.proofs.Runs.{survive_stop, survive_runs, run_keeps, found_stable}
@@ -58,6 +58,28 @@ module _ {D Q S : Type 0} (Z : Type 0) (is : Meanings D Q S) (spans : List Span)
       let l : SpanLasts last.moment volumes shelf noted_span = lasts zero noted_span (omega arith) in
       let same : bytes ≡ l.ends.bytes = cc l.ends.there in
       true_after note name last.moment shelf shelf bytes n.is_true (subst (λ b. Lasts last.moment name (take note.end b) shelf) (sym same) l.lasts) (λ other given own. own.now)
+
+  -- and of what the last stop left
+  pub true_left : (since : ℕ) (bytes : List ℕ) (now left last : Shelf) (others : List Shelf) → NoteLasts since note (get_or spans k d).volume bytes now → AfterStop since now left
+      → RunsStop Z is spans left others last → IsTrueNote note (get_or spans k d).volume last
+  true_left since bytes now left last [] n stop same =
+      subst (IsTrueNote note (get_or spans k d).volume) (sym same) (true_after note (get_or spans k d).volume since now left bytes n.is_true n.lasts stop)
+  true_left since bytes now left last (next ∷ others) n stop runs =
+      let volumes : Volumes = λ name. Some bytes in
+      let one = noted_span ∷ [] in
+      let r = runs.0 in
+      let first = survive_stop since volumes one now left (lasts_so since bytes now n) stop in
+      let lasts = run_keeps Z is volumes one left r.w r.runs (none_of_it r.runs.deeds r.unpurged) (first.last (found_stable Z is left r.w r.runs)) in
+      let shelf = (is.device r.runs.d.device).shelf in
+      let l : SpanLasts left.moment volumes shelf noted_span = lasts zero noted_span (omega arith) in
+      let same : bytes ≡ l.ends.bytes = cc l.ends.there in
+      true_left left.moment bytes shelf next last others
+      (record { is_true = n.is_true; lasts = subst (λ b. Lasts left.moment (get_or spans k d).volume (take note.end b) shelf) (sym same) l.lasts }) r.stop runs.1
+
+pub noted_shelf : {D Q S : Type 0} (Z : Type 0) → NotedShelf D Q S Z
+noted_shelf {D} {Q} {S} Z is spans notes bytes since now left last others all stop runs k d within =
+    let name = (get_or spans k d).volume in
+    true_left Z is spans k d within (notes name) since (bytes name) now left last others (all k d within) stop runs
 
 pub noted_starts : {D Q S Z : Type 0} → NotedStarts D Q S Z
 noted_starts {D} {Q} {S} {Z} is spans notes bytes since now left last others again all stop runs r none = λ k d within at bay x online honest.

@@ -24,7 +24,6 @@ use Rattle.sd_session.specs.declared.status.Status.TheVariants.{Closed}
 use Rattle.sd_span.specs.declared.span.Span.{Span}
 use Rattle.sd_world.specs.Deeds.{Deed, LeadsTo, NonePurges}
 use Rattle.sd_world.specs.Drives.{MovesDrive}
-use Rattle.sd_world.specs.Honest.{AreHonest}
 use Rattle.sd_world.specs.Kept.{IsClosedAt}
 use Rattle.sd_world.specs.Matches.{Matches}
 use Rattle.sd_world.specs.Reads.{HasHonestDrive, ReadsToAll}
@@ -45,7 +44,7 @@ use Rattle.sd_theorem.specs.Told.{WereAdopted}
 use Rattle.sd_theorem.proofs.Deeds.{given_at}
 use Rattle.sd_theorem.proofs.Read.{world_gives, foreign_gone}
 use Rattle.sd_theorem.proofs.Runs.{Survive, run_keeps, run_honest, found_stable, survive_stop, survive_runs}
-use Rattle.sd_theorem.proofs.Stood.{honest_drive}
+use Rattle.sd_theorem.specs.ByDrive.{IsHonestFor}
 use Rattle.sd_theorem.proofs.Unpurged.{none_noted, still_closed}
 
 -- what is one and the same
@@ -115,12 +114,13 @@ returns_of Z is key spans records then now volumes mark lasts reads =
 
 -- Closed sessions.
 
--- In a sound world, which matches a machine and whose devices and stores are honest, a session is closed with these spans. From
--- there deeds led to the world now, none of which purged a volume of the spans; and the session's drive is still online.
+-- In a sound world, which matches a machine, a session is closed with these spans. From there deeds led to the world now, none of
+-- which purged a volume of the spans; and the session's drive is still online. It is honest in both worlds.
 pub record WentOn {D : Type 0} (meaning : D → Meaning) (key : SessionKey) (spans : List Span) (w : WorldView D) : Type 0 where
   pub at_close : WorldView D
   pub sound : IsSound meaning at_close
-  pub honest : AreHonest meaning at_close
+  pub honest : IsHonestFor meaning at_close key
+  pub honest_now : IsHonestFor meaning w key
   pub m : Machine
   pub matches : Matches meaning at_close m
   pub closed : IsClosedAt at_close key spans
@@ -177,8 +177,12 @@ module _ {D Q S : Type 0} (Z : Type 0) (is : Meanings D Q S) (key : SessionKey) 
       let seat = kept.1.seats key.id c.closed.e c.closed.there in
       let one : seat.0 ≡ c.e = cc (sym seat.1 ∙ c.there) in
       let drive : c.e.drive ≡ c.closed.e.drive = ap (λ (y : WorldSession). y.drive) (sym one) ∙ seat.2.drive_is in
-      let h : HasHonestDrive is.device c.at_close c.closed.e.drive c.at p.0 p.1 =
-      honest_drive is.device c.at_close c.closed.e.drive c.at p.0 p.1 c.sound c.honest (subst (λ n. IsOnline c.at_close n c.at p.0 p.1) drive p.2) in
+      let there : IsOnline c.at_close c.closed.e.drive c.at p.0 p.1 = subst (λ n. IsOnline c.at_close n c.at p.0 p.1) drive p.2 in
+      let h : HasHonestDrive is.device c.at_close c.closed.e.drive c.at p.0 p.1 = record {
+        online = there;
+        kept = c.sound.drives c.at p.0 p.1 there.there there.online;
+        honest = c.honest c.closed.e c.closed.there c.at p.0 p.1 there;
+      } in
       let shelf = (is.device p.1.device).shelf in
       let last = closed_spans_last is.device c.at_close c.m key spans c.at p.0 p.1 c.matches c.closed h in
       record {
@@ -214,7 +218,11 @@ module _ {D Q S : Type 0} (Z : Type 0) (is : Meanings D Q S) (key : SessionKey) 
             absurd (none_some (sym off.4 ∙ ap (λ (y : BayView D). y.drive) bay ∙ online.online))
       ] in
       let closed : IsClosedAt w key spans = record { e = s.e; there = s.there; key_is = s.key_is; holds = (still.1, spans_are) } in
-      let h = honest_drive is.device w s.e.drive c.at c.bay c.d kept.0 (kept.1.honest c.honest) online in
+      let h : HasHonestDrive is.device w s.e.drive c.at c.bay c.d = record {
+        online = online;
+        kept = kept.0.drives c.at c.bay c.d online.there online.online;
+        honest = c.honest_now s.e s.there c.at c.bay c.d online;
+      } in
       let all = closed_reads is.device w m key spans c.at c.bay c.d pairs closed h in
       let shelf = (is.device c.d.device).shelf in
       let kept_now = lasting_spans_kept (is.device t.d.device).shelf.moment (volumes_on (is.device t.d.device).shelf) shelf shelf spans t.last (λ name bytes lasts. lasts.now) in

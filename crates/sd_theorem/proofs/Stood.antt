@@ -1,10 +1,9 @@
--- How closed sessions whose spans were told stand, if all is honest.
+-- How closed sessions whose spans were told stand, and what is honest for them.
 use Rattle.std.proofs.Common.{◌≡◌, ◌≢◌, ℕ, sym, ap, subst, ◌∙◌, inl, inr, arith, Some, List, [], slice_get}
 use Rattle.sd_base.specs.declared.number.SessionKey.{SessionKey}
 use Rattle.sd_driver.specs.Meaning.{Meaning}
 use Rattle.sd_drive.specs.View.{DriveIs}
 use Rattle.sd_journal.specs.Journal.{placements}
-use Rattle.sd_machine.specs.Machine.{Machine}
 use Rattle.sd_machine.specs.declared.event.Event.{Event}
 use Rattle.sd_machine.specs.declared.event.Event.TheVariants.{Close, Media}
 use Rattle.sd_machine.specs.declared.reply.Reply.{Reply}
@@ -14,18 +13,25 @@ use Rattle.sd_span.specs.declared.span.Span.{Span}
 use Rattle.sd_world.specs.Honest.{AreHonest}
 use Rattle.sd_world.specs.Sessions.{SpansAt}
 use Rattle.sd_world.specs.World.{WorldView, WorldSession, BayView, HasTicket, IsOnline, session_at}
-use Rattle.sd_world.specs.Matches.{Matches}
-use Rattle.sd_world.proofs.MovesSteps.{moves_steps}
 use Rattle.sd_world.specs.Deeds.{Deed, LeadsTo, StaysFrom}
 use Rattle.sd_world.specs.Reads.{HasHonestDrive}
 use Rattle.sd_world.specs.Stands.{StandsClosed}
 use Rattle.sd_world.specs.Stays.{AreClaimed}
 use Rattle.sd_world.specs.Steps.{IsSound, IsStep}
 use Rattle.sd_world.proofs.ClaimLemmas.{one_drive}
-use Rattle.sd_world.proofs.DeedLemmas.{leads_keep, leads_run, step_keeps}
+use Rattle.sd_world.proofs.DeedLemmas.{leads_keep}
 use Rattle.sd_world.proofs.StandLemmas.{steps_keep_spans}
+use Rattle.sd_theorem.specs.ByDrive.{IsHonestFor}
 use Rattle.sd_theorem.specs.Told.{WasClosedWith, WereAsked, WereToldClosed}
 use Rattle.sd_theorem.proofs.Deeds.{GivenAt, given_at, split_at}
+
+-- if all is honest, so is the drive of each session
+pub all_for : {D : Type 0} (meaning : D → Meaning) (w : WorldView D) → AreHonest meaning w → (key : SessionKey) → IsHonestFor meaning w key
+all_for meaning w honest key e there at bay d online = record {
+  device = honest.devices e.drive at bay d online;
+  lanes = λ place lane here. honest.lanes at place bay lane online.there here;
+  sessions = λ ticket s here on. honest.sessions ticket s here;
+}
 
 -- the drive is online and honest
 pub honest_drive : {D : Type 0} (meaning : D → Meaning) (w : WorldView D) (drive at : ℕ) (bay : BayView D) (d : DriveIs D) → IsSound meaning w → AreHonest meaning w
@@ -43,33 +49,23 @@ honest_drive meaning w drive at bay d sound honest online = record {
 -- What is known of the world at a reply, and how it goes on from there.
 pub record IsThen {D : Type 0} (meaning : D → Meaning) (new : WorldView D) (asked now : WorldView D) (after : List Deed) : Type 0 where
   pub sound : IsSound meaning asked
-  pub honest : AreHonest meaning now
-  pub m : Machine
-  pub matches : Matches meaning now m
   pub stays : StaysFrom meaning after now new
 
-pub is_then : {D : Type 0} (meaning : D → Meaning) (old new : WorldView D) (event : Event) (reply : Reply) (m : Machine) → IsSound meaning old → AreHonest meaning old → Matches meaning old m
-    → (g : GivenAt meaning old new event reply) → IsThen meaning new g.asked g.now g.after
-is_then meaning old new event reply m sound honest pairs g =
-    let before = leads_keep meaning old g.asked g.before sound g.leads in
-    let run = leads_run meaning old g.asked g.before m sound g.leads pairs in
-    let s = moves_steps meaning g.asked g.now event reply run.0 before.0.rules g.step.moves run.2 in
-    record {
-      sound = before.0;
-      honest = (step_keeps meaning g.asked g.now event reply before.0 g.step).honest (before.1.honest honest);
-      m = s.0;
-      matches = s.2;
-      stays = (leads_keep meaning g.now new g.after g.step.sound g.goes_on).1;
-    }
+pub is_then : {D : Type 0} (meaning : D → Meaning) (old new : WorldView D) (event : Event) (reply : Reply) → IsSound meaning old → (g : GivenAt meaning old new event reply)
+    → IsThen meaning new g.asked g.now g.after
+is_then meaning old new event reply sound g = record {
+  sound = (leads_keep meaning old g.asked g.before sound g.leads).0;
+  stays = (leads_keep meaning g.now new g.after g.step.sound g.goes_on).1;
+}
 
 -- by a close
-closed_stood : {D : Type 0} (meaning : D → Meaning) (old new : WorldView D) (m : Machine) (key : SessionKey) (spans : List Span) (deeds : List Deed) → IsSound meaning old → AreHonest meaning old
-    → Matches meaning old m → LeadsTo meaning old deeds new → WasClosedWith key spans deeds → StandsClosed new key spans
-closed_stood meaning old new m key spans deeds sound honest pairs leads (ticket, given) =
+closed_stood : {D : Type 0} (meaning : D → Meaning) (old new : WorldView D) (key : SessionKey) (spans : List Span) (deeds : List Deed) → IsSound meaning old
+    → LeadsTo meaning old deeds new → WasClosedWith key spans deeds → StandsClosed new key spans
+closed_stood meaning old new key spans deeds sound leads (ticket, given) =
     let event = Close ticket in
     let reply = Closed key spans in
     let g = given_at meaning old new event reply deeds leads given in
-    let t = is_then meaning old new event reply m sound honest pairs g in
+    let t = is_then meaning old new event reply sound g in
     t.stays.closed key spans (steps_keep_spans meaning g.asked g.now event reply t.sound g.step).stands
 
 -- What was told when spans were asked for: the session, its spans, and that their volumes are claimed.
@@ -104,13 +100,13 @@ one_list {D} meaning w key others spans s told = elim s.holds.3 [
 ]
 
 -- when spans were asked for after it was closed
-pub asked_stood : {D : Type 0} (meaning : D → Meaning) (old new : WorldView D) (m : Machine) (key : SessionKey) (spans others : List Span) (deeds : List Deed) → IsSound meaning old → AreHonest meaning old
-    → Matches meaning old m → StandsClosed old key others → LeadsTo meaning old deeds new → WereAsked key spans deeds → StandsClosed new key spans
-asked_stood {D} meaning old new m key spans others deeds sound honest pairs stood leads given =
+pub asked_stood : {D : Type 0} (meaning : D → Meaning) (old new : WorldView D) (key : SessionKey) (spans others : List Span) (deeds : List Deed) → IsSound meaning old
+    → StandsClosed old key others → LeadsTo meaning old deeds new → WereAsked key spans deeds → StandsClosed new key spans
+asked_stood {D} meaning old new key spans others deeds sound stood leads given =
     let event = Media key.id in
     let reply = Spans spans in
     let g = given_at meaning old new event reply deeds leads given in
-    let t = is_then meaning old new event reply m sound honest pairs g in
+    let t = is_then meaning old new event reply sound g in
     let told = told_of meaning g.asked g.now key spans t.sound g.step in
     let before = (leads_keep meaning old g.asked g.before sound g.leads).1.closed key others stood in
     let s = (steps_keep_spans meaning g.asked g.now event reply t.sound g.step).closed_last key others before in
@@ -125,12 +121,10 @@ asked_stood {D} meaning old new m key spans others deeds sound honest pairs stoo
       holds = (s.holds.0, subst (λ l. l ≢ []) same s.holds.1, claimed, inl spans_are);
     })
 
-pub told_stood : {D : Type 0} (meaning : D → Meaning) (old new : WorldView D) (m : Machine) (key : SessionKey) (spans : List Span) (deeds : List Deed) → IsSound meaning old → AreHonest meaning old
-    → Matches meaning old m → LeadsTo meaning old deeds new → WereToldClosed key spans deeds → StandsClosed new key spans
-told_stood meaning old new m key spans deeds sound honest pairs leads (inl closed) = closed_stood meaning old new m key spans deeds sound honest pairs leads closed
-told_stood {D} meaning old new m key spans deeds sound honest pairs leads (inr (first, later, others, split, closed, asked)) =
+pub told_stood : {D : Type 0} (meaning : D → Meaning) (old new : WorldView D) (key : SessionKey) (spans : List Span) (deeds : List Deed) → IsSound meaning old
+    → LeadsTo meaning old deeds new → WereToldClosed key spans deeds → StandsClosed new key spans
+told_stood meaning old new key spans deeds sound leads (inl closed) = closed_stood meaning old new key spans deeds sound leads closed
+told_stood {D} meaning old new key spans deeds sound leads (inr (first, later, others, split, closed, asked)) =
     let p = split_at meaning old new first later (subst (λ l. LeadsTo meaning old l new) split leads) in
-    let kept = leads_keep meaning old p.0 first sound p.1 in
-    let run = leads_run meaning old p.0 first m sound p.1 pairs in
-    asked_stood meaning p.0 new run.0 key spans others later kept.0 (kept.1.honest honest) run.2
-    (closed_stood meaning old p.0 m key others first sound honest pairs p.1 closed) p.2 asked
+    asked_stood meaning p.0 new key spans others later (leads_keep meaning old p.0 first sound p.1).0
+    (closed_stood meaning old p.0 key others first sound p.1 closed) p.2 asked

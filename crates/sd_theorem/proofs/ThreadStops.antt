@@ -21,7 +21,7 @@ use Rattle.sd_theorem.specs.Start.{Meanings}
 use Rattle.sd_theorem.specs.Told.{WereAsked}
 use Rattle.sd_theorem.proofs.Deeds.{split_at}
 use Rattle.sd_theorem.proofs.Returns.{WentOn, returns, some_one, stands_closed, none_some}
-use Rattle.sd_theorem.proofs.Stood.{asked_stood}
+use Rattle.sd_theorem.proofs.Stood.{all_for, asked_stood}
 use Rattle.sd_theorem.specs.Since.{HasReceipt}
 use Rattle.sd_theorem.specs.ThreadStops.{ComesBackSince, IsClosedBetween, ThreadStopTheorem, WasClosedSince}
 use Rattle.sd_theorem.proofs.Closed.{began, closed_here, closed_with}
@@ -73,7 +73,7 @@ module _ {D Q S : Type 0} (Z : Type 0) (is : Meanings D Q S) (table : ℕ → Ta
       let closed = closed_here is.device table time line ends receipts first from key has in
       let stood = stands_closed is.device first key (spans_of key (placements from.settled.drive.journal)) sound closed in
       let before = (leads_keep is.device first w c.after sound leads).1.closed key (spans_of key (placements from.settled.drive.journal)) stood in
-      let after = asked_stood is.device first w (machine_of from.settled from.told) key spans (spans_of key (placements from.settled.drive.journal)) c.after sound c.honest Began stood leads asked in
+      let after = asked_stood is.device first w key spans (spans_of key (placements from.settled.drive.journal)) c.after sound stood leads asked in
       subst (IsClosedAt first key)
       (stood_spans w key (spans_of key (placements from.settled.drive.journal)) c.e c.at c.bay c.d before c.there c.online
       ∙ sym (stood_spans w key spans c.e c.at c.bay c.d after c.there c.online))
@@ -119,7 +119,8 @@ module _ {D Q S : Type 0} (Z : Type 0) (is : Meanings D Q S) (table : ℕ → Ta
       record {
         at_close = c.at_close;
         sound = x.sound;
-        honest = x.honest;
+        honest = all_for is.device c.at_close x.honest key;
+        honest_now = all_for is.device w ((leads_keep is.device c.at_close w c.after x.sound c.goes_on).1.honest x.honest) key;
         m = x.m;
         matches = x.matches;
         closed = x.closed;

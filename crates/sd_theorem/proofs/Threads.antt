@@ -15,13 +15,12 @@ use Rattle.sd_hub.proofs.Lines.{all_of_ends}
 use Rattle.sd_span.specs.declared.span.Span.{Span}
 use Rattle.sd_theorem.proofs.Head.{reads_cancelled, reads_closed, reads_told}
 use Rattle.sd_theorem.proofs.Returns.{stands_closed}
-use Rattle.sd_theorem.proofs.Stood.{asked_stood, told_stood}
+use Rattle.sd_theorem.proofs.Stood.{all_for, asked_stood, told_stood}
 use Rattle.sd_theorem.specs.Since.{IsOfListsSince, WereToldOfClosed}
 use Rattle.sd_theorem.specs.State.{GivesReceipts, HasPieces, HasState}
 use Rattle.sd_theorem.specs.Threads.{ThreadTheorem}
 use Rattle.sd_theorem.proofs.Closed.{began, closed_here, closed_with, given, settled_world, told_by}
 use Rattle.sd_world.specs.Deeds.{Deed, LeadsTo}
-use Rattle.sd_world.specs.Honest.{AreHonest}
 use Rattle.sd_world.specs.Stands.{StandsClosed}
 use Rattle.sd_world.specs.Steps.{IsSound}
 use Rattle.sd_world.specs.World.{WorldView}
@@ -72,15 +71,14 @@ module _ {D : Type 0} (meaning : D → Meaning) (table : ℕ → TableId) (time 
   -- What it does from there on.
   module _ (sound : IsSound meaning w) (deeds : List Deed) (now : WorldView D) (leads : LeadsTo meaning w deeds now) where
     -- a closed session stands closed with the spans that were told of it
-    told_stands : AreHonest meaning w → (key : SessionKey) (spans : List Span) → WereToldOfClosed (machine_of from.settled from.told) receipts key spans deeds → StandsClosed now key spans
-    told_stands honest key spans (inl (has, inl receipt)) =
+    told_stands : (key : SessionKey) (spans : List Span) → WereToldOfClosed (machine_of from.settled from.told) receipts key spans deeds → StandsClosed now key spans
+    told_stands key spans (inl (has, inl receipt)) =
         (leads_keep meaning w now deeds sound leads).1.closed key spans
         (stands_closed meaning w key spans sound (closed_with meaning table time line ends receipts w from key spans has receipt))
-    told_stands honest key spans (inl (has, inr asked)) =
-        asked_stood meaning w now (machine_of from.settled from.told) key spans _ deeds sound honest (began meaning table time line ends receipts w from)
+    told_stands key spans (inl (has, inr asked)) =
+        asked_stood meaning w now key spans _ deeds sound
         (stands_closed meaning w key _ sound (closed_here meaning table time line ends receipts w from key has)) leads asked
-    told_stands honest key spans (inr told) =
-        told_stood meaning w now (machine_of from.settled from.told) key spans deeds sound honest (began meaning table time line ends receipts w from) leads told
+    told_stands key spans (inr told) = told_stood meaning w now key spans deeds sound leads told
 
     of_lists : IsOfListsSince meaning w (machine_of from.settled from.told) receipts deeds now
     of_lists =
@@ -92,11 +90,11 @@ module _ {D : Type 0} (meaning : D → Meaning) (table : ℕ → TableId) (time 
           run = run.1;
           matches = run.2;
           closed = λ honest key spans told after got got' result read.
-              reads_closed meaning now run.0 kept.0 (kept.1.honest honest) run.2 key spans after got got' result read (told_stands honest key spans told);
+              reads_closed meaning now run.0 kept.0 run.2 key (all_for meaning now (kept.1.honest honest) key) spans after got got' result read (told_stands key spans told);
           cancelled = λ honest key spans told some has after got got' result read. elim told [
-            | inl asked ↦ reads_cancelled meaning now run.0 kept.0 (kept.1.honest honest) run.2 key spans after got got' result read
-                (machine_of from.settled from.told) deeds sound honest pairs0 leads asked some has
-            | inr known ↦ reads_told meaning now run.0 kept.0 (kept.1.honest honest) run.2 key spans after got got' result read
+            | inl asked ↦ reads_cancelled meaning now run.0 kept.0 run.2 key (all_for meaning now (kept.1.honest honest) key) spans after got got' result read
+                deeds sound leads asked some has
+            | inr known ↦ reads_told meaning now run.0 kept.0 run.2 key (all_for meaning now (kept.1.honest honest) key) spans after got got' result read
                 w deeds kept.1 (told_by meaning table time line ends receipts w from sound key spans known.0 known.1) some has
           ];
         }

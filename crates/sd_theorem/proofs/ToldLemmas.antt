@@ -26,7 +26,7 @@ scan_tells_told is start first w deeds key spans e at bay d scanned vs due outco
     let h = made_honest is start first made honest in
     let kept = leads_keep is.device first w deeds made.sound leads in
     let run = leads_run is.device first w deeds (empty_machine start.time) made.sound leads pairs in
-    let s = told_stood is.device first w (empty_machine start.time) key spans deeds made.sound h pairs leads told in
+    let s = told_stood is.device first w key spans deeds made.sound leads told in
     let one : s.e ≡ e = some_is (sym s.there ∙ there) in
     let spans_are : SpansAt w e spans = elim s.holds.3 [
       | inl here ↦ subst (λ (x : WorldSession). SpansAt w x spans) one here

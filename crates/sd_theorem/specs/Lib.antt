@@ -1,3 +1,4 @@
+pub mod ByDrive
 pub mod Closed
 pub mod Folders
 pub mod Gives

@@ -51,7 +51,7 @@ pub record GivesList (m : Machine) (key : SessionKey) (got got' : List Record) (
 -- this holds of what a device was when the session was closed on it
 abbrev pub WhenClosed : {D Q S Z : Type 0} {is : Meanings D Q S} {start : Start D Q S Z} {key : SessionKey} {spans : List Span} {w : WorldView D}
     → WasClosed is start key spans w → (D → Type 0) → Type 0
-WhenClosed {D} c holds = (bay : BayView D) (d : DriveIs D) → IsOnline c.at_close c.e.drive c.at bay d → holds d.device
+WhenClosed {D} c holds = (bay : BayView D) (d : DriveIs D) → IsOnline c.closed.at_close c.closed.e.drive c.closed.at bay d → holds d.device
 
 -- it had changed so often at most
 abbrev pub ClosedBy : {D Q S Z : Type 0} {is : Meanings D Q S} {start : Start D Q S Z} {key : SessionKey} {spans : List Span} {w : WorldView D}
@@ -61,11 +61,11 @@ ClosedBy {is = is} c calls = WhenClosed c (λ device. (is.device device).shelf.m
 -- a stop since then left this
 abbrev pub LeftSince : {D Q S Z : Type 0} {is : Meanings D Q S} {start : Start D Q S Z} {key : SessionKey} {spans : List Span} {w : WorldView D}
     → WasClosed is start key spans w → Shelf → Type 0
-LeftSince {is = is} c left = WhenClosed c (λ device. AfterStop (is.device device).shelf.moment (is.device c.d.device).shelf left)
+LeftSince {is = is} c left = WhenClosed c (λ device. AfterStop (is.device device).shelf.moment (is.device c.closed.d.device).shelf left)
 
 -- the run is one of the list machine, in which the session is closed; and this holds of its list
 abbrev pub OfItsList : {D Q S Z : Type 0} {is : Meanings D Q S} {start : Start D Q S Z} {key : SessionKey} {spans : List Span} {w : WorldView D}
     → WasClosed is start key spans w → (List Record → Type 0) → Type 0
 OfItsList {start = start} {key = key} c holds = (m : Machine)
-    × Run (empty_machine start.time) (events_in (deeds_of c)) (replies_in (deeds_of c)) m
+    × Run (empty_machine start.time) (events_in (deeds_of c.closed)) (replies_in (deeds_of c.closed)) m
     × (has : HasStatus m key Closed) × holds has.s.records

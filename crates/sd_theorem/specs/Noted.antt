@@ -4,7 +4,7 @@ use Rattle.sd_driver.specs.Shelf.{Shelf, Lasts, AfterStop}
 use Rattle.sd_events.specs.Noted.{IsTrueAt}
 use Rattle.sd_note.specs.declared.note.Note.{Note}
 use Rattle.sd_span.specs.declared.span.Span.{Span}
-use Rattle.sd_volume.specs.Noted.{IsTrueOf}
+use Rattle.sd_volume.specs.Noted.{IsTrueNote, IsTrueOf}
 use Rattle.sd_world.specs.World.{WorldView}
 use Rattle.sd_theorem.specs.Runs.{RunsOn, RunsStop, NonePurgesOf}
 use Rattle.sd_theorem.specs.Start.{Meanings}
@@ -15,7 +15,18 @@ pub record NoteLasts (since : ℕ) (note : Note) (name bytes : List ℕ) (shelf 
   pub is_true : IsTrueOf note bytes
   pub lasts : Lasts since name (take note.end bytes) shelf
 
--- Law.
+-- Laws.
+
+-- Each volume of some spans has a note that lasts. Then whatever stops and runs follow that purge none of these volumes, what each
+-- note says is true of what the last stop left. So it is at the start of a daemon over a device with that shelf, which is what an
+-- adoption by a note asks there.
+abbrev pub NotedShelf : Type 0 → Type 0 → Type 0 → Type 0 → Type 0
+NotedShelf D Q S Z = (is : Meanings D Q S) (spans : List Span) (notes : List ℕ → Note) (bytes : List ℕ → List ℕ)
+    (since : ℕ) (now left last : Shelf) (others : List Shelf)
+    → All (λ (s : Span). NoteLasts since (notes s.volume) s.volume (bytes s.volume) now) spans
+    → AfterStop since now left
+    → RunsStop Z is spans left others last
+    → All (λ (s : Span). IsTrueNote (notes s.volume) s.volume last) spans
 
 -- Each volume of some spans has a note that lasts. Then whatever stops and runs follow that purge none of these volumes, in the
 -- next run, as long as it purges none of them either, what each note says is true at the drive with the device.

@@ -1,8 +1,9 @@
-// The theorem of the daemon, in two laws; what it asks of folders; and that it stands for starts by notes.
+// The theorem of the daemon, in two laws; both drive by drive; what they ask of folders; and that they stand for starts by notes.
 ghost use Rattle.sd_theorem.specs.Folders.{OverFolders};
+ghost use Rattle.sd_theorem.specs.ByDrive.{HeadlineByDrive};
 ghost use Rattle.sd_theorem.specs.Headline.{Headline};
-ghost use Rattle.sd_theorem.specs.Noted.{NotedStarts};
-ghost use Rattle.sd_theorem.specs.Stops.{StopTheorem};
+ghost use Rattle.sd_theorem.specs.Noted.{NotedShelf, NotedStarts};
+ghost use Rattle.sd_theorem.specs.Stops.{StopByDrive, StopTheorem};
 
 use sd_folder::Folder;
 
@@ -17,6 +18,17 @@ pub fn stop_theorem<D, Q, S, Z>()
     ensures { StopTheorem D Q S Z }
 {}
 
+/// The session theorem drive by drive: a session is read back while its own drive's device and stores are honest, whatever the
+/// others are. And each strike had its cause.
+pub fn headline_by_drive<D, Q, S, Z>()
+    ensures { HeadlineByDrive D Q S Z }
+{}
+
+/// The stop theorem drive by drive.
+pub fn stop_by_drive<D, Q, S, Z>()
+    ensures { StopByDrive D Q S Z }
+{}
+
 /// Over folders of files both theorems rest on these folders: if each one is honest that a world's devices and spools are over,
 /// all is that the world was made of.
 pub fn over_folders<F: Folder, Q, Z>()
@@ -24,6 +36,12 @@ pub fn over_folders<F: Folder, Q, Z>()
       meaning = λ f. F.meaning f;
       name_of = λ h. F.name_of h;
     }) Q Z }
+{}
+
+/// What a note of bytes that last says is true of what any later stop leaves, so at the start of a daemon over that: there an
+/// adoption by a note may ask it (`sd_lines::UnusedDrive::adopt`).
+pub fn noted_shelf<D, Q, S, Z>()
+    ensures { NotedShelf D Q S Z }
 {}
 
 /// Starts by notes: what a note of bytes that last says is true in each later run, whatever stops and runs come between; and

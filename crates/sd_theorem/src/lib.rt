@@ -17,7 +17,10 @@ mod scanned;
 mod stopped;
 
 pub use given::{Told, run_and_read, run_and_read_over};
-pub use laws::{headline, noted_starts, over_folders, stop_theorem};
+pub use laws::{
+    headline, headline_by_drive, noted_shelf, noted_starts, over_folders, stop_by_drive,
+    stop_theorem,
+};
 pub use port::know_lists;
 pub use round_trip::packed_comes_back;
 pub use running::{thread_stop_theorem, thread_theorem, told_closes_come_back};

@@ -50,7 +50,7 @@ pub fn leave(
     requires { calls ≤ (meaning_of device.now).shelf.moment }
     ensures { IfOk result (λ left. (start : MemoryStart) (key : SpecKey) (spans : List SpecSpan)
         (w : WorldView SpecDrive) (c : WasClosed in_memory start key spans w)
-        → c.d.device ≡ device.now → ClosedBy c calls
+        → c.closed.d.device ≡ device.now → ClosedBy c calls
         → OfItsList c (λ records. Reads (volumes_on (meaning_of left).shelf) key spans records true)) }
 {
     stop_theorem::<MemDrive, PlainLanes, MemSpool, Global>();
@@ -72,7 +72,7 @@ pub fn leave_folder<S: SpoolStore + Drop>(
     ensures left { IfOk result (λ left. (start : Start _ PlainView S TheGlobal) (key : SpecKey)
         (spans : List SpecSpan) (w : WorldView _)
         (c : WasClosed (over (λ d. drive_meaning d) (λ s. S.meaning s)) start key spans w)
-        → c.d.device ≡ device.now → ClosedBy c calls
+        → c.closed.d.device ≡ device.now → ClosedBy c calls
         → OfItsList c (λ records. Reads (volumes_on (drive_meaning left).shelf) key spans records true)) }
 {
     stop_theorem::<FolderDrive<MemoryFolder>, PlainLanes, S, Global>();

@@ -13,8 +13,8 @@ returns c = IfOk-weaker c.after_stop.result _ _ (λ left stop start key spans w 
     let since = (meaning_of t.d_then.device).shelf.moment in
     let least : since ≤ c.args.calls = by t.bay_then t.d_then t.online_then in
     let S : MemDrive → Type 0 = λ d. AfterStop c.args.calls (meaning_of d).shelf (meaning_of left).shelf in
-    let told : AfterStop c.args.calls (meaning_of was.d.device).shelf (meaning_of left).shelf = subst S (sym same) stop in
-    let left_since : AfterStop since (meaning_of was.d.device).shelf (meaning_of left).shelf = λ name bytes lasts.
+    let told : AfterStop c.args.calls (meaning_of was.closed.d.device).shelf (meaning_of left).shelf = subst S (sym same) stop in
+    let left_since : AfterStop since (meaning_of was.closed.d.device).shelf (meaning_of left).shelf = λ name bytes lasts.
     told name bytes (record { before = λ moment after most. lasts.before moment (omega (arith, least, after)) most; now = lasts.now }) in
     (t.m, t.run, t.has, t.returns.survives (meaning_of left).shelf (meaning_of left).shelf [] left_since refl))
     c.after_stop.ensures.stop

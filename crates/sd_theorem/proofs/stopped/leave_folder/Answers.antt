@@ -23,8 +23,8 @@ returns-clause-left g c = λ start key spans w was same by.
     let t = c.stop_theorem.ensures (over (λ d. meaning_of d) g.S.SpoolStore.meaning) start key spans w was in
     let since = (meaning_of t.d_then.device).shelf.moment in
     let least : since ≤ c.args.calls = by t.bay_then t.d_then t.online_then in
-    let told : AfterStop c.args.calls (meaning_of was.d.device).shelf (meaning_of left).shelf =
+    let told : AfterStop c.args.calls (meaning_of was.closed.d.device).shelf (meaning_of left).shelf =
     subst (λ d. AfterStop c.args.calls (meaning_of d).shelf (meaning_of left).shelf) (sym same) (returns-clause-stop g c) in
-    let left_since : AfterStop since (meaning_of was.d.device).shelf (meaning_of left).shelf = λ name bytes lasts.
+    let left_since : AfterStop since (meaning_of was.closed.d.device).shelf (meaning_of left).shelf = λ name bytes lasts.
     told name bytes (record { before = λ moment after most. lasts.before moment (omega (arith, least, after)) most; now = lasts.now }) in
     (t.m, t.run, t.has, t.returns.survives (meaning_of left).shelf (meaning_of left).shelf [] left_since refl)
