@@ -14,6 +14,7 @@ from clients import client
 from crowds import MOST_TALKS, Two
 from daemon import ROOT, SOON, until
 from hardships import HELLO, SETTLED, UNSETTLED, WANT, Place
+from noters import noters
 from shim import loaded
 from waiting import OUTGROWS, SMALL, WAITS
 
@@ -237,7 +238,9 @@ def failing_device(checks, folder, library):
     volumes is told with one fault, by its name."""
     place = Place(folder / "failing_device")
     plan = folder / "failing_device-plan"
-    environment = loaded(library, FAULTS_FOLDER=place.volumes, FAULTS_PLAN=plan, FAULTS_LOG=folder / "failing_device-calls")
+    # (a note's sync, a moment later, is none of a volume)
+    aside = noters(library, 1, "--metrics", str(folder / "failing_device-aside"))
+    environment = loaded(library, FAULTS_FOLDER=place.volumes, FAULTS_PLAN=plan, FAULTS_LOG=folder / "failing_device-calls", ASIDE=aside)
     plan.write_text("0 none 1 fail 0")
     with metered(place, "--talks", "4", env=environment) as daemon:
         place.label(checks, "Vol-0001")
