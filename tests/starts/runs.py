@@ -167,6 +167,8 @@ def week(checks: Checks, folder: pathlib.Path, _: pathlib.Path):
                 for name, content in was.items():
                     if name.endswith("~"):
                         pathlib.Path(place, name).write_bytes(content)
+                    # (a kill may have left one that was being written, NAME~~)
+                    if name.endswith("~") and not name.endswith("~~"):
                         shop.counts["notes of an earlier day"] += note_in(content).end < pathlib.Path(place, name[:-1]).stat().st_size
     for _, place in shop.site.drives:
         run = subprocess.run([SDTOOL, "verify", place], capture_output=True, text=True, timeout=WAIT)
