@@ -1,5 +1,5 @@
 -- How the drives of a daemon are made from its configuration.
-use Rattle.std.specs.Prelude.{◌≡◌, ℕ, ◌+◌, suc, zero, false, Some, List, [], ◌∷◌, ◌++◌, codes, slice_get, unwrap_or}
+use Rattle.std.specs.Prelude.{◌≡◌, ◌≤◌, ℕ, ◌+◌, suc, zero, false, Some, List, [], ◌∷◌, ◌++◌, codes, slice_get, unwrap_or}
 use Rattle.atomic_table.specs.Seated.{TableId}
 use Rattle.sd_conf.specs.declared.conf.Conf.{Conf}
 use Rattle.sd_conf.specs.declared.conf.DriveConf.{DriveConf}
@@ -10,7 +10,8 @@ use Rattle.sd_folder.specs.declared.folder.Folder.{Ghosts}
 use Rattle.sd_folder.specs.declared.system.SystemFile.{SystemFile}
 use Rattle.sd_folder.specs.declared.system.SystemFolder.{SystemFolder}
 use Rattle.sd_filedrive.specs.declared.drive.FolderDrive.{FolderDrive}
-use Rattle.sd_lines.specs.Unused.{UnusedIs}
+use Rattle.sd_base.specs.Limits.{most_drives}
+use Rattle.sd_lines.specs.Unused.{IsNamed, UnusedIs}
 use Rattle.sd_spool.specs.FileSpool.{lane_file}
 
 -- the limits of each drive, in the run of this time
@@ -31,9 +32,9 @@ pub record IsUnusedOf {F H : Type 0} {g : Ghosts F H} (conf : Conf) (time : ℕ)
   pub limits_are : u.limits ≡ limits_in conf time
   pub unknown : IsUnknown u
 
--- the drives' lines are named by these tables and times, by their numbers 1, 2 and on
+-- the drives' lines are named by these tables and times, by their numbers 1, 2 and on, as far as there are such
 abbrev pub AreNamed : {D : Type 0} → (ℕ → TableId) → (ℕ → ℕ) → List (UnusedIs D) → Type 0
-AreNamed {D} table time us = (at : ℕ) (u : UnusedIs D) → slice_get us at ≡ Some u → (u.table ≡ table (at + 1)) × (u.limits.time ≡ time (at + 1))
+AreNamed {D} table time us = (at : ℕ) (u : UnusedIs D) → slice_get us at ≡ Some u → at + 1 ≤ most_drives → IsNamed table time (at + 1) u
 
 -- the folder of the spools: the current one if none is named
 abbrev pub spool_folder_of : Conf → List ℕ

@@ -1,6 +1,7 @@
 // Jobs over so many lines of so many lanes each.
 ghost use Rattle.std.specs.Prelude.{◌≡◌, ◌⊎◌, ◌≤◌, ◌+◌, ℕ, [], Some, IfSome, slice_get};
 ghost use Rattle.sd_base.specs.Limits.{most_drives, most_lanes};
+ghost use Rattle.sd_line.specs.Named.{AreNamedFor};
 ghost use Rattle.sd_line.specs.Side.{SeatIs};
 ghost use Rattle.sd_gates.specs.Names.{AreNamed};
 
@@ -109,7 +110,7 @@ fn begin<N: Naming, R: Wait + Copy + Drop>(
     made: Made<R>,
     begun: &mut Begun<N, R>,
 ) -> Option<()>
-    requires { (made ≡ N.table no) × (N.time no ≡ 1000) }
+    requires { AreNamedFor N.table no made × (N.time no ≡ 1000) }
 {
     let (line, seats) = begin_line::<N, R>(rt, alloc, no, made)?;
     let Reply::Unmounted = line.operate(Event::Unmount { drive: no }) else {

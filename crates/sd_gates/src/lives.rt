@@ -1,4 +1,5 @@
 // The life of a session's part, step by step.
+ghost use Rattle.sd_line.specs.Named.{AreNamedFor};
 ghost use Rattle.std.specs.Prelude.{◌≡◌, ◌⊎◌, ◌≤◌};
 
 use crate::making::{Made, begin_line, make, open_first};
@@ -160,7 +161,7 @@ fn live<N: Naming, R: Wait + Drop>(
     made: Made<R>,
     rows: &[Row],
 ) -> Option<Option<usize>>
-    requires { (made ≡ N.table 1) × (N.time 1 ≡ 1000) }
+    requires { AreNamedFor N.table 1 made × (N.time 1 ≡ 1000) }
 {
     let (line, mut seats) = begin_line::<N, R>(rt, alloc, DriveNo::new(1)?, made)?;
     let part = open_first(
@@ -182,7 +183,8 @@ fn play<R: Wait + Drop + Copy>(
 ) -> Option<Option<usize>>
     requires { (spool ≡ 0) ⊎ ((1024 ≤ spool) × (spool ≤ 1000000)) }
 {
-    live::<Brand, R>(rt, alloc, make(rt, alloc, device, spool, 1, 1)?, rows)
+    let made = make(rt, alloc, device, spool, 1, 1)?;
+    live::<Brand, R>(rt, alloc, made, rows)
 }
 
 #[test]

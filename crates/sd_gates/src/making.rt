@@ -1,11 +1,12 @@
 // Drives in memory, the lines before them, and sessions at their lanes.
 ghost use Rattle.std.specs.Prelude.{◌≡◌, ◌⊎◌, ◌≤◌, ℕ, [], Some, IfSome, slice_get};
 ghost use Rattle.sd_base.specs.Limits.{most_lanes};
+ghost use Rattle.sd_line.specs.Named.{AreNamedFor};
 ghost use Rattle.sd_line.specs.Side.{SeatIs};
 
 use sd_base::{DriveNo, JobId, Name, Ticket};
 use sd_drive::{Drive, Limits};
-use sd_line::{LaneEnd, Line, Naming, Seat, SessionPart};
+use sd_line::{CloseBook, LaneEnd, Line, Naming, Seat, SessionPart};
 use sd_machine::{Event, Reply};
 use sd_memdrive::{Fail, MemDrive};
 use sd_ruled::RuledLanes;
@@ -20,22 +21,24 @@ const MOST_BYTES: u64 = 10_000_000;
 /// The time of each run.
 const TIME: u32 = 1000;
 
-/// A drive of which no line is made yet, and the queue for it, both unused. In a contract it is the table of the queue.
+/// A drive of which no line is made yet, the queue for it and the ledger of its closes, all unused. In a contract it is the tables
+/// of these two, a `TablesIs`.
 #[derive(Drop)]
 pub struct Made<R: Wait + Drop> {
     pub drive: Drive<MemDrive>,
     pub lanes: RuledLanes<R>,
+    pub book: CloseBook<MemDrive>,
 }
 
 impl<R: Wait + Drop> Model for Made<R> {
     ghost use Rattle.std.specs.Prelude.{◌≡◌, ◌≤◌, [], None};
-    ghost use Rattle.atomic_table.specs.Seated.{TableId};
     ghost use Rattle.sd_base.specs.Limits.{most_lanes};
     ghost use Rattle.sd_drive.specs.Limits.{AreLimits};
+    ghost use Rattle.sd_line.specs.Named.{TablesIs};
 
-    ghost Value = { TableId };
+    ghost Value = { TablesIs };
 
-    ghost view = { λ m. m.lanes.table };
+    ghost view = { λ m. record { queue = m.lanes.table; book = m.book.id } };
 
     ghost invariant = { λ m. record {
       limits : AreLimits m.drive.limits;
@@ -72,7 +75,8 @@ pub fn make<R: Wait + Drop>(
         return None;
     };
     let lanes = RuledLanes::new(rt, alloc, lanes, capacity).ok()?;
-    Some(Made { drive, lanes })
+    let book = CloseBook::new(alloc).ok()?;
+    Some(Made { drive, lanes, book })
 }
 
 /// The line of a drive that was just made, on which two volumes are labelled and the first is mounted.
@@ -82,12 +86,12 @@ pub fn begin_line<N: Naming, R: Wait + Drop>(
     no: DriveNo,
     made: Made<R>,
 ) -> Option<(Line<MemDrive, N, R>, Vec<Seat<N>>)>
-    requires { (made ≡ N.table no) × (N.time no ≡ 1000) }
+    requires { AreNamedFor N.table no made × (N.time no ≡ 1000) }
     ensures { IfSome result (λ made. (k : ℕ) (seat : SeatIs) → slice_get made.1.items k ≡ Some seat
         → (seat.no ≡ made.0.no) × (seat.seat.sent ≡ [])) }
 {
-    let Made { drive, lanes } = made;
-    let Ok((line, seats)) = Line::<MemDrive, N, R>::new(rt, alloc, no, drive, lanes) else {
+    let Made { drive, lanes, book } = made;
+    let Ok((line, seats)) = Line::<MemDrive, N, R>::new(rt, alloc, no, drive, lanes, book) else {
         return None;
     };
     mount_all(&line)?;

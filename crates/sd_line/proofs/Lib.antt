@@ -4,11 +4,13 @@ pub mod CloseLemmas
 pub mod CountLemmas
 pub mod GoLemmas
 pub mod Keeps
+pub mod NumberLemmas
 pub mod OpenLemmas
 pub mod OperateLemmas
 pub mod PartLemmas
 pub mod PushLemmas
 pub mod ReceiptLemmas
+pub mod ShowLemmas
 pub mod RoomLemmas
 pub mod SeatLemmas
 pub mod SeekLemmas

@@ -20,8 +20,9 @@ use Rattle.sd_lane.specs.declared.piece.Piece.{Piece}
 use Rattle.sd_line.specs.Closes.{MayCloseBy}
 use Rattle.sd_line.specs.Ends.{pieces_from}
 use Rattle.sd_line.specs.Parts.{KeepsPart, PartIs}
-use Rattle.sd_line.specs.Side.{CloseIs, KeepsSide, SideIs, closes_at, closes_of, told_close}
-use Rattle.sd_line.proofs.SideLemmas.{side_told, stand_more, with_told, without_told}
+use Rattle.sd_ledger.specs.Ledger.{LedgerIs}
+use Rattle.sd_line.specs.Side.{CloseIs, KeepsSide, SideIs, TellsStand, closes_at, closes_of, told_close}
+use Rattle.sd_line.proofs.SideLemmas.{side_told, stand_more, with_told, without_told, written_more}
 use Rattle.sd_line.specs.Tells.{IsOfOwn, IsOfSent}
 use Rattle.sd_pack.specs.Body.{PackedBody}
 use Rattle.sd_pack.specs.Packing.{bytes_of}
@@ -107,14 +108,17 @@ own_blocks {D} d seen sent s r same may count =
     ∙ may.placed_are ∙ sym (ap (λ (x : ReceiptIs). x.blocks) may.receipt_is)
 
 -- what lies under the lock keeps what it kept, with that close told
-pub tell_keeps : {D : Type 0} (meaning : D → Meaning) (table : ℕ → TableId) (time : ℕ → ℕ) (own : ℕ) (d : DriveIs D) (seat seat' : DriveSeatIs) (told told' : List (CloseIs D))
-    (lane : ℕ) (sent : List Piece) (r : ReceiptIs) → KeepsSide meaning table time (side_told own d seat told) → Kept (meaning d.device) d.volumes d.loaded d.journal
+pub tell_keeps : {D : Type 0} (meaning : D → Meaning) (table : ℕ → TableId) (time : ℕ → ℕ) (own : ℕ) (book book' : LedgerIs (List (CloseIs D))) (d : DriveIs D) (seat seat' : DriveSeatIs)
+    (told told' : List (CloseIs D)) (lane : ℕ) (sent : List Piece) (r : ReceiptIs)
+    → KeepsSide meaning table time (side_told own book d seat told) → Kept (meaning d.device) d.volumes d.loaded d.journal
     → IsOfSent d.journal sent r → pieces_of lane seat.taken ≡ sent → keyed r.key (option_to_list d.hand) ≡ []
-    → seat' ≡ seat → told' ≡ told ++ record { drive = d; sent = sent; receipt = r } ∷ []
-    → KeepsSide meaning table time (side_told own d seat' told')
-tell_keeps {D} meaning table time own d seat seat' told told' lane sent r h kept i taken none same more =
+    → seat' ≡ seat → told' ≡ told ++ record { drive = d; sent = sent; receipt = r } ∷ [] → book' ≡ record book { entries = book.entries ++ told' ∷ [] }
+    → KeepsSide meaning table time (side_told own book' d seat' told')
+tell_keeps {D} meaning table time own book book' d seat seat' told told' lane sent r h kept i taken none same more wrote =
     let c : CloseIs D = record { drive = d; sent = sent; receipt = r } in
-    let is = close_is meaning table time (side_told own d seat told) lane sent r h kept i taken none in
-    subst (λ (x : DriveSeatIs). KeepsSide meaning table time (side_told own d x told')) (sym same)
-    (subst (λ (x : List (CloseIs D)). KeepsSide meaning table time (side_told own d seat x)) (sym more)
-    (with_told meaning table time own d seat (told ++ c ∷ []) (stand_more meaning d.device told c h.stands is) (without_told meaning table time own d seat told h)))
+    let is = close_is meaning table time (side_told own book d seat told) lane sent r h kept i taken none in
+    let stand = subst (TellsStand meaning d.device) (sym more) (stand_more meaning d.device told c h.stands is) in
+    subst (λ (b : LedgerIs (List (CloseIs D))). KeepsSide meaning table time (side_told own b d seat' told')) (sym wrote)
+    (subst (λ (x : DriveSeatIs). KeepsSide meaning table time (side_told own (record book { entries = book.entries ++ told' ∷ [] }) d x told')) (sym same)
+    (with_told meaning table time own book.id d seat told' (book.entries ++ told' ∷ []) stand (written_more meaning d.device book.entries told' h.written stand)
+    (without_told meaning table time own book.id d seat told book.entries h)))

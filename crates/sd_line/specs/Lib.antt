@@ -2,6 +2,7 @@ pub mod Closes
 pub mod Counts
 pub mod Ends
 pub mod Goes
+pub mod Named
 pub mod Operates
 pub mod Parts
 pub mod Side

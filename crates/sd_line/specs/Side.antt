@@ -1,8 +1,8 @@
 -- What contracts see of a line, and what the value under its lock keeps.
-use Rattle.std.specs.Prelude.{◌≡◌, ◌⊎◌, ◌≤◌, ℕ, false, List, [], ◌∷◌, ◌++◌, map, Option, Some}
+use Rattle.std.specs.Prelude.{◌≡◌, ◌⊎◌, ◌≤◌, ℕ, ◌+◌, false, List, [], ◌∷◌, ◌++◌, map, Option, Some}
 use Rattle.atomic_table.specs.Seated.{TableId}
 use Rattle.std.specs.List.{AllByRecursion}
-use Rattle.sd_base.specs.Limits.{most_lanes}
+use Rattle.sd_base.specs.Limits.{most_drives, most_lanes}
 use Rattle.sd_base.specs.declared.number.SessionKey.{SessionKey}
 use Rattle.sd_closes.specs.Pieces.{bodies_in, keyed}
 use Rattle.sd_closes.specs.Stands.{StandsTold, ToldClose}
@@ -14,6 +14,7 @@ use Rattle.sd_drive.specs.View.{DriveIs, items, item_of_piece, block_of_piece}
 use Rattle.sd_drive.specs.declared.limits.Limits.{Limits}
 use Rattle.sd_journal.specs.Journal.{Item, has_purged, with_key}
 use Rattle.sd_lane.specs.declared.piece.Piece.{Piece}
+use Rattle.sd_ledger.specs.Ledger.{LedgerIs, TokenIs}
 use Rattle.sd_lane.specs.declared.piece.Queued.{Queued}
 use Rattle.sd_ruled.specs.Seats.{QueueIs, LaneSeatIs, DriveSeatIs}
 use Rattle.sd_volume.specs.Image.{Block}
@@ -24,12 +25,14 @@ pub record CloseIs (D : Type 0) : Type 0 where
   pub sent : List Piece
   pub receipt : ReceiptIs
 
--- what lies under the lock: the drive, its number, its seat at the queue, and the closes that were told, of which nothing is held
+-- what lies under the lock: the drive, its number, its seat at the queue, the closes that were told, of which nothing is held, and
+-- the ledger of these, in which each close wrote all of them down
 pub record SideIs (D : Type 0) : Type 0 where
   pub no : ℕ
   pub drive : DriveIs D
   pub seat : DriveSeatIs
   pub told : List (CloseIs D)
+  pub book : LedgerIs (List (CloseIs D))
 
 -- a line, but for what its lock hides: the number of its drive, that drive's media and limits, which nothing changes, and the
 -- queue before it
@@ -90,6 +93,15 @@ told_close meaning c = record {
 abbrev pub TellsStand : {D : Type 0} → (D → Meaning) → D → List (CloseIs D) → Type 0
 TellsStand meaning device told = AllByRecursion (λ c. StandsTold (meaning device) (told_close meaning c)) told
 
+-- a token that shows closes: of which drive, and what it shows
+pub record ToldTokenIs (D : Type 0) : Type 0 where
+  pub no : ℕ
+  pub shown : TokenIs (List (CloseIs D))
+
+-- the number under which the ledger of the closes at this drive is named: no drive's
+abbrev pub book_of : ℕ → ℕ
+book_of own = own + most_drives
+
 -- What the value under the lock keeps, whatever threads do. Its seat is of the queue that is named
 -- for its number, which has so many lanes at most, and its drive of the run; the drive's limits are
 -- such as a drive may have. The drive's journal and then its hand follow the pieces that the seat
@@ -106,3 +118,5 @@ pub record KeepsSide {D : Type 0} (meaning : D → Meaning) (table : ℕ → Tab
   pub none_gone : (key : SessionKey) → has_purged key s.drive.journal ≡ false
   pub holds : IsHonest (meaning s.drive.device) → blocks (meaning s.drive.device).shelf s.drive.journal s.drive.hand ≡ blocks_taken s.seat.taken
   pub stands : TellsStand meaning s.drive.device s.told
+  pub booked : s.book.id ≡ table (book_of s.no)
+  pub written : AllByRecursion (TellsStand meaning s.drive.device) s.book.entries

@@ -8,13 +8,15 @@ use Rattle.sd_base.specs.declared.refusal.Refusal.{Refusal}
 use Rattle.sd_closes.specs.Pieces.{keyed}
 use Rattle.sd_driver.specs.Meaning.{Meaning}
 use Rattle.sd_drive.specs.Receipt.{ReceiptIs}
+use Rattle.sd_drive.specs.View.{DriveIs}
 use Rattle.sd_journal.specs.Journal.{Entry, placements, placed_of, synced_of}
 use Rattle.sd_lane.specs.Queue.{pieces_of}
 use Rattle.sd_lane.specs.declared.piece.Piece.{Piece}
 use Rattle.sd_line.specs.Closes.{Closes}
 use Rattle.sd_line.specs.Counts.{most_count}
 use Rattle.sd_line.specs.Parts.{PartIs}
-use Rattle.sd_line.specs.Side.{KeepsSide, SideIs, SeatIs}
+use Rattle.sd_ledger.specs.Ledger.{IsAmong}
+use Rattle.sd_line.specs.Side.{CloseIs, KeepsSide, SideIs, SeatIs, ToldTokenIs}
 use Rattle.sd_line.specs.declared.closing.Closing.{Closing}
 use Rattle.sd_line.specs.declared.closing.Closing.TheVariants.{Closed, NotYet}
 use Rattle.sd_session.specs.Session.{SessionView}
@@ -50,13 +52,24 @@ HasOwn NotYet sent = Unit {0}
 
 -- the close of a session is told, whose lane sent all these, by this receipt
 abbrev pub tells_close : {D : Type 0} → SideIs D → List Piece → ReceiptIs → SideIs D
-tells_close side sent receipt = record side { told = side.told ++ record { drive = side.drive; sent = sent; receipt = receipt } ∷ [] }
+tells_close {D} side sent receipt =
+    let told : List (CloseIs D) = side.told ++ record { drive = side.drive; sent = sent; receipt = receipt } ∷ [] in
+    record side { told = told; book = record side.book { entries = side.book.entries ++ told ∷ [] } }
 
 -- so it is if a receipt is answered, and else nothing is told
 abbrev pub told_due : {D : Type 0} → SideIs D → List Piece → Result (Option ReceiptIs) Refusal → SideIs D
 told_due side sent (Ok (Some receipt)) = tells_close side sent receipt
 told_due side sent (Ok None) = side
 told_due side sent (Err why) = side
+
+-- The token shows that a close was told at the drive of this number, by this receipt, of a session whose lane had sent all these,
+-- as many of them with its key as the receipt is of.
+pub record ShowsClose {D : Type 0} (token : ToldTokenIs D) (no : ℕ) (sent : List Piece) (r : ReceiptIs) : Type 0 where
+  pub no_is : token.no ≡ no
+  pub before : List (CloseIs D)
+  pub drive : DriveIs D
+  pub shown : IsAmong (before ++ record { drive = drive; sent = sent; receipt = r } ∷ []) token.shown.shown
+  pub own : IsOfOwn r sent
 
 -- and so if the answer is that the session is closed
 abbrev pub told_closed : {D : Type 0} → SideIs D → List Piece → Result Closing Refusal → SideIs D

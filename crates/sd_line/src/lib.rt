@@ -35,6 +35,7 @@ pub use prepared::Prepared;
 pub use seat::Seat;
 pub use side::DriveSide;
 pub use stop::Stop;
+pub use tells::{CloseBook, ToldCloses, ToldToken};
 pub use told::Told;
 pub use turning::Turned;
 pub use worker::DriveWorker;

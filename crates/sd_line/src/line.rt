@@ -9,7 +9,7 @@ ghost use Rattle.sd_drive.specs.View.{DriveIs};
 ghost use Rattle.sd_journal.specs.Journal.{Entry, placements, progress_of};
 ghost use Rattle.sd_lane.specs.Queue.{WasFull};
 ghost use Rattle.sd_line.specs.Operates.{MayOperate, operated_at};
-ghost use Rattle.sd_line.specs.Side.{SeatIs, seats_at};
+ghost use Rattle.sd_line.specs.Side.{SeatIs, book_of, seats_at};
 ghost use Rattle.sd_line.specs.Turns.{MayTurn};
 ghost use Rattle.sd_machine.specs.declared.reply.Reply.TheVariants.{Refused};
 ghost use Rattle.sd_ruled.specs.Seats.{LaneSeatIs, seats_of};
@@ -20,6 +20,7 @@ use crate::gate::Gate;
 use crate::naming::Naming;
 use crate::seat::Seat;
 use crate::side::DriveSide;
+use crate::tells::CloseBook;
 use crate::turning::Turned;
 use sd_base::{DriveNo, Items, MOST_LANES, MediaName, PoolName, Refusal, SessionKey};
 use sd_drive::{Drive, Limits};
@@ -62,11 +63,12 @@ impl<D: Driver, N: Naming, R: Wait + Drop> Model for Line<D, N, R> {
     } };
 }
 
-/// A drive and a queue of which no line was made, because there was no memory.
+/// A drive, a queue and a ledger of which no line was made, because there was no memory.
 #[derive(Drop)]
 pub struct NotLined<D: Driver, R: Wait + Drop> {
     pub drive: Drive<D>,
     pub lanes: RuledLanes<R>,
+    pub book: CloseBook<D>,
 }
 
 /// What a line is made of, with the value of its lock, for who has the line alone. A line is made of it again.
@@ -85,15 +87,17 @@ pub struct LineParts<D: Driver, N: Naming, R: Wait + Drop> {
 
 impl<D: Driver, N: Naming, R: Wait + Drop> Line<D, N, R> {
     /// A line of a drive and of the queue before it, and the seats of the lanes 1, 2 and on, none of
-    /// which sent anything. If out of memory, drive and queue come back.
+    /// which sent anything. If out of memory, drive, queue and ledger come back.
     pub fn new(
         rt: R,
         alloc: Global,
         no: DriveNo,
         drive: Drive<D>,
         lanes: RuledLanes<R>,
+        book: CloseBook<D>,
     ) -> Result<(Self, Vec<Seat<N>>), NotLined<D, R>>
         requires named { (lanes.table ≡ N.table no) × (drive.limits.time ≡ N.time no) }
+        requires booked { book.id ≡ N.table (book_of no) }
         requires limits { AreLimits drive.limits }
         requires most { lanes.lanes ≤ most_lanes }
         requires unused { (drive.journal ≡ []) × (drive.hand ≡ None) }
@@ -108,10 +112,10 @@ impl<D: Driver, N: Naming, R: Wait + Drop> Line<D, N, R> {
             ≡ seats_at no (seats_of lanes.table lanes.lanes [] lanes.lanes)) }
         ensures new { IfOk result (λ made. (k : ℕ) (seat : SeatIs) → slice_get made.1.items k ≡ Some seat
             → (seat.no ≡ no) × (seat.seat.sent ≡ [])) }
-        ensures err { IfErr result (λ back. (back.drive ≡ drive) × (back.lanes ≡ lanes)) }
+        ensures err { IfErr result (λ back. (back.drive ≡ drive) × (back.lanes ≡ lanes) × (back.book ≡ book)) }
     {
         let Ok(mut seats) = Vec::with_capacity(alloc, MOST_LANES as usize) else {
-            return Err(NotLined { drive, lanes });
+            return Err(NotLined { drive, lanes, book });
         };
         let Split {
             queue,
@@ -119,12 +123,12 @@ impl<D: Driver, N: Naming, R: Wait + Drop> Line<D, N, R> {
             drive: seat,
         } = match lanes.split(alloc) {
             Ok(split) => split,
-            Err(NotSplit { lanes }) => return Err(NotLined { drive, lanes }),
+            Err(NotSplit { lanes }) => return Err(NotLined { drive, lanes, book }),
         };
         name_seats(no, lanes, &mut seats);
         let media = drive.media().copy();
         let limits = drive.limits().copy();
-        let side = Mutex::new(DriveSide::new(no, drive, seat));
+        let side = Mutex::new(DriveSide::new(no, drive, seat, book));
         let line = Line {
             rt,
             no,

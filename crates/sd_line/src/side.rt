@@ -1,12 +1,13 @@
 // What lies under the lock of a line.
-ghost use Rattle.std.specs.Prelude.{◌≡◌, ◌≢◌, ◌≤◌, [], false, length, IsTrue, Some, IfSome, option_to_list};
+ghost use Rattle.std.specs.Prelude.{List, ◌≡◌, ◌≢◌, ◌≤◌, [], false, length, IsTrue, Some, IfSome, option_to_list};
 ghost use Rattle.sd_base.specs.Limits.{most_lanes};
 ghost use Rattle.sd_closes.specs.Pieces.{keyed};
 ghost use Rattle.sd_driver.specs.Shelf.{StillLasts};
 ghost use Rattle.sd_drive.specs.Shelf.{Kept};
 ghost use Rattle.sd_journal.specs.Journal.{placed_of};
 ghost use Rattle.sd_line.specs.Operates.{Operates, OwnLast};
-ghost use Rattle.sd_line.specs.Side.{KeepsSide, MayReady};
+ghost use Rattle.sd_ledger.specs.Ledger.{IsAmong};
+ghost use Rattle.sd_line.specs.Side.{CloseIs, KeepsSide, MayReady, TellsStand};
 ghost use Rattle.sd_line.specs.Tells.{AreApart, IsOfSent, tells_close};
 ghost use Rattle.sd_line.specs.Turns.{Turns};
 ghost use Rattle.sd_world.specs.Devices.{GoesOn};
@@ -17,11 +18,12 @@ use crate::gate::Gate;
 use crate::naming::Naming;
 use crate::operating;
 use crate::seat::Seat;
-use crate::tells::ToldCloses;
+use crate::tells::{CloseBook, ToldCloses, ToldToken};
 use crate::turning::{self, Turned};
 use sd_base::{DriveNo, PoolName, Refusal, SessionKey};
 use sd_drive::{Drive, Receipt};
 use sd_driver::Driver;
+use sd_ledger::Ledger;
 use sd_machine::{Event, Reply};
 use sd_readback::{ReadEnd, Sink};
 use sd_ruled::{DriveSeat, LaneQueue};
@@ -43,6 +45,7 @@ pub struct DriveSide<D: Driver, N: Naming> {
     // How many pieces the seat took of each lane.
     counts: LaneCounts,
     told: ToldCloses<D>,
+    book: Ledger<ToldCloses<D>>,
     of: PhantomData<N>,
 }
 
@@ -52,21 +55,33 @@ impl<D: Driver, N: Naming> Model for DriveSide<D, N> {
 
     ghost Value = { SideIs D };
 
-    ghost view = { λ s. record { no = s.no; drive = s.drive; seat = s.seat; told = s.told } };
+    ghost view = { λ s. record {
+      no = s.no;
+      drive = s.drive;
+      seat = s.seat;
+      told = s.told;
+      book = s.book;
+    } };
 
     ghost invariant = { λ s. record {
       keeps : KeepsSide (λ d. D.meaning d) N.table N.time
-          (record { no = s.no; drive = s.drive; seat = s.seat; told = s.told });
+          (record { no = s.no; drive = s.drive; seat = s.seat; told = s.told; book = s.book });
       counted : s.counts ≡ s.seat.taken;
     } };
 }
 
 impl<D: Driver, N: Naming> DriveSide<D, N> {
-    pub(crate) fn new(no: DriveNo, drive: Drive<D>, seat: DriveSeat) -> Self
+    pub(crate) fn new(no: DriveNo, drive: Drive<D>, seat: DriveSeat, book: CloseBook<D>) -> Self
         requires keeps { KeepsSide (λ d. D.meaning d) N.table N.time
-            (record { no = no; drive = drive; seat = seat; told = [] }) }
+            (record { no = no; drive = drive; seat = seat; told = []; book = book }) }
         requires unused { seat.taken ≡ [] }
-        ensures { result ≡ record { no = no; drive = drive; seat = seat; told = [] } }
+        ensures { result ≡ record {
+          no = no;
+          drive = drive;
+          seat = seat;
+          told = [];
+          book = book;
+        } }
     {
         DriveSide {
             no,
@@ -74,6 +89,7 @@ impl<D: Driver, N: Naming> DriveSide<D, N> {
             seat,
             counts: LaneCounts::new(),
             told: ToldCloses::new(),
+            book: book.into_ledger(),
             of: PhantomData,
         }
     }
@@ -111,6 +127,7 @@ impl<D: Driver, N: Naming> DriveSide<D, N> {
             seat,
             counts: _,
             told: _,
+            book: _,
             of: _,
         } = self;
         (drive, seat)
@@ -201,6 +218,28 @@ impl<D: Driver, N: Naming> DriveSide<D, N> {
         read_drive(&mut self.drive, key, spans, sink)
     }
 
+    /// Shows that each close that was told so far was told.
+    pub fn show(&mut self) -> ToldToken<D, N>
+        ensures same { self.new ≡ self.old }
+        ensures token { result ≡ record {
+          no = self.old.no;
+          shown = record { id = self.old.book.id; shown = self.old.book.entries };
+        } }
+    {
+        ToldToken::new(self.no, self.book.show())
+    }
+
+    /// What a token shows was told here, and it stands. Does nothing.
+    pub fn stands(&mut self, token: ToldToken<D, N>) -> ToldToken<D, N>
+        requires { token.no ≡ self.old.no }
+        ensures same { (self.new ≡ self.old) × (result ≡ token) }
+        ensures stands { (told : List (CloseIs _)) → IsAmong told token.shown.shown
+            → TellsStand (λ d. D.meaning d) self.old.drive.device told }
+    {
+        let no = self.no;
+        ToldToken::new(no, self.book.know(token.into_token()))
+    }
+
     // Tells a close by this receipt, unless the drive and the lane's seat are apart.
     pub(crate) fn tell<R: Wait + Drop>(
         &mut self,
@@ -226,6 +265,7 @@ impl<D: Driver, N: Naming> DriveSide<D, N> {
             return false;
         }
         self.told.add(&self.drive, seat.lane_seat(), receipt);
+        self.book.write(&self.told);
         true
     }
 }

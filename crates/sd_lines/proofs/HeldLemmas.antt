@@ -17,11 +17,12 @@ use Rattle.sd_machine.specs.declared.reply.Reply.TheVariants.{Refused, Opened, T
 use Rattle.sd_lane.specs.declared.piece.Piece.{Piece}
 use Rattle.sd_line.specs.Ends.{EndIs}
 use Rattle.sd_line.specs.Parts.{OpensAt, PartIs, PreparedIs, Prepares, with_session}
-use Rattle.sd_line.specs.Side.{LineIs}
+use Rattle.sd_line.specs.Side.{LineIs, ToldTokenIs}
+use Rattle.sd_line.specs.Tells.{ShowsClose}
 use Rattle.sd_session.specs.declared.opening.Opening.{Opening}
 use Rattle.sd_span.specs.declared.span.Span.{Span}
 use Rattle.sd_lines.specs.Opening.{IsNumbered}
-use Rattle.sd_lines.specs.Held.{AnswersEvent, AnswersOpen, AnswersOwn, Appends, Begins, Cancels, Ends, GivesUpAtMost, Shuts, told_in}
+use Rattle.sd_lines.specs.Held.{AnswersEvent, AnswersOpen, AnswersOwn, Appends, Begins, Cancels, Ends, GivesUpAtMost, IsShownClosed, RefusesOver, Shuts, ShowsReply, told_in}
 use Rattle.sd_lines.specs.Taken.{taken_behind, taken_by, taken_last}
 use Rattle.sd_lines.proofs.TakenLemmas.{taken_more}
 
@@ -127,6 +128,23 @@ pub shuts_by : {p q : PartIs} {receipt : ReceiptIs} {key : SessionKey} {spans : 
     → spans ≡ receipt.spans → Shuts (Closed key spans) p q
 shuts_by {q = q} key_is goes_on of spans_are =
     (goes_on, key_is ∙ of.key_is, subst (λ (ss : List Span). ClosedBy q.session ss) (sym spans_are) of.closed_by)
+
+-- which is shown by what the drive gave with the receipt
+
+pub shows_by : {D : Type 0} {p : PartIs} {receipt : ReceiptIs} {key : SessionKey} {spans : List Span} {token : ToldTokenIs D} {new : Option (ToldTokenIs D)}
+    → key ≡ receipt.key → IsReceiptOf p.session receipt → spans ≡ receipt.spans → ShowsClose token p.seat.no p.seat.seat.sent receipt → new ≡ Some token
+    → IsShownClosed key spans p new
+shows_by {receipt = receipt} {token = token} key_is of spans_are shows is =
+    record { token = token; receipt = receipt; told_is = is; key_is = key_is; spans_are = spans_are; receipt_is = of; shows = shows }
+
+-- a refusal leaves what is shown
+
+pub shows_refused : {D : Type 0} (reply : Reply) (why : Refusal) (last : Option PartIs) (told : Option (ToldTokenIs D)) → reply ≡ Refused why → ShowsReply reply last told told
+shows_refused reply why last told is = rw is refl
+
+pub shows_over : {D : Type 0} (ticket : ℕ) (reply : Reply) (last over : Option PartIs) (told : Option (ToldTokenIs D)) → RefusesOver ticket reply over → ShowsReply reply last told told
+shows_over ticket reply last over told (inl a) = shows_refused reply a.1 last told a.4
+shows_over ticket reply last over told (inr a) = shows_refused reply SessionNotOpen last told a.1
 
 -- without room for its receipt it stays as it was
 

@@ -4,7 +4,11 @@ use Rattle.std.specs.Option.{option_or}
 use Rattle.sd_base.specs.Record.{Record}
 use Rattle.sd_base.specs.declared.refusal.Refusal.{Refusal}
 use Rattle.sd_base.specs.declared.refusal.Refusal.TheVariants.{BadCommand, SessionNotOpen}
-use Rattle.sd_line.specs.Goes.{ClosedBy, GoesOn, StopsShort}
+use Rattle.sd_base.specs.declared.number.SessionKey.{SessionKey}
+use Rattle.sd_drive.specs.Receipt.{ReceiptIs}
+use Rattle.sd_line.specs.Goes.{ClosedBy, GoesOn, IsReceiptOf, StopsShort}
+use Rattle.sd_line.specs.Side.{ToldTokenIs}
+use Rattle.sd_line.specs.Tells.{ShowsClose}
 use Rattle.sd_line.specs.declared.stop.Stop.TheVariants as stops
 use Rattle.sd_machine.specs.declared.event.Event.{Event}
 use Rattle.sd_machine.specs.declared.event.Event.TheVariants as events
@@ -13,6 +17,7 @@ use Rattle.sd_machine.specs.declared.reply.Reply.TheVariants.{Refused, Opened, T
 use Rattle.sd_line.specs.Parts.{PartIs, with_session}
 use Rattle.sd_session.specs.Session.{CancelsSession, EndsSession, EndRefused, NotRunning, SessionView, StartsSession}
 use Rattle.sd_session.specs.declared.opening.Opening.{Opening}
+use Rattle.sd_span.specs.declared.span.Span.{Span}
 use Rattle.sd_session.specs.declared.status.Status.TheVariants.{Closed as IsClosed}
 use Rattle.sd_spool.specs.Job.{StoreState}
 use Rattle.sd_board.specs.declared.sent.Sent.{Sent}
@@ -74,6 +79,28 @@ abbrev pub Shuts : Reply → PartIs → PartIs → Type 0
 Shuts (Closed key spans) p q = GoesOn p [] q × (key ≡ q.session.key) × ClosedBy q.session spans
 Shuts (Refused why) p q = GoesOn p [] q × StopsShort (stops.Refused why) q.session
 Shuts reply p q = ⊥
+
+-- The session is closed by a receipt of its drive, whose spans are told; and this token shows that this was told there, of all that
+-- the session's lane had sent.
+pub record IsShownClosed {D : Type 0} (key : SessionKey) (spans : List Span) (p : PartIs) (told : Option (ToldTokenIs D)) : Type 0 where
+  pub token : ToldTokenIs D
+  pub receipt : ReceiptIs
+  pub told_is : told ≡ Some token
+  pub key_is : key ≡ receipt.key
+  pub spans_are : spans ≡ receipt.spans
+  pub receipt_is : IsReceiptOf p.session receipt
+  pub shows : ShowsClose token p.seat.no p.seat.seat.sent receipt
+
+-- what is shown after a reply: that a session is closed, if that is the reply; and else what was
+abbrev pub ShowsReply : {D : Type 0} → Reply → Option PartIs → Option (ToldTokenIs D) → Option (ToldTokenIs D) → Type 0
+ShowsReply (Closed key spans) (Some p) old new = IsShownClosed key spans p new
+ShowsReply (Closed key spans) None old new = ⊥
+ShowsReply reply last old new = new ≡ old
+
+-- and after an event: no other than a close has a session closed
+abbrev pub ShowsEvent : {D : Type 0} → Event → Reply → Option PartIs → Option (ToldTokenIs D) → Option (ToldTokenIs D) → Type 0
+ShowsEvent (events.Close ticket) reply last old new = ShowsReply reply last old new
+ShowsEvent event reply last old new = new ≡ old
 
 -- what a cancel comes to
 abbrev pub Cancels : Reply → PartIs → PartIs → Type 0

@@ -1,5 +1,5 @@
 // Drives come to a hub.
-ghost use Rattle.std.specs.Prelude.{◌≡◌};
+ghost use Rattle.sd_lines.specs.Unused.{IsNamed};
 
 use crate::amount::AmountCounter;
 use crate::answers::AnswerCounter;
@@ -55,7 +55,7 @@ impl<D: Driver + Drop, N: Naming, R: Wait + Clock + Drop, S: SpoolStore + Drop> 
     ) -> Result<(), AddFault>
     where
         R: Copy,
-        requires { (drive.table ≡ N.table no) × (drive.limits.time ≡ N.time no) }
+        requires { IsNamed N.table N.time no drive }
     {
         if no.get() as usize != self.posts.len() + 1 {
             return Err(AddFault::NotNext);

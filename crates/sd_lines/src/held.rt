@@ -1,14 +1,14 @@
 // What a talk has of the session that it opened last, and what the events of that session do.
-ghost use Rattle.std.specs.Prelude.{◌≡◌, None, IfSome};
+ghost use Rattle.std.specs.Prelude.{◌≡◌, None, Some, IfSome};
 ghost use Rattle.sd_session.specs.Session.{NotRunning};
-ghost use Rattle.sd_lines.specs.Held.{AnswersEvent, AnswersOpen, AnswersOwn, Appends, Cancels, Ends, RefusesOver, Shuts, last_of};
+ghost use Rattle.sd_lines.specs.Held.{AnswersEvent, AnswersOpen, AnswersOwn, Appends, Cancels, Ends, RefusesOver, Shuts, ShowsEvent, ShowsReply, last_of};
 
 use crate::hub::Hub;
 use crate::opening::{Begun, open};
 use crate::over::{Over, leave};
 use sd_base::{JobId, MediaName, PoolName, Rec, Refusal, Ticket};
 use sd_driver::Driver;
-use sd_line::Naming;
+use sd_line::{Naming, ToldToken};
 use sd_machine::{Event, Reply};
 use sd_session::Status;
 use sd_spool::SpoolStore;
@@ -64,9 +64,10 @@ impl<
         &self.patience
     }
 
-    /// What an event comes to.
-    pub(crate) fn answer(&mut self, event: Event) -> Reply
-        ensures { AnswersEvent event result (last_of self.old) (last_of self.new) }
+    /// What an event comes to. What shows that a session is closed is put into `told`.
+    pub(crate) fn answer(&mut self, event: Event, told: &mut Option<ToldToken<D, N>>) -> Reply
+        ensures answers { AnswersEvent event result (last_of self.old) (last_of self.new) }
+        ensures shows { ShowsEvent event result (last_of self.new) told.old told.new }
     {
         match event {
             Event::Open {
@@ -77,7 +78,7 @@ impl<
             } => self.open(job, pool, &media, moment),
             Event::Append { ticket, rec } => self.append(ticket, &rec),
             Event::End { ticket, moment } => self.end(ticket, moment),
-            Event::Close { ticket } => self.close(ticket),
+            Event::Close { ticket } => self.close(ticket, told),
             Event::Cancel { ticket } => self.cancel(ticket),
             _ => Reply::Refused(Refusal::BadCommand),
         }
@@ -150,8 +151,9 @@ impl<
     }
 
     // Closes the talk's session.
-    fn close(&mut self, ticket: Ticket) -> Reply
-        ensures { AnswersOwn Shuts ticket result (last_of self.old) (last_of self.new) }
+    fn close(&mut self, ticket: Ticket, told: &mut Option<ToldToken<D, N>>) -> Reply
+        ensures answers { AnswersOwn Shuts ticket result (last_of self.old) (last_of self.new) }
+        ensures shows { ShowsReply result (last_of self.new) told.old told.new }
     {
         let hub = self.hub;
         let Some(live) = &mut self.live else {
@@ -160,7 +162,7 @@ impl<
         if !live.is_of(ticket) {
             return Reply::Refused(Refusal::SessionNotOpen);
         }
-        let reply = close_live(hub, live, &self.patience);
+        let reply = close_live(hub, live, &self.patience, told);
         self.leave_if_over();
         reply
     }
@@ -237,13 +239,15 @@ fn why_over<D: Driver, N: Naming, R: Wait + Clock + Drop, S: SpoolStore + Drop>(
 }
 
 // Closes a session. If it may be closed, room for its receipt is made before.
-#[tactic(auto, using(crate::proofs::HeldLemmas::shuts_by, crate::proofs::HeldLemmas::shuts_not))]
+#[tactic(auto, using(crate::proofs::HeldLemmas::shuts_by, crate::proofs::HeldLemmas::shuts_not, crate::proofs::HeldLemmas::shows_by))]
 fn close_live<D: Driver, N: Naming, R: Wait + Clock + Drop, S: SpoolStore + Drop, P: Patience>(
     hub: &Hub<D, N, R, S>,
     live: &mut Live<'_, D, N, R, S>,
     patience: &P,
+    told: &mut Option<ToldToken<D, N>>,
 ) -> Reply
-    ensures { Shuts result live.old live.new }
+    ensures shuts { Shuts result live.old live.new }
+    ensures shows { ShowsReply result (Some live.new) told.old told.new }
 {
     let drive = live.part().no();
     let is_ended = live.part().session().status() == Status::Ended;
@@ -251,9 +255,16 @@ fn close_live<D: Driver, N: Naming, R: Wait + Clock + Drop, S: SpoolStore + Drop
         return Reply::Refused(Refusal::Memory);
     }
     match live.close(&hub.rt, patience) {
-        Ok(Shut { receipt, spans }) => {
+        Ok(
+            Shut {
+                receipt,
+                spans,
+                token,
+            },
+        ) => {
             let key = receipt.key();
             hub.keep(drive, receipt);
+            *told = Some(token);
             Reply::Closed { key, spans }
         }
         Err(why) => {

@@ -1,8 +1,8 @@
 // The port of a talk.
-ghost use Rattle.std.specs.Prelude.{◌≡◌, ◌++◌, List, All, IfOk};
+ghost use Rattle.std.specs.Prelude.{◌≡◌, ◌++◌, List, None, All, IfOk};
 ghost use Rattle.sd_append.specs.Port.{IsLine, Said, Stepped, WasRead};
 ghost use Rattle.sd_base.specs.Record.{Record};
-ghost use Rattle.sd_lines.specs.Held.{AnswersEvent, GivesUpAtMost};
+ghost use Rattle.sd_lines.specs.Held.{AnswersEvent, GivesUpAtMost, ShowsEvent};
 ghost use Rattle.sd_lines.specs.Port.{KeepsPort, behind, new_port};
 
 use crate::console::obey_line;
@@ -14,7 +14,7 @@ use sd_append::{Exchanges, ReadBack};
 use sd_base::{Items, Refusal, SessionKey};
 use sd_bnet::Payload;
 use sd_driver::Driver;
-use sd_line::Naming;
+use sd_line::{Naming, ToldToken};
 use sd_machine::{Event, Reply};
 use sd_readback::Sink;
 use sd_span::Span;
@@ -36,6 +36,8 @@ pub struct LinePort<'h, D: Driver, N: Naming, R: Wait + Drop, S: SpoolStore, P> 
     readers: Vec<D>,
     moment: i64,
     exchanges: Exchanges,
+    // Shows that the session closed last was told closed at its drive.
+    told: Option<ToldToken<D, N>>,
 }
 
 impl<'h, D: Driver, N: Naming, R: Wait + Drop, S: SpoolStore, P> Model
@@ -43,12 +45,21 @@ impl<'h, D: Driver, N: Naming, R: Wait + Drop, S: SpoolStore, P> Model
     ghost use Rattle.sd_lines.specs.Held.{last_of};
     ghost use Rattle.sd_lines.specs.Port.{KeepsPort, LinePortIs};
 
-    ghost Value = { LinePortIs };
+    ghost Value = { LinePortIs D };
 
-    ghost view = { λ p. record { last = last_of p.held; moment = p.moment; asked = p.exchanges } };
+    ghost view = { λ p. record {
+      last = last_of p.held;
+      moment = p.moment;
+      asked = p.exchanges;
+      told = p.told;
+    } };
 
-    ghost invariant = { λ p.
-        KeepsPort (record { last = last_of p.held; moment = p.moment; asked = p.exchanges }) };
+    ghost invariant = { λ p. KeepsPort (record {
+      last = last_of p.held;
+      moment = p.moment;
+      asked = p.exchanges;
+      told = p.told;
+    }) };
 }
 
 impl<
@@ -69,6 +80,7 @@ impl<
             readers,
             moment,
             exchanges: Exchanges::new(),
+            told: None,
         }
     }
 
@@ -79,13 +91,16 @@ impl<
         let _ = &self.moment;
     }
 
-    /// The reply to an event.
+    /// The reply to an event. If that is that a session is closed, the port has what shows it from then on.
     pub fn step(&mut self, event: Event) -> Reply
         ensures answers { AnswersEvent event result self.old.last self.new.last }
-        ensures port { self.new ≡ behind (Stepped event result) self.new.last self.old }
+        ensures shows { ShowsEvent event result self.new.last self.old.told self.new.told }
+        ensures port { self.new ≡ record (behind (Stepped event result) self.new.last self.old) {
+          told = self.new.told;
+        } }
     {
         let given = Snapshot::of(&event);
-        let reply = self.held.answer(event);
+        let reply = self.held.answer(event, &mut self.told);
         self.exchanges = self.exchanges.stepped(given, &reply);
         reply
     }
@@ -125,6 +140,15 @@ impl<
         answer
     }
 
+    /// What shows that the session closed last was told closed at its drive, if one was. Who has it learns under that drive's
+    /// lock that the close stands (`DriveSide::stands`).
+    pub fn take_told(&mut self) -> Option<ToldToken<D, N>>
+        ensures told { result ≡ self.old.told }
+        ensures port { self.new ≡ record self.old { told = None } }
+    {
+        self.told.take()
+    }
+
     /// The talk has ended. Its session, if it goes on, is given up, and leaves its lane.
     pub fn finish(self) {
         let LinePort {
@@ -132,6 +156,7 @@ impl<
             readers: _,
             moment: _,
             exchanges: _,
+            told: _,
         } = self;
         held.give_up();
     }

@@ -7,7 +7,7 @@ ghost use Rattle.sd_drive.specs.Moves.{index_of};
 ghost use Rattle.sd_driver.specs.Meaning.{IsHonest};
 ghost use Rattle.sd_driver.specs.Shelf.{SameShelf, StillLasts, StillLastsBelow};
 ghost use Rattle.sd_line.specs.Side.{SeatIs};
-ghost use Rattle.sd_lines.specs.Unused.{AdoptsUnused};
+ghost use Rattle.sd_lines.specs.Unused.{AdoptsUnused, IsNamed};
 ghost use Rattle.sd_volume.specs.Adopt.{IsDue, KeepsWholeBlocks};
 ghost use Rattle.sd_volume.specs.Fault.{adopt_refusal};
 ghost use Rattle.sd_volume.specs.Noted.{IsTrueNote};
@@ -16,7 +16,7 @@ ghost use Rattle.sd_volume.specs.declared.fault.AdoptFault.{AdoptFault as SpecFa
 use sd_base::{DriveNo, MediaName, Refusal, VolName};
 use sd_drive::{Adopted, Drive, Limits};
 use sd_driver::Driver;
-use sd_line::{LaneEnd, Line, Naming, Seat};
+use sd_line::{CloseBook, LaneEnd, Line, Naming, Seat};
 use sd_note::Note;
 use sd_ruled::RuledLanes;
 use sd_spool::SpoolStore;
@@ -24,12 +24,13 @@ use std::alloc::Global;
 use std::marker::Model;
 use std::sync::Wait;
 
-/// A drive and the queue before it, of which no line is made yet and nothing was used; it may have adopted volumes. In a
-/// contract it is an `UnusedIs`: by that the lines of a daemon are named, before the first of them is made.
+/// A drive, the queue before it and the ledger of its closes, of which no line is made yet and nothing was used; it may have
+/// adopted volumes. In a contract it is an `UnusedIs`: by that the lines of a daemon are named, before the first of them is made.
 #[derive(Drop)]
 pub struct UnusedDrive<D: Driver, R: Wait + Drop> {
     drive: Drive<D>,
     lanes: RuledLanes<R>,
+    book: CloseBook<D>,
 }
 
 impl<D: Driver, R: Wait + Drop> Model for UnusedDrive<D, R> {
@@ -42,6 +43,7 @@ impl<D: Driver, R: Wait + Drop> Model for UnusedDrive<D, R> {
 
     ghost view = { λ u. record {
       table = u.lanes.table;
+      book = u.book.id;
       lanes = u.lanes.lanes;
       room = u.lanes.capacity;
       media = u.drive.media;
@@ -85,7 +87,8 @@ impl<D: Driver + Drop, R: Wait + Drop> UnusedDrive<D, R> {
             return None;
         };
         let lanes = RuledLanes::new(rt, alloc, lanes, room).ok()?;
-        Some(UnusedDrive { drive, lanes })
+        let book = CloseBook::new(alloc).ok()?;
+        Some(UnusedDrive { drive, lanes, book })
     }
 
     /// The media of the drive.
@@ -136,10 +139,10 @@ impl<D: Driver + Drop, R: Wait + Drop> UnusedDrive<D, R> {
         no: DriveNo,
         stores: Vec<S>,
     ) -> Option<(Line<D, N, R>, Vec<LaneEnd<N, S>>)>
-        requires { (self.table ≡ N.table no) × (self.limits.time ≡ N.time no) }
+        requires { IsNamed N.table N.time no self }
     {
-        let UnusedDrive { drive, lanes } = self;
-        let Ok((line, seats)) = Line::<D, N, R>::new(rt, alloc, no, drive, lanes) else {
+        let UnusedDrive { drive, lanes, book } = self;
+        let Ok((line, seats)) = Line::<D, N, R>::new(rt, alloc, no, drive, lanes, book) else {
             return None;
         };
         let mut stores = stores;

@@ -2,6 +2,7 @@
 ghost use Rattle.std.specs.Prelude.{◌≡◌, ℕ, [], Some, IfSome, IfOk, slice_get};
 ghost use Rattle.sd_drive.specs.Limits.{AreLimits};
 ghost use Rattle.sd_jobs.specs.Jobs.{HasLine, JobIs};
+ghost use Rattle.sd_line.specs.Named.{AreNamedFor};
 ghost use Rattle.sd_line.specs.Side.{SeatIs};
 
 use crate::later::read_all;
@@ -11,7 +12,7 @@ use sd_base::{DriveNo, JobId, MediaName, Name, Ticket, VolName};
 use sd_drive::{Drive, Limits, Receipt};
 use sd_filedrive::FolderDrive;
 use sd_jobs::{Job, JobEnd, have_lines, run_jobs};
-use sd_line::{LaneEnd, Line, Naming, Seat, SessionPart};
+use sd_line::{CloseBook, LaneEnd, Line, Naming, Seat, SessionPart};
 use sd_machine::{Event, Reply};
 use sd_memfolder::MemoryFolder;
 use sd_ruled::RuledLanes;
@@ -55,22 +56,24 @@ pub struct Came {
     pub read_last: u32,
 }
 
-// A drive of which no line is made yet, and the queue for it, both unused. In a contract it is the table of the queue.
+// A drive of which no line is made yet, the queue for it and the ledger of its closes, all unused. In a contract it is the tables of
+// these two, a `TablesIs`.
 #[derive(Drop)]
 struct Made<R: Wait + Drop> {
     drive: Drive<Device>,
     lanes: RuledLanes<R>,
+    book: CloseBook<Device>,
 }
 
 impl<R: Wait + Drop> Model for Made<R> {
     ghost use Rattle.std.specs.Prelude.{◌≡◌, ◌≤◌, [], None};
-    ghost use Rattle.atomic_table.specs.Seated.{TableId};
     ghost use Rattle.sd_base.specs.Limits.{most_lanes};
     ghost use Rattle.sd_drive.specs.Limits.{AreLimits};
+    ghost use Rattle.sd_line.specs.Named.{TablesIs};
 
-    ghost Value = { TableId };
+    ghost Value = { TablesIs };
 
-    ghost view = { λ m. m.lanes.table };
+    ghost view = { λ m. record { queue = m.lanes.table; book = m.book.id } };
 
     ghost invariant = { λ m. record {
       limits : AreLimits m.drive.limits;
@@ -99,7 +102,7 @@ fn play_with<N: Naming + Send + Sync, R: Threads + Wait + Clock + Sync + Copy + 
     run: u32,
     made: Made<R>,
 ) -> Option<Came>
-    requires { (made ≡ N.table 1) × (N.time 1 ≡ 1000) }
+    requires { AreNamedFor N.table 1 made × (N.time 1 ≡ 1000) }
 {
     let (line, seats) = begin::<N, R>(rt, alloc, made)?;
     let jobs = make_jobs(alloc, &line, run, seats)?;
@@ -145,7 +148,8 @@ fn make<R: Wait + Drop>(rt: R, alloc: Global) -> Option<Made<R>> {
         return None;
     };
     let lanes = RuledLanes::new(rt, alloc, JOBS, QUEUE).ok()?;
-    Some(Made { drive, lanes })
+    let book = CloseBook::new(alloc).ok()?;
+    Some(Made { drive, lanes, book })
 }
 
 // The line of a drive that was just made, with its volumes, and the seats of its lanes.
@@ -154,13 +158,13 @@ fn begin<N: Naming, R: Wait + Copy + Drop>(
     alloc: Global,
     made: Made<R>,
 ) -> Option<(Line<Device, N, R>, Vec<Seat<N>>)>
-    requires { (made ≡ N.table 1) × (N.time 1 ≡ 1000) }
+    requires { AreNamedFor N.table 1 made × (N.time 1 ≡ 1000) }
     ensures { IfSome result (λ made. (k : ℕ) (seat : SeatIs) → slice_get made.1.items k ≡ Some seat
         → (seat.no ≡ made.0.no) × (seat.seat.sent ≡ [])) }
 {
     let no = DriveNo::new(1)?;
-    let Made { drive, lanes } = made;
-    let Ok((line, seats)) = Line::<Device, N, R>::new(rt, alloc, no, drive, lanes) else {
+    let Made { drive, lanes, book } = made;
+    let Ok((line, seats)) = Line::<Device, N, R>::new(rt, alloc, no, drive, lanes, book) else {
         return None;
     };
     label_all(&line)?;

@@ -1,7 +1,7 @@
 // Stops of the folder while jobs run, and which sessions were told closed by then.
 use sd_base::SessionKey;
 use sd_filedrive::FolderDrive;
-use sd_line::{Gate, Line, Naming, Point};
+use sd_line::{DriveSide, Gate, Line, Naming, Point};
 use sd_memfolder::MemoryFolder;
 use sd_theorem::leave_side;
 use std::alloc::Global;
@@ -84,8 +84,12 @@ fn stop_now<N: Naming, R: Wait + Drop>(
     progress: &Progress,
 ) -> Option<Stop> {
     let closed = progress.closed.load(Ordering::SeqCst);
-    let side = line.lock();
+    let mut side = line.lock();
+    let side: &mut DriveSide<_, N> = &mut side;
+    // What is shown of closes stands.
+    let token = side.show();
+    let _ = side.stands(token);
     let calls = side.drive().device().folder().calls();
-    let left = leave_side(alloc, &side, calls, &TAIL).ok()?;
+    let left = leave_side(alloc, side, calls, &TAIL).ok()?;
     Some(Stop { closed, left })
 }

@@ -1,5 +1,6 @@
 // A job in a thread of its own, beside the worker of its line.
 ghost use Rattle.std.specs.Prelude.{◌≡◌, ℕ, [], Some, IfOk, IfErr, IfSome, slice_get};
+ghost use Rattle.sd_line.specs.Named.{AreNamedFor};
 ghost use Rattle.sd_line.specs.Side.{SeatIs};
 
 use crate::names::{KEY, Names};
@@ -8,7 +9,7 @@ use crate::settling::{self, Told, Wrong, list_of};
 use sd_base::{DriveNo, SessionKey, Ticket, VolName};
 use sd_drive::{Drive, Limits};
 use sd_jobs::{Job, JobEnd, have_lines, run_jobs};
-use sd_line::{Gate, LaneEnd, Line, Naming, NotLined, Point, Seat, SessionPart};
+use sd_line::{CloseBook, Gate, LaneEnd, Line, Naming, NotLined, Point, Seat, SessionPart};
 use sd_machine::{Event, Reply};
 use sd_memdrive::MemDrive;
 use sd_ruled::RuledLanes;
@@ -33,22 +34,24 @@ impl Gate for Ungated {
     fn at(&self, _point: Point, _key: SessionKey) {}
 }
 
-// A drive of which no line is made yet, and the queue for it, both unused. In a contract it is the table of the queue.
+// A drive of which no line is made yet, the queue for it and the ledger of its closes, all unused. In a contract it is the tables of
+// these two, a `TablesIs`.
 #[derive(Drop)]
 struct Made<R: Wait + Drop> {
     drive: Drive<MemDrive>,
     lanes: RuledLanes<R>,
+    book: CloseBook<MemDrive>,
 }
 
 impl<R: Wait + Drop> Model for Made<R> {
     ghost use Rattle.std.specs.Prelude.{◌≡◌, ◌≤◌, [], None};
-    ghost use Rattle.atomic_table.specs.Seated.{TableId};
     ghost use Rattle.sd_base.specs.Limits.{most_lanes};
     ghost use Rattle.sd_drive.specs.Limits.{AreLimits};
+    ghost use Rattle.sd_line.specs.Named.{TablesIs};
 
-    ghost Value = { TableId };
+    ghost Value = { TablesIs };
 
-    ghost view = { λ m. m.lanes.table };
+    ghost view = { λ m. record { queue = m.lanes.table; book = m.book.id } };
 
     ghost invariant = { λ m. record {
       limits : AreLimits m.drive.limits;
@@ -84,7 +87,7 @@ fn play_with<N: Naming + Send + Sync, R: Threads + Wait + Clock + Sync + Copy + 
     names: &Names,
     made: Made<R>,
 ) -> Result<Told, Wrong>
-    requires { (made ≡ N.table 1) × (N.time 1 ≡ 1000) }
+    requires { AreNamedFor N.table 1 made × (N.time 1 ≡ 1000) }
 {
     match run::<N, R>(rt, alloc, names, made) {
         Some((line, end)) => settling::play(alloc, names, line, end),
@@ -106,7 +109,8 @@ fn make<R: Wait + Drop>(rt: R, alloc: Global, names: &Names) -> Option<Made<R>> 
         return None;
     };
     let lanes = RuledLanes::new(rt, alloc, 1, 2).ok()?;
-    Some(Made { drive, lanes })
+    let book = CloseBook::new(alloc).ok()?;
+    Some(Made { drive, lanes, book })
 }
 
 // Runs the job: its line, and what it came to.
@@ -116,7 +120,7 @@ fn run<N: Naming + Send + Sync, R: Threads + Wait + Clock + Sync + Copy + Drop>(
     names: &Names,
     made: Made<R>,
 ) -> Option<(Line<MemDrive, N, R>, JobEnd<N, MemSpool>)>
-    requires { (made ≡ N.table 1) × (N.time 1 ≡ 1000) }
+    requires { AreNamedFor N.table 1 made × (N.time 1 ≡ 1000) }
 {
     let (line, seat) = begin::<N, R>(rt, alloc, made)?;
     let job = make_job(alloc, names, &line, seat)?;
@@ -131,7 +135,7 @@ fn begin<N: Naming, R: Wait + Copy + Drop>(
     alloc: Global,
     made: Made<R>,
 ) -> Option<(Line<MemDrive, N, R>, Seat<N>)>
-    requires { (made ≡ N.table 1) × (N.time 1 ≡ 1000) }
+    requires { AreNamedFor N.table 1 made × (N.time 1 ≡ 1000) }
     ensures { IfSome result (λ begun. (begun.1.no ≡ begun.0.no) × (begun.1.seat.sent ≡ [])) }
 {
     let no = DriveNo::new(1)?;
@@ -151,15 +155,15 @@ fn make_line<N: Naming, R: Wait + Drop>(
     no: DriveNo,
     made: Made<R>,
 ) -> Result<(Line<MemDrive, N, R>, Vec<Seat<N>>), Made<R>>
-    requires { (made ≡ N.table no) × (N.time no ≡ 1000) }
+    requires { AreNamedFor N.table no made × (N.time no ≡ 1000) }
     ensures seats { IfOk result (λ begun. (k : ℕ) (seat : SeatIs) → slice_get begun.1.items k ≡ Some seat
         → (seat.no ≡ begun.0.no) × (seat.seat.sent ≡ [])) }
     ensures err { IfErr result (λ back. back ≡ made) }
 {
-    let Made { drive, lanes } = made;
-    match Line::<MemDrive, N, R>::new(rt, alloc, no, drive, lanes) {
+    let Made { drive, lanes, book } = made;
+    match Line::<MemDrive, N, R>::new(rt, alloc, no, drive, lanes, book) {
         Ok(begun) => Ok(begun),
-        Err(NotLined { drive, lanes }) => Err(Made { drive, lanes }),
+        Err(NotLined { drive, lanes, book }) => Err(Made { drive, lanes, book }),
     }
 }
 

@@ -3,6 +3,7 @@ ghost use Rattle.std.specs.Prelude.{◌≡◌, ◌↔◌, [], ◌∷◌, IfErr, 
 ghost use Rattle.sd_line.specs.Goes.{GoesOn, StopsShort, IsReceiptOf};
 ghost use Rattle.sd_line.specs.declared.stop.Stop.TheVariants.{Refused};
 ghost use Rattle.sd_line.specs.Parts.{OpensAt, end_of, with_session};
+ghost use Rattle.sd_line.specs.Tells.{ShowsClose};
 ghost use Rattle.sd_session.specs.Session.{CancelsSession, EndsSession, EndRefused, NotRunning};
 
 use crate::closing::{Shut, try_close};
@@ -130,10 +131,12 @@ impl<'h, D: Driver, N: Naming, R: Wait + Clock + Drop, S: SpoolStore + Drop> Liv
     /// Sends all that an ended session has, and closes it once all of it is placed: the drive is synced for that, so that
     /// no close waits for what others send. What is on its way is waited for; if the drive has no volume for what is in
     /// its hand, one is waited for as long as the patience lasts, and then the answer is 'not yet'.
-    pub fn close<P: Patience>(&mut self, rt: &R, patience: &P) -> Result<Shut, Refusal>
+    pub fn close<P: Patience>(&mut self, rt: &R, patience: &P) -> Result<Shut<D, N>, Refusal>
         ensures goes_on { GoesOn self.old [] self.new }
         ensures ok { IfOk result (λ s. IsReceiptOf self.new.session s.receipt
             × (s.spans ≡ s.receipt.spans)) }
+        ensures shown { IfOk result
+            (λ s. ShowsClose s.token self.new.seat.no self.new.seat.seat.sent s.receipt) }
         ensures err { IfErr result (λ why. StopsShort (Refused why) self.new.session) }
     {
         if self.part.session().status() == Status::Ended {
@@ -173,10 +176,12 @@ impl<'h, D: Driver, N: Naming, R: Wait + Clock + Drop, S: SpoolStore + Drop> Liv
     }
 
     // Closes the session, all of which was placed; or it is refused.
-    fn close_now(&mut self, rt: &R) -> Result<Shut, Refusal>
+    fn close_now(&mut self, rt: &R) -> Result<Shut<D, N>, Refusal>
         ensures goes_on { GoesOn self.old [] self.new }
         ensures ok { IfOk result (λ s. IsReceiptOf self.new.session s.receipt
             × (s.spans ≡ s.receipt.spans)) }
+        ensures shown { IfOk result
+            (λ s. ShowsClose s.token self.new.seat.no self.new.seat.seat.sent s.receipt) }
         ensures err { IfErr result (λ why. StopsShort (Refused why) self.new.session) }
     {
         match try_close(rt, self.station, &mut self.part)? {

@@ -6,16 +6,18 @@ ghost use Rattle.sd_journal.specs.Journal.{Entry};
 ghost use Rattle.sd_line.specs.Closes.{MayCloseBy};
 ghost use Rattle.sd_line.specs.Operates.{MayOperate, Operates, operated_at};
 ghost use Rattle.sd_line.specs.Parts.{OpensAt};
+ghost use Rattle.sd_line.specs.Tells.{ShowsClose};
 ghost use Rattle.sd_machine.specs.declared.reply.Reply.TheVariants.{Refused};
 ghost use Rattle.sd_base.specs.declared.refusal.Refusal.TheVariants.{BadCommand, DeviceFault};
 
+use crate::closing::{Due, due_on};
 use crate::meter::{Meter, Metered};
 use crate::patience::Patience;
 use crate::row::VolumeRow;
 use crate::status::{DriveStatus, NextVolume, Reached};
 use crate::watch::{Backlog, Headway, Moves, Task, Waited, Watch};
 use sd_base::{PoolName, Refusal, SessionKey, VolName};
-use sd_drive::{Drive, Placed, Receipt};
+use sd_drive::{Drive, Placed};
 use sd_driver::Driver;
 use sd_line::{DriveSide, Gate, Line, Naming, Point, Prepared, SessionPart, Turned};
 use sd_machine::{Event, Reply};
@@ -610,24 +612,27 @@ impl<D: Driver, N: Naming, R: Wait + Clock + Drop> Station<D, N, R> {
         failed
     }
 
-    /// The receipt by which a close of the session is due; none if something of it is outstanding. If blocks of an ended
-    /// session await a sync, and all that it sent is placed, the drive is synced first. The drive's lock is held once.
+    /// The receipt by which a close of the session is due, and what shows that it was told; none if something of it is
+    /// outstanding. If blocks of an ended session await a sync, and all that it sent is placed, the drive is synced first. The
+    /// drive's lock is held once.
     pub(crate) fn receipt<S: SpoolStore + Drop>(
         &self,
         rt: &R,
         part: &mut SessionPart<N, S>,
-    ) -> Result<Option<Receipt>, Refusal>
+    ) -> Result<Option<Due<D, N>>, Refusal>
         requires { part.old.seat.no ≡ self.now.no }
         ensures goes_on { GoesOn part.old [] part.new }
-        ensures ok { IfOk result (λ receipt. IfSome receipt (λ r. (part.new ≡ part.old)
-            × (journal : List Entry) × MayCloseBy journal part.old.session r)) }
+        ensures ok { IfOk result (λ due. IfSome due (λ d. (part.new ≡ part.old)
+            × (journal : List Entry) × MayCloseBy journal part.old.session d.receipt)) }
+        ensures shown { IfOk result (λ due. IfSome due
+            (λ d. ShowsClose d.token part.old.seat.no part.old.seat.seat.sent d.receipt)) }
         ensures err { IfErr result (λ why. StopsShort (stop.Refused why) part.new.session) }
     {
         let (answer, synced) = {
             let mut side = self.line.lock();
             let side: &mut DriveSide<D, N> = &mut side;
             let synced = self.sync_for(rt, side, part.session());
-            (part.receipt_on(side, self.line.queue()), synced)
+            (due_on(&self.line, side, part), synced)
         };
         if let Some(operated) = synced {
             if operated.is_change {

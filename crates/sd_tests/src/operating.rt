@@ -2,13 +2,14 @@
 ghost use Rattle.std.specs.Prelude.{◌≡◌, ◌≤◌, [], None};
 ghost use Rattle.sd_base.specs.Limits.{most_lanes};
 ghost use Rattle.sd_drive.specs.Limits.{AreLimits};
+ghost use Rattle.sd_line.specs.Named.{AreNamedFor};
 
 use crate::making::{TIME, make_drive, make_used, make_world};
 use sd_base::{DriveNo, JobId, Name, Refusal, SessionKey};
 use sd_core::World;
 use sd_drive::Drive;
 use sd_lane::PlainLanes;
-use sd_line::{Line, Naming};
+use sd_line::{CloseBook, Line, Naming};
 use sd_machine::{Event, Reply};
 use sd_memdrive::MemDrive;
 use sd_ruled::RuledLanes;
@@ -177,13 +178,15 @@ fn both<N: Naming, R: Wait + Drop>(
     no: DriveNo,
     drive: Drive<MemDrive>,
     lanes: RuledLanes<R>,
+    book: CloseBook<MemDrive>,
 ) -> Option<Came>
-    requires named { (lanes.table ≡ N.table no) × (drive.limits.time ≡ N.time no) }
+    requires named { AreNamedFor N.table no (record { queue = lanes.table; book = book.id })
+        × (drive.limits.time ≡ N.time no) }
     requires limits { AreLimits drive.limits × (lanes.lanes ≤ most_lanes) }
     requires unused { (drive.journal ≡ []) × (drive.hand ≡ None) }
     requires empty { (lanes.taken ≡ []) × (lanes.held ≡ []) }
 {
-    let Ok((line, _)) = Line::<MemDrive, N, R>::new(rt, alloc, no, drive, lanes) else {
+    let Ok((line, _)) = Line::<MemDrive, N, R>::new(rt, alloc, no, drive, lanes, book) else {
         return None;
     };
     let mut world = make_world(alloc)?;
@@ -206,8 +209,9 @@ fn play<R: Wait + Drop + Copy>(rt: R, alloc: Global) -> Option<Came> {
     let pool = Name::parse("Default").ok()?;
     let drive = make_drive(alloc, make_used(alloc)?, KEY, &pool)?;
     let lanes = RuledLanes::new(rt, alloc, 1, 8).ok()?;
+    let book = CloseBook::new(alloc).ok()?;
     let no = DriveNo::new(1)?;
-    both::<Brand, R>(rt, alloc, no, drive, lanes)
+    both::<Brand, R>(rt, alloc, no, drive, lanes, book)
 }
 
 #[test]

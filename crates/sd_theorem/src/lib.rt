@@ -23,7 +23,9 @@ pub use laws::{
 };
 pub use port::know_lists;
 pub use round_trip::packed_comes_back;
-pub use running::{thread_stop_theorem, thread_theorem, told_closes_come_back};
+pub use running::{
+    shown_closes_come_back, thread_stop_theorem, thread_theorem, told_closes_come_back,
+};
 pub use scanned::{
     placed_blocks_are_found, placements_say, scan_tells_closed, scan_tells_session,
     scan_tells_spans, scan_tells_told,

@@ -10,7 +10,8 @@ ghost use Rattle.sd_filedrive.specs.Drive.{meaning_of as drive_meaning};
 ghost use Rattle.sd_lane.specs.Queue.{PlainView};
 ghost use Rattle.sd_line.specs.Ends.{RestsOn};
 ghost use Rattle.sd_line.specs.Parts.{PartIs};
-ghost use Rattle.sd_line.specs.Side.{CloseIs, SideIs};
+ghost use Rattle.sd_drive.specs.Receipt.{ReceiptIs};
+ghost use Rattle.sd_line.specs.Side.{CloseIs, SideIs, ToldTokenIs};
 ghost use Rattle.sd_memdrive.specs.Drive.{meaning_of};
 ghost use Rattle.sd_memdrive.specs.declared.drive.MemDrive.{MemDrive as SpecDrive};
 ghost use Rattle.sd_session.specs.Session.{store_of};
@@ -23,11 +24,11 @@ ghost use Rattle.sd_theorem.specs.Runs.{RunsOn, NonePurgesOf};
 ghost use Rattle.sd_theorem.specs.Start.{Start};
 ghost use Rattle.sd_theorem.specs.Stops.{WasClosed};
 ghost use Rattle.sd_theorem.specs.Told.{WereAdopted};
-ghost use Rattle.sd_theorem.specs.ToldCloses.{WasToldClosed};
+ghost use Rattle.sd_theorem.specs.ToldCloses.{WasShownClosed, WasToldClosed};
 ghost use Rattle.sd_theorem.specs.Lists.{MemoryStart, in_memory, over, ClosedBy, LeftSince, OfItsList};
 
 use crate::laws::stop_theorem;
-use crate::running::told_closes_come_back;
+use crate::running::{shown_closes_come_back, told_closes_come_back};
 use sd_base::{Refusal, SessionKey};
 use sd_core::{ReadEnd, Sink, Span, World};
 use sd_driver::Driver;
@@ -136,8 +137,14 @@ pub fn leave_side<N: Naming>(
         → (drive_meaning c.drive.device).shelf.moment ≤ calls
         → RestsOn part.spools (StoreIsTrue (store_of part.session))
         → Reads (volumes_on (drive_meaning left).shelf) c.receipt.key c.receipt.spans part.told true) }
+    ensures shown { IfOk result (λ left. (token : ToldTokenIs _) (part : PartIs) (r : ReceiptIs)
+        → (was : WasShownClosed (λ d. drive_meaning d) N.time side.now token part r)
+        → (drive_meaning was.shows.drive.device).shelf.moment ≤ calls
+        → RestsOn part.spools (StoreIsTrue (store_of part.session))
+        → Reads (volumes_on (drive_meaning left).shelf) r.key r.spans part.told true) }
 {
     told_closes_come_back::<FolderDrive<MemoryFolder>, PlainLanes, MemSpool, Global>();
+    shown_closes_come_back::<FolderDrive<MemoryFolder>, PlainLanes, MemSpool, Global>();
     let left = leave_folder::<MemSpool>(alloc, side.drive().device(), calls, tail)?;
     Ok(left)
 }

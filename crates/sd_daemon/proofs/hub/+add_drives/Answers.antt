@@ -7,4 +7,4 @@ add_drives-requires g t c κs within = (search rules, (within.0, (within.1, firs
 
 pub add_drive-requires-after_bounds : goal.add_drive-requires-after_bounds
 add_drive-requires-after_bounds g t c κs within =
-    last_named g.N.Naming.table g.N.Naming.time c.args.drives.items c.pop.new.self.items c.in-Some-Some.drive c.in-Some.no c.in-Some-Some.ensures'.items c.requires (search rules)
+    last_named g.N.Naming.table g.N.Naming.time c.args.drives.items c.pop.new.self.items c.in-Some-Some.drive c.in-Some.no c.in-Some-Some.ensures'.items c.requires (search rules) (search rules)

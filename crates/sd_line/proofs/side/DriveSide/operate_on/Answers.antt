@@ -9,9 +9,9 @@ invariant_of-self g c =
     let p = c.self.inside in
     let l = operated meaning _ _ _ _ _ c.operate.ensures in
     record {
-      keeps = told_keep meaning g.N.Naming.table g.N.Naming.time p.no p.drive c.operate.new.drive p.seat p.seat p.told
+      keeps = told_keep meaning g.N.Naming.table g.N.Naming.time p.no p.book.id p.drive c.operate.new.drive p.seat p.seat p.told p.book.entries
           (operated_goes_on _ meaning _ _ l)
-          (calls_keep meaning _ _ _ _ _ _ l.stays.limits l.stays.keeps l.stays.gone) c.self.invariant.keeps;
+          (calls_keep meaning _ _ _ _ _ _ _ l.stays.limits l.stays.keeps l.stays.gone) c.self.invariant.keeps;
       counted = c.self.invariant.counted;
     }
 

@@ -14,9 +14,9 @@ invariant_of-self g c =
     let p = c.self.inside in
     let r = c.read_drive.ensures in
     record {
-      keeps = told_keep meaning g.N.Naming.table g.N.Naming.time p.no p.drive c.read_drive.new.drive p.seat p.seat p.told
+      keeps = told_keep meaning g.N.Naming.table g.N.Naming.time p.no p.book.id p.drive c.read_drive.new.drive p.seat p.seat p.told p.book.entries
           (only_read _ _ _ r.device)
-          (calls_keep meaning _ _ _ p.drive c.read_drive.new.drive p.seat (ap (λ (d : DriveIs g.row.D.Denot). d.limits) r.same) r.keeps
+          (calls_keep meaning _ _ _ _ p.drive c.read_drive.new.drive p.seat (ap (λ (d : DriveIs g.row.D.Denot). d.limits) r.same) r.keeps
           (λ key none. ap (λ (d : DriveIs g.row.D.Denot). has_purged key d.journal) r.same ∙ none)) c.self.invariant.keeps;
       counted = c.self.invariant.counted;
     }

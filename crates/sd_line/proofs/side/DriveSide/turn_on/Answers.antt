@@ -30,7 +30,7 @@ invariant_of-self g c =
     let P : Bool → Type 0 = λ b. SyncsBy meaning b c.sync-sync.result c.place-place.new.drive c.sync-sync.new.drive in
     let p = c.self.inside in
     let did : Turned = record { took = c.take-took.result; place = c.place-place.result; sync = c.sync-sync.result } in
-    let turns : Turns meaning did (side_of p.no p.drive p.seat) (side_of p.no c.sync-sync.new.drive c.take-took.new.seat) = record {
+    let turns : Turns meaning did (side_of p.no p.book.id p.drive p.seat) (side_of p.no p.book.id c.sync-sync.new.drive c.take-took.new.seat) = record {
       held = c.take-took.new.drive;
       after = c.place-place.new.drive;
       no_is = refl;
@@ -39,8 +39,8 @@ invariant_of-self g c =
       syncs = subst P c.is_sync_due.ensures c.sync-sync.ensures;
     } in
     record {
-      keeps = told_keep meaning g.N.Naming.table g.N.Naming.time p.no p.drive c.sync-sync.new.drive p.seat c.take-took.new.seat p.told
+      keeps = told_keep meaning g.N.Naming.table g.N.Naming.time p.no p.book.id p.drive c.sync-sync.new.drive p.seat c.take-took.new.seat p.told p.book.entries
           (lasts_on _ _ _ (turn_lasts meaning did _ _ turns))
-          (turn_keeps meaning g.N.Naming.table g.N.Naming.time p.no did p.drive c.sync-sync.new.drive p.seat c.take-took.new.seat turns) c.self.invariant.keeps;
+          (turn_keeps meaning g.N.Naming.table g.N.Naming.time p.no p.book.id did p.drive c.sync-sync.new.drive p.seat c.take-took.new.seat turns) c.self.invariant.keeps;
       counted = c.take-took.ensures.counts;
     }
