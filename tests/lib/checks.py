@@ -29,6 +29,20 @@ class Checks:
     def same(self, what, got, wanted):
         self.check(what, got == wanted, difference(got, wanted))
 
+    def no_faults(self, faults, most=None):
+        """Counts a group of checks as one, by what is wrong in it. So many of the faults are printed."""
+        faults = list(faults)
+        self.passed += not faults
+        self.failed += bool(faults)
+        self.tell(faults, most)
+
+    def tell(self, faults, most=None):
+        """Prints so many of the faults, and how many there are besides. They are counted elsewhere."""
+        for fault in faults[:most]:
+            print(f"{self.group}: {fault}")
+        if len(faults[:most]) < len(faults):
+            print(f"{self.group}: {len(faults) - most} more")
+
     def ended(self):
         """Says how many passed and failed, and gives the status: 0 if some passed and none failed."""
         print(f"{self.passed} passed, {self.failed} failed")

@@ -75,8 +75,8 @@ fn unused_drive<W: Wait + Copy + Drop>(
     let limits = limits_of(conf, time);
     let media = drive.media.copy();
     match UnusedDrive::new(wait, alloc, device, media, limits, drive.lanes, conf.queue) {
-        Some(unused) => Ok(unused),
-        None => Err(AllocError),
+        Ok(unused) => Ok(unused),
+        Err(_) => Err(AllocError),
     }
 }
 

@@ -56,7 +56,7 @@ impl<N: Naming + Send + Sync, W: Wait + Clock + Sync + Copy + Drop, L: Write + S
         let port = LinePort::new(self.hub, self.readers(), moment, means);
         let mut port = LoggedPort::begin(port, &self.wait, self.log, self.connections, seat);
         let end = hold_talk(self.rt.alloc(), stream, self.connections, seat, &mut port);
-        port.end(&end).finish();
+        let _ended = port.end(&end).finish();
     }
 
     fn all_taken(&self) {

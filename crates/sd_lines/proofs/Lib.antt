@@ -1,3 +1,5 @@
+pub mod AllowedLemmas
+pub mod ConsoleLemmas
 pub mod FrontLemmas
 pub mod HeldLemmas
 pub mod SharedLemmas

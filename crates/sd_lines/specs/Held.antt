@@ -1,26 +1,27 @@
 -- What an event does to the session that a talk opened last.
-use Rattle.std.specs.Prelude.{◌≡◌, ◌≢◌, ◌⊎◌, ℕ, ℤ, List, [], ◌∷◌, Option, None, Some}
+use Rattle.std.specs.Prelude.{◌≡◌, ◌≢◌, ◌⊎◌, ℕ, ℤ, List, [], ◌∷◌, Option, None, Some, IfSome}
 use Rattle.std.specs.Option.{option_or}
 use Rattle.sd_base.specs.Record.{Record}
 use Rattle.sd_base.specs.declared.refusal.Refusal.{Refusal}
-use Rattle.sd_base.specs.declared.refusal.Refusal.TheVariants.{BadCommand, SessionNotOpen}
+use Rattle.sd_base.specs.declared.refusal.Refusal.TheVariants.{BadCommand, SessionNotOpen, NoSessionNumberLeft, NoDriveOfMedia, NoFreeLane, SpoolFault, Memory}
 use Rattle.sd_base.specs.declared.number.SessionKey.{SessionKey}
 use Rattle.sd_drive.specs.Receipt.{ReceiptIs}
-use Rattle.sd_line.specs.Goes.{ClosedBy, GoesOn, IsReceiptOf, StopsShort}
+use Rattle.sd_line.specs.Goes.{GoesOn, IsReceiptOf}
 use Rattle.sd_line.specs.Side.{ToldTokenIs}
 use Rattle.sd_line.specs.Tells.{ShowsClose}
-use Rattle.sd_line.specs.declared.stop.Stop.TheVariants as stops
 use Rattle.sd_machine.specs.declared.event.Event.{Event}
 use Rattle.sd_machine.specs.declared.event.Event.TheVariants as events
 use Rattle.sd_machine.specs.declared.reply.Reply.{Reply}
 use Rattle.sd_machine.specs.declared.reply.Reply.TheVariants.{Refused, Opened, Taken, Ended, Closed, Cancelled}
+use Rattle.sd_machine.specs.Step.{IsAmong}
 use Rattle.sd_line.specs.Parts.{PartIs, with_session}
-use Rattle.sd_session.specs.Session.{CancelsSession, EndsSession, EndRefused, NotRunning, SessionView, StartsSession}
+use Rattle.sd_session.specs.Session.{CancelsSession, EndsSession, EndRefused, IsRunning, NotRunning, SessionView, StartsSession}
 use Rattle.sd_session.specs.declared.opening.Opening.{Opening}
 use Rattle.sd_span.specs.declared.span.Span.{Span}
 use Rattle.sd_session.specs.declared.status.Status.TheVariants.{Closed as IsClosed}
 use Rattle.sd_spool.specs.Job.{StoreState}
 use Rattle.sd_board.specs.declared.sent.Sent.{Sent}
+use Rattle.sd_stations.specs.Sends.{AddRefused, Adds, IsShut, ShutRefused}
 
 -- what a talk has of the session that it opened last: its part, while that goes on; or what its part was at its end
 pub record HeldIs : Type 0 where
@@ -30,6 +31,16 @@ pub record HeldIs : Type 0 where
 -- the one of them
 abbrev pub last_of : HeldIs → Option PartIs
 last_of h = option_or h.live h.over
+
+-- what goes on goes on, and what is over doesn't
+pub record IsHeld (h : HeldIs) : Type 0 where
+  pub live : IfSome h.live (λ p. IsRunning p.session.status)
+  pub over : IfSome h.over (λ p. IsRunning p.session.status → ⊥)
+
+-- the session that was opened last goes on
+abbrev pub LastRuns : Option PartIs → Type 0
+LastRuns None = ⊥
+LastRuns (Some p) = IsRunning p.session.status
 
 -- the records that the session took which was opened last
 abbrev pub told_in : Option PartIs → List Record
@@ -41,9 +52,9 @@ abbrev pub IsLast : ℕ → Option PartIs → Type 0
 IsLast ticket None = ⊥
 IsLast ticket (Some p) = p.session.key.id ≡ ticket
 
--- A session begins with this number at this drive, for this job and pool, with its start label of this moment; it took
--- nothing yet. (Its media is the drive's.)
-pub record Begins (job : ℕ) (pool : List ℕ) (moment : ℤ) (ticket drive : ℕ) (p : PartIs) : Type 0 where
+-- A session begins with this number at this drive, for this job, pool and media, with its start label of this moment; it took
+-- nothing yet.
+pub record Begins (job : ℕ) (pool media : List ℕ) (moment : ℤ) (ticket drive : ℕ) (p : PartIs) : Type 0 where
   pub opening : Opening
   pub room : ℕ
   pub limit : ℕ
@@ -51,21 +62,31 @@ pub record Begins (job : ℕ) (pool : List ℕ) (moment : ℤ) (ticket drive : �
   pub starts : StartsSession opening room limit store p.session
   pub job_is : opening.job ≡ job
   pub pool_is : opening.pool ≡ pool
+  pub media_is : opening.media ≡ media
   pub moment_is : opening.moment ≡ moment
   pub id_is : opening.key.id ≡ ticket
   pub drive_is : p.seat.no ≡ drive
   pub told_is : p.told ≡ []
 
--- what an open comes to: a session begins; or it is refused, and the session opened before it is the last
-abbrev pub AnswersOpen : ℕ → List ℕ → ℤ → Reply → Option PartIs → Option PartIs → Type 0
-AnswersOpen job pool moment (Opened ticket drive) old new = (p : PartIs) × (new ≡ Some p) × Begins job pool moment ticket drive p
-AnswersOpen job pool moment (Refused why) old new = new ≡ old
-AnswersOpen job pool moment reply old new = ⊥
+-- why no session is opened: no number is left; no drive of the media, or no lane of one is free; out of memory; or its spool can't be
+-- cleared
+abbrev pub OpenRefused : Refusal → Type 0
+OpenRefused why = IsAmong (NoSessionNumberLeft ∷ NoDriveOfMedia ∷ NoFreeLane ∷ Memory ∷ SpoolFault ∷ []) why
 
--- what a record comes to: it is taken, and is the last of those that were; or it isn't, and the others stay
+-- What an open comes to. While the session opened last goes on it is a bad command. Else a session begins; or it is refused, and the
+-- session opened before it is the last.
+abbrev pub AnswersOpen : ℕ → List ℕ → List ℕ → ℤ → Reply → Option PartIs → Option PartIs → Type 0
+AnswersOpen job pool media moment (Opened ticket drive) old new =
+    (LastRuns old → ⊥) × (p : PartIs) × (new ≡ Some p) × Begins job pool media moment ticket drive p
+AnswersOpen job pool media moment (Refused why) old new =
+    (new ≡ old) × ((LastRuns old × (why ≡ BadCommand)) ⊎ ((LastRuns old → ⊥) × OpenRefused why))
+AnswersOpen job pool media moment reply old new = ⊥
+
+-- what a record comes to: it is taken, and is the last of those that were; or it isn't, for one of the causes of that, and the others
+-- stay
 abbrev pub Appends : Record → Reply → PartIs → PartIs → Type 0
-Appends r (Taken count) p q = GoesOn p (r ∷ []) q × (count ≡ q.session.count)
-Appends r (Refused why) p q = GoesOn p [] q × StopsShort (stops.Refused why) q.session
+Appends r (Taken count) p q = GoesOn p (r ∷ []) q × Adds p.session r count q.session
+Appends r (Refused why) p q = GoesOn p [] q × AddRefused p.session r why q.session
 Appends r reply p q = ⊥
 
 -- what an end comes to
@@ -74,10 +95,10 @@ Ends moment Ended p q = EndsSession p.session moment q.session × (q ≡ with_se
 Ends moment (Refused why) p q = EndRefused p.session why × (q ≡ p)
 Ends moment reply p q = ⊥
 
--- what a close comes to: the session is closed, and these spans are of all that it sent
+-- what a close comes to: the session is closed, and no body is left with it; or it isn't, for one of the causes of that
 abbrev pub Shuts : Reply → PartIs → PartIs → Type 0
-Shuts (Closed key spans) p q = GoesOn p [] q × (key ≡ q.session.key) × ClosedBy q.session spans
-Shuts (Refused why) p q = GoesOn p [] q × StopsShort (stops.Refused why) q.session
+Shuts (Closed key spans) p q = GoesOn p [] q × (key ≡ q.session.key) × IsShut p.session q.session
+Shuts (Refused why) p q = GoesOn p [] q × ShutRefused p.session why q.session
 Shuts reply p q = ⊥
 
 -- The session is closed by a receipt of its drive, whose spans are told; and this token shows that this was told there, of all that
@@ -124,7 +145,7 @@ AnswersOwn Does ticket reply old new =
 
 -- what an event comes to: an open, or an event of the talk's session; any other is a bad command
 abbrev pub AnswersEvent : Event → Reply → Option PartIs → Option PartIs → Type 0
-AnswersEvent (events.Open job pool media moment) reply old new = AnswersOpen job pool moment reply old new
+AnswersEvent (events.Open job pool media moment) reply old new = AnswersOpen job pool media moment reply old new
 AnswersEvent (events.Append ticket r) reply old new = AnswersOwn (Appends r) ticket reply old new
 AnswersEvent (events.End ticket moment) reply old new = AnswersOwn (Ends moment) ticket reply old new
 AnswersEvent (events.Close ticket) reply old new = AnswersOwn Shuts ticket reply old new
@@ -135,6 +156,10 @@ AnswersEvent event reply old new = (reply ≡ Refused BadCommand) × (new ≡ ol
 abbrev pub GivesUpAtMost : Option PartIs → Option PartIs → Type 0
 GivesUpAtMost old new =
     (new ≡ old) ⊎ ((p : PartIs) × (q : PartIs) × (old ≡ Some p) × (new ≡ Some q) × Cancels Cancelled p q)
+
+-- what the end of a talk does to it: it gives it up, if it goes on
+abbrev pub GivesUp : Option PartIs → Option PartIs → Type 0
+GivesUp old new = GivesUpAtMost old new × (LastRuns new → ⊥)
 
 -- What is on its way to a volume once a session goes on no more: all that it sent, unless it is closed, since then all is placed,
 -- or sent nothing.

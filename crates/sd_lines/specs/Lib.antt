@@ -1,4 +1,6 @@
+pub mod Allowed
 pub mod Claims
+pub mod Console
 pub mod Held
 pub mod Noting
 pub mod Opening

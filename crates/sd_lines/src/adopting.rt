@@ -1,6 +1,9 @@
 // A volume of an earlier run is taken over by the operator.
-ghost use Rattle.std.specs.Prelude.{All, IfOk};
-ghost use Rattle.sd_append.specs.Port.{IsLine};
+ghost use Rattle.std.specs.Prelude.{ℕ, IfOk};
+ghost use Rattle.sd_console.specs.Replies.{reply_line};
+ghost use Rattle.sd_lines.specs.Console.{IsDone};
+ghost use Rattle.sd_machine.specs.declared.event.Event.TheVariants.{Adopt};
+ghost use Rattle.sd_machine.specs.declared.reply.Reply.TheVariants.{Adopted};
 
 use crate::hub::{Hub, Post};
 use crate::notes::Notes;
@@ -22,7 +25,8 @@ pub(crate) fn adopt<D: Driver, N: Naming, R: Wait + Clock + Drop, S: SpoolStore 
     drive: DriveNo,
     name: &VolName,
 ) -> Result<Items<Payload>, Refusal>
-    ensures { IfOk result (λ lines. All IsLine lines) }
+    ensures { IfOk result (λ lines. (end : ℕ) × (next : ℕ) × IsDone (λ d. D.meaning d) drive
+        (Adopt drive name.now) (Adopted end next) (reply_line (Adopted end next)) lines) }
 {
     let answer = try_adopt(hub, notes, drive, name);
     hub.answers.adoptions.count(answer.is_ok());
@@ -36,7 +40,8 @@ fn try_adopt<D: Driver, N: Naming, R: Wait + Clock + Drop, S: SpoolStore + Drop,
     drive: DriveNo,
     name: &VolName,
 ) -> Result<Items<Payload>, Refusal>
-    ensures { IfOk result (λ lines. All IsLine lines) }
+    ensures { IfOk result (λ lines. (end : ℕ) × (next : ℕ) × IsDone (λ d. D.meaning d) drive
+        (Adopt drive name.now) (Adopted end next) (reply_line (Adopted end next)) lines) }
 {
     let Some(post) = hub.post(drive) else {
         return Err(Refusal::NoSuchDrive);

@@ -1,11 +1,13 @@
 // What a talk has of the session that it opened last, and what the events of that session do.
-ghost use Rattle.std.specs.Prelude.{◌≡◌, None, Some, IfSome};
-ghost use Rattle.sd_session.specs.Session.{NotRunning};
-ghost use Rattle.sd_lines.specs.Held.{AnswersEvent, AnswersOpen, AnswersOwn, Appends, Cancels, Ends, RefusesOver, Shuts, ShowsEvent, ShowsReply, last_of};
+ghost use Rattle.std.specs.Prelude.{◌≡◌, None, Some, IfNone, IfSome};
+ghost use Rattle.std.specs.Option.{option_or};
+ghost use Rattle.sd_session.specs.Session.{IsRunning, NotRunning};
+ghost use Rattle.sd_machine.specs.declared.reply.Reply.TheVariants.{Cancelled};
+ghost use Rattle.sd_lines.specs.Held.{AnswersEvent, AnswersOpen, AnswersOwn, Appends, Cancels, Ends, GivesUp, RefusesOver, Shuts, ShowsEvent, ShowsReply, last_of};
 
 use crate::hub::Hub;
 use crate::opening::{Begun, open};
-use crate::over::{Over, leave};
+use crate::over::{EndedSession, leave};
 use sd_base::{JobId, MediaName, PoolName, Rec, Refusal, Ticket};
 use sd_driver::Driver;
 use sd_line::{Naming, ToldToken};
@@ -24,15 +26,17 @@ pub(crate) struct Held<'h, D: Driver, N: Naming, R: Wait + Drop, S: SpoolStore, 
     // How long a record and a close wait for a volume that their drive needs.
     patience: P,
     live: Option<Live<'h, D, N, R, S>>,
-    over: Option<Over<N, S>>,
+    over: Option<EndedSession<N, S>>,
 }
 
 impl<'h, D: Driver, N: Naming, R: Wait + Drop, S: SpoolStore, P> Model for Held<'h, D, N, R, S, P> {
-    ghost use Rattle.sd_lines.specs.Held.{HeldIs};
+    ghost use Rattle.sd_lines.specs.Held.{HeldIs, IsHeld};
 
     ghost Value = { HeldIs };
 
     ghost view = { λ h. record { live = h.live; over = h.over } };
+
+    ghost invariant = { λ h. IsHeld (record { live = h.live; over = h.over }) };
 }
 
 impl<
@@ -86,10 +90,12 @@ impl<
 
     // Opens a session, unless the talk's goes on.
     fn open(&mut self, job: JobId, pool: PoolName, media: &MediaName, moment: i64) -> Reply
-        ensures { AnswersOpen job pool moment result (last_of self.old) (last_of self.new) }
+        ensures { AnswersOpen job pool media.now moment result (last_of self.old)
+            (last_of self.new) }
     {
-        if self.live.is_some() {
-            return Reply::Refused(Refusal::BadCommand);
+        match &self.live {
+            Some(_) => return Reply::Refused(Refusal::BadCommand),
+            None => {}
         }
         match open(self.hub, job, pool, media, moment) {
             Ok(
@@ -125,7 +131,7 @@ impl<
             }
             Err(why) => Reply::Refused(why),
         };
-        self.leave_if_over();
+        leave_if_over(hub, &mut self.live, &mut self.over);
         reply
     }
 
@@ -163,7 +169,7 @@ impl<
             return Reply::Refused(Refusal::SessionNotOpen);
         }
         let reply = close_live(hub, live, &self.patience, told);
-        self.leave_if_over();
+        leave_if_over(hub, &mut self.live, &mut self.over);
         reply
     }
 
@@ -171,6 +177,7 @@ impl<
     pub(crate) fn cancel(&mut self, ticket: Ticket) -> Reply
         ensures { AnswersOwn Cancels ticket result (last_of self.old) (last_of self.new) }
     {
+        let hub = self.hub;
         let Some(live) = &mut self.live else {
             return self.refuse(ticket);
         };
@@ -181,16 +188,25 @@ impl<
             Ok(()) => Reply::Cancelled,
             Err(why) => Reply::Refused(why),
         };
-        self.leave_if_over();
+        leave_if_over(hub, &mut self.live, &mut self.over);
         reply
     }
 
-    /// Gives up the talk's session, if it goes on.
-    pub(crate) fn give_up(&mut self) {
-        if let Some(live) = &mut self.live {
-            let _ = live.cancel();
-        }
-        self.leave_if_over();
+    /// Gives up the talk's session, if it goes on. What it was at its end, if one was opened.
+    #[tactic(auto, using(crate::proofs::HeldLemmas::gives_up_none))]
+    pub(crate) fn give_up(self) -> Option<EndedSession<N, S>>
+        ensures { GivesUp (last_of self.entry) result }
+    {
+        let Held {
+            hub,
+            patience: _,
+            live,
+            over,
+        } = self;
+        let Some(live) = live else {
+            return over;
+        };
+        Some(end_now(hub, live))
     }
 
     /// Whether the talk opened this session last.
@@ -212,25 +228,46 @@ impl<
             _ => Reply::Refused(Refusal::SessionNotOpen),
         }
     }
+}
 
-    // The talk's session leaves its lane, if it goes on no more.
-    fn leave_if_over(&mut self)
-        ensures { last_of self.new ≡ last_of self.old }
-    {
-        let Some(why) = why_over(&self.live) else {
-            return;
-        };
-        if let Some(live) = self.live.take() {
-            self.over = Some(leave(self.hub, live, why));
-        }
+// The talk's session leaves its lane, if it goes on no more.
+fn leave_if_over<'h, D: Driver, N: Naming, R: Wait + Clock + Drop, S: SpoolStore + Drop>(
+    hub: &Hub<D, N, R, S>,
+    live: &mut Option<Live<'h, D, N, R, S>>,
+    over: &mut Option<EndedSession<N, S>>,
+)
+    requires { IfSome over.old (λ p. IsRunning p.session.status → ⊥) }
+    ensures last { option_or live.new over.new ≡ option_or live.old over.old }
+    ensures live { IfSome live.new (λ p. IsRunning p.session.status) }
+    ensures over { IfSome over.new (λ p. IsRunning p.session.status → ⊥) }
+{
+    let Some(why) = why_over(live) else {
+        return;
+    };
+    if let Some(gone) = live.take() {
+        *over = Some(leave(hub, gone, why));
     }
+}
+
+// Gives up a session that goes on, which leaves its lane.
+fn end_now<D: Driver, N: Naming, R: Wait + Clock + Drop, S: SpoolStore + Drop>(
+    hub: &Hub<D, N, R, S>,
+    mut live: Live<'_, D, N, R, S>,
+) -> EndedSession<N, S>
+    requires { IsRunning live.session.status }
+    ensures { Cancels Cancelled live.entry result }
+{
+    // That is refused only if it doesn't go on.
+    let _ = live.cancel();
+    leave(hub, live, Refusal::SessionCancelled)
 }
 
 // Why a session goes on no more, if there is one and it doesn't.
 fn why_over<D: Driver, N: Naming, R: Wait + Clock + Drop, S: SpoolStore + Drop>(
     live: &Option<Live<'_, D, N, R, S>>,
 ) -> Option<Refusal>
-    ensures { IfSome result (λ why. IfSome live.now (λ p. NotRunning p.session why)) }
+    ensures over { IfSome result (λ why. IfSome live.now (λ p. NotRunning p.session why)) }
+    ensures runs { IfNone result (IfSome live.now (λ p. IsRunning p.session.status)) }
 {
     match live {
         Some(live) => live.part().session().running().err(),

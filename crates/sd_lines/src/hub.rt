@@ -6,7 +6,7 @@ use crate::answers::AnswerCounter;
 use crate::front::Front;
 use crate::receipts::Receipts;
 use crate::tally::Tally;
-use sd_base::{DriveNo, LaneNo, Ticket};
+use sd_base::{DriveNo, LaneNo, MediaName, Ticket};
 use sd_board::Sent;
 use sd_drive::Receipt;
 use sd_driver::Driver;
@@ -77,6 +77,19 @@ impl<D: Driver, N: Naming, R: Wait + Clock + Drop, S: SpoolStore + Drop> Hub<D, 
     {
         let post = self.posts.get(drive.get() as usize - 1)?;
         if post.station.line().no().get() == drive.get() {
+            Some(post)
+        } else {
+            None
+        }
+    }
+
+    /// The drive of this number, if it is of this media.
+    pub(crate) fn post_for(&self, drive: DriveNo, media: &MediaName) -> Option<&Post<D, N, R>>
+        ensures { IfSome result (λ post. (post.now.station.no ≡ drive)
+            × (post.now.station.media ≡ media.now)) }
+    {
+        let post = self.post(drive)?;
+        if post.station.line().media().is_same(media) {
             Some(post)
         } else {
             None

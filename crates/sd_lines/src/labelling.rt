@@ -1,6 +1,8 @@
 // A new volume is labelled by the operator.
-ghost use Rattle.std.specs.Prelude.{All, IfOk};
-ghost use Rattle.sd_append.specs.Port.{IsLine};
+ghost use Rattle.std.specs.Prelude.{IfOk, codes};
+ghost use Rattle.sd_lines.specs.Console.{IsDone};
+ghost use Rattle.sd_machine.specs.declared.event.Event.TheVariants.{Label};
+ghost use Rattle.sd_machine.specs.declared.reply.Reply.TheVariants.{Labelled};
 
 use crate::hub::{Hub, Post};
 use crate::notes::Notes;
@@ -25,7 +27,8 @@ pub(crate) fn label<D: Driver, N: Naming, R: Wait + Clock + Drop, S: SpoolStore 
     media: &MediaName,
     moment: i64,
 ) -> Result<Items<Payload>, Refusal>
-    ensures { IfOk result (λ lines. All IsLine lines) }
+    ensures { IfOk result (λ lines. IsDone (λ d. D.meaning d) drive
+        (Label drive name.now pool.now media.now moment) Labelled (codes "ok labelled") lines) }
 {
     let answer = try_label(hub, notes, drive, name, pool, media, moment);
     hub.answers.labels.count(answer.is_ok());
@@ -43,7 +46,8 @@ fn try_label<D: Driver, N: Naming, R: Wait + Clock + Drop, S: SpoolStore + Drop,
     media: &MediaName,
     moment: i64,
 ) -> Result<Items<Payload>, Refusal>
-    ensures { IfOk result (λ lines. All IsLine lines) }
+    ensures { IfOk result (λ lines. IsDone (λ d. D.meaning d) drive
+        (Label drive name.now pool.now media.now moment) Labelled (codes "ok labelled") lines) }
 {
     let Some(post) = hub.post(drive) else {
         return Err(Refusal::NoSuchDrive);

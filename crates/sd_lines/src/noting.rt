@@ -1,5 +1,5 @@
 // The note of a volume that is labelled or taken over is away before that.
-ghost use Rattle.std.specs.Prelude.{◌≡◌, ◌≢◌, Ok, Some};
+ghost use Rattle.std.specs.Prelude.{◌≡◌, ◌≢◌, true, Ok, Some};
 ghost use Rattle.sd_base.specs.declared.refusal.Refusal.TheVariants.{BadCommand};
 ghost use Rattle.sd_line.specs.Operates.{MayOperate, operated_at};
 ghost use Rattle.sd_lines.specs.Noting.{BringsVolume, SettlesNote, is_done};
@@ -26,8 +26,10 @@ pub(crate) fn give_unnoted<D: Driver, N: Naming, R: Wait + Clock + Drop, P: Note
     event: Event,
 ) -> Reply
     requires { BringsVolume drive name.now event }
-    ensures { SettlesNote (P.answered notes.now drive name.now) (P.has_back notes.now drive name.now)
-        result }
+    ensures note { SettlesNote (P.answered notes.now drive name.now)
+        (P.has_back notes.now drive name.now) result }
+    ensures done { is_done result ≡ true
+        → MayOperate (λ d. D.meaning d) post.now.station.no event result }
 {
     let taken = match notes.take(drive, name) {
         Ok(taken) => taken,

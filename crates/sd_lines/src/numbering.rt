@@ -1,6 +1,7 @@
 // The desk's part in an open: the choice of a lane, and the number.
-ghost use Rattle.std.specs.Prelude.{◌≡◌, IfOk};
+ghost use Rattle.std.specs.Prelude.{◌≡◌, IfErr, IfOk};
 ghost use Rattle.sd_line.specs.Ends.{LastIsOver};
+ghost use Rattle.sd_lines.specs.Held.{OpenRefused};
 
 use crate::front::Front;
 use crate::hub::{Hub, Post};
@@ -26,7 +27,10 @@ pub(crate) enum Drawn {
     Elsewhere,
     /// A volume is being mounted in its drive, and its pool is another than the drive's.
     Mounting,
-    Refused(Refusal),
+    /// All numbers were given.
+    NoneLeft,
+    /// There is no memory for its line.
+    NoRoom,
 }
 
 impl<D: Driver, N: Naming, R: Wait + Clock + Drop, S: SpoolStore + Drop> Hub<D, N, R, S> {
@@ -38,8 +42,9 @@ impl<D: Driver, N: Naming, R: Wait + Clock + Drop, S: SpoolStore + Drop> Hub<D, 
     /// this session may be before those, so it isn't refused for them, and gets no worse drive. What it waits for is done at the
     /// spools of these lanes, of which it is to get one itself.
     pub(crate) fn choose(&self, pool: &PoolName, media: &MediaName) -> Result<Chosen<N, S>, Refusal>
-        ensures { IfOk result (λ chosen. (chosen.end.seat.no ≡ chosen.drive)
+        ensures ok { IfOk result (λ chosen. (chosen.end.seat.no ≡ chosen.drive)
             × LastIsOver chosen.end.sessions) }
+        ensures err { IfErr result (λ why. OpenRefused why) }
     {
         let mut front = self.front.lock(&self.rt);
         for _look in self.rt.forever() {
@@ -94,8 +99,8 @@ impl<D: Driver, N: Naming, R: Wait + Clock + Drop, S: SpoolStore + Drop> Hub<D, 
             Numbered::Given => Drawn::Given,
             Numbered::Next(next) => Drawn::Next(next),
             Numbered::Elsewhere => Drawn::Elsewhere,
-            Numbered::NoneLeft => Drawn::Refused(Refusal::NoSessionNumberLeft),
-            Numbered::NoRoom => Drawn::Refused(Refusal::Memory),
+            Numbered::NoneLeft => Drawn::NoneLeft,
+            Numbered::NoRoom => Drawn::NoRoom,
         }
     }
 

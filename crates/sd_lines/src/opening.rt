@@ -1,6 +1,6 @@
 // A session is opened for a talk.
-ghost use Rattle.std.specs.Prelude.{◌≡◌, IfOk, IfSome};
-ghost use Rattle.sd_lines.specs.Held.{Begins};
+ghost use Rattle.std.specs.Prelude.{◌≡◌, IfErr, IfOk, IfSome};
+ghost use Rattle.sd_lines.specs.Held.{Begins, OpenRefused};
 ghost use Rattle.sd_lines.specs.Opening.{IsNumbered};
 
 use crate::hub::{Hub, Post};
@@ -30,7 +30,9 @@ pub(crate) fn open<'h, D: Driver, N: Naming, R: Wait + Clock + Drop, S: SpoolSto
     media: &MediaName,
     moment: i64,
 ) -> Result<Begun<'h, D, N, R, S>, Refusal>
-    ensures { IfOk result (λ begun. Begins job pool moment begun.ticket begun.drive begun.live) }
+    ensures ok { IfOk result (λ begun.
+        Begins job pool media.now moment begun.ticket begun.drive begun.live) }
+    ensures err { IfErr result (λ why. OpenRefused why) }
 {
     match try_open(hub, job, &pool, media, moment) {
         Ok(begun) => Ok(begun),
@@ -50,7 +52,9 @@ fn try_open<'h, D: Driver, N: Naming, R: Wait + Clock + Drop, S: SpoolStore + Dr
     media: &MediaName,
     moment: i64,
 ) -> Result<Begun<'h, D, N, R, S>, Refusal>
-    ensures { IfOk result (λ begun. Begins job pool.now moment begun.ticket begun.drive begun.live) }
+    ensures ok { IfOk result (λ begun.
+        Begins job pool.now media.now moment begun.ticket begun.drive begun.live) }
+    ensures err { IfErr result (λ why. OpenRefused why) }
 {
     for _choice in hub.rt.forever() {
         match open_once(hub, job, pool, media, moment) {
@@ -72,14 +76,16 @@ fn open_once<'h, D: Driver, N: Naming, R: Wait + Clock + Drop, S: SpoolStore + D
     media: &MediaName,
     moment: i64,
 ) -> Result<Option<Begun<'h, D, N, R, S>>, Refusal>
-    ensures { IfOk result (λ choice. IfSome choice (λ begun.
-        Begins job pool.now moment begun.ticket begun.drive begun.live)) }
+    ensures ok { IfOk result (λ choice. IfSome choice (λ begun.
+        Begins job pool.now media.now moment begun.ticket begun.drive begun.live)) }
+    ensures err { IfErr result (λ why. OpenRefused why) }
 {
     let Chosen { ticket, drive, end } = hub.choose(pool, media)?;
     let lane = end.lane();
-    let Some(post) = hub.post(drive) else {
+    let Some(post) = hub.post_for(drive, media) else {
+        // This never happens: the desk chose the drive by its media.
         hub.give_back(end);
-        return Err(Refusal::NoSuchDrive);
+        return Err(Refusal::NoDriveOfMedia);
     };
     let line = post.station.line();
     let prepared = match SessionPart::prepare(
@@ -123,8 +129,9 @@ fn number<D: Driver, N: Naming, R: Wait + Clock + Drop, S: SpoolStore + Drop>(
     mut prepared: Prepared<N, S>,
 ) -> Result<Option<(Ticket, Prepared<N, S>)>, Refusal>
     requires { prepared.opening.key.id ≡ ticket }
-    ensures { IfOk result (λ choice. IfSome choice (λ given.
+    ensures ok { IfOk result (λ choice. IfSome choice (λ given.
         IsNumbered given.0 prepared given.1)) }
+    ensures err { IfErr result (λ why. OpenRefused why) }
 {
     for _draw in hub.rt.forever() {
         match hub.number(post, lane, pool, media, ticket) {
@@ -148,9 +155,13 @@ fn number<D: Driver, N: Naming, R: Wait + Clock + Drop, S: SpoolStore + Drop>(
                 post.station.wait_for_mount(&hub.rt);
                 return Ok(None);
             }
-            Drawn::Refused(why) => {
+            Drawn::NoneLeft => {
                 hub.give_back(prepared.into_end());
-                return Err(why);
+                return Err(Refusal::NoSessionNumberLeft);
+            }
+            Drawn::NoRoom => {
+                hub.give_back(prepared.into_end());
+                return Err(Refusal::Memory);
             }
         }
     }

@@ -19,13 +19,13 @@ use std::time::Clock;
 /// A session that has left its lane: its number, and why an event of it is refused. In a contract it is what its part was at
 /// its end, a `PartIs`; nothing of that is held.
 #[derive(Drop)]
-pub(crate) struct Over<N: Naming, S: SpoolStore> {
+pub struct EndedSession<N: Naming, S: SpoolStore> {
     id: u32,
     why: Refusal,
     part: Snapshot<SessionPart<N, S>>,
 }
 
-impl<N: Naming, S: SpoolStore> Model for Over<N, S> {
+impl<N: Naming, S: SpoolStore> Model for EndedSession<N, S> {
     ghost use Rattle.std.specs.Prelude.{◌≡◌};
     ghost use Rattle.sd_line.specs.Parts.{PartIs};
     ghost use Rattle.sd_session.specs.Session.{NotRunning};
@@ -40,7 +40,7 @@ impl<N: Naming, S: SpoolStore> Model for Over<N, S> {
     } };
 }
 
-impl<N: Naming, S: SpoolStore + Drop> Over<N, S> {
+impl<N: Naming, S: SpoolStore + Drop> EndedSession<N, S> {
     /// Whether this is the number of the session.
     pub(crate) fn is_of(&self, ticket: Ticket) -> bool
         ensures { IsTrue result ↔ (self.now.session.key.id ≡ ticket) }
@@ -63,7 +63,7 @@ pub(crate) fn leave<D: Driver, N: Naming, R: Wait + Clock + Drop, S: SpoolStore 
     hub: &Hub<D, N, R, S>,
     live: Live<'_, D, N, R, S>,
     why: Refusal,
-) -> Over<N, S>
+) -> EndedSession<N, S>
     requires { NotRunning live.session why }
     ensures { result ≡ live.entry }
 {
@@ -78,7 +78,7 @@ pub(crate) fn leave<D: Driver, N: Naming, R: Wait + Clock + Drop, S: SpoolStore 
         station.rest(&hub.rt);
         station.wait_for_rest(&hub.rt);
     }
-    Over {
+    EndedSession {
         id: key.id,
         why,
         part,

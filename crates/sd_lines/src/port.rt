@@ -2,13 +2,15 @@
 ghost use Rattle.std.specs.Prelude.{◌≡◌, ◌++◌, List, None, All, IfOk};
 ghost use Rattle.sd_append.specs.Port.{IsLine, Said, Stepped, WasRead};
 ghost use Rattle.sd_base.specs.Record.{Record};
-ghost use Rattle.sd_lines.specs.Held.{AnswersEvent, GivesUpAtMost, ShowsEvent};
+ghost use Rattle.sd_lines.specs.Held.{AnswersEvent, GivesUp, GivesUpAtMost, ShowsEvent};
+ghost use Rattle.sd_lines.specs.Console.{AnswersLine};
 ghost use Rattle.sd_lines.specs.Port.{KeepsPort, behind, new_port};
 
 use crate::console::obey_line;
 use crate::held::Held;
 use crate::hub::Hub;
 use crate::notes::Notes;
+use crate::over::EndedSession;
 use crate::reading::{Reading, read};
 use sd_append::{Exchanges, ReadBack};
 use sd_base::{Items, Refusal, SessionKey};
@@ -27,8 +29,7 @@ use std::time::Clock;
 
 /// What a talk asks its daemon by: one session at a time, over drives that others use beside it. In a contract it is a
 /// `LinePortIs`. Its type keeps what `KeepsPort` says: the records that it answered to be taken are those that the session's
-/// part was told.
-#[derive(Drop)]
+/// part was told. It can't be dropped: who has it ends the talk by `finish`.
 pub struct LinePort<'h, D: Driver, N: Naming, R: Wait + Drop, S: SpoolStore, P> {
     held: Held<'h, D, N, R, S, P>,
     // Devices of its own over the volumes of the drives 1, 2 and on, by which sessions are read, so that no read keeps a
@@ -132,6 +133,8 @@ impl<
     pub fn console(&mut self, line: &[u8]) -> Result<Items<Payload>, Refusal>
         ensures lines { IfOk result (λ lines. All IsLine lines) }
         ensures own { GivesUpAtMost self.old.last self.new.last }
+        ensures obeys { AnswersLine (λ d. D.meaning d) self.old.moment line.now result
+            self.old.last self.new.last }
         ensures port { self.new ≡ behind (Said self.old.moment line.now result) self.new.last
             self.old }
     {
@@ -149,16 +152,19 @@ impl<
         self.told.take()
     }
 
-    /// The talk has ended. Its session, if it goes on, is given up, and leaves its lane.
-    pub fn finish(self) {
+    /// The talk has ended. Its session, if it goes on, is given up, and leaves its lane. What the session was then that was opened
+    /// last, if one was: it doesn't go on.
+    pub fn finish(self) -> Option<EndedSession<N, S>>
+        ensures { GivesUp self.entry.last result }
+    {
         let LinePort {
-            mut held,
+            held,
             readers: _,
             moment: _,
             exchanges: _,
             told: _,
         } = self;
-        held.give_up();
+        held.give_up()
     }
 
     /// The moment of what happens now, in microseconds.

@@ -14,7 +14,7 @@ ghost use Rattle.sd_volume.specs.Noted.{IsTrueNote};
 ghost use Rattle.sd_volume.specs.declared.fault.AdoptFault.{AdoptFault as SpecFault};
 
 use sd_base::{DriveNo, MediaName, Refusal, VolName};
-use sd_drive::{Adopted, Drive, Limits};
+use sd_drive::{Adopted, Drive, Limits, NotMade};
 use sd_driver::Driver;
 use sd_line::{CloseBook, LaneEnd, Line, Naming, Seat};
 use sd_note::Note;
@@ -64,7 +64,7 @@ impl<D: Driver, R: Wait + Drop> Model for UnusedDrive<D, R> {
 }
 
 impl<D: Driver + Drop, R: Wait + Drop> UnusedDrive<D, R> {
-    /// A drive with this device, and a queue for so many lanes with this room. `None` if out of memory.
+    /// A drive with this device, and a queue for so many lanes with this room. If out of memory, the device comes back.
     pub fn new(
         rt: R,
         alloc: Global,
@@ -73,22 +73,27 @@ impl<D: Driver + Drop, R: Wait + Drop> UnusedDrive<D, R> {
         limits: Limits,
         lanes: u32,
         room: usize,
-    ) -> Option<Self>
+    ) -> Result<Self, D>
         requires limits { AreLimits limits }
         requires lanes { (lanes ≤ most_lanes) × (1 ≤ room) }
-        ensures lanes { IfSome result (λ unused. (unused.lanes ≡ lanes) × (unused.room ≡ room)) }
-        ensures media { IfSome result (λ unused. unused.media ≡ media) }
-        ensures limits { IfSome result (λ unused. unused.limits ≡ limits) }
-        ensures volumes { IfSome result (λ unused. unused.volumes ≡ []) }
-        ensures honest { IfSome result
+        ensures lanes { IfOk result (λ unused. (unused.lanes ≡ lanes) × (unused.room ≡ room)) }
+        ensures media { IfOk result (λ unused. unused.media ≡ media) }
+        ensures limits { IfOk result (λ unused. unused.limits ≡ limits) }
+        ensures volumes { IfOk result (λ unused. unused.volumes ≡ []) }
+        ensures honest { IfOk result
             (λ unused. (D.meaning unused.device).honest ≡ (D.meaning device).honest) }
+        ensures back { IfErr result (λ back. back ≡ device) }
     {
-        let Ok(drive) = Drive::new(alloc, device, media, limits) else {
-            return None;
+        let Ok(lanes) = RuledLanes::new(rt, alloc, lanes, room) else {
+            return Err(device);
         };
-        let lanes = RuledLanes::new(rt, alloc, lanes, room).ok()?;
-        let book = CloseBook::new(alloc).ok()?;
-        Some(UnusedDrive { drive, lanes, book })
+        let Ok(book) = CloseBook::new(alloc) else {
+            return Err(device);
+        };
+        match Drive::new(alloc, device, media, limits) {
+            Ok(drive) => Ok(UnusedDrive { drive, lanes, book }),
+            Err(NotMade { driver }) => Err(driver),
+        }
     }
 
     /// The media of the drive.

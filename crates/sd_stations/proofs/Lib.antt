@@ -1,1 +1,3 @@
+pub mod CloseLemmas
+pub mod SendLemmas
 pub mod ShutLemmas

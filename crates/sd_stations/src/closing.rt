@@ -1,10 +1,11 @@
 // A session is closed once all that it sent is placed.
-ghost use Rattle.std.specs.Prelude.{◌≡◌, List, [], IfErr, IfOk, IfSome};
+ghost use Rattle.std.specs.Prelude.{◌≡◌, List, [], IfErr, IfNone, IfOk, IfSome};
 ghost use Rattle.sd_journal.specs.Journal.{Entry};
 ghost use Rattle.sd_line.specs.Closes.{MayCloseBy};
-ghost use Rattle.sd_line.specs.Goes.{GoesOn, StopsShort, IsReceiptOf};
+ghost use Rattle.sd_line.specs.Goes.{GoesOn, IsReceiptOf};
 ghost use Rattle.sd_line.specs.Tells.{ShowsClose};
-ghost use Rattle.sd_line.specs.declared.stop.Stop.TheVariants.{Refused};
+ghost use Rattle.sd_session.specs.declared.status.Status.TheVariants.{Ended};
+ghost use Rattle.sd_stations.specs.Sends.{ClosesNow, DueRefused};
 
 use crate::station::Station;
 use sd_base::{Items, Refusal};
@@ -45,7 +46,9 @@ pub(crate) fn due_on<D: Driver, N: Naming, R: Wait + Drop, S: SpoolStore + Drop>
         × (journal : List Entry) × MayCloseBy journal part.old.session d.receipt)) }
     ensures shown { IfOk result (λ due. IfSome due
         (λ d. ShowsClose d.token part.old.seat.no part.old.seat.seat.sent d.receipt)) }
-    ensures err { IfErr result (λ why. StopsShort (Refused why) part.new.session) }
+    ensures none { IfOk result (λ due. IfNone due ((part.old.session.status ≡ Ended)
+        × (part.new ≡ part.old))) }
+    ensures err { IfErr result (λ why. DueRefused part.old.session why part.new.session) }
 {
     let receipt = match part.receipt_on(side, line.queue()) {
         Ok(Some(receipt)) => receipt,
@@ -72,7 +75,11 @@ pub(crate) fn try_close<D: Driver, N: Naming, R: Wait + Clock + Drop, S: SpoolSt
         (λ s. IsReceiptOf part.new.session s.receipt × (s.spans ≡ s.receipt.spans))) }
     ensures shown { IfOk result (λ shut. IfSome shut
         (λ s. ShowsClose s.token part.new.seat.no part.new.seat.seat.sent s.receipt)) }
-    ensures err { IfErr result (λ why. StopsShort (Refused why) part.new.session) }
+    ensures closes { IfOk result (λ shut. IfSome shut
+        (λ s. ClosesNow part.old.session part.new.session)) }
+    ensures none { IfOk result (λ shut. IfNone shut ((part.old.session.status ≡ Ended)
+        × (part.new ≡ part.old))) }
+    ensures err { IfErr result (λ why. DueRefused part.old.session why part.new.session) }
 {
     let due = match station.receipt(rt, part) {
         Ok(Some(due)) => due,

@@ -1,10 +1,12 @@
 // The session that a talk goes on with.
-ghost use Rattle.std.specs.Prelude.{◌≡◌, ◌↔◌, [], ◌∷◌, IfErr, IfOk, IsTrue, OnErr, OnOk};
-ghost use Rattle.sd_line.specs.Goes.{GoesOn, StopsShort, IsReceiptOf};
-ghost use Rattle.sd_line.specs.declared.stop.Stop.TheVariants.{Refused};
+ghost use Rattle.std.specs.Prelude.{◌≡◌, ◌↔◌, [], ◌∷◌, false, IfErr, IfOk, IsTrue, OnErr, OnOk};
+ghost use Rattle.sd_base.specs.declared.refusal.Refusal.TheVariants.{NotYet, SessionFailed};
+ghost use Rattle.sd_line.specs.Goes.{GoesOn, IsReceiptOf};
 ghost use Rattle.sd_line.specs.Parts.{OpensAt, end_of, with_session};
 ghost use Rattle.sd_line.specs.Tells.{ShowsClose};
-ghost use Rattle.sd_session.specs.Session.{CancelsSession, EndsSession, EndRefused, NotRunning};
+ghost use Rattle.sd_session.specs.Session.{CancelsSession, EndsSession, EndRefused, IsRunning, NotRunning};
+ghost use Rattle.sd_session.specs.declared.status.Status.TheVariants.{Ended};
+ghost use Rattle.sd_stations.specs.Sends.{AddRefused, Adds, ClosesNow, IsShut, NowRefused, RestRefused, SendRefused, SendsOn, ShutRefused};
 
 use crate::closing::{Shut, try_close};
 use crate::patience::Patience;
@@ -75,10 +77,11 @@ impl<'h, D: Driver, N: Naming, R: Wait + Clock + Drop, S: SpoolStore + Drop> Liv
     /// queue before the drive is full, what moves at the drive is waited for. If the drive has no volume for what is in
     /// its hand, one is waited for as long as the patience lasts, and then the session is busy.
     pub fn add<P: Patience>(&mut self, rt: &R, rec: &Rec, patience: &P) -> Result<u64, Refusal>
-        ensures ok { IfOk result (λ n. GoesOn self.old (rec.now ∷ []) self.new
-            × (n ≡ self.new.session.count)) }
-        ensures err { IfErr result (λ why. GoesOn self.old [] self.new
-            × StopsShort (Refused why) self.new.session) }
+        ensures ok { IfOk result (λ n. GoesOn self.old (rec.now ∷ []) self.new) }
+        ensures adds { IfOk result (λ n. Adds self.old.session rec.now n self.new.session) }
+        ensures err { IfErr result (λ why. GoesOn self.old [] self.new) }
+        ensures why { IfErr result
+            (λ why. AddRefused self.old.session rec.now why self.new.session) }
     {
         let mut halted = None;
         for _tried in rt.forever() {
@@ -99,8 +102,11 @@ impl<'h, D: Driver, N: Naming, R: Wait + Clock + Drop, S: SpoolStore + Drop> Liv
     // Sends a body on. If the drive has no volume for what is in its hand, answers how often something had moved there:
     // what lies ready may have made room all the same. A spool that fails has failed the session.
     fn send_on(&mut self, rt: &R) -> Result<Option<Moves>, Refusal>
+        requires { IsRunning self.old.session.status }
         ensures goes_on { GoesOn self.old [] self.new }
-        ensures err { IfErr result (λ why. StopsShort (Refused why) self.new.session) }
+        ensures ok { OnOk result (SendsOn self.old.session self.new.session) }
+        ensures err { IfErr result
+            (λ why. SendRefused SessionFailed self.old.session why self.new.session) }
     {
         match send_on(rt, self.station, &mut self.part, &mut self.wish) {
             Err(Refusal::SpoolFault) => Err(Refusal::SessionFailed),
@@ -137,7 +143,8 @@ impl<'h, D: Driver, N: Naming, R: Wait + Clock + Drop, S: SpoolStore + Drop> Liv
             × (s.spans ≡ s.receipt.spans)) }
         ensures shown { IfOk result
             (λ s. ShowsClose s.token self.new.seat.no self.new.seat.seat.sent s.receipt) }
-        ensures err { IfErr result (λ why. StopsShort (Refused why) self.new.session) }
+        ensures shut { IfOk result (λ s. IsShut self.old.session self.new.session) }
+        ensures err { IfErr result (λ why. ShutRefused self.old.session why self.new.session) }
     {
         if self.part.session().status() == Status::Ended {
             self.send_rest(rt, patience)?;
@@ -157,8 +164,11 @@ impl<'h, D: Driver, N: Naming, R: Wait + Clock + Drop, S: SpoolStore + Drop> Liv
     // Sends all that the session has, which is ended. If it can't be sent now, it can't be closed yet; a spool that
     // fails has failed the session.
     fn send_rest<P: Patience>(&mut self, rt: &R, patience: &P) -> Result<(), Refusal>
+        requires { IsRunning self.old.session.status }
         ensures goes_on { GoesOn self.old [] self.new }
-        ensures err { IfErr result (λ why. StopsShort (Refused why) self.new.session) }
+        ensures ok { OnOk result (SendsOn self.old.session self.new.session) }
+        ensures err { IfErr result
+            (λ why. RestRefused NotYet SessionFailed self.old.session why self.new.session) }
     {
         match send_rest(rt, self.station, &mut self.part, &mut self.wish, patience) {
             Err(Refusal::Busy) => Err(Refusal::NotYet),
@@ -169,7 +179,9 @@ impl<'h, D: Driver, N: Naming, R: Wait + Clock + Drop, S: SpoolStore + Drop> Liv
 
     // Whether the drive is to be asked for a close: for an ended session once it has placed all that this sent, or lost a
     // block of it.
-    fn is_close_due(&self, rt: &R) -> bool {
+    fn is_close_due(&self, rt: &R) -> bool
+        ensures { result ≡ false → self.now.session.status ≡ Ended }
+    {
         let session = self.part.session();
         session.status() != Status::Ended
             || self.station.is_close_due(rt, session.key(), session.sent())
@@ -182,7 +194,8 @@ impl<'h, D: Driver, N: Naming, R: Wait + Clock + Drop, S: SpoolStore + Drop> Liv
             × (s.spans ≡ s.receipt.spans)) }
         ensures shown { IfOk result
             (λ s. ShowsClose s.token self.new.seat.no self.new.seat.seat.sent s.receipt) }
-        ensures err { IfErr result (λ why. StopsShort (Refused why) self.new.session) }
+        ensures closes { IfOk result (λ s. ClosesNow self.old.session self.new.session) }
+        ensures err { IfErr result (λ why. NowRefused self.old.session why self.new.session) }
     {
         match try_close(rt, self.station, &mut self.part)? {
             Some(shut) => Ok(shut),

@@ -1,7 +1,9 @@
 // The bodies of a session are sent on, and waited for.
-ghost use Rattle.std.specs.Prelude.{◌≡◌, [], IfErr};
-ghost use Rattle.sd_line.specs.Goes.{GoesOn, StopsShort};
-ghost use Rattle.sd_line.specs.declared.stop.Stop.TheVariants.{Refused};
+ghost use Rattle.std.specs.Prelude.{◌≡◌, [], IfErr, OnOk};
+ghost use Rattle.sd_base.specs.declared.refusal.Refusal.TheVariants.{Busy, SpoolFault};
+ghost use Rattle.sd_line.specs.Goes.{GoesOn};
+ghost use Rattle.sd_session.specs.Session.{IsRunning};
+ghost use Rattle.sd_stations.specs.Sends.{RestRefused, SendRefused, SendsOn};
 
 use crate::patience::Patience;
 use crate::station::Station;
@@ -61,9 +63,11 @@ pub(crate) fn send_on<D: Driver, N: Naming, R: Wait + Clock + Drop, S: SpoolStor
     part: &mut SessionPart<N, S>,
     wish: &mut Wish,
 ) -> Result<Option<Moves>, Refusal>
-    requires { part.old.seat.no ≡ station.now.no }
+    requires no { part.old.seat.no ≡ station.now.no }
+    requires running { IsRunning part.old.session.status }
     ensures goes_on { GoesOn part.old [] part.new }
-    ensures err { IfErr result (λ why. StopsShort (Refused why) part.new.session) }
+    ensures ok { OnOk result (SendsOn part.old.session part.new.session) }
+    ensures err { IfErr result (λ why. SendRefused SpoolFault part.old.session why part.new.session) }
 {
     for _tried in rt.forever() {
         // Before it is looked for a volume, so that one that comes meanwhile is noticed.
@@ -93,9 +97,11 @@ fn step<D: Driver, N: Naming, R: Wait + Clock + Drop, S: SpoolStore + Drop>(
     station: &Station<D, N, R>,
     part: &mut SessionPart<N, S>,
 ) -> Result<Stepped, Refusal>
-    requires { part.old.seat.no ≡ station.now.no }
+    requires no { part.old.seat.no ≡ station.now.no }
+    requires running { IsRunning part.old.session.status }
     ensures goes_on { GoesOn part.old [] part.new }
-    ensures err { IfErr result (λ why. StopsShort (Refused why) part.new.session) }
+    ensures ok { OnOk result (SendsOn part.old.session part.new.session) }
+    ensures err { IfErr result (λ why. SendRefused SpoolFault part.old.session why part.new.session) }
 {
     let spooled = part.spool()?;
     if part.session().has_due() && !station.has_volume(rt) {
@@ -146,9 +152,11 @@ pub(crate) fn send_rest<
     wish: &mut Wish,
     patience: &P,
 ) -> Result<(), Refusal>
-    requires { part.old.seat.no ≡ station.now.no }
+    requires no { part.old.seat.no ≡ station.now.no }
+    requires running { IsRunning part.old.session.status }
     ensures goes_on { GoesOn part.old [] part.new }
-    ensures err { IfErr result (λ why. StopsShort (Refused why) part.new.session) }
+    ensures ok { OnOk result (SendsOn part.old.session part.new.session) }
+    ensures err { IfErr result (λ why. RestRefused Busy SpoolFault part.old.session why part.new.session) }
 {
     for _step in rt.forever() {
         if !part.session().has_due() {

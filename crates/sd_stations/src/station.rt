@@ -1,12 +1,13 @@
 // A drive with its line and its worker.
-ghost use Rattle.std.specs.Prelude.{◌≡◌, ◌≢◌, ◌↔◌, List, [], IfErr, IfOk, IfSome, IsTrue, Some};
-ghost use Rattle.sd_line.specs.Goes.{GoesOn, StopsShort};
-ghost use Rattle.sd_line.specs.declared.stop.Stop.TheVariants as stop;
+ghost use Rattle.std.specs.Prelude.{◌≡◌, ◌≢◌, ◌↔◌, List, [], IfErr, IfNone, IfOk, IfSome, IsTrue, Some};
+ghost use Rattle.sd_line.specs.Goes.{GoesOn};
 ghost use Rattle.sd_journal.specs.Journal.{Entry};
 ghost use Rattle.sd_line.specs.Closes.{MayCloseBy};
 ghost use Rattle.sd_line.specs.Operates.{MayOperate, Operates, operated_at};
 ghost use Rattle.sd_line.specs.Parts.{OpensAt};
 ghost use Rattle.sd_line.specs.Tells.{ShowsClose};
+ghost use Rattle.sd_session.specs.declared.status.Status.TheVariants.{Ended};
+ghost use Rattle.sd_stations.specs.Sends.{DueRefused};
 ghost use Rattle.sd_machine.specs.declared.reply.Reply.TheVariants.{Refused};
 ghost use Rattle.sd_base.specs.declared.refusal.Refusal.TheVariants.{BadCommand, DeviceFault};
 
@@ -626,7 +627,9 @@ impl<D: Driver, N: Naming, R: Wait + Clock + Drop> Station<D, N, R> {
             × (journal : List Entry) × MayCloseBy journal part.old.session d.receipt)) }
         ensures shown { IfOk result (λ due. IfSome due
             (λ d. ShowsClose d.token part.old.seat.no part.old.seat.seat.sent d.receipt)) }
-        ensures err { IfErr result (λ why. StopsShort (stop.Refused why) part.new.session) }
+        ensures none { IfOk result (λ due. IfNone due ((part.old.session.status ≡ Ended)
+            × (part.new ≡ part.old))) }
+        ensures err { IfErr result (λ why. DueRefused part.old.session why part.new.session) }
     {
         let (answer, synced) = {
             let mut side = self.line.lock();

@@ -171,7 +171,7 @@ impl<D: Driver + Drop, Q: Lanes + Drop, W: Write + Drop> Script<D, Q, W> {
         ensures { DrainsAll (λ d. D.meaning d) (script_view W.contents self.old)
             (script_view W.contents self.new) }
     {
-        match self.stage.drain() {
+        match self.stage.drain(self.alloc) {
             Ok(placed) => self.out.line(Told::Drained(placed)),
             Err(_) => self.refuse(Refusal::Memory),
         }

@@ -4,6 +4,7 @@
 
 mod acting;
 mod came;
+mod draining;
 mod drives;
 mod events;
 mod fits;

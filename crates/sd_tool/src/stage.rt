@@ -7,10 +7,10 @@ ghost use Rattle.sd_tool.specs.Restart.{BeginsAs};
 ghost use Rattle.sd_tool.specs.Settings.{drive_count, misfit_of};
 ghost use Rattle.sd_tool.specs.ScriptStage.{KeepsStage, StageMoves};
 
+use crate::draining::drain;
 use crate::making::{Room, ScriptWorld};
 use crate::values::Values;
 use sd_base::{Refusal, SessionKey, Ticket};
-use sd_core::drain;
 use sd_desk::Request;
 use sd_driver::Driver;
 use sd_lane::Lanes;
@@ -82,13 +82,13 @@ impl<D: Driver + Drop, Q: Lanes + Drop> ScriptStage<D, Q> {
     }
 
     /// Plays rounds until nothing moves, and counts the blocks that were placed.
-    pub fn drain(&mut self) -> Result<u64, AllocError>
+    pub fn drain(&mut self, alloc: Global) -> Result<u64, AllocError>
         ensures drains { IfOk result (λ placed. Drains
             (λ d. D.meaning d) self.old.world placed self.new.world) }
         ensures err { OnErr result (PlaysMoving (λ d. D.meaning d) self.old.world self.new.world) }
         ensures keeps { KeepsStage self.old self.new }
     {
-        drain(&mut self.world)
+        drain(&mut self.world, alloc)
     }
 
     /// Reads a session back from spans.
