@@ -110,6 +110,8 @@ class Trial:
         with recorded(self.system, self.tools, self.folder / "disk", place, number) as (room, mark):
             for name in DRIVES:
                 (room / name).mkdir(exist_ok=True)
+            # A cut may have left the disk full, and no volume would get a label then.
+            (room / FILLER).unlink(missing_ok=True)
             os.sync()
             work = Work(room, place, self.env, seed, mark)
             work.hold(self.asked.closes, 1 + self.asked.closes // A_KILL)
