@@ -5,6 +5,9 @@ def difference(got, wanted):
     """What is other in what came, in few words: of lists of one length, what is other in the first that is."""
     if isinstance(got, (list, tuple)) and isinstance(wanted, (list, tuple)) and len(got) == len(wanted):
         return next((difference(*pair) for pair in zip(got, wanted) if pair[0] != pair[1]), f"{got} {wanted}")
+    if isinstance(got, (list, tuple)) and isinstance(wanted, (list, tuple)):
+        at = next((at for at, pair in enumerate(zip(got, wanted)) if pair[0] != pair[1]), min(len(got), len(wanted)))
+        return f"from {at} on {got[at:at + 4]!r:.300} in place of {wanted[at:at + 4]!r:.300}"
     if isinstance(got, bytes) and isinstance(wanted, bytes) and len(got) + len(wanted) > 200:
         at = next((at for at, pair in enumerate(zip(got, wanted)) if pair[0] != pair[1]), min(len(got), len(wanted)))
         return (f"{len(got)} bytes in place of {len(wanted)}, and from {at} on {got[at:at + 20].hex()} "
@@ -28,6 +31,11 @@ class Checks:
 
     def same(self, what, got, wanted):
         self.check(what, got == wanted, difference(got, wanted))
+
+    def no_faults_of(self, group, faults, most=None):
+        """A group of checks, counted as one."""
+        self.group = group
+        self.no_faults(faults, most)
 
     def no_faults(self, faults, most=None):
         """Counts a group of checks as one, by what is wrong in it. So many of the faults are printed."""
