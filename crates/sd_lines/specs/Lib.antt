@@ -6,6 +6,7 @@ pub mod Noting
 pub mod Opening
 pub mod Pools
 pub mod Port
+pub mod Reading
 pub mod Receipts
 pub mod Taken
 pub mod Unused

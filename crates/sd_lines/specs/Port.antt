@@ -6,17 +6,18 @@ use Rattle.sd_line.specs.Side.{ToldTokenIs}
 use Rattle.sd_lines.specs.Held.{told_in}
 use Rattle.sd_lines.specs.Taken.{taken_last}
 
--- A port: the part of the session that its talk opened last, if it opened one; the moment of what happens now; what it was
--- asked, with the answers; and what shows that the session closed last was told closed.
+-- A port: the part of the session that its talk opened last, if it opened one; the devices by which it reads sessions back; the
+-- moment of what happens now; what it was asked, with the answers; and what shows that the session closed last was told closed.
 pub record LinePortIs (D : Type 0) : Type 0 where
   pub last : Option PartIs
+  pub readers : List D
   pub moment : ℤ
   pub asked : List Exchange
   pub told : Option (ToldTokenIs D)
 
 -- a port that was asked nothing yet
-abbrev pub new_port : {D : Type 0} → ℤ → LinePortIs D
-new_port moment = record { last = None; moment = moment; asked = []; told = None }
+abbrev pub new_port : {D : Type 0} → List D → ℤ → LinePortIs D
+new_port readers moment = record { last = None; readers = readers; moment = moment; asked = []; told = None }
 
 -- the port after one exchange more, with the part as it is then
 abbrev pub behind : {D : Type 0} → Exchange → Option PartIs → LinePortIs D → LinePortIs D

@@ -56,7 +56,9 @@ impl<D: Driver, N: Naming, R: Wait + Clock + Drop, S: SpoolStore + Drop> Hub<D, 
 
     /// The drive at which the volume of a name is. A name that is being claimed counts as soon as its drive has published
     /// the volume: then whoever asked for the status may know of it.
-    pub(crate) fn drive_of(&self, name: &VolName) -> Result<Option<DriveNo>, Refusal> {
+    pub(crate) fn drive_of(&self, name: &VolName) -> Result<Option<DriveNo>, Refusal>
+        ensures { IfErr result (λ why. why ≡ Memory) }
+    {
         let place = self.front.lock(&self.rt).board.place_of(name);
         match place {
             VolumePlace::Nowhere => Ok(None),
@@ -66,7 +68,9 @@ impl<D: Driver, N: Naming, R: Wait + Clock + Drop, S: SpoolStore + Drop> Hub<D, 
     }
 
     // The drive, if it has published a volume of this name.
-    fn has_published(&self, drive: DriveNo, name: &VolName) -> Result<Option<DriveNo>, Refusal> {
+    fn has_published(&self, drive: DriveNo, name: &VolName) -> Result<Option<DriveNo>, Refusal>
+        ensures { IfErr result (λ why. why ≡ Memory) }
+    {
         let Some(post) = self.post(drive) else {
             return Ok(None);
         };

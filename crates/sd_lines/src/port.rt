@@ -1,10 +1,11 @@
 // The port of a talk.
-ghost use Rattle.std.specs.Prelude.{◌≡◌, ◌++◌, List, None, All, IfOk};
+ghost use Rattle.std.specs.Prelude.{◌≡◌, ◌++◌, [], List, None, All, IfOk};
 ghost use Rattle.sd_append.specs.Port.{IsLine, Said, Stepped, WasRead};
 ghost use Rattle.sd_base.specs.Record.{Record};
 ghost use Rattle.sd_lines.specs.Held.{AnswersEvent, GivesUp, GivesUpAtMost, ShowsEvent};
 ghost use Rattle.sd_lines.specs.Console.{AnswersLine};
 ghost use Rattle.sd_lines.specs.Port.{KeepsPort, behind, new_port};
+ghost use Rattle.sd_lines.specs.Reading.{ReadsTalk};
 
 use crate::console::obey_line;
 use crate::held::Held;
@@ -50,6 +51,7 @@ impl<'h, D: Driver, N: Naming, R: Wait + Drop, S: SpoolStore, P> Model
 
     ghost view = { λ p. record {
       last = last_of p.held;
+      readers = p.readers.items;
       moment = p.moment;
       asked = p.exchanges;
       told = p.told;
@@ -57,6 +59,7 @@ impl<'h, D: Driver, N: Naming, R: Wait + Drop, S: SpoolStore, P> Model
 
     ghost invariant = { λ p. KeepsPort (record {
       last = last_of p.held;
+      readers = p.readers.items;
       moment = p.moment;
       asked = p.exchanges;
       told = p.told;
@@ -74,7 +77,7 @@ impl<
     /// The port of a talk that begins, at this moment in microseconds. A record and a close wait so patiently for a volume
     /// that their drive needs. By the same the notes of volumes are reached that a line of the console labels or takes over.
     pub fn new(hub: &'h Hub<D, N, R, S>, readers: Vec<D>, moment: i64, patience: P) -> Self
-        ensures { result ≡ new_port moment }
+        ensures { result ≡ new_port readers.items moment }
     {
         LinePort {
             held: Held::nothing(hub, patience),
@@ -110,8 +113,12 @@ impl<
     pub fn read<K: Sink>(&mut self, key: SessionKey, spans: &[Span], sink: K) -> ReadBack<K>
         ensures { (records : List Record)
             × (K.got result.sink ≡ K.got sink ++ records)
-            × (self.new ≡ behind (WasRead key spans.now records result.answer) self.old.last
-            self.old) }
+            × ReadsTalk (λ d. D.meaning d) key spans.now [] records result.answer
+            self.old.readers self.new.readers
+            × (self.new ≡ record (behind (WasRead key spans.now records result.answer) self.old.last
+            self.old) {
+              readers = self.new.readers;
+            }) }
     {
         let read = read::<Brand, D, N, R, S, K>(
             self.held.hub(),

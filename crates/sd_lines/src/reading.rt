@@ -1,5 +1,6 @@
 // A session is read back, by a device of the talk's own.
-ghost use Rattle.std.specs.Prelude.{◌≡◌, ◌++◌};
+ghost use Rattle.std.specs.Prelude.{◌≡◌, ◌++◌, [], IfErr};
+ghost use Rattle.sd_lines.specs.Reading.{IsUnread, ReadsDevice, ReadsTalk};
 
 use crate::counted::Counted;
 use crate::hub::Hub;
@@ -11,6 +12,7 @@ use sd_line::Naming;
 use sd_readback::{ReadEnd, Sink, read_session};
 use sd_span::Span;
 use sd_spool::SpoolStore;
+use std::alloc::Global;
 use std::sync::Wait;
 use std::time::Clock;
 
@@ -33,17 +35,16 @@ pub(crate) fn read<
     K: Sink,
 >(hub: &Hub<D, N, R, S>, readers: &mut [D], key: SessionKey, spans: &[Span], sink: K) -> Reading<K>
     requires { K.got sink ≡ B.before }
-    ensures { K.got result.sink ≡ B.before ++ result.handed }
+    ensures got { K.got result.sink ≡ B.before ++ result.handed }
+    ensures reads { ReadsTalk (λ d. D.meaning d) key spans.now [] result.handed result.answer
+        readers.old readers.new }
 {
     let counted = Counted {
         sink,
         given: &hub.given,
     };
     let mut watched: WatchedSink<B, Counted<'_, K>> = WatchedSink::new(counted);
-    let answer = match drive_of(hub, spans) {
-        Ok(drive) => read_at(hub, drive, readers, key, spans, &mut watched),
-        Err(why) => Err(why),
-    };
+    let answer = read_at(hub, readers, key, spans, &mut watched);
     let (counted, handed) = watched.into_parts();
     Reading {
         sink: counted.sink,
@@ -56,7 +57,9 @@ pub(crate) fn read<
 fn drive_of<D: Driver, N: Naming, R: Wait + Clock + Drop, S: SpoolStore + Drop>(
     hub: &Hub<D, N, R, S>,
     spans: &[Span],
-) -> Result<DriveNo, Refusal> {
+) -> Result<DriveNo, Refusal>
+    ensures { IfErr result (IsUnread spans.now) }
+{
     let Some(first) = spans.first() else {
         return Err(Refusal::BadSpan);
     };
@@ -71,25 +74,41 @@ fn drive_of<D: Driver, N: Naming, R: Wait + Clock + Drop, S: SpoolStore + Drop>(
     Ok(drive)
 }
 
-// Reads a session back by the device for this drive.
+// Reads a session back by the device for the drive at which the volumes of the spans are.
 fn read_at<D: Driver, N: Naming, R: Wait + Clock + Drop, S: SpoolStore + Drop, K: Sink>(
     hub: &Hub<D, N, R, S>,
-    drive: DriveNo,
     readers: &mut [D],
     key: SessionKey,
     spans: &[Span],
     sink: &mut K,
-) -> Result<ReadEnd, Refusal> {
+) -> Result<ReadEnd, Refusal>
+    ensures { ReadsTalk (λ d. D.meaning d) key spans.now (K.got sink.old) (K.got sink.new) result
+        readers.old readers.new }
+{
+    let drive = drive_of(hub, spans)?;
     let place = drive.get() as usize - 1;
     if place < readers.len() {
-        let device = &mut readers[place];
-        return match read_session(hub.alloc, device, key, spans, sink) {
-            Ok(end) => Ok(end),
-            Err(fault) => Err(fault.refusal()),
-        };
+        return read_by(hub.alloc, &mut readers[place], key, spans, sink);
     }
     match hub.post(drive) {
         Some(post) => post.station.line().read(key, spans, sink),
         None => Err(Refusal::VolumeNotOnShelf),
+    }
+}
+
+// Reads a session back by a device; a fault of the reader becomes its refusal.
+fn read_by<D: Driver, K: Sink>(
+    alloc: Global,
+    device: &mut D,
+    key: SessionKey,
+    spans: &[Span],
+    sink: &mut K,
+) -> Result<ReadEnd, Refusal>
+    ensures { ReadsDevice key spans.now (K.got sink.old) (K.got sink.new) result
+        (D.meaning device.old) (D.meaning device.new) }
+{
+    match read_session(alloc, device, key, spans, sink) {
+        Ok(end) => Ok(end),
+        Err(fault) => Err(fault.refusal()),
     }
 }
