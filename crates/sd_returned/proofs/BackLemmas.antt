@@ -1,5 +1,5 @@
 -- What comes back of jobs whose line was settled and read.
-use Rattle.std.proofs.Common.{◌≡◌, ℕ, zero, suc, refl, sym, ap, subst, ◌∙◌, arith, Option, Some, None, IsSome, List, [], ◌∷◌, ◌++◌, length, map, slice_get}
+use Rattle.std.proofs.Common.{◌≡◌, ℕ, refl, sym, ap, subst, ◌∙◌, arith, Option, Some, None, IsSome, List, ◌++◌, map, slice_get}
 use Rattle.std.specs.List.{AllZip}
 use Rattle.std.specs.Option.{option_map}
 use Rattle.std.proofs.lemmas.List.{length-map}
@@ -9,7 +9,7 @@ use Rattle.sd_base.specs.declared.number.SessionKey.{SessionKey}
 use Rattle.sd_drive.specs.Receipt.{ReceiptIs}
 use Rattle.sd_hub.specs.Worlds.{IsSettledFrom}
 use Rattle.sd_jobs.proofs.EachLemmas.{each_length}
-use Rattle.sd_jobs.specs.Jobs.{JobIs, JobEndIs, EndEach, EndsJob, StopsBy}
+use Rattle.sd_jobs.specs.Jobs.{JobIs, JobEndIs, EndEach, StopsBy}
 use Rattle.sd_line.specs.Ends.{EndIs, RestsOn, lane_store}
 use Rattle.sd_line.specs.Parts.{PartIs}
 use Rattle.sd_line.specs.Side.{LineIs}
@@ -17,7 +17,6 @@ use Rattle.sd_line.specs.declared.stop.Stop.{Stop}
 use Rattle.sd_line.specs.declared.stop.Stop.TheVariants.{Done, OutOfTurns, Refused, NoThread}
 use Rattle.sd_memdrive.specs.Drive.{meaning_of}
 use Rattle.sd_memdrive.specs.declared.drive.MemDrive.{MemDrive}
-use Rattle.sd_theorem.specs.Gives.{GivesAll}
 use Rattle.sd_world.specs.Honest.{StoreIsTrue}
 use Rattle.sd_world.specs.Steps.{IsSound}
 use Rattle.sd_world.specs.World.{WorldView, session_at}
@@ -28,7 +27,7 @@ use Rattle.sd_returned.specs.declared.asked.Wanted.{Wanted}
 use Rattle.sd_returned.specs.declared.back.JobBack.{JobBack}
 use Rattle.sd_returned.specs.declared.back.ReadBack.{ReadBack}
 use Rattle.sd_returned.proofs.EndLemmas.{ends_at, get_map, same_place, zip_at, zip_from}
-use Rattle.sd_returned.proofs.SettledLemmas.{IsDone, is_done}
+use Rattle.sd_returned.proofs.SettledLemmas.{is_done}
 
 -- a job that isn't done has no receipt
 no_receipt : (stop : Stop) (job : JobIs) (end : JobEndIs) (part : PartIs) → StopsBy stop job end part → (stop ≡ Done → ⊥) → end.receipt ≡ None

@@ -6,7 +6,6 @@ use Rattle.sd_base.specs.declared.refusal.Refusal.{Refusal}
 use Rattle.sd_driver.specs.Meaning.{Meaning}
 use Rattle.sd_driver.specs.Shelf.{SameShelf, Shelf}
 use Rattle.sd_drive.specs.View.{DriveIs}
-use Rattle.sd_label.specs.Cutting.{total_bytes}
 use Rattle.sd_readback.specs.Reading.{Reads, Volumes, bytes_of, volumes_on}
 use Rattle.sd_readback.specs.declared.read.ReadEnd.{ReadEnd}
 use Rattle.sd_span.specs.declared.span.Span.{Span}

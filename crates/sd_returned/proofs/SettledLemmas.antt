@@ -1,15 +1,14 @@
 -- The session of a job that is done, in the world of its settled line.
-use Rattle.std.proofs.Common.{◌≡◌, ◌≢◌, ℕ, suc, refl, sym, ap, subst, ◌∙◌, inl, inr, arith, true, false, append-nil, Option, Some, None, IsSome, List, [], ◌∷◌, ◌++◌, length, map, take, slice_get}
+use Rattle.std.proofs.Common.{◌≡◌, ◌≢◌, ℕ, suc, refl, sym, ap, subst, ◌∙◌, inl, inr, arith, true, append-nil, Option, Some, None, IsSome, List, [], ◌++◌, length, map, take, slice_get}
 use Rattle.std.proofs.Math.Seq.{take-length}
 use Rattle.atomic_table.specs.Seated.{TableId}
-use Rattle.sd_base.specs.Record.{Record}
 use Rattle.sd_base.specs.declared.number.SessionKey.{SessionKey}
 use Rattle.sd_closes.specs.Pieces.{bodies_in, pieces_in}
-use Rattle.sd_driver.specs.Meaning.{Meaning, IsHonest}
+use Rattle.sd_driver.specs.Meaning.{Meaning}
 use Rattle.sd_drive.specs.Receipt.{ReceiptIs}
-use Rattle.sd_drive.specs.Shelf.{Kept, block_at}
-use Rattle.sd_hub.specs.Settles.{SettledIs, SettledLaneIs, lane_of}
-use Rattle.sd_hub.specs.Worlds.{IsSettledFrom, SettlesOne, bay_of, lane_sessions, queue_view}
+use Rattle.sd_drive.specs.Shelf.{block_at}
+use Rattle.sd_hub.specs.Settles.{SettledLaneIs, lane_of}
+use Rattle.sd_hub.specs.Worlds.{IsSettledFrom, bay_of, lane_sessions, queue_view}
 use Rattle.sd_hub.proofs.Drives.{none_on_the_way, sent_are as sent_by_pieces}
 use Rattle.sd_hub.proofs.Entries.{moved, moved_back, stays_of, told_or_failed}
 use Rattle.sd_hub.proofs.Lines.{Stands, all_at, in_all, in_lane, store_in}
@@ -25,7 +24,6 @@ use Rattle.sd_line.specs.Parts.{PartIs, end_of, told_of}
 use Rattle.sd_line.specs.Side.{LineIs}
 use Rattle.sd_line.specs.declared.stop.Stop.{Stop}
 use Rattle.sd_line.specs.declared.stop.Stop.TheVariants.{Done}
-use Rattle.sd_pack.specs.Body.{PackedBody}
 use Rattle.sd_pack.specs.Packing.{Packs, bytes_of}
 use Rattle.sd_readback.specs.Reading.{Reads, blocks_of, volumes_on}
 use Rattle.sd_session.specs.Session.{SessionView, IsRunning, parts_of}
@@ -36,7 +34,6 @@ use Rattle.sd_theorem.proofs.Closed.{given, settled_world}
 use Rattle.sd_world.specs.Honest.{StoreIsTrue}
 use Rattle.sd_world.specs.Kept.{IsClosedAt}
 use Rattle.sd_world.specs.Matches.{HasBodies, bodies_with, sent_to}
-use Rattle.sd_world.specs.Stays.{AreClaimed}
 use Rattle.sd_world.specs.Steps.{IsSound}
 use Rattle.sd_world.specs.World.{WorldView, WorldSession, IsOnline, session_at}
 use Rattle.sd_world.proofs.BodyLemmas.{live_bodies, none_of, placed_alike, placed_bytes}
@@ -44,7 +41,7 @@ use Rattle.sd_world.proofs.ClaimLemmas.{closed_is_found}
 use Rattle.sd_world.proofs.Lookups.{session_id}
 use Rattle.sd_world.proofs.RestoreLemmas.{placed_read}
 use Rattle.sd_world.proofs.Sent.{coming, packed_holds, placed_bodies, sent_are}
-use Rattle.sd_returned.specs.Listed.{AllHonest, DoneHasList, HasList, IsAlone, SettledJobsRead, lane_ends, last_spools, receipts_in}
+use Rattle.sd_returned.specs.Listed.{AllHonest, HasList, IsAlone, SettledJobsRead, lane_ends, last_spools, receipts_in}
 use Rattle.sd_returned.proofs.EndLemmas.{end_there, ends_at, get_map, last_spools-is, last_there, receipt_there}
 
 -- who is closed goes on no more

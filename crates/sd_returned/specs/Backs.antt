@@ -1,10 +1,9 @@
 -- What is asked of jobs that ended, and what comes back of them.
-use Rattle.std.specs.Prelude.{◌≡◌, ◌++◌, true, List, [], map, Option, None, Some}
+use Rattle.std.specs.Prelude.{◌≡◌, ◌++◌, true, List, [], Option, None, Some}
 use Rattle.std.specs.Option.{option_map}
 use Rattle.std.specs.List.{AllZip}
 use Rattle.sd_base.specs.Record.{Record}
 use Rattle.sd_drive.specs.Receipt.{ReceiptIs}
-use Rattle.sd_driver.specs.Meaning.{Meaning}
 use Rattle.sd_jobs.specs.Jobs.{JobIs, JobEndIs, EndsJob}
 use Rattle.sd_line.specs.Ends.{RestsOn, lane_store}
 use Rattle.sd_line.specs.declared.stop.Stop.TheVariants.{Done}
@@ -53,10 +52,10 @@ pub record Answers (w : WorldView MemDrive) (asked : Asked) (back : JobBack) : T
 
 -- What comes back.
 
--- The job came to this. If it is done, its session was read, to exactly the records that its part was told to have taken before, and
--- then all of its own, once each and in order, with the session's end; or the read was refused, as the device failed or it was out
--- of memory, and then it gave the first of them. The session doesn't spool, or its lane's store is honest. If the job isn't
--- done, nothing was read.
+-- The job came to this. If it is done, its session was read, to exactly the records that its part was told to have taken
+-- before, and then all of its own, once each and in order, with the session's end; or the read was refused, as the device
+-- failed or it was out of memory, and then it gave the first of them. So it is if the session doesn't spool, or its lane's
+-- store is honest. If the job isn't done, nothing was read.
 pub record ComesBack (job : JobIs) (back : JobBack) : Type 0 where
   pub end : JobEndIs
   pub ends : EndsJob job end

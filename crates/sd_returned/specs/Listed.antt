@@ -1,5 +1,5 @@
 -- The sessions of jobs in the world of their settled line, each with its list.
-use Rattle.std.specs.Prelude.{◌≡◌, ℕ, Bool, true, false, List, [], ◌∷◌, ◌++◌, length, map, Option, Some, IsSome, Result, slice_get}
+use Rattle.std.specs.Prelude.{◌≡◌, ℕ, Bool, true, false, List, [], ◌∷◌, ◌++◌, length, map, Some, IsSome, Result, slice_get}
 use Rattle.std.specs.Option.{option_to_list}
 use Rattle.atomic_table.specs.Seated.{TableId}
 use Rattle.sd_base.specs.Record.{Record}
@@ -49,8 +49,8 @@ IsAlone ends place number = (at : ℕ) (end : EndIs) (k : ℕ) (s : ToldSession)
 
 -- A session with its list.
 
--- The session of this key is closed in the world. Its drive is online, for which the volumes of these spans are claimed, and on whose
--- shelf they read to these records, with their end; and these are as many as the session counted.
+-- The session of this key is closed in the world. Its drive is online, for which the volumes of these spans are claimed, and on
+-- whose shelf they read to these records, with their end; and these are as many as the session counted.
 pub record HasList {D : Type 0} (meaning : D → Meaning) (w : WorldView D) (key : SessionKey) (spans : List Span) (records : List Record) : Type 0 where
   pub e : WorldSession
   pub there : session_at key.id w.sessions ≡ Some e
@@ -70,8 +70,8 @@ abbrev pub KeepsLists : {D : Type 0} → (D → Meaning) → WorldView D → Wor
 KeepsLists meaning old new = (key : SessionKey) (spans : List Span) (records : List Record) → HasList meaning old key spans records
     → HasList meaning new key spans records
 
--- A job that is done has a receipt for its session, which has, with the spans of the receipt, this list: the records that its part was
--- told to have taken before, and then those of the job.
+-- A job that is done has a receipt for its session, which has, with the spans of the receipt, this list: the records that its
+-- part was told to have taken before, and then those of the job.
 pub record DoneHasList {D : Type 0} (meaning : D → Meaning) (w : WorldView D) (job : JobIs) (end : JobEndIs) : Type 0 where
   pub r : ReceiptIs
   pub receipt_is : end.receipt ≡ Some r
@@ -84,8 +84,8 @@ pub record DoneHasList {D : Type 0} (meaning : D → Meaning) (w : WorldView D) 
 abbrev pub AllHonest : {D : Type 0} → (D → Meaning) → Type 0
 AllHonest {D} meaning = (device : D) → IsHonest (meaning device)
 
--- If a line is settled with all that its jobs came to, each job that is done has its list in the world. Its number has to be there, and
--- told by no other end; and it doesn't spool, or its lane's store is honest.
+-- If a line is settled with all that its jobs came to, each job that is done has its list in the world. Its number has to be
+-- there, and told by no other end; and it doesn't spool, or its lane's store is honest.
 abbrev pub SettledJobsRead : Type 0 → Type 0
 SettledJobsRead D =
     (meaning : D → Meaning) (table : ℕ → TableId) (time : ℕ → ℕ) (line : LineIs) (jobs : List JobIs) (ends : List JobEndIs) (w : WorldView D)

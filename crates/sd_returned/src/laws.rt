@@ -1,8 +1,8 @@
 // What is read of jobs that are done, once their line is settled.
 ghost use Rattle.sd_returned.specs.Listed.{ListsAreRead, ReadingKeepsLists, SettledJobsRead};
 
-/// In the world of a settled line the session of each job that is done has its list: what its part was told to have taken, and then the
-/// records of the job.
+/// In the world of a settled line the session of each job that is done has its list: what its part was told to have taken,
+/// and then the records of the job.
 pub fn settled_jobs_read<D>()
     ensures { SettledJobsRead D }
 {}

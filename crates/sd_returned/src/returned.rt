@@ -19,12 +19,14 @@ use std::sync::Wait;
 use std::thread::Threads;
 use std::time::Clock;
 
-/// Runs jobs in threads at a line over a device in memory, settles the line once they have ended, and reads back what each job closed, by
-/// its receipt alone. What comes back of a job that is done are exactly the records that were taken of its session, unless the
-/// read was refused. So it is for one that doesn't spool; for one that does, if its lane's store is honest, which no call tells.
+/// Runs jobs in threads at a line over a device in memory, settles the line once they have ended, and reads back what each
+/// job closed, by its receipt alone. What comes back of a job that is done are exactly the records that were taken of its
+/// session, unless the read was refused. So it is for one that doesn't spool; for one that does, if its lane's store is
+/// honest, which no call tells.
 ///
-/// None if a job names another line than this one, at the place 0, or has no part of a lane of it; if out of memory before the reads; if
-/// the line can't be settled, as when one of its lanes has no job; or if two of its lanes tell of sessions of one number.
+/// Each job names the line by the place 0. None if one doesn't, or has no part of a lane of it; if out of memory before the
+/// reads; if the line can't be settled, as when one of its lanes has no job; or if two of its lanes tell of sessions of one
+/// number.
 pub fn jobs_come_back<
     N: Naming + Send + Sync,
     R: Threads + Wait + Clock + Sync + Copy + Drop,

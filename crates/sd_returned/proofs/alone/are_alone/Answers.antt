@@ -1,4 +1,4 @@
-use Rattle.std.proofs.Common.{◌≡◌, ℕ, inl, inr, sym, ap, subst, ◌∙◌, arith, slice_get}
+use Rattle.std.proofs.Common.{ℕ, inl, inr, sym, ap, subst, ◌∙◌, arith, slice_get}
 use Rattle.sd_jobs.proofs.EachLemmas.{get_below}
 use Rattle.sd_world.proofs.Lookups.{one_or_two}
 use Rattle.sd_returned.specs.Listed.{IsAlone, lane_ends}
