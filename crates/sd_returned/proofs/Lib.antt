@@ -1,0 +1,4 @@
+mod BackLemmas
+mod EndLemmas
+mod ReadLemmas
+mod SettledLemmas
